@@ -24,7 +24,7 @@ names-more names bytes x rest whole before =
 bytes-more : (bytes : List ℕ) (x : Denoted) (rest : List Denoted) (whole : List ℕ) → bytes ++ bytes_of (x ∷ rest) ≡ whole → (bytes ++ bytes_in x) ++ bytes_of rest ≡ whole
 bytes-more bytes x rest whole before = append_assoc bytes (bytes_in x) (bytes_of rest) ∙ (ap (λ l. bytes ++ l) (one_text x rest) ∙ before)
 
--- the same in a loop over the names, at the item that comes next
+-- The same in a loop over the names, at the item that comes next.
 module _ (all : List Denoted) (i : ℕ) (x : Denoted) (below : i < length all) where
   rest : drop i all ≡ get_or all i x ∷ drop (i + 1) all
   rest = drop-cons all i x below ∙ ap (λ n. get_or all i x ∷ drop n all) (sym (add-one i))
@@ -36,7 +36,7 @@ module _ (all : List Denoted) (i : ℕ) (x : Denoted) (below : i < length all) w
   pub bytes_go_on : (bytes whole : List ℕ) → bytes ++ bytes_of (drop i all) ≡ whole → (bytes ++ bytes_in (get_or all i x)) ++ bytes_of (drop (i + 1) all) ≡ whole
   bytes_go_on bytes whole before = bytes-more bytes (get_or all i x) (drop (i + 1) all) whole (ap (λ l. bytes ++ bytes_of l) (sym rest) ∙ before)
 
--- and after the last one
+-- The same after the last one.
 module _ (all : List Denoted) (i : ℕ) (past : length all ≤ i) where
   pub names_end : (names : List Name) (start : ℕ) (whole : List Name) → names ++ names_from start (drop i all) ≡ whole → names ≡ whole
   unfolding names_from

@@ -1,4 +1,6 @@
--- What the calls of C answer.
+-- What the calls for C return: the statuses, and what they write.
+--
+--   rigyomad_c_encode of "(module (func))" into 23 bytes      status 1 (too short), size 24, and no byte is written
 use Rattle.std.specs.Prelude.{◌≡◌, ℕ, ◌==◌, ◌<◌, ◌≤◌, if◌then◌else◌, List, length, drop, ◌++◌, Option, Some, None, Result, Ok, Err, ◌⊎◌}
 use Rattle.std.specs.Option.{unwrap_or}
 use Rattle.std.specs.Global.{Vec}
@@ -14,7 +16,7 @@ use Rattle.rigyomad_c.specs.declared.statuses.Status.{Status}
 use Rattle.rigyomad_c.specs.declared.statuses.Status.TheVariants as status
 use Rattle.rigyomad_c.specs.declared.diagnosis.Diagnosis.{Diagnosis}
 
--- the number of a status
+-- The number of a status.
 abbrev pub code_of : Status → ℕ
 code_of status.Done = 0
 code_of status.Short = 1
@@ -23,19 +25,19 @@ code_of status.Utf8 = 3
 code_of status.Memory = 4
 code_of status.Unknown = 5
 
--- the number of a status that answers so
+-- The number is that of a status that satisfies the definition.
 pub record Returns (is_answered : Status → Type 0) (number : ℕ) : Type 0 where
   pub status : Status
   pub numbered : number ≡ code_of status
   pub answered : is_answered status
 
--- the status of why a text has no bytes, by its number: that of memory for E12
+-- The status of an error, by its number: E12 has its own status.
 abbrev pub status_of : Option ℕ → Status
 status_of None = status.Fault
 status_of (Some n) = if n == 12 then status.Memory else status.Fault
 
--- Putting bytes into a slice: they are at its front, and what is after them stays; or it is too
--- short, and stays.
+-- Writing bytes to a slice. They are at its front, and what comes after them is not changed. Or the slice is too short,
+-- and is not changed.
 abbrev pub PutsBytes : List ℕ → List ℕ → List ℕ → Status → Type 0
 PutsBytes bytes old new status.Done = (length bytes ≤ length old) × (new ≡ bytes ++ drop (length bytes) old)
 PutsBytes bytes old new status.Short = (length old < length bytes) × (new ≡ old)
@@ -44,19 +46,18 @@ PutsBytes bytes old new status.Utf8 = ⊥
 PutsBytes bytes old new status.Memory = ⊥
 PutsBytes bytes old new status.Unknown = ⊥
 
--- Putting what encoding answers into a slice. The size is that of the bytes, also if the slice is
--- too short.
+-- Writing the result of encoding to a slice. The size is that of the bytes, also if the slice is too short.
 abbrev pub PutsAnswer : Result (Vec ℕ) Refused → ℕ → List ℕ → List ℕ → Status → Type 0
 PutsAnswer (Ok bytes) size old new s = (size ≡ length bytes.items) × PutsBytes bytes.items old new s
 PutsAnswer (Err r) size old new s = (size ≡ 0) × (new ≡ old) × (s ≡ status_of (number_of r))
 
--- Encoding a text into a slice: what `encode_text` may answer for this text is put there.
+-- Encoding a text into a slice: a result that `encode_text` may return for this text is written.
 pub record EncodesRead (text : List ℕ) (size : ℕ) (old new : List ℕ) (s : Status) : Type 0 where
   pub answer : Result (Vec ℕ) Refused
   pub encoded : OfText EncodesText text answer
   pub put : PutsAnswer answer size old new s
 
--- Bytes that are no UTF-8 are no text.
+-- Bytes that are not UTF-8 are no text.
 abbrev pub IsNoText : List ℕ → Type 0
 IsNoText text = IsUtf8 text → ⊥
 
@@ -65,26 +66,26 @@ abbrev pub EncodeReturns : List ℕ → ℕ → List ℕ → List ℕ → Status
 EncodeReturns text size old new status.Utf8 = IsNoText text × (size ≡ 0) × (new ≡ old)
 EncodeReturns text size old new s = EncodesRead text size old new s
 
--- What looking a name up answers: the number that it denotes; else the number stays.
+-- Writing the result of looking a name up: its index. Otherwise the number is not changed.
 abbrev pub TellsNumber : Result (Option ℕ) Refused → ℕ → ℕ → Status → Type 0
 TellsNumber (Ok None) old new s = (new ≡ old) × (s ≡ status.Unknown)
 TellsNumber (Ok (Some n)) old new s = (new ≡ n) × (s ≡ status.Done)
 TellsNumber (Err r) old new s = (new ≡ old) × (s ≡ status_of (number_of r))
 
--- Looking a name up in a space of a text: what `number_in_text` may answer for this text, name and
--- space is told.
+-- Looking a name up in an index space of a text: a result that `number_in_text` may return for this text, name and
+-- index space is written.
 pub record DenotesRead (text : List ℕ) (space : Space) (name : List ℕ) (old new : ℕ) (s : Status) : Type 0 where
   pub answer : Result (Option ℕ) Refused
   pub denoted : OfText (NumbersText space name) text answer
   pub told : TellsNumber answer old new s
 
--- the same in the space of a number
+-- The same in the index space with a number.
 pub record DenotesAt (text : List ℕ) (rank : ℕ) (name : List ℕ) (old new : ℕ) (s : Status) : Type 0 where
   pub space : Space
   pub ranked : rank_of space ≡ rank
   pub denotes : DenotesRead text space name old new s
 
--- no space has this number
+-- No index space has this number.
 abbrev pub IsNoSpace : ℕ → Type 0
 IsNoSpace rank = 8 ≤ rank
 
@@ -94,34 +95,33 @@ ResolveReturns text rank name old new status.Utf8 = (IsNoText text ⊎ IsNoText 
 ResolveReturns text rank name old new status.Unknown = (IsNoSpace rank × (new ≡ old)) ⊎ DenotesAt text rank name old new status.Unknown
 ResolveReturns text rank name old new s = DenotesAt text rank name old new s
 
--- a place of a text, with its line and column; where there is none, all are 0
+-- A position of a text, with its line and column. Without a position all are 0.
 abbrev pub IsPlaced : List ℕ → Option Span → Diagnosis → Type 0
 IsPlaced text None d = (d.offset ≡ 0) × (d.line ≡ 0) × (d.column ≡ 0)
 IsPlaced text (Some place) d = (d.offset ≡ place.offset) × (d.line ≡ line_of text place) × (d.column ≡ column_of text place)
 
--- why a text has no bytes, as it is told: with its status, its number, 0 if it has none, and its
--- position
+-- The diagnosis of an error: with its status, its number, 0 if it has none, and its position.
 pub record IsTold (text : List ℕ) (refused : Refused) (d : Diagnosis) (s : Status) : Type 0 where
   pub answered : s ≡ status_of (number_of refused)
   pub numbered : d.number ≡ unwrap_or (number_of refused) 0
   pub placed : IsPlaced text (place_of refused) d
 
--- nothing is wrong
+-- The diagnosis of a text without an error.
 abbrev pub nothing_wrong : Diagnosis
 nothing_wrong = record { number = 0; offset = 0; line = 0; column = 0; size = 0 }
 
--- what encoding answers, as it is told
+-- The diagnosis of a result of encoding.
 abbrev pub TellsAnswer : List ℕ → Result (Vec ℕ) Refused → Diagnosis → Status → Type 0
 TellsAnswer text (Ok bytes) d s = (d ≡ nothing_wrong) × (s ≡ status.Done)
 TellsAnswer text (Err r) d s = IsTold text r d s
 
--- Telling why a text has no bytes: what `encode_text` may answer for this text is told.
+-- The error of a text: a result that `encode_text` may return for this text is written.
 pub record DiagnosesRead (text : List ℕ) (d : Diagnosis) (s : Status) : Type 0 where
   pub answer : Result (Vec ℕ) Refused
   pub encoded : OfText EncodesText text answer
   pub told : TellsAnswer text answer d s
 
--- Telling why bytes are no module. Of bytes that are no UTF-8 the position has no line.
+-- The error of bytes. If they are not UTF-8, the position has no line.
 abbrev pub Diagnoses : List ℕ → Diagnosis → Status → Type 0
 Diagnoses text d status.Utf8 = IsNoText text × (d.number ≡ 0) × (d.line ≡ 0) × (d.column ≡ 0)
 Diagnoses text d s = DiagnosesRead text d s

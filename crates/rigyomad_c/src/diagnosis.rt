@@ -1,4 +1,4 @@
-//! Where a text has a fault, and which.
+//! The error of a text and its position.
 
 ghost use Rattle.std.specs.Prelude.{◌≡◌};
 ghost use Rattle.std.specs.Option.{unwrap_or};
@@ -11,24 +11,30 @@ use std::str::Utf8Error;
 use wast_tree::{Span, line_and_column};
 use wat_bytes::Refused;
 
-/// What is wrong with a text, and where.
+/// The error of a text and its position.
+///
+/// # Example
+///
+///     let status = rigyomad_c_fault(rt.alloc(), FAULTY, &mut message, &mut diagnosis);
+///     assert!(rt; status == 2 && diagnosis.number == 4 && diagnosis.offset == 16);
 #[repr(C)]
 #[derive(Clone, Copy, Debug)]
 pub struct Diagnosis {
-    /// The number of the fault: 1 for E1, and so on to 13; 0 where the text is no well formed module, or has no fault.
+    /// The number of the error: 1 for E1 to 13 for E13. It is 0 if the text is not a well-formed
+    /// module, or has no error.
     pub number: u32,
-    /// Bytes before the place; 0 where there is no place.
+    /// The number of bytes before the position, or 0 if there is no position.
     pub offset: usize,
-    /// The line of the place, from 1; 0 where there is no place.
+    /// The line of the position, from 1 on, or 0 if there is no position.
     pub line: usize,
-    /// The column of the place, in bytes, from 1; 0 where there is no place.
+    /// The column of the position in bytes, from 1 on, or 0 if there is no position.
     pub column: usize,
-    /// How many bytes the message has.
+    /// The number of bytes of the message.
     pub size: usize,
 }
 
 impl Diagnosis {
-    /// Nothing is wrong.
+    /// Returns the diagnosis of a text without an error.
     pub(crate) fn none() -> Diagnosis
         ensures { result ≡ nothing_wrong }
     {
@@ -41,7 +47,7 @@ impl Diagnosis {
         }
     }
 
-    /// A fault at a place of a text, where it has one, and the size of its message.
+    /// Returns an error with its position in a text, if it has one, and the size of its message.
     fn new(number: u32, text: &str, place: Option<Span>, size: usize) -> Diagnosis
         ensures numbered { result.number ≡ number }
         ensures placed { IsPlaced text.now place result }
@@ -58,7 +64,7 @@ impl Diagnosis {
         diagnosis
     }
 
-    /// Why a text has no bytes; the message is put into a slice.
+    /// Returns the error of a text, and writes its message to a slice.
     pub(crate) fn of(text: &str, refused: &Refused<'_>, out: &mut [u8]) -> Diagnosis
         ensures numbered { result.number ≡ unwrap_or (number_of refused.now) 0 }
         ensures placed { IsPlaced text.now (place_of refused.now) result }
@@ -69,7 +75,8 @@ impl Diagnosis {
         Diagnosis::new(number, text, refused.span(), message.size())
     }
 
-    /// Bytes are no UTF-8; the message is put into a slice. The place has no line.
+    /// Returns the error of bytes that are not UTF-8, and writes its message to a slice. The
+    /// position has no line.
     pub(crate) fn of_bytes(error: Utf8Error, out: &mut [u8]) -> Diagnosis
         ensures numbered { result.number ≡ 0 }
         ensures placed { (result.line ≡ 0) × (result.column ≡ 0) }

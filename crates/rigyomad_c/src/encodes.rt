@@ -1,4 +1,4 @@
-//! Texts become bytes.
+//! Writes the bytes of a text, or its error.
 
 ghost use Rattle.std.specs.Prelude.{◌≡◌, ◌<◌, ◌≤◌, ◌++◌, length, drop, IsTrue, IsFalse};
 ghost use Rattle.rigyomad_c.specs.Answers.{EncodeReturns, EncodesRead, Diagnoses, DiagnosesRead, nothing_wrong};
@@ -19,7 +19,8 @@ pub(crate) fn put_front<T: Copy>(items: &[T], out: &mut [T])
     front.copy_from_slice(items);
 }
 
-/// Copies bytes to the front of a slice, where they fit. Whether they do; else the slice stays.
+/// Copies bytes to the front of a slice, if they fit, and returns whether they do. Otherwise the
+/// slice is not changed.
 fn put(bytes: &[u8], out: &mut [u8]) -> bool
     ensures fits { IsTrue result → (length bytes.now ≤ length out.old) × (out.new ≡ bytes.now ++ drop (length bytes.now) out.old) }
     ensures stays { IsFalse result → (length out.old < length bytes.now) × (out.new ≡ out.old) }
@@ -31,7 +32,7 @@ fn put(bytes: &[u8], out: &mut [u8]) -> bool
     does_fit
 }
 
-/// Puts the bytes of the module of a text into a slice.
+/// Writes the bytes of the module of a text to a slice.
 fn encode_text_into(alloc: Global, text: &str, out: &mut [u8], size: &mut usize) -> Status
     requires { size.old ≡ 0 }
     ensures { EncodesRead text.now size.new out.old out.new result }
@@ -49,7 +50,8 @@ fn encode_text_into(alloc: Global, text: &str, out: &mut [u8], size: &mut usize)
     }
 }
 
-/// Puts the bytes of the module of a text into a slice, where they fit, and tells how many they are. Else the slice stays.
+/// Writes the bytes of the module of a text to a slice, if they fit, and their number to `size`.
+/// Otherwise the slice is not changed.
 pub(crate) fn encode_into(alloc: Global, text: &[u8], out: &mut [u8], size: &mut usize) -> Status
     ensures { EncodeReturns text.now size.new out.old out.new result }
 {
@@ -60,7 +62,7 @@ pub(crate) fn encode_into(alloc: Global, text: &[u8], out: &mut [u8], size: &mut
     }
 }
 
-/// Why the module of a text has no bytes.
+/// Writes the error of the module of a text.
 fn diagnose_text(alloc: Global, text: &str, out: &mut [u8], diagnosis: &mut Diagnosis) -> Status
     requires { diagnosis.old ≡ nothing_wrong }
     ensures { DiagnosesRead text.now diagnosis.new result }
@@ -75,7 +77,7 @@ fn diagnose_text(alloc: Global, text: &str, out: &mut [u8], diagnosis: &mut Diag
     }
 }
 
-/// Tells why the module of a text has no bytes, and where; as much of a message as fits is put into a slice.
+/// Writes the error of the module of a text with its position, and as much of its message as fits.
 pub(crate) fn diagnose(
     alloc: Global,
     text: &[u8],

@@ -1,8 +1,28 @@
-//! The bytes of modules in the text format of WebAssembly, for callers in C.
+//! The bytes of modules in the WebAssembly text format, for callers in C.
 //!
-//! Each call stands alone: it keeps nothing, so that calls in threads of their own do not meet. It reads and writes the slices
-//! that it is lent and nothing else; what it takes from the allocator it gives back before it answers.
-//! `bindings/c/rigyomad.h` declares the calls, and sees that no pointer is null.
+//! `bindings/c/rigyomad.h` declares the calls and rejects null pointers. The bindings for Rust and
+//! Python use it too.
+//!
+//! Each call keeps nothing, so calls in different threads do not affect each other. It reads and
+//! writes only the slices that it is lent, and frees what it allocates before it returns.
+//!
+//! # Example
+//!
+//!     let status = rigyomad_c_encode(rt.alloc(), b"(module (func))", &mut out, &mut size);
+//!     assert!(rt; status == 0 && size == 24 && out[1] == b'a' && out[24] == 7);
+//!
+//! # Modules
+//!
+//! - `encodes` writes the bytes of a text, or its error. `diagnosis` is the error with its
+//!   position, and `messages` cuts its message to the size of a slice.
+//! - `looks_up` finds the index of one name, and `lists` writes all names.
+//! - `statuses` has the results of calls.
+//!
+//! # Guarantees
+//!
+//! - `Returns`: a call returns the number of a status, and writes what its definition has for that
+//!   status (`specs/Answers.antt`, `specs/Lists.antt`).
+//! - If a slice is too short, it is not changed, and the call returns the size that is needed.
 #![tactic(auto)]
 
 ghost use Rattle.std.specs.Prelude.{◌≡◌};
@@ -24,10 +44,14 @@ use lists::{Name, Room, list_names};
 use looks_up::look_up;
 use std::alloc::Global;
 
-/// The number of these declarations: another one is given where a call takes or gives something else.
+/// The version of these declarations. It changes if the parameters or results of a call change.
 const VERSION: u32 = 1;
 
-/// The number of these declarations, to compare with that of the header.
+/// Returns the version of these declarations, to compare it with that of the header.
+///
+/// # Example
+///
+/// In C, `rigyomad_c_version() == 1`.
 #[unsafe(no_mangle)]
 pub extern "C" fn rigyomad_c_version() -> u32
     ensures { result ≡ 1 }
@@ -35,7 +59,16 @@ pub extern "C" fn rigyomad_c_version() -> u32
     VERSION
 }
 
-/// Puts the bytes of the module of a text into a slice, where they fit, and tells how many they are. Else the slice stays.
+/// Writes the bytes of the module of a text to a slice, if they fit, and their number to `size`.
+///
+/// If they do not fit, the slice is not changed. The returned status is 0 on success, and 1 if the
+/// slice is too short. It is 2 if the text has an error, 3 if it is not UTF-8, and 4 if allocation
+/// failed.
+///
+/// # Example
+///
+///     let status = rigyomad_c_encode(rt.alloc(), b"(module (func))", &mut out, &mut size);
+///     assert!(rt; status == 0 && size == 24 && out[1] == b'a' && out[24] == 7);
 #[unsafe(no_mangle)]
 pub extern "C" fn rigyomad_c_encode(
     alloc: Global,
@@ -48,7 +81,17 @@ pub extern "C" fn rigyomad_c_encode(
     encode_into(alloc, text, out, size).code()
 }
 
-/// Tells why the module of a text has no bytes, and where; as much of a message as fits is put into a slice.
+/// Writes the error of a text to `diagnosis`, with its position, and as much of its message as fits
+/// to `message`.
+///
+/// If the text has no error, the status is 0 and all numbers are 0. Otherwise it is the status that
+/// encoding the text returns.
+///
+/// # Example
+///
+///     let status = rigyomad_c_fault(rt.alloc(), FAULTY, &mut message, &mut diagnosis);
+///     assert!(rt; status == 2 && diagnosis.number == 4 && diagnosis.offset == 16);
+///     assert!(rt; diagnosis.line == 2 && diagnosis.column == 9);
 #[unsafe(no_mangle)]
 pub extern "C" fn rigyomad_c_fault(
     alloc: Global,
@@ -61,7 +104,14 @@ pub extern "C" fn rigyomad_c_fault(
     diagnose(alloc, text, message, diagnosis).code()
 }
 
-/// Tells the number of what a name denotes in an index space of the module of a text.
+/// Writes the index of a name in an index space of the module of a text to `number`.
+///
+/// The name is without its `$`. If no item has the name, or there is no such index space, the
+/// status is 5, and `number` is not changed.
+///
+/// # Example
+///
+///     let status = rigyomad_c_resolve(rt.alloc(), NAMED, asked, name, &mut number);
 #[unsafe(no_mangle)]
 pub extern "C" fn rigyomad_c_resolve(
     alloc: Global,
@@ -75,8 +125,15 @@ pub extern "C" fn rigyomad_c_resolve(
     look_up(alloc, text, space, name, number).code()
 }
 
-/// Puts all names of the index spaces of the module of a text into slices: a record of each into `names`, and the bytes of all
-/// of them one after another into `bytes`, if both have room. Tells how much room they need. Else the slices stay.
+/// Writes all names of the index spaces of the module of a text to slices, if both have room.
+///
+/// `names` gets a record of each name, and `bytes` gets the bytes of all names, one after another.
+/// `room` gets the room that they need. If a slice is too short, neither is changed, and the status
+/// is 1.
+///
+/// # Example
+///
+/// For `(module (func $a) (func $bc))` there are two records, and the bytes are `abc`.
 #[unsafe(no_mangle)]
 pub extern "C" fn rigyomad_c_names(
     alloc: Global,

@@ -1,4 +1,4 @@
-//! All names of a text are listed.
+//! Lists all names of a text.
 
 ghost use Rattle.std.specs.Prelude.{◌≡◌, ◌++◌, ◌∷◌, [], length, drop, IsTrue, IsFalse, OnOk};
 ghost use Rattle.rigyomad_c.specs.Lists.{Lists, ListsRead, Puts, PutsBoth, HaveRoom, LackRoom, bytes_in, name_at, names_from, bytes_of, no_room};
@@ -10,34 +10,39 @@ use std::str;
 use wat_bytes::{Denoted, names_of_text};
 use wat_text::Strings;
 
-/// A name of a text, and what it denotes (text format, indices).
+/// A name of a text with its index space and its index (text format: indices).
+///
+/// For example, `$bc` in `(module (func $a) (func $bc))` has the index space 0, the index 1, the
+/// offset 24, the start 1 and the size 2.
 #[repr(C)]
 #[derive(Clone, Copy, Debug)]
 pub struct Name {
     /// The number of its index space, as `rigyomad_c_resolve` takes it.
     pub space: u32,
-    /// The number of what it denotes.
+    /// The index of the item with this name.
     pub number: u32,
-    /// Bytes of the text before its id.
+    /// The number of bytes of the text before its id.
     pub offset: usize,
-    /// Bytes before it among the bytes of all names.
+    /// The number of bytes before it among the bytes of all names.
     pub start: usize,
-    /// How many bytes it has, without the `$` of its id.
+    /// The number of its bytes, without the `$` of its id.
     pub size: usize,
 }
 
-/// How much room names need.
+/// The room that the names of a text need.
+///
+/// For example, the names of `(module (func $a) (func $bc))` need room for 2 records and 3 bytes.
 #[repr(C)]
 #[derive(Clone, Copy, Debug)]
 pub struct Room {
-    /// How many names there are.
+    /// The number of names.
     pub names: usize,
-    /// How many bytes all of them have.
+    /// The number of bytes of all names.
     pub bytes: usize,
 }
 
 impl Room {
-    /// No room.
+    /// Returns no room.
     pub(crate) fn none() -> Room
         ensures { result ≡ no_room }
     {
@@ -45,7 +50,7 @@ impl Room {
     }
 }
 
-/// The record of a name, of which `start` bytes of other names are before it.
+/// Returns the record of a name that has `start` bytes of other names before it.
 fn name_at(start: usize, denoted: &Denoted<'_>) -> Name
     ensures { result ≡ name_at start denoted.now }
 {
@@ -80,7 +85,7 @@ fn list(all: &[Denoted<'_>], names: &mut Vec<Name>, bytes: &mut Vec<u8>) -> Resu
     Ok(())
 }
 
-/// Whether two slices have room for names and their bytes.
+/// Returns whether two slices have room for names and their bytes.
 fn have_room(names: &[Name], bytes: &[u8], names_out: &[Name], bytes_out: &[u8]) -> bool
     ensures have { IsTrue result → HaveRoom names.now bytes.now names_out.now bytes_out.now }
     ensures lack { IsFalse result → LackRoom names.now bytes.now names_out.now bytes_out.now }
@@ -98,7 +103,8 @@ fn put_both(names: &[Name], bytes: &[u8], names_out: &mut [Name], bytes_out: &mu
     put_front(bytes, bytes_out);
 }
 
-/// Puts records and bytes into slices, if both have room for all. Else the slices stay.
+/// Writes records and bytes to slices, if both have room for all. Otherwise the slices are not
+/// changed.
 fn put_records(
     names: &[Name],
     bytes: &[u8],
@@ -119,7 +125,7 @@ fn put_records(
     Status::Done
 }
 
-/// Puts names into slices, if both have room for all.
+/// Writes names to slices, if both have room for all.
 fn put_names(
     alloc: Global,
     all: &[Denoted<'_>],
@@ -144,7 +150,7 @@ fn put_names(
     }
 }
 
-/// Puts the names of the module of a text into slices.
+/// Writes the names of the module of a text to slices.
 fn list_names_of(
     alloc: Global,
     text: &str,
@@ -162,8 +168,8 @@ fn list_names_of(
     }
 }
 
-/// Puts the names of the module of a text into slices, if both have room for all, and tells how much room they need. Else the
-/// slices stay.
+/// Writes the names of the module of a text to slices, if both have room for all, and the room that
+/// they need. Otherwise the slices are not changed.
 pub(crate) fn list_names(
     alloc: Global,
     text: &[u8],

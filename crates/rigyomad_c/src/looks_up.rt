@@ -1,4 +1,4 @@
-//! Names are looked up.
+//! Looks up names.
 
 ghost use Rattle.std.specs.Prelude.{◌≡◌, IfSome, IsTrue, is_none};
 ghost use Rattle.wast_base.specs.Spaces.{rank_of};
@@ -11,7 +11,7 @@ use wast_tree::Space;
 use wat_bytes::number_in_text;
 use wat_text::Strings;
 
-/// The index space of a number.
+/// Returns the index space with a number.
 fn space_at(space: u32) -> Option<Space>
     ensures space { IfSome result (λ s. rank_of s ≡ space) }
     ensures none { IsTrue (is_none result) → IsNoSpace space }
@@ -29,7 +29,7 @@ fn space_at(space: u32) -> Option<Space>
     }
 }
 
-/// The number of what a name denotes in a space of the module of a text.
+/// Looks up a name in an index space of the module of a text.
 fn look_up_in(alloc: Global, text: &str, space: Space, name: &str, number: &mut u32) -> Status
     ensures { DenotesRead text.now space name.now number.old number.new result }
 {
@@ -44,7 +44,7 @@ fn look_up_in(alloc: Global, text: &str, space: Space, name: &str, number: &mut 
     }
 }
 
-/// Tells the number of what a name denotes in an index space of the module of a text.
+/// Writes the index of a name in an index space of the module of a text.
 pub(crate) fn look_up(
     alloc: Global,
     text: &[u8],

@@ -1,8 +1,8 @@
-//! Texts that are put into slices.
+//! Messages that are written to slices.
 
 use std::fmt;
 
-/// A text that is put into a slice: as many of its bytes as fit.
+/// A message that is written to a slice: as many of its bytes as fit.
 #[derive(Drop)]
 pub(crate) struct Message<'a> {
     out: &'a mut [u8],
@@ -10,12 +10,12 @@ pub(crate) struct Message<'a> {
 }
 
 impl<'a> Message<'a> {
-    /// No text.
+    /// Returns an empty message.
     pub(crate) fn new(out: &'a mut [u8]) -> Message<'a> {
         Message { out, size: 0 }
     }
 
-    /// How many bytes the whole text has.
+    /// Returns how many bytes the whole message has.
     pub(crate) fn size(&self) -> usize {
         self.size
     }

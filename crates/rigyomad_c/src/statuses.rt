@@ -1,4 +1,4 @@
-//! What a call answers.
+//! The results of calls.
 
 ghost use Rattle.std.specs.Prelude.{◌≡◌};
 ghost use Rattle.rigyomad_c.specs.Answers.{status_of, code_of};
@@ -9,25 +9,25 @@ use wat_bytes::Refused;
 /// The number of E12.
 const OUT_OF_MEMORY: u32 = 12;
 
-/// What a call answers. C gets its number.
+/// The result of a call. C gets its number.
 #[derive(Clone, Copy, Debug, PartialEq, Eq)]
 pub(crate) enum Status {
-    /// 0: what was asked for is there.
+    /// 0: success.
     Done,
-    /// 1: it does not fit, and a size tells what is wanted.
+    /// 1: a slice is too short, and a size has the length that is needed.
     Short,
-    /// 2: the text has a fault.
+    /// 2: the text has an error.
     Fault,
-    /// 3: what should be text is no UTF-8.
+    /// 3: the text or the name is not UTF-8.
     Utf8,
-    /// 4: memory was refused.
+    /// 4: allocation failed.
     Memory,
-    /// 5: nothing has the name, or there is no such space.
+    /// 5: no item has the name, or there is no such index space.
     Unknown,
 }
 
 impl Status {
-    /// The status of a text that has no bytes.
+    /// Returns the status of a text that has an error.
     pub(crate) fn of(refused: &Refused<'_>) -> Status
         ensures { result ≡ status_of (number_of refused.now) }
     {
@@ -37,7 +37,7 @@ impl Status {
         }
     }
 
-    /// The number of the status.
+    /// Returns the number of the status.
     pub(crate) fn code(self) -> u32
         ensures { result ≡ code_of self }
     {

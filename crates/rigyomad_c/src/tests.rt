@@ -1,4 +1,4 @@
-//! What the calls answer.
+//! Tests of the calls.
 
 use crate::diagnosis::Diagnosis;
 use crate::lists::{Name, Room};
@@ -6,7 +6,7 @@ use crate::{
     rigyomad_c_encode, rigyomad_c_fault, rigyomad_c_names, rigyomad_c_resolve, rigyomad_c_version,
 };
 
-/// A text whose only fault is in its second line.
+/// A text with an error in its second line.
 const FAULTY: &[u8] = b"(module\n (start $f))";
 
 /// A text with two items in each index space, of which the second has an id.
@@ -14,7 +14,7 @@ const NAMED: &[u8] = br#"(module (type (func)) (type $t (func)) (func) (func $f)
     (table $x 1 funcref) (memory 1) (memory $m 1) (global i32 (i32.const 0))
     (global $g i32 (i32.const 0)) (tag) (tag $e) (elem func) (elem $s func) (data "") (data $d ""))"#;
 
-/// The names of these, by the number of their space.
+/// The names of these, by the number of their index space.
 const NAMES: [&[u8]; 8] = [b"f", b"x", b"m", b"g", b"e", b"s", b"d", b"t"];
 
 /// A record that no call writes.
@@ -27,7 +27,7 @@ const UNTOUCHED: Name = Name {
 };
 
 #[test]
-fn bytes_are_put_where_they_fit(rt: HostRuntime) {
+fn bytes_are_copied_if_they_fit(rt: HostRuntime) {
     let mut out = [7_u8; 25];
     let mut size = 0;
     let status = rigyomad_c_encode(rt.alloc(), b"(module (func))", &mut out, &mut size);
@@ -41,7 +41,7 @@ fn bytes_are_put_where_they_fit(rt: HostRuntime) {
 }
 
 #[test]
-fn a_fault_has_a_number_a_place_and_a_message(rt: HostRuntime) {
+fn error_has_number_position_and_message(rt: HostRuntime) {
     let mut message = [b'.'; 64];
     let mut diagnosis = Diagnosis::none();
     let status = rigyomad_c_fault(rt.alloc(), FAULTY, &mut message, &mut diagnosis);
@@ -65,7 +65,7 @@ fn a_fault_has_a_number_a_place_and_a_message(rt: HostRuntime) {
 }
 
 #[test]
-fn names_are_looked_up_in_their_space(rt: HostRuntime) {
+fn names_are_looked_up_in_their_index_space(rt: HostRuntime) {
     for (space, name) in (0..).zip(&NAMES) {
         for asked in 0..9 {
             let mut number = 9;
@@ -82,7 +82,7 @@ fn names_are_looked_up_in_their_space(rt: HostRuntime) {
 }
 
 #[test]
-fn names_of_all_spaces_are_listed(rt: HostRuntime) {
+fn names_of_all_index_spaces_are_listed(rt: HostRuntime) {
     let mut names = [UNTOUCHED; 9];
     let mut bytes = [b'.'; 9];
     let mut room = Room::none();
@@ -96,7 +96,7 @@ fn names_of_all_spaces_are_listed(rt: HostRuntime) {
 }
 
 #[test]
-fn names_that_do_not_fit_are_not_written(rt: HostRuntime) {
+fn names_that_do_not_fit_are_not_copied(rt: HostRuntime) {
     for (count, size) in [(7, 8), (8, 7), (0, 0)] {
         let mut names = [UNTOUCHED; 8];
         let mut bytes = [b'.'; 8];

@@ -1,4 +1,9 @@
--- The keys of instructions: an opcode, or 65536 times a prefix byte and the number behind it (binary format, instructions). tools/ops writes this file.
+-- The key of each instruction: its opcode as one number (binary format: instructions). tools/ops writes this file.
+--
+-- The key of an opcode of one byte is that byte. For others it is 65536 times the prefix byte, plus the number after it.
+--
+--   index_key index.Call                0x10
+--   index_pair_key index_pair.MemoryCopy     0xfc000a
 use Rattle.std.specs.Prelude.{ℕ}
 use Rattle.wast_base.specs.declared.plain.BareOp.{BareOp}
 use Rattle.wast_base.specs.declared.plain.BareOp.TheVariants as bare
@@ -47,7 +52,7 @@ use Rattle.wast_base.specs.declared.lane_ops.MemLaneOp.TheVariants as mem_lane
 use Rattle.wast_base.specs.declared.plain.Plain.{Plain}
 use Rattle.wast_base.specs.declared.plain.Plain.TheVariants as plain
 
--- of an instruction without a dot
+-- The key of an instruction whose text has no dot.
 abbrev pub bare_key : BareOp → ℕ
 bare_key bare.unreachable = 0x00
 bare_key bare.nop = 0x01
@@ -56,7 +61,7 @@ bare_key bare.return_ = 0x0f
 bare_key bare.catch_all = 0x19
 bare_key bare.drop = 0x1a
 
--- the key of an instruction with an index
+-- The key of an instruction with an index.
 abbrev pub index_key : IndexOp → ℕ
 index_key index.Catch = 0x07
 index_key index.Throw = 0x08
@@ -96,7 +101,7 @@ index_key index.TableGrow = 0xfc000f
 index_key index.TableSize = 0xfc0010
 index_key index.TableFill = 0xfc0011
 
--- the key of an instruction with two
+-- The key of an instruction with two indices.
 abbrev pub index_pair_key : IndexPairOp → ℕ
 index_pair_key index_pair.CallIndirect = 0x11
 index_pair_key index_pair.ReturnCallIndirect = 0x13
@@ -115,7 +120,7 @@ index_pair_key index_pair.MemoryCopy = 0xfc000a
 index_pair_key index_pair.TableInit = 0xfc000c
 index_pair_key index_pair.TableCopy = 0xfc000e
 
--- the key of an instruction with a memory argument
+-- The key of an instruction with a memory argument.
 abbrev pub mem_key : MemOp → ℕ
 mem_key mem.i32_load = 0x28
 mem_key mem.i64_load = 0x29
@@ -221,7 +226,7 @@ mem_key mem.i64_atomic_rmw8_cmpxchg_u = 0xfe004c
 mem_key mem.i64_atomic_rmw16_cmpxchg_u = 0xfe004d
 mem_key mem.i64_atomic_rmw32_cmpxchg_u = 0xfe004e
 
--- of one whose text begins with i32
+-- The key of an instruction whose text begins with i32.
 abbrev pub i32_key : I32Op → ℕ
 i32_key i32.i32_eqz = 0x45
 i32_key i32.i32_eq = 0x46
@@ -265,7 +270,7 @@ i32_key i32.i32_trunc_sat_f32_u = 0xfc0001
 i32_key i32.i32_trunc_sat_f64_s = 0xfc0002
 i32_key i32.i32_trunc_sat_f64_u = 0xfc0003
 
--- of one whose text begins with i64
+-- The key of an instruction whose text begins with i64.
 abbrev pub i64_key : I64Op → ℕ
 i64_key i64.i64_eqz = 0x50
 i64_key i64.i64_eq = 0x51
@@ -311,7 +316,7 @@ i64_key i64.i64_trunc_sat_f32_u = 0xfc0005
 i64_key i64.i64_trunc_sat_f64_s = 0xfc0006
 i64_key i64.i64_trunc_sat_f64_u = 0xfc0007
 
--- of one whose text begins with f32
+-- The key of an instruction whose text begins with f32.
 abbrev pub f32_key : F32Op → ℕ
 f32_key f32.f32_eq = 0x5b
 f32_key f32.f32_ne = 0x5c
@@ -340,7 +345,7 @@ f32_key f32.f32_convert_i64_u = 0xb5
 f32_key f32.f32_demote_f64 = 0xb6
 f32_key f32.f32_reinterpret_i32 = 0xbe
 
--- of one whose text begins with f64
+-- The key of an instruction whose text begins with f64.
 abbrev pub f64_key : F64Op → ℕ
 f64_key f64.f64_eq = 0x61
 f64_key f64.f64_ne = 0x62
@@ -369,31 +374,31 @@ f64_key f64.f64_convert_i64_u = 0xba
 f64_key f64.f64_promote_f32 = 0xbb
 f64_key f64.f64_reinterpret_i64 = 0xbf
 
--- of one whose text begins with ref
+-- The key of an instruction whose text begins with ref.
 abbrev pub ref_key : RefOp → ℕ
 ref_key ref.ref_is_null = 0xd1
 ref_key ref.ref_eq = 0xd3
 ref_key ref.ref_as_non_null = 0xd4
 ref_key ref.ref_i31 = 0xfb001c
 
--- of one whose text begins with array
+-- The key of an instruction whose text begins with array.
 abbrev pub array_key : ArrayOp → ℕ
 array_key array.array_len = 0xfb000f
 
--- of one whose text begins with any
+-- The key of an instruction whose text begins with any.
 abbrev pub any_key : AnyOp → ℕ
 any_key any.any_convert_extern = 0xfb001a
 
--- of one whose text begins with extern
+-- The key of an instruction whose text begins with extern.
 abbrev pub extern_key : ExternOp → ℕ
 extern_key extern.extern_convert_any = 0xfb001b
 
--- of one whose text begins with i31
+-- The key of an instruction whose text begins with i31.
 abbrev pub i31_key : I31Op → ℕ
 i31_key i31.i31_get_s = 0xfb001d
 i31_key i31.i31_get_u = 0xfb001e
 
--- of one whose text begins with i8x16
+-- The key of an instruction whose text begins with i8x16.
 abbrev pub i8x16_key : I8x16Op → ℕ
 i8x16_key i8x16.i8x16_swizzle = 0xfd000e
 i8x16_key i8x16.i8x16_splat = 0xfd000f
@@ -431,7 +436,7 @@ i8x16_key i8x16.i8x16_avgr_u = 0xfd007b
 i8x16_key i8x16.i8x16_relaxed_swizzle = 0xfd0100
 i8x16_key i8x16.i8x16_relaxed_laneselect = 0xfd0109
 
--- of one whose text begins with i16x8
+-- The key of an instruction whose text begins with i16x8.
 abbrev pub i16x8_key : I16x8Op → ℕ
 i16x8_key i16x8.i16x8_splat = 0xfd0010
 i16x8_key i16x8.i16x8_eq = 0xfd002d
@@ -480,7 +485,7 @@ i16x8_key i16x8.i16x8_relaxed_laneselect = 0xfd010a
 i16x8_key i16x8.i16x8_relaxed_q15mulr_s = 0xfd0111
 i16x8_key i16x8.i16x8_relaxed_dot_i8x16_i7x16_s = 0xfd0112
 
--- of one whose text begins with i32x4
+-- The key of an instruction whose text begins with i32x4.
 abbrev pub i32x4_key : I32x4Op → ℕ
 i32x4_key i32x4.i32x4_splat = 0xfd0011
 i32x4_key i32x4.i32x4_eq = 0xfd0037
@@ -529,7 +534,7 @@ i32x4_key i32x4.i32x4_relaxed_trunc_f64x2_u_zero = 0xfd0104
 i32x4_key i32x4.i32x4_relaxed_laneselect = 0xfd010b
 i32x4_key i32x4.i32x4_relaxed_dot_i8x16_i7x16_add_s = 0xfd0113
 
--- of one whose text begins with i64x2
+-- The key of an instruction whose text begins with i64x2.
 abbrev pub i64x2_key : I64x2Op → ℕ
 i64x2_key i64x2.i64x2_splat = 0xfd0012
 i64x2_key i64x2.i64x2_abs = 0xfd00c0
@@ -558,7 +563,7 @@ i64x2_key i64x2.i64x2_extmul_low_i32x4_u = 0xfd00de
 i64x2_key i64x2.i64x2_extmul_high_i32x4_u = 0xfd00df
 i64x2_key i64x2.i64x2_relaxed_laneselect = 0xfd010c
 
--- of one whose text begins with f32x4
+-- The key of an instruction whose text begins with f32x4.
 abbrev pub f32x4_key : F32x4Op → ℕ
 f32x4_key f32x4.f32x4_splat = 0xfd0013
 f32x4_key f32x4.f32x4_eq = 0xfd0041
@@ -590,7 +595,7 @@ f32x4_key f32x4.f32x4_relaxed_nmadd = 0xfd0106
 f32x4_key f32x4.f32x4_relaxed_min = 0xfd010d
 f32x4_key f32x4.f32x4_relaxed_max = 0xfd010e
 
--- of one whose text begins with f64x2
+-- The key of an instruction whose text begins with f64x2.
 abbrev pub f64x2_key : F64x2Op → ℕ
 f64x2_key f64x2.f64x2_splat = 0xfd0014
 f64x2_key f64x2.f64x2_eq = 0xfd0047
@@ -622,7 +627,7 @@ f64x2_key f64x2.f64x2_relaxed_nmadd = 0xfd0108
 f64x2_key f64x2.f64x2_relaxed_min = 0xfd010f
 f64x2_key f64x2.f64x2_relaxed_max = 0xfd0110
 
--- the key of an instruction on a lane
+-- The key of an instruction with a lane number.
 abbrev pub lane_key : LaneOp → ℕ
 lane_key lane.i8x16_extract_lane_s = 0xfd0015
 lane_key lane.i8x16_extract_lane_u = 0xfd0016
@@ -639,7 +644,7 @@ lane_key lane.f32x4_replace_lane = 0xfd0020
 lane_key lane.f64x2_extract_lane = 0xfd0021
 lane_key lane.f64x2_replace_lane = 0xfd0022
 
--- of one whose text begins with v128
+-- The key of an instruction whose text begins with v128.
 abbrev pub v128_key : V128Op → ℕ
 v128_key v128.v128_not = 0xfd004d
 v128_key v128.v128_and = 0xfd004e
@@ -649,7 +654,7 @@ v128_key v128.v128_xor = 0xfd0051
 v128_key v128.v128_bitselect = 0xfd0052
 v128_key v128.v128_any_true = 0xfd0053
 
--- the key of a load or a store of a lane
+-- The key of a load or a store of a lane.
 abbrev pub mem_lane_key : MemLaneOp → ℕ
 mem_lane_key mem_lane.v128_load8_lane = 0xfd0054
 mem_lane_key mem_lane.v128_load16_lane = 0xfd0055
@@ -660,7 +665,7 @@ mem_lane_key mem_lane.v128_store16_lane = 0xfd0059
 mem_lane_key mem_lane.v128_store32_lane = 0xfd005a
 mem_lane_key mem_lane.v128_store64_lane = 0xfd005b
 
--- the key of an instruction without immediates
+-- The key of an instruction without immediates.
 abbrev pub plain_key : Plain → ℕ
 plain_key (plain.Bare op) = bare_key op
 plain_key (plain.I32 op) = i32_key op

@@ -1,3 +1,11 @@
+-- The definitions of the binary format below sections: numbers, types and instructions.
+--
+-- - Leb128, Opcodes, Keys, Table: numbers, opcodes, and the opcode table. Codes: encodings that determine their value.
+-- - Spelling, Entities, Control, Memargs: the encodings of types, block types and memory arguments. Covered: which types the
+--   encoder supports.
+-- - PlainInstrs, IndexInstrs, ConstantInstrs, MemoryInstrs, SelectInstrs, ControlInstrs, VectorInstrs, CastInstrs: instructions
+--   by kinds of immediates. ConstExprs, Turns: constant expressions and balanced blocks.
+-- - Sinks, SinkLaws, Rooms: destinations of bytes.
 pub mod CastInstrs
 pub mod Codes
 pub mod ConstExprs

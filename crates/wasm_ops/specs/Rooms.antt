@@ -1,4 +1,7 @@
--- Bytes, and room for so many more; and the laws that they meet as a sink.
+-- Bytes with reserved memory for more, the model of `Room`, and its rules and proofs as a sink.
+--
+--   items = [7], left = 2, after appending 8:      items = [7, 8], left = 1
+--   after cutting to size 0:                       items = [],     left = 3
 use Rattle.std.proofs.Common.{◌≡◌, ◌≤◌, ◌+◌, ◌-◌, ℕ, List, [], ◌∷◌, ◌++◌, take, length, refl, sym, ap, ◌∙◌, append_assoc, arith, length-append}
 use Rattle.std.specs.Coded.{Coded, code_by, coded×, coded_list, coded_ℕ}
 use Rattle.std.proofs.lemmas.List.{append-nil, take_at}
@@ -11,21 +14,21 @@ pub record Filled : Type 0 where
   pub items : List ℕ
   pub left : ℕ
 
--- it is stored as the pair of its fields
+-- Its code is the pair of its fields.
 abbrev pub filled_code : Coded Filled
 filled_code =
     code_by (List ℕ × ℕ) (coded× (coded_list coded_ℕ) coded_ℕ)
     (λ f. (f.items, f.left)) (λ p. record { items = p.0; left = p.1 }) (λ _. refl)
 
--- the bytes stand at the end, and so much less room is left
+-- The bytes are added at the end, and their number is subtracted from `left`.
 abbrev pub appended : Filled → Filled → List ℕ → Type 0
 appended a b x = (b.items ≡ a.items ++ x) × (b.left + length x ≡ a.left)
 
--- the first bytes are left, and the room of the others is free again
+-- The first n bytes are left, and the memory of the others is available again.
 abbrev pub is_cut : Filled → ℕ → Filled → Type 0
 is_cut a n b = (b.items ≡ take n a.items) × (b.left + n ≡ a.left + length a.items)
 
--- the number's bytes stand in the place of the byte there, and the room is less by those that it has more than one
+-- The byte at that position is replaced by the bytes of a number, and all but one of them are subtracted from `left`.
 abbrev pub is_set : Filled → ℕ → ℕ → Filled → Type 0
 is_set a at n b = (b.items ≡ laws.with_number a.items at n) × (b.left + length (unsigned n) ≡ a.left + 1)
 
@@ -50,6 +53,6 @@ fits_less a m n le h = omega (arith, le, h)
 pub fits_rest : (a b : Filled) (x : List ℕ) (n : ℕ) → length x ≤ n → n ≤ a.left → appended a b x → n - length x ≤ b.left
 fits_rest a b x n le h k = omega (arith, le, h, k.1)
 
--- what there is room for fits; the rest is too large
+-- At most `left` bytes fit. More than that is too large.
 abbrev pub rules : SinkRules Filled
 rules = record { appended = appended; fits = λ a n. n ≤ a.left; size_of = λ a. length a.items; is_cut = is_cut; is_set = is_set; refusal = refusal.TooLarge }

@@ -1,4 +1,11 @@
--- Instructions: rows of one table, each with its numbers (binary format, instructions).
+-- Instructions: the opcode table, and the encoding of an instruction with its immediates (binary format:
+-- instructions).
+--
+-- An entry of the table has an opcode and the kinds of its immediates. It is one list, so that all definitions about
+-- instructions are functions of the kinds, and a new instruction adds one entry. `tools/ops` writes the list.
+--
+--   (0x07, 3, Index ∷ [])      three opcodes from 07, each with an index: catch, throw, rethrow
+--   instr (call with 3)        10 03
 use Rattle.std.specs.Prelude.{◌≡◌, ℕ, zero, suc, ◌+◌, ◌*◌, ℤ, Bool, true, false, nat_lt, Option, Some, None, List, [], ◌∷◌, ◌++◌, length, All, IsTrue}
 use Rattle.std.specs.Int.{w32, w64, to_le_bytes}
 use Rattle.std.specs.List.{flat_map}
@@ -16,7 +23,9 @@ use Rattle.wasm_ops.specs.declared.opcodes.Opcode.{Opcode}
 use Rattle.wasm_ops.specs.declared.ref_types.HeapType.{HeapType}
 use Rattle.wasm_ops.specs.declared.types.ValType.{ValType}
 
--- the kinds of immediates: an index, an integer of 32 or 64 bits, 32 or 64 bits as they are, a heap type, value types, a memory argument, a block type, labels, catch clauses, the number of a lane, sixteen lanes or bytes, whether each of two types is nullable, an ordering
+-- The kinds of immediates: an index, signed numbers, bits of floating-point numbers, a heap type, value types, a
+-- memory argument, a block type, labels, catch clauses, a lane number, sixteen bytes or lane numbers, the nullability
+-- of two types, an ordering.
 pub data Kind : Type 0 where
   Index : Kind
   Signed32 : Kind
@@ -34,12 +43,12 @@ pub data Kind : Type 0 where
   Nullables : Kind
   Order : Kind
 
--- a row: an opcode, and the kinds of immediates behind it
+-- An entry: an opcode, and the kinds of its immediates.
 pub record Row : Type 0 where
   pub opcode : Opcode
   pub kinds : List Kind
 
--- the values of an immediate of a kind
+-- The type of an immediate.
 abbrev pub Field : Kind → Type 0
 Field Index = ℕ
 Field Signed32 = ℤ
@@ -57,7 +66,7 @@ Field Lanes = List ℕ
 Field Nullables = Bool × Bool
 Field Order = Ordering
 
--- the encoding of an immediate; there are 16 lanes
+-- An immediate. There are 16 lane numbers.
 abbrev pub field : (kind : Kind) → Field kind → Encoding
 field Index n = u32 n
 field Signed32 z = within (InRangeS32 z) (signed z)
@@ -75,41 +84,41 @@ field Lanes ls = within (length ls ≡ 16) ls
 field Nullables p = fixed ((bit p.0 + 2 * bit p.1) ∷ [])
 field Order o = record { bytes = ordering_byte o ∷ []; in_range = Unit {0}; is_covered = is_covered_ordering o }
 
--- immediates of several kinds
+-- The immediates of an instruction.
 abbrev pub Fields : List Kind → Type 0
 Fields [] = Unit {0}
 Fields (kind ∷ kinds) = Field kind × Fields kinds
 
--- immediates one after another
+-- Immediates, one after another.
 abbrev pub fields : (kinds : List Kind) → Fields kinds → Encoding
 fields [] x = fixed []
 fields (kind ∷ kinds) x = seq (field kind x.0) (fields kinds x.1)
 
--- an instruction is a row with its immediates
+-- An instruction: an entry with its immediates.
 pub record Instr : Type 0 where
   pub row : Row
   pub numbers : Fields row.kinds
 
--- an instruction: its opcode, and then its immediates
+-- An instruction: its opcode, then its immediates.
 abbrev pub instr : Instr → Encoding
 instr i = respelled (λ immediates. opcode_bytes i.row.opcode ++ immediates) (fields i.row.kinds i.numbers)
 
--- instructions one after another
+-- The bytes of instructions, one after another.
 abbrev pub instrs : List Instr → List ℕ
 instrs is = flat_map (λ i. (instr i).bytes) is
 
--- rows of consecutive keys: the first key, how many, and their kinds of immediates
+-- Entries of consecutive keys: the first key, their number, and the kinds of their immediates.
 abbrev pub consecutive : ℕ → ℕ → List Kind → List Row
 consecutive key zero kinds = []
 consecutive key (suc count) kinds =
     record { opcode = opcode_of key; kinds = kinds } ∷ consecutive (key + 1) count kinds
 
--- runs of them, one after another
+-- Runs of such entries, one after another.
 abbrev pub rows_of : List (ℕ × ℕ × List Kind) → List Row
 rows_of [] = []
 rows_of (run ∷ runs) = consecutive run.0 run.1 run.2 ++ rows_of runs
 
--- the rows, in the order of their keys
+-- The opcode table, ordered by key.
 unfoldable pub table : List Row
 table = rows_of (
     -- Written by tools/ops from here.
@@ -191,35 +200,35 @@ table = rows_of (
     ∷ []
     )
 
--- the kinds of immediates behind an opcode
+-- The kinds of immediates of an opcode, if it is in the list.
 unfoldable pub kinds_of : Opcode → List Row → Option (List Kind)
 kinds_of opcode [] = None
 kinds_of opcode (r ∷ rs) =
     elim (same_opcode r.opcode opcode) [ true ↦ Some r.kinds | false ↦ kinds_of opcode rs ]
 
--- its row stands in the table
+-- The entry of an instruction is in the table.
 abbrev pub HasRow : Instr → Type 0
 HasRow i = kinds_of i.row.opcode table ≡ Some i.row.kinds
 
--- a row of the table with numbers in range, which the encoder covers
+-- A valid instruction: an entry of the table, with supported immediates in range.
 pub record IsInstr (i : Instr) : Type 0 where
   pub row : HasRow i
   pub numbers : (instr i).in_range
   pub covered : IsTrue (instr i).is_covered
 
--- the bytes spell a list of instructions
+-- The bytes are the encoding of a list of instructions.
 pub record SpellsInstrs (bytes : List ℕ) : Type 0 where
   pub list : List Instr
   pub in_range : All IsInstr list
   pub spelled : bytes ≡ instrs list
 
--- each opcode is above the one before it
+-- Each key is greater than the one before it.
 unfoldable pub ascends : ℕ → List Row → Bool
 ascends before [] = true
 ascends before (r ∷ rs) =
     elim (nat_lt before (opcode_order r.opcode + 1)) [ true ↦ ascends (opcode_order r.opcode + 1) rs | false ↦ false ]
 
--- no opcode of one byte is a prefix
+-- No opcode of one byte is a prefix byte.
 unfoldable pub all_apart : List Row → Bool
 all_apart [] = true
 all_apart (r ∷ rs) = elim (is_apart r.opcode) [ true ↦ all_apart rs | false ↦ false ]

@@ -1,4 +1,4 @@
-//! Block types, and the clauses of a block that catches exceptions.
+//! Block types, and the clauses of `try_table`.
 
 ghost use Rattle.std.specs.Prelude.{◌≡◌, true, false};
 ghost use Rattle.wasm_ops.specs.Control.{block_type, catch_clause};
@@ -8,19 +8,21 @@ use crate::leb128::push_signed;
 use crate::sink::{Refusal, Sink};
 use crate::types::ValType;
 
-/// What a block takes and gives (binary format, control instructions: block types).
+/// The type of a block: its parameters and results (binary format: control instructions).
+///
+/// For example, `(result i32)` is `7f`, and the function type at index 64 is `c0 00`.
 #[derive(Clone, Copy, Debug, PartialEq, Eq)]
 pub enum BlockType {
-    /// It takes and gives nothing.
+    /// No parameters and no results.
     Empty,
-    /// It gives one value.
+    /// No parameters and one result.
     Result(ValType),
-    /// What the function type at an index takes and gives.
+    /// The parameters and results of the function type at an index.
     FunctionType(u32),
 }
 
 impl BlockType {
-    /// Whether the encoder covers it: it has no value type, or one that is covered.
+    /// Returns whether the encoder supports it: its value type, if it has one.
     pub fn is_covered(&self) -> bool
         ensures { result ≡ (block_type self.now).is_covered }
     {
@@ -32,7 +34,7 @@ impl BlockType {
     }
 }
 
-/// An index is written as a signed number, since a number below 0 would be one of the value types.
+/// An index is encoded as a signed number, because negative numbers are the value types.
 impl Encode for BlockType {
     ghost spelling = { λ x. (block_type x).bytes };
 
@@ -49,30 +51,31 @@ impl Encode for BlockType {
     }
 }
 
-/// A clause that catches exceptions, and the label that it branches to (binary format, control instructions: catch
-/// clauses).
+/// A catch clause of `try_table`, with its label (binary format: control instructions).
+///
+/// For example, `catch_all 0` is `02 00`.
 #[derive(Clone, Copy, Debug, PartialEq, Eq)]
 pub enum Catch {
-    /// `catch`: those of a tag.
+    /// `catch`: the exceptions of a tag.
     One {
         /// The index of the tag.
         tag: u32,
         /// The label.
         label: u32,
     },
-    /// `catch_ref`: those of a tag, with a reference to the exception.
+    /// `catch_ref`: the exceptions of a tag, with a reference to the exception.
     OneRef {
         /// The index of the tag.
         tag: u32,
         /// The label.
         label: u32,
     },
-    /// `catch_all`: each one.
+    /// `catch_all`: all exceptions.
     All {
         /// The label.
         label: u32,
     },
-    /// `catch_all_ref`: each one, with a reference to it.
+    /// `catch_all_ref`: all exceptions, with a reference to the exception.
     AllRef {
         /// The label.
         label: u32,
@@ -80,7 +83,7 @@ pub enum Catch {
 }
 
 impl Catch {
-    /// Whether the encoder covers it. It covers each one.
+    /// Returns whether the encoder supports it: always.
     pub fn is_covered(&self) -> bool
         ensures { result ≡ true }
     {
@@ -88,7 +91,7 @@ impl Catch {
     }
 }
 
-/// A byte for each of the four forms, the tag where there is one, and the label.
+/// A byte for the form, then the tag if there is one, and the label.
 impl Encode for Catch {
     ghost spelling = { λ x. (catch_clause x).bytes };
 
@@ -106,17 +109,17 @@ impl Encode for Catch {
     }
 }
 
-/// What a handler of a resumption does with what is suspended (binary format, control instructions).
+/// A handler of `resume` for a tag (stack switching). The encoder supports none.
 #[derive(Clone, Copy, Debug, PartialEq, Eq)]
 pub enum Handle {
-    /// It branches to a label.
+    /// Branches to a label.
     OnLabel {
         /// The index of the tag.
         tag: u32,
         /// The label.
         label: u32,
     },
-    /// It switches to another continuation.
+    /// Switches to another continuation.
     OnSwitch {
         /// The index of the tag.
         tag: u32,
@@ -124,7 +127,7 @@ pub enum Handle {
 }
 
 impl Handle {
-    /// Whether the encoder covers it. It covers none.
+    /// Returns whether the encoder supports it: never.
     pub fn is_covered(&self) -> bool
         ensures { result ≡ false }
     {

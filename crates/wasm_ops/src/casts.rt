@@ -1,4 +1,4 @@
-//! Tests and casts of references, branches on casts, and fences.
+//! Tests and casts of references, branches on casts, and `atomic.fence`.
 
 ghost use Rattle.std.specs.Prelude.{◌≡◌, ◌&&◌};
 ghost use Rattle.wasm_ops.specs.CastInstrs.{cast_key, cast_instr, br_cast_key, br_cast_instr, fence_instr, nullables};
@@ -13,8 +13,10 @@ use crate::opcodes::Opcode;
 use crate::ref_types::RefType;
 use crate::sink::{Refusal, Sink};
 
-/// A test or a cast of a reference (binary format, reference instructions). The number of a variant is its key for
-/// references that are not null; that for others is the next one.
+/// A test or a cast of a reference (binary format: reference instructions).
+///
+/// The number of a variant is its key in the opcode table for references that are not null. The
+/// next number is the key for nullable references.
 #[derive(Clone, Copy, Debug, PartialEq, Eq)]
 pub enum CastOp {
     /// `ref.test`
@@ -24,8 +26,11 @@ pub enum CastOp {
 }
 
 impl CastOp {
-    /// The opcode that stands before the heap type, by whether a reference may be null (binary format, reference
+    /// Returns the opcode, which comes before the heap type (binary format: reference
     /// instructions).
+    ///
+    /// It depends on whether the reference type is nullable: `ref.test (ref i31)` is `fb 14 6c`,
+    /// and `ref.test (ref null i31)` is `fb 15 6c`.
     pub fn opcode(self, nullable: bool) -> Opcode
         ensures { result ≡ opcode_of (cast_key self nullable) }
     {
@@ -33,12 +38,14 @@ impl CastOp {
     }
 }
 
-/// A test or a cast of a reference to a type: `ref.test (ref i31)` (binary format, reference instructions).
+/// A test or a cast of a reference to a type (binary format: reference instructions).
+///
+/// For example, `ref.test (ref i31)` is `fb 14 6c`.
 #[derive(Clone, Copy, Debug, PartialEq, Eq)]
 pub struct CastInstr {
-    /// Which instruction it is.
+    /// The instruction.
     pub op: CastOp,
-    /// The type.
+    /// The target type.
     pub ty: RefType,
 }
 
@@ -54,7 +61,9 @@ impl Encode for CastInstr {
     }
 }
 
-/// A branch on a cast (binary format, control instructions). The number of a variant is its key.
+/// A branch on a cast (binary format: control instructions).
+///
+/// The number of a variant is its key in the opcode table.
 #[derive(Clone, Copy, Debug, PartialEq, Eq)]
 pub enum BrCastOp {
     /// `br_on_cast`
@@ -64,7 +73,7 @@ pub enum BrCastOp {
 }
 
 impl BrCastOp {
-    /// The opcode that stands before the flags (binary format, control instructions).
+    /// Returns the opcode, which comes before the flags (binary format: control instructions).
     pub fn opcode(self) -> Opcode
         ensures { result ≡ opcode_of (br_cast_key self) }
     {
@@ -72,27 +81,29 @@ impl BrCastOp {
     }
 }
 
-/// A branch on a cast from one type to another: `br_on_cast 0 anyref (ref i31)` (binary format, control instructions).
+/// A branch on a cast from one type to another (binary format: control instructions).
+///
+/// For example, `br_on_cast 0 anyref (ref i31)` is `fb 18 01 00 6e 6c`.
 #[derive(Clone, Copy, Debug, PartialEq, Eq)]
 pub struct BrCastInstr {
-    /// Which instruction it is.
+    /// The instruction.
     pub op: BrCastOp,
     /// The label.
     pub label: u32,
-    /// The type of what is cast.
+    /// The type of the operand.
     pub from: RefType,
-    /// The type that it is cast to.
+    /// The target type.
     pub to: RefType,
 }
 
-/// The byte that says of two types whether references to them may be null.
+/// Returns the byte that states which of two reference types are nullable.
 fn nullables(from: bool, to: bool) -> u8
     ensures { result ≡ nullables from to }
 {
     u8::from(from) + 2 * u8::from(to)
 }
 
-/// A byte says which of the two types are nullable; of each its heap type follows.
+/// A byte states which of the two types are nullable; the label and both heap types follow.
 impl Encode for BrCastInstr {
     ghost spelling = { λ i. (instr (br_cast_instr i.op i.label i.from i.to)).bytes };
 
@@ -107,7 +118,9 @@ impl Encode for BrCastInstr {
     }
 }
 
-/// A fence of an ordering: `atomic.fence` (binary format, atomic memory instructions).
+/// The instruction `atomic.fence` with its ordering (binary format: atomic memory instructions).
+///
+/// The sequentially consistent fence is `fe 03 00`.
 #[derive(Clone, Copy, Debug, PartialEq, Eq)]
 pub struct Fence(pub Ordering);
 

@@ -8,8 +8,16 @@ use crate::encode::{Encode, Raw};
 use crate::sink::{Refusal, Sink};
 use std::marker::Model;
 
-/// The instructions of a constant expression, without the `0b` that ends it (binary format, expressions). Contracts see
-/// it as the bytes of its instructions, which spell a list in which each block is closed.
+/// The encoded instructions of a constant expression, without the final `0b` (binary format:
+/// expressions).
+///
+/// Its model in contracts is these bytes. They are always the encoding of instructions whose blocks
+/// are all closed.
+///
+/// # Example
+///
+///     let bytes = i32_const(alloc, value)?;
+///     Ok(ConstExpr::raw(bytes))
 #[derive(Debug, Drop)]
 pub struct ConstExpr {
     bytes: Vec<u8>,
@@ -27,8 +35,13 @@ impl Model for ConstExpr {
 }
 
 impl ConstExpr {
-    /// The expression of instructions that are spelled already (binary format, instructions). It needs a spelled list
-    /// of instructions in which each block is closed, since the first `0b` outside of all blocks ends an expression.
+    /// Creates an expression from encoded instructions (binary format: instructions).
+    ///
+    /// # Requires
+    ///
+    /// The bytes are the encoding of instructions whose blocks are all closed, because the first
+    /// `0b` outside of all blocks ends an expression. The clauses of
+    /// [`InstructionSink`](crate::InstructionSink) help to show it.
     pub fn raw(bytes: Vec<u8>) -> ConstExpr
         requires { SpellsExpression bytes.items }
         ensures { result ≡ bytes.items }
@@ -36,7 +49,12 @@ impl ConstExpr {
         ConstExpr { bytes }
     }
 
-    /// Whether the encoder covers it. It covers each one, since the bytes spell instructions.
+    /// Returns whether the encoder supports it: always, because its bytes are encoded instructions.
+    ///
+    /// # Guarantees
+    ///
+    /// - `value`: the result is `true`.
+    /// - `spelled`: the bytes are the encoding of instructions whose blocks are all closed.
     pub fn is_covered(&self) -> bool
         ensures value { result ≡ true }
         ensures spelled { SpellsExpression self.now }
@@ -46,7 +64,7 @@ impl ConstExpr {
     }
 }
 
-/// The instructions, and `0b` (binary format, expressions).
+/// The instructions, then `0b` (binary format: expressions).
 impl Encode for ConstExpr {
     ghost spelling = { λ e. e ++ 0x0b ∷ [] };
 

@@ -1,4 +1,4 @@
-//! Control instructions of the binary format: blocks, what ends them, and branches by a table.
+//! Blocks, the ends of blocks, `br_table` and `try_table`.
 
 ghost use Rattle.std.specs.Prelude.{◌≡◌, ◌&&◌, true};
 ghost use Rattle.wasm_ops.specs.Control.{block_type};
@@ -12,8 +12,10 @@ use crate::encode::Encode;
 use crate::opcodes::Opcode;
 use crate::sink::{Refusal, Sink};
 
-/// An instruction that opens a block, whose one immediate is a block type (binary format, control instructions). The
-/// number of a variant is its key.
+/// An instruction that opens a block and has only a block type (binary format: control
+/// instructions).
+///
+/// The number of a variant is its key in the opcode table.
 #[derive(Clone, Copy, Debug, PartialEq, Eq)]
 pub enum BlockOp {
     /// `block`
@@ -27,7 +29,7 @@ pub enum BlockOp {
 }
 
 impl BlockOp {
-    /// The opcode that stands before the block type (binary format, control instructions).
+    /// Returns the opcode, which comes before the block type (binary format: control instructions).
     pub fn opcode(self) -> Opcode
         ensures { result ≡ opcode_of (block_key self) }
     {
@@ -35,12 +37,14 @@ impl BlockOp {
     }
 }
 
-/// An instruction that opens a block: `block (result i32)` (binary format, control instructions).
+/// An instruction that opens a block (binary format: control instructions).
+///
+/// For example, `block (result i32)` is `02 7f`.
 #[derive(Clone, Copy, Debug, PartialEq, Eq)]
 pub struct BlockInstr {
-    /// Which instruction it is.
+    /// The instruction.
     pub op: BlockOp,
-    /// What the block takes and gives.
+    /// The type of the block.
     pub ty: BlockType,
 }
 
@@ -56,8 +60,9 @@ impl Encode for BlockInstr {
     }
 }
 
-/// What stands between the two parts of an `if`, or at the end of a block (binary format, control instructions). The
-/// number of a variant is its key.
+/// `else` or `end` (binary format: control instructions).
+///
+/// The number of a variant is its key in the opcode table, which is its byte: `end` is `0b`.
 #[derive(Clone, Copy, Debug, PartialEq, Eq)]
 pub enum Delimiter {
     /// `else`
@@ -67,7 +72,7 @@ pub enum Delimiter {
 }
 
 impl Delimiter {
-    /// The opcode, which stands alone (binary format, control instructions).
+    /// Returns the opcode, which is the whole instruction (binary format: control instructions).
     pub fn opcode(self) -> Opcode
         ensures { result ≡ opcode_of (delimiter_key self) }
     {
@@ -87,12 +92,15 @@ impl Encode for Delimiter {
     }
 }
 
-/// A branch by a table, with what spells the list of its labels: `br_table 1 2 0` (binary format, control instructions).
+/// The instruction `br_table`, with an encoding of its list of labels (control instructions).
+///
+/// For example, `br_table 1 2 0` is `0e 02 01 02 00`. The list is a type parameter, because callers
+/// keep labels in other types than numbers.
 #[derive(Clone, Copy, Debug)]
 pub struct BrTable<L> {
-    /// The labels that an operand chooses from.
+    /// The labels that the operand selects from.
     pub labels: L,
-    /// The label where the operand is too large.
+    /// The label if the operand is too large.
     pub default: u32,
 }
 
@@ -108,13 +116,15 @@ impl<L: Encode> Encode for BrTable<L> {
     }
 }
 
-/// A block that catches exceptions, with what spells the list of its clauses: `try_table (catch_all 0)` (binary format,
-/// control instructions).
+/// The instruction `try_table`, with an encoding of its list of clauses (control instructions).
+///
+/// For example, `try_table (catch_all 0)` is `1f 40 01 02 00`. The list is a type parameter for the
+/// same reason as in [`BrTable`].
 #[derive(Clone, Copy, Debug)]
 pub struct TryTable<C> {
-    /// What the block takes and gives.
+    /// The type of the block.
     pub ty: BlockType,
-    /// The clauses, in their order.
+    /// The catch clauses, in order.
     pub catches: C,
 }
 

@@ -1,4 +1,7 @@
-//! What has a spelling, and how spellings are put together: pairs, lists, counts and sizes.
+//! The trait of values with a binary encoding, and the combinations of such values.
+//!
+//! Pairs are encoded one after the other. [`Each`], [`Counted`], [`WithLength`] and [`Name`] add
+//! lists, counts and lengths.
 
 ghost use Rattle.std.specs.Prelude.{◌≡◌, ℕ, Bool, length, true, ◌&&◌, List, [], ◌∷◌, ◌++◌, IsTrue, IfOk, IfErr};
 ghost use Rattle.std.specs.List.{All, flat_map, list_all};
@@ -11,27 +14,57 @@ ghost use Rattle.wasm_ops.specs.Spelling.{Any, InRangeU32, InRangeU64, vec, InRa
 use crate::sink::{Length, Refusal, Sink};
 use wast_base::Error;
 
-/// What has a spelling in the binary format.
+/// A value that has an encoding in the binary format.
+///
+/// Numbers, pairs, options and references have one, and so do the types and instructions of this
+/// crate. A caller may implement it for its own types, and combine them with [`Counted`] and
+/// [`WithLength`].
+///
+/// # Example
+///
+/// A list of three value types, after its count and its length in bytes:
+///
+///     let types = [ValType::F32, ValType::F64, ValType::V128];
+///     let list = WithLength(Counted(&types, AsItself));
+///     is_spelled(&rt, alloc, &list, &[4, 3, 0x7d, 0x7c, 0x7b]);
 pub trait Encode {
     /// Its bytes.
     ghost spelling: { Self → List ℕ };
 
-    /// Its numbers, counts and lengths are in the range that the binary format gives them.
+    /// Its numbers, counts and lengths are in the range of the binary format.
     ghost in_range: { Self → Type 0 };
 
-    /// It can be spelled: it is of a form that the encoder covers, and its indices are numbers.
+    /// Whether it can be encoded: the encoder supports its form, and its indices are numbers.
     ghost is_ready: { Self → Bool };
 
-    /// Appends the spelling. It needs a value that can be spelled.
+    /// Appends the encoding of the value, or nothing.
     ///
-    /// It refuses as the sink does, where the spelling does not fit, and as too large, where a number, count or length
-    /// is out of range; then nothing was appended.
+    /// # Example
+    ///
+    ///     let mut length = Length::new();
+    ///     assert!(rt; nested.encode(&mut length).is_ok());
+    ///
+    /// # Requires
+    ///
+    /// A value that can be encoded (`is_ready`).
+    ///
+    /// # Errors
+    ///
+    /// - The sink's error, only if the encoding does not fit.
+    /// - [`Refusal::TooLarge`], E10, only if a number, count or length is out of range.
+    ///
+    /// Nothing is appended then.
+    ///
+    /// # Guarantees
+    ///
+    /// On success the bytes are the encoding (`spelling`), and its numbers are in range
+    /// (`in_range`).
     fn encode<S: Sink>(&self, out: &mut S) -> Result<(), Refusal>
         requires { IsTrue (is_ready self.now) }
         ensures { Writes S.rules (in_range self.now) out.old out.new (spelling self.now) result };
 }
 
-/// A byte (binary format, bytes).
+/// A byte (binary format: bytes).
 impl Encode for u8 {
     ghost spelling = { λ b. b ∷ [] };
 
@@ -44,7 +77,7 @@ impl Encode for u8 {
     }
 }
 
-/// An unsigned number, as an index is, by its shortest bytes (binary format, integers: `u32`).
+/// An unsigned number, such as an index, in LEB128 (binary format: integers, `u32`).
 impl Encode for u32 {
     ghost spelling = { unsigned };
 
@@ -57,7 +90,7 @@ impl Encode for u32 {
     }
 }
 
-/// An unsigned number, by its shortest bytes (binary format, integers: `u64`).
+/// An unsigned number in LEB128 (binary format: integers, `u64`).
 impl Encode for u64 {
     ghost spelling = { unsigned };
 
@@ -70,7 +103,7 @@ impl Encode for u64 {
     }
 }
 
-/// One value after the other (binary format, grammar).
+/// One value after the other (binary format: grammar).
 impl<A: Encode, B: Encode> Encode for (A, B) {
     ghost spelling = { λ p. A.spelling p.0 ++ B.spelling p.1 };
 
@@ -89,7 +122,7 @@ impl<A: Encode, B: Encode> Encode for (A, B) {
     }
 }
 
-/// A reference is spelled as what it leads to.
+/// A reference is encoded as its target.
 impl<'a, T: Encode> Encode for &'a T {
     ghost spelling = { λ x. T.spelling x.now };
 
@@ -102,26 +135,35 @@ impl<'a, T: Encode> Encode for &'a T {
     }
 }
 
-/// A way to spell values of a type, as items of a list: by their own spelling ([`AsItself`]), or by another.
+/// A way to encode the items of a list: as themselves ([`AsItself`]), or in another form.
+///
+/// For example, `wast_core` encodes the instructions of its tree in this way, because the tree has
+/// other types than this crate.
 pub trait EncodeWith<T> {
     /// The bytes of an item.
     ghost spelling: { Self → T → List ℕ };
 
-    /// Its numbers, counts and lengths are in the range that the binary format gives them.
+    /// Its numbers, counts and lengths are in the range of the binary format.
     ghost in_range: { Self → T → Type 0 };
 
-    /// It can be spelled: it is of a form that the encoder covers, and its indices are numbers.
+    /// Whether the item can be encoded: the encoder supports its form, and its indices are numbers.
     ghost is_ready: { Self → T → Bool };
 
-    /// Appends the spelling of an item. It needs an item that can be spelled.
+    /// Appends the encoding of an item, or nothing.
     ///
-    /// It refuses as [`Encode::encode`] does; then nothing was appended.
+    /// # Requires
+    ///
+    /// An item that can be encoded (`is_ready`).
+    ///
+    /// # Errors
+    ///
+    /// As [`Encode::encode`]. Nothing is appended then.
     fn spell<S: Sink>(&self, item: &T, out: &mut S) -> Result<(), Refusal>
         requires { IsTrue (is_ready self.now item.now) }
         ensures { Writes S.rules (in_range self.now item.now) out.old out.new (spelling self.now item.now) result };
 }
 
-/// The way to spell each item by its own spelling.
+/// Encodes each item as itself.
 #[derive(Clone, Copy, Debug)]
 pub struct AsItself;
 
@@ -137,7 +179,7 @@ impl<T: Encode> EncodeWith<T> for AsItself {
     }
 }
 
-/// `EncodedBy(item, way)`: one item, spelled in that way.
+/// `EncodedBy(item, way)`: one item, encoded in that way.
 #[derive(Clone, Copy)]
 pub struct EncodedBy<'a, T, W>(pub &'a T, pub W);
 
@@ -153,7 +195,7 @@ impl<'a, T, W: EncodeWith<T>> Encode for EncodedBy<'a, T, W> {
     }
 }
 
-/// What is there, or no bytes.
+/// A value if there is one, and otherwise no bytes.
 impl<T: Encode> Encode for Option<T> {
     ghost spelling = { λ o. flat_map T.spelling (option_to_list o) };
 
@@ -169,8 +211,9 @@ impl<T: Encode> Encode for Option<T> {
     }
 }
 
-/// `Each(items, way)`: the items one after another, without their number, each spelled in that way (binary format,
-/// grammar).
+/// `Each(items, way)`: the items one after another, without a count (binary format: grammar).
+///
+/// Each item is encoded in that way: `Each(&[1u8, 2u8], AsItself)` is `01 02`.
 #[derive(Clone, Copy)]
 pub struct Each<'a, T, W>(pub &'a [T], pub W);
 
@@ -194,8 +237,15 @@ impl<'a, T, W: EncodeWith<T>> Encode for Each<'a, T, W> {
     }
 }
 
-/// `Counted(items, way)`: the number of the items, and the items, each spelled in that way (binary format, lists). From
-/// 2^32 on their number is out of range.
+/// `Counted(items, way)`: the number of items, then the items (binary format: lists).
+///
+/// Each item is encoded in that way. A number of 2^32 or more is out of range.
+///
+/// # Example
+///
+///     let types = [ValType::F32, ValType::F64, ValType::V128];
+///     let list = WithLength(Counted(&types, AsItself));
+///     is_spelled(&rt, alloc, &list, &[4, 3, 0x7d, 0x7c, 0x7b]);
 #[derive(Clone, Copy)]
 pub struct Counted<'a, T, W>(pub &'a [T], pub W);
 
@@ -214,7 +264,7 @@ impl<'a, T, W: EncodeWith<T> + Copy> Encode for Counted<'a, T, W> {
     }
 }
 
-/// Bytes as they are (binary format, bytes).
+/// Bytes, without a length (binary format: bytes).
 #[derive(Clone, Copy)]
 pub struct Raw<'a>(pub &'a [u8]);
 
@@ -230,9 +280,23 @@ impl<'a> Encode for Raw<'a> {
     }
 }
 
-/// How many bytes a value is spelled by. It needs a value that can be spelled, and takes no memory.
+/// Returns how many bytes the encoding of a value has, without encoding it. Does not allocate.
 ///
-/// It refuses as too large, where these are 2^32 or more, or a number, count or length in the value is out of range.
+/// For example, it returns 3 for the name `ab`: a length and two bytes.
+///
+/// # Requires
+///
+/// A value that can be encoded (`is_ready`).
+///
+/// # Errors
+///
+/// [`Refusal::TooLarge`], E10, only if the encoding has 2^32 bytes or more, or a number, count or
+/// length in the value is out of range.
+///
+/// # Guarantees
+///
+/// - `ok`: the result is the length of the encoding, and the numbers of the value are in range.
+/// - `err`: the error is the one above, and its reason is one of these.
 pub fn length_of<T: Encode>(value: &T) -> Result<u32, Refusal>
     requires { IsTrue (T.is_ready value.now) }
     ensures ok { IfOk result (λ n. (n ≡ length (T.spelling value.now)) × T.in_range value.now) }
@@ -246,13 +310,23 @@ pub fn length_of<T: Encode>(value: &T) -> Result<u32, Refusal>
     }
 }
 
-/// A value behind the number of its bytes, as in a section or a body (binary format, sections). From 2^32 on that
-/// number is out of range.
+/// A value after the number of its bytes, as in a section or a body (binary format: sections).
+///
+/// A number of bytes of 2^32 or more is out of range.
+///
+/// # Example
+///
+///     let nested = WithLength(WithLength(WithLength(Raw(&bytes))));
+///     let mut length = Length::new();
+///     assert!(rt; nested.encode(&mut length).is_ok());
 #[derive(Clone, Copy)]
 pub struct WithLength<T>(pub T);
 
-/// Appends the length of a value, and the value; a sink that skips is told the length alone. It needs the length of the
-/// value, which can be spelled and is in range.
+/// Appends a length and the value. A sink that can skip only counts the value.
+///
+/// # Requires
+///
+/// The length of the value, which can be encoded and is in range.
 fn put_sized<T: Encode, S: Sink>(out: &mut S, size: u64, value: &T) -> Result<(), Refusal>
     requires ready { IsTrue (T.is_ready value.now) }
     requires range { T.in_range value.now }
@@ -271,9 +345,9 @@ fn put_sized<T: Encode, S: Sink>(out: &mut S, size: u64, value: &T) -> Result<()
     second
 }
 
-/// Counts the length of a value, and then appends the length and the value, for a sink that cannot set a number. It
-/// needs a value that can be spelled. Counting walks the value once, so that what is inside d lengths is walked d + 1
-/// times.
+/// Counts the length of a value, then appends both, for a sink that cannot replace bytes.
+///
+/// Counting encodes the value once more, so a value inside d lengths is encoded d + 1 times.
 fn put_counted<T: Encode, S: Sink>(out: &mut S, value: &T) -> Result<(), Refusal>
     requires { IsTrue (T.is_ready value.now) }
     ensures { Writes S.rules (InRangeSized T.in_range T.spelling value.now) out.old out.new (length_prefixed T.spelling value.now) result }
@@ -290,11 +364,11 @@ impl<T: Encode> Encode for WithLength<T> {
     ghost is_ready = { λ s. T.is_ready s.0 };
 
     fn encode<S: Sink>(&self, out: &mut S) -> Result<(), Refusal> {
-        // A byte keeps the place of the length, which is known once the value was put.
+        // One byte reserves the position of the length, which is known after the value is written.
         let start = out.size();
         out.push_bytes(&[0])?;
-        // A sink that cannot set a number says so here, before the value is put: otherwise each level would put its
-        // value twice, and d levels 2^d times.
+        // A sink that cannot replace bytes returns false here, before the value is written.
+        // Otherwise each level would write its value twice, and d levels 2^d times.
         if !out.set_number(start, 0) {
             out.cut(start);
             return put_counted(out, &self.0);
@@ -317,8 +391,9 @@ impl<T: Encode> Encode for WithLength<T> {
     }
 }
 
-/// A text as a name: the number of its bytes, and its bytes (binary format, names). From 2^32 on that number is out of
-/// range.
+/// A text as a name: the number of its bytes, then its bytes (binary format: names).
+///
+/// A number of bytes of 2^32 or more is out of range. For example, `Name("f")` is `01 66`.
 #[derive(Clone, Copy)]
 pub struct Name<'a>(pub &'a str);
 
@@ -338,10 +413,18 @@ impl<'a> Encode for Name<'a> {
     }
 }
 
-/// Appends a name: the number of its bytes, and its bytes (binary format, names).
+/// Appends a name: the number of its bytes, then its bytes (binary format: names).
 ///
-/// The errors are the sink's refusal, where the name does not fit, and too large, E10, where it has 2^32 bytes or more;
-/// then nothing was appended.
+/// # Example
+///
+///     write_name(out, "f")?;      // 01 66
+///
+/// # Errors
+///
+/// - The sink's error, only if the name does not fit.
+/// - E10, only if the name has 2^32 bytes or more.
+///
+/// Nothing is appended then.
 pub fn write_name<'e, S: Sink>(out: &mut S, text: &str) -> Result<(), Error<'e>>
     ensures { Puts S.rules (InRangeName text.now) out.old out.new (name text.now) result }
 {

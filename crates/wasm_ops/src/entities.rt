@@ -1,4 +1,4 @@
-//! The types of tables, memories, globals and tags, and of what is imported.
+//! The types of tables, memories, globals, tags and imports.
 
 ghost use Rattle.std.specs.Prelude.{◌≡◌, true};
 ghost use Rattle.wasm_ops.specs.Entities.{limits_flags, limits, entity_type, global_type, memory_type, table_type, tag_type};
@@ -8,14 +8,14 @@ use crate::ref_types::RefType;
 use crate::sink::{Refusal, Sink};
 use crate::types::ValType;
 
-/// The byte that says what limits are, by what each of its bits says (binary format, limits).
+/// Returns the first byte of limits, from its four flags (binary format: limits).
 fn limits_flags(maximum: bool, shared: bool, wide: bool, page: bool) -> u8
     ensures { result ≡ limits_flags maximum shared wide page }
 {
     u8::from(maximum) + 2 * u8::from(shared) + 4 * u8::from(wide) + 8 * u8::from(page)
 }
 
-/// The size of a table or a memory (binary format, limits).
+/// The size of a table or a memory (binary format: limits).
 #[derive(Clone, Copy)]
 struct Limits {
     shared: bool,
@@ -43,23 +43,25 @@ impl Encode for Limits {
     }
 }
 
-/// A table type (binary format, table types).
+/// A table type (binary format: table types).
+///
+/// For example, `(table 1 funcref)` has the type `70 00 01`.
 #[derive(Clone, Copy, Debug, PartialEq, Eq)]
 pub struct TableType {
-    /// The type of its elements.
+    /// The type of the elements.
     pub element_type: RefType,
-    /// The least number of elements.
+    /// The minimum number of elements.
     pub minimum: u64,
-    /// The greatest number of elements.
+    /// The maximum number of elements.
     pub maximum: Option<u64>,
-    /// Whether indices have 64 bits.
+    /// Whether indices into it have 64 bits.
     pub table64: bool,
     /// Whether it is shared.
     pub shared: bool,
 }
 
 impl TableType {
-    /// Whether the encoder covers it: it is not shared, and the encoder covers the type of its elements.
+    /// Returns whether the encoder supports it: an unshared table with a supported element type.
     pub fn is_covered(&self) -> bool
         ensures { result ≡ (table_type self.now).is_covered }
     {
@@ -86,23 +88,26 @@ impl Encode for TableType {
     }
 }
 
-/// A memory type (binary format, memory types).
+/// A memory type (binary format: memory types).
+///
+/// For example, `(memory 1 2)` has the type `01 01 02`.
 #[derive(Clone, Copy, Debug, PartialEq, Eq)]
 pub struct MemoryType {
-    /// The least number of pages.
+    /// The minimum number of pages.
     pub minimum: u64,
-    /// The greatest number of pages.
+    /// The maximum number of pages.
     pub maximum: Option<u64>,
-    /// Whether indices have 64 bits.
+    /// Whether addresses have 64 bits.
     pub memory64: bool,
     /// Whether it is shared.
     pub shared: bool,
-    /// The size of a page is 2 to this; where none stands, a page has 65,536 bytes (custom page sizes).
+    /// The binary logarithm of the page size; without it, a page has 65,536 bytes (custom page
+    /// sizes).
     pub page_size_log2: Option<u32>,
 }
 
 impl MemoryType {
-    /// Whether the encoder covers it. It covers each one, and writes a page size as it is.
+    /// Returns whether the encoder supports it: always. It writes the page size unchecked.
     pub fn is_covered(&self) -> bool
         ensures { result ≡ (memory_type self.now).is_covered }
     {
@@ -129,19 +134,21 @@ impl Encode for MemoryType {
     }
 }
 
-/// A global type (binary format, global types).
+/// A global type (binary format: global types).
+///
+/// For example, `(mut i32)` is `7f 01`.
 #[derive(Clone, Copy, Debug, PartialEq, Eq)]
 pub struct GlobalType {
-    /// The type of its value.
+    /// The type of the value.
     pub val_type: ValType,
-    /// Whether it can be changed.
+    /// Whether the global is mutable.
     pub mutable: bool,
     /// Whether it is shared.
     pub shared: bool,
 }
 
 impl GlobalType {
-    /// Whether the encoder covers it: it is not shared, and the encoder covers the type of its value.
+    /// Returns whether the encoder supports it: an unshared global with a supported value type.
     pub fn is_covered(&self) -> bool
         ensures { result ≡ (global_type self.now).is_covered }
     {
@@ -161,15 +168,17 @@ impl Encode for GlobalType {
     }
 }
 
-/// A tag type, that of an exception (binary format, tag types).
+/// A tag type (binary format: tag types).
+///
+/// For example, a tag with function type 5 is `00 05`.
 #[derive(Clone, Copy, Debug, PartialEq, Eq)]
 pub struct TagType {
-    /// The function type whose parameters are what the exception carries.
+    /// The index of a function type, whose parameters are the values of the exception.
     pub func_type_idx: u32,
 }
 
 impl TagType {
-    /// Whether the encoder covers it. It covers each one.
+    /// Returns whether the encoder supports it: always.
     pub fn is_covered(&self) -> bool
         ensures { result ≡ (tag_type self.now).is_covered }
     {
@@ -189,12 +198,14 @@ impl Encode for TagType {
     }
 }
 
-/// The type of what is imported (binary format, external types).
+/// The type of an import (binary format: external types).
+///
+/// For example, a function with type 2 is `00 02`.
 #[derive(Clone, Copy, Debug, PartialEq, Eq)]
 pub enum EntityType {
-    /// A function of the type at an index, or of one below it.
+    /// A function of the type at an index, or of a subtype.
     Function(u32),
-    /// A function of the type at an index alone.
+    /// A function of the type at an index, and of no subtype.
     FunctionExact(u32),
     /// A table.
     Table(TableType),
@@ -207,7 +218,8 @@ pub enum EntityType {
 }
 
 impl EntityType {
-    /// Whether the encoder covers it: it is no exact function, and the encoder covers the type that stands in it.
+    /// Returns whether the encoder supports it: a supported type inside, and never an exact
+    /// function.
     pub fn is_covered(&self) -> bool
         ensures { result ≡ (entity_type self.now).is_covered }
     {

@@ -1,4 +1,4 @@
-//! A sink of instructions of the binary format.
+//! Writes instructions to a sink, with one method for each kind of immediates.
 
 ghost use Rattle.std.specs.List.{list_all};
 ghost use Rattle.std.specs.Option.{option_map, option_to_list};
@@ -33,7 +33,8 @@ use crate::types::ValType;
 use crate::vectors::{LaneInstr, LanesInstr, LanesOp, MemLaneInstr};
 use wast_base::{Error, IndexOp, IndexPairOp, LaneOp, MemLaneOp, MemOp, Plain};
 
-/// The choice between two operands, with value types or without (binary format, parametric instructions).
+/// The instruction `select` with a slice of types, or without (binary format: parametric
+/// instructions).
 #[derive(Clone, Copy)]
 struct TypedSelect<'a>(Option<&'a [ValType]>);
 
@@ -52,7 +53,7 @@ impl<'a> Encode for TypedSelect<'a> {
     }
 }
 
-/// A branch by a table, with its labels (binary format, control instructions).
+/// The instruction `br_table` with a slice of labels (binary format: control instructions).
 #[derive(Clone, Copy)]
 struct LabelTable<'a>(&'a [u32], u32);
 
@@ -72,7 +73,7 @@ impl<'a> Encode for LabelTable<'a> {
     }
 }
 
-/// A block that catches exceptions, with its type and its clauses (binary format, control instructions).
+/// The instruction `try_table` with a slice of clauses (binary format: control instructions).
 #[derive(Clone, Copy)]
 struct CatchTable<'a>(BlockType, &'a [Catch]);
 
@@ -92,15 +93,37 @@ impl<'a> Encode for CatchTable<'a> {
     }
 }
 
-/// Appends instructions to a sink (binary format, instructions).
+/// Appends instructions to a sink (binary format: instructions).
+///
+/// There is one method for each kind of immediates. Each appends the encoding of one instruction,
+/// or nothing.
+///
+/// # Example
+///
+///     let mut sink = InstructionSink::new(&mut bytes);
+///     sink.index(IndexOp::LocalGet, 0)?;
+///     sink.index(IndexOp::LocalGet, 1)?;
+///     sink.plain(Plain::I32(I32Op::i32_add))?;
+///     Ok(bytes)
+///
+/// # Errors
+///
+/// Each method returns the sink's error, only if the bytes do not fit. `select`, `br_table` and
+/// `try_table` also return E10, only if the list has 2^32 items or more. Nothing is appended then.
+///
+/// # Guarantees
+///
+/// - `appended`: on success the bytes are those of the instruction (`instr`), and it is an entry of
+///   the opcode table with supported immediates in range (`IsInstr`).
+/// - `same`: the sink is still the one that [`InstructionSink::new`] borrowed.
 #[derive(Drop)]
 pub struct InstructionSink<'s, S> {
-    /// Where the instructions are appended.
+    /// The sink that the instructions are appended to.
     pub out: &'s mut S,
 }
 
 impl<'s, S: Sink> InstructionSink<'s, S> {
-    /// What appends instructions to this sink. It changes nothing yet.
+    /// Creates a writer of instructions for a sink, and leaves the sink unchanged.
     pub fn new(out: &'s mut S) -> InstructionSink<'s, S>
         ensures same { result.out.ghost_name ≡ out.entry.ghost_name }
         ensures unchanged { result.out.now ≡ out.old }
@@ -108,10 +131,11 @@ impl<'s, S: Sink> InstructionSink<'s, S> {
         InstructionSink { out }
     }
 
-    /// Appends an instruction without immediates: `drop` (binary format, instructions).
+    /// Appends an instruction without immediates (binary format: instructions).
     ///
-    /// It appends the spelling of that row of the table. The only error is the sink's refusal; then nothing was
-    /// appended.
+    /// # Example
+    ///
+    ///     sink.plain(Plain::Bare(BareOp::drop))?;     // 1a
     pub fn plain<'e>(&mut self, op: Plain) -> Result<(), Error<'e>>
         ensures appended { Puts S.rules (IsInstr (plain_instr op)) self.old.out.now self.new.out.now
             (instr (plain_instr op)).bytes result }
@@ -120,10 +144,11 @@ impl<'s, S: Sink> InstructionSink<'s, S> {
         Ok(op.encode(self.out)?)
     }
 
-    /// Appends an instruction with an index: `call 3` (binary format, instructions).
+    /// Appends an instruction with an index (binary format: instructions).
     ///
-    /// It appends the spelling of that row of the table. The only error is the sink's refusal; then nothing was
-    /// appended.
+    /// # Example
+    ///
+    ///     sink.index(IndexOp::Call, 300)?;        // 10 ac 02
     pub fn index<'e>(&mut self, op: IndexOp, index: u32) -> Result<(), Error<'e>>
         ensures appended { Puts S.rules (IsInstr (index_instr op index)) self.old.out.now self.new.out.now
             (instr (index_instr op index)).bytes result }
@@ -132,10 +157,11 @@ impl<'s, S: Sink> InstructionSink<'s, S> {
         Ok(IndexInstr { op, index }.encode(self.out)?)
     }
 
-    /// Appends a constant of 32 bits: `i32.const -1` (binary format, instructions).
+    /// Appends `i32.const` (binary format: instructions).
     ///
-    /// It appends the spelling of that row of the table. The only error is the sink's refusal; then nothing was
-    /// appended.
+    /// # Example
+    ///
+    ///     sink.i32_const(64)?;        // 41 c0 00
     pub fn i32_const<'e>(&mut self, value: i32) -> Result<(), Error<'e>>
         ensures appended { Puts S.rules (IsInstr (i32_const_instr value)) self.old.out.now self.new.out.now
             (instr (i32_const_instr value)).bytes result }
@@ -144,10 +170,11 @@ impl<'s, S: Sink> InstructionSink<'s, S> {
         Ok(I32Const(value).encode(self.out)?)
     }
 
-    /// Appends a constant of 64 bits: `i64.const -1` (binary format, instructions).
+    /// Appends `i64.const` (binary format: instructions).
     ///
-    /// It appends the spelling of that row of the table. The only error is the sink's refusal; then nothing was
-    /// appended.
+    /// # Example
+    ///
+    ///     sink.i64_const(-1)?;        // 42 7f
     pub fn i64_const<'e>(&mut self, value: i64) -> Result<(), Error<'e>>
         ensures appended { Puts S.rules (IsInstr (i64_const_instr value)) self.old.out.now self.new.out.now
             (instr (i64_const_instr value)).bytes result }
@@ -156,11 +183,15 @@ impl<'s, S: Sink> InstructionSink<'s, S> {
         Ok(I64Const(value).encode(self.out)?)
     }
 
-    /// Appends a null reference of a heap type: `ref.null func` (binary format, instructions). It needs a covered heap
-    /// type.
+    /// Appends `ref.null` (binary format: instructions).
     ///
-    /// It appends the spelling of that row of the table. The only error is the sink's refusal; then nothing was
-    /// appended.
+    /// # Example
+    ///
+    ///     sink.ref_null(HeapType::Concrete(64))       // d0 c0 00
+    ///
+    /// # Requires
+    ///
+    /// A supported heap type ([`HeapType::is_covered`]).
     pub fn ref_null<'e>(&mut self, heap_type: HeapType) -> Result<(), Error<'e>>
         requires { IsTrue (encodings.heap_type heap_type).is_covered }
         ensures appended { Puts S.rules (IsInstr (ref_null_instr heap_type)) self.old.out.now self.new.out.now
@@ -170,10 +201,11 @@ impl<'s, S: Sink> InstructionSink<'s, S> {
         Ok(RefNull(heap_type).encode(self.out)?)
     }
 
-    /// Appends an instruction with two indices, in this order: `memory.copy 1 2` (binary format, instructions).
+    /// Appends an instruction with two indices, in this order (binary format: instructions).
     ///
-    /// It appends the spelling of that row of the table. The only error is the sink's refusal; then nothing was
-    /// appended.
+    /// # Example
+    ///
+    ///     sink.index_pair(IndexPairOp::MemoryCopy, 3, 4)?;        // fc 0a 03 04
     pub fn index_pair<'e>(
         &mut self,
         op: IndexPairOp,
@@ -187,11 +219,14 @@ impl<'s, S: Sink> InstructionSink<'s, S> {
         Ok(IndexPair { op, first, second }.encode(self.out)?)
     }
 
-    /// Appends an instruction with a memory argument: `i32.load offset=4` (binary format, memory instructions). It needs
-    /// an alignment whose logarithm is below 64, and a memory argument that is covered.
+    /// Appends an instruction with a memory argument (binary format: memory instructions).
     ///
-    /// It appends the spelling of that row of the table. The only error is the sink's refusal; then nothing was
-    /// appended.
+    /// For example, `i32.load offset=4` is `28 02 04`.
+    ///
+    /// # Requires
+    ///
+    /// - `aligned`: the logarithm of the alignment is below 64 ([`MemArg::is_aligned`]).
+    /// - `covered`: a supported memory argument ([`MemArg::is_covered`]).
     pub fn mem<'e>(&mut self, op: MemOp, memarg: MemArg) -> Result<(), Error<'e>>
         requires aligned { IsTrue (is_aligned memarg) }
         requires covered { IsTrue (memargs.memarg memarg).is_covered }
@@ -202,11 +237,13 @@ impl<'s, S: Sink> InstructionSink<'s, S> {
         Ok(MemInstr { op, memarg }.encode(self.out)?)
     }
 
-    /// Appends a constant of 32 bits, by the number of its bits: 1065353216 of `f32.const 1` (binary format,
-    /// instructions).
+    /// Appends `f32.const`, with its bits as a number (binary format: instructions).
     ///
-    /// It appends the spelling of that row of the table. The only error is the sink's refusal; then nothing was
-    /// appended.
+    /// # Example
+    ///
+    /// The number 1:
+    ///
+    ///     sink.f32_const(1065353216)?;        // 43 00 00 80 3f
     pub fn f32_const<'e>(&mut self, bits: u32) -> Result<(), Error<'e>>
         ensures appended { Puts S.rules (IsInstr (f32_const_instr bits)) self.old.out.now self.new.out.now
             (instr (f32_const_instr bits)).bytes result }
@@ -215,10 +252,13 @@ impl<'s, S: Sink> InstructionSink<'s, S> {
         Ok(F32Const(bits).encode(self.out)?)
     }
 
-    /// Appends a constant of 64 bits, by the number of its bits: 0 of `f64.const 0` (binary format, instructions).
+    /// Appends `f64.const`, with its bits as a number (binary format: instructions).
     ///
-    /// It appends the spelling of that row of the table. The only error is the sink's refusal; then nothing was
-    /// appended.
+    /// # Example
+    ///
+    /// The number 1:
+    ///
+    ///     sink.f64_const(4607182418800017408)?;       // 44 00 00 00 00 00 00 f0 3f
     pub fn f64_const<'e>(&mut self, bits: u64) -> Result<(), Error<'e>>
         ensures appended { Puts S.rules (IsInstr (f64_const_instr bits)) self.old.out.now self.new.out.now
             (instr (f64_const_instr bits)).bytes result }
@@ -227,11 +267,15 @@ impl<'s, S: Sink> InstructionSink<'s, S> {
         Ok(F64Const(bits).encode(self.out)?)
     }
 
-    /// Appends the choice between two operands, with types or without: `select (result i32)` (binary format, parametric
-    /// instructions). It needs covered types.
+    /// Appends `select`, with types or without (binary format: parametric instructions).
     ///
-    /// It appends the spelling of that row of the table. The errors are the sink's refusal, and E10 from 2^32 types on;
-    /// then nothing was appended.
+    /// # Example
+    ///
+    ///     sink.select(Some(&[ValType::I32, ValType::F64]))        // 1c 02 7f 7c
+    ///
+    /// # Requires
+    ///
+    /// Supported types ([`ValType::is_covered`]).
     pub fn select<'e>(&mut self, types: Option<&[ValType]>) -> Result<(), Error<'e>>
         requires { IsTrue (list_all (λ list. list_all (λ x. (val_type x).is_covered) list.now) (option_to_list types)) }
         ensures appended { Puts S.rules (IsInstr (select_instr (option_map (λ list. list.now) types.entry)))
@@ -242,11 +286,15 @@ impl<'s, S: Sink> InstructionSink<'s, S> {
         Ok(TypedSelect(types).encode(self.out)?)
     }
 
-    /// Appends an instruction that opens a block: `block (result i32)` (binary format, control instructions). It needs
-    /// a covered type.
+    /// Appends an instruction that opens a block (binary format: control instructions).
     ///
-    /// It appends the spelling of that row of the table. The only error is the sink's refusal; then nothing was
-    /// appended.
+    /// # Example
+    ///
+    ///     sink.block(BlockOp::Block, BlockType::Result(ValType::I32))?;       // 02 7f
+    ///
+    /// # Requires
+    ///
+    /// A supported block type ([`BlockType::is_covered`]).
     pub fn block<'e>(&mut self, op: BlockOp, ty: BlockType) -> Result<(), Error<'e>>
         requires { IsTrue (block_type ty).is_covered }
         ensures appended { Puts S.rules (IsInstr (block_instr op ty)) self.old.out.now self.new.out.now
@@ -256,11 +304,11 @@ impl<'s, S: Sink> InstructionSink<'s, S> {
         Ok(BlockInstr { op, ty }.encode(self.out)?)
     }
 
-    /// Appends what stands between the two parts of an `if`, or at the end of a block: `end` (binary format, control
-    /// instructions).
+    /// Appends `else` or `end` (binary format: control instructions).
     ///
-    /// It appends the spelling of that row of the table. The only error is the sink's refusal; then nothing was
-    /// appended.
+    /// # Example
+    ///
+    ///     sink.delimiter(Delimiter::Else)?;       // 05
     pub fn delimiter<'e>(&mut self, op: Delimiter) -> Result<(), Error<'e>>
         ensures appended { Puts S.rules (IsInstr (delimiter_instr op)) self.old.out.now self.new.out.now
             (instr (delimiter_instr op)).bytes result }
@@ -269,11 +317,12 @@ impl<'s, S: Sink> InstructionSink<'s, S> {
         Ok(op.encode(self.out)?)
     }
 
-    /// Appends a branch by a table, with the label where the operand is too large: `br_table 1 2 0` (binary format,
-    /// control instructions).
+    /// Appends `br_table` with its labels and its default label (binary format: control
+    /// instructions).
     ///
-    /// It appends the spelling of that row of the table. The errors are the sink's refusal, and E10 from 2^32 labels on;
-    /// then nothing was appended.
+    /// # Example
+    ///
+    ///     sink.br_table(&[1, 2], 0)?;     // 0e 02 01 02 00
     pub fn br_table<'e>(&mut self, labels: &[u32], default: u32) -> Result<(), Error<'e>>
         ensures appended { Puts S.rules (IsInstr (br_table_instr labels.now default)) self.old.out.now
             self.new.out.now (instr (br_table_instr labels.now default)).bytes result }
@@ -282,11 +331,13 @@ impl<'s, S: Sink> InstructionSink<'s, S> {
         Ok(LabelTable(labels, default).encode(self.out)?)
     }
 
-    /// Appends a block that catches exceptions: `try_table (catch_all 0)` (binary format, control instructions). It
-    /// needs a covered type.
+    /// Appends `try_table` with its clauses (binary format: control instructions).
     ///
-    /// It appends the spelling of that row of the table. The errors are the sink's refusal, and E10 from 2^32 clauses
-    /// on; then nothing was appended.
+    /// For example, `try_table (catch_all 0)` is `1f 40 01 02 00`.
+    ///
+    /// # Requires
+    ///
+    /// A supported block type ([`BlockType::is_covered`]).
     pub fn try_table<'e>(&mut self, ty: BlockType, catches: &[Catch]) -> Result<(), Error<'e>>
         requires { IsTrue (block_type ty).is_covered }
         ensures appended { Puts S.rules (IsInstr (try_table_instr ty catches.now)) self.old.out.now
@@ -296,11 +347,16 @@ impl<'s, S: Sink> InstructionSink<'s, S> {
         Ok(CatchTable(ty, catches).encode(self.out)?)
     }
 
-    /// Appends an instruction with sixteen bytes: those of a vector, the lowest first, of `v128.const`, and the numbers of
-    /// lanes of `i8x16.shuffle` (binary format, vector instructions).
+    /// Appends an instruction with sixteen bytes (binary format: vector instructions).
     ///
-    /// It appends the spelling of that row of the table. The only error is the sink's refusal; then nothing was
-    /// appended.
+    /// The bytes of `v128.const` are those of the vector, the lowest first. Those of
+    /// `i8x16.shuffle` are lane numbers.
+    ///
+    /// # Example
+    ///
+    ///     let lanes = [0, 1, 2, 3, 4, 5, 6, 7, 8, 9, 10, 11, 12, 13, 14, 255];
+    ///     let mut sink = InstructionSink::new(out);
+    ///     sink.lanes(LanesOp::Const, lanes)?;
     pub fn lanes<'e>(&mut self, op: LanesOp, lanes: [u8; 16]) -> Result<(), Error<'e>>
         ensures appended { Puts S.rules (IsInstr (lanes_instr op lanes)) self.old.out.now self.new.out.now
             (instr (lanes_instr op lanes)).bytes result }
@@ -309,10 +365,9 @@ impl<'s, S: Sink> InstructionSink<'s, S> {
         Ok(LanesInstr { op, lanes }.encode(self.out)?)
     }
 
-    /// Appends an instruction with the number of a lane: `i8x16.extract_lane_s 3` (binary format, vector instructions).
+    /// Appends an instruction with a lane number (binary format: vector instructions).
     ///
-    /// It appends the spelling of that row of the table. The only error is the sink's refusal; then nothing was
-    /// appended.
+    /// For example, `i8x16.extract_lane_s 3` is `fd 15 03`.
     pub fn lane<'e>(&mut self, op: LaneOp, lane: u8) -> Result<(), Error<'e>>
         ensures appended { Puts S.rules (IsInstr (lane_instr op lane)) self.old.out.now self.new.out.now
             (instr (lane_instr op lane)).bytes result }
@@ -321,11 +376,14 @@ impl<'s, S: Sink> InstructionSink<'s, S> {
         Ok(LaneInstr { op, lane }.encode(self.out)?)
     }
 
-    /// Appends a load or a store of a lane: `v128.load8_lane offset=4 3` (binary format, vector instructions). It needs an
-    /// alignment whose logarithm is below 64, and a memory argument that is covered.
+    /// Appends a load or a store of a lane (binary format: vector instructions).
     ///
-    /// It appends the spelling of that row of the table. The only error is the sink's refusal; then nothing was
-    /// appended.
+    /// For example, `v128.load8_lane offset=4 3` is `fd 54 00 04 03`.
+    ///
+    /// # Requires
+    ///
+    /// - `aligned`: the logarithm of the alignment is below 64 ([`MemArg::is_aligned`]).
+    /// - `covered`: a supported memory argument ([`MemArg::is_covered`]).
     pub fn mem_lane<'e>(&mut self, op: MemLaneOp, memarg: MemArg, lane: u8) -> Result<(), Error<'e>>
         requires aligned { IsTrue (is_aligned memarg) }
         requires covered { IsTrue (memargs.memarg memarg).is_covered }
@@ -336,11 +394,15 @@ impl<'s, S: Sink> InstructionSink<'s, S> {
         Ok(MemLaneInstr { op, memarg, lane }.encode(self.out)?)
     }
 
-    /// Appends a test or a cast of a reference: `ref.test (ref i31)` (binary format, reference instructions). It needs a
-    /// covered type.
+    /// Appends `ref.test` or `ref.cast` (binary format: reference instructions).
     ///
-    /// It appends the spelling of that row of the table. The only error is the sink's refusal; then nothing was
-    /// appended.
+    /// # Example
+    ///
+    ///     sink.cast(CastOp::Test, reference(false, i31))?;        // fb 14 6c
+    ///
+    /// # Requires
+    ///
+    /// A supported reference type ([`RefType::is_covered`]).
     pub fn cast<'e>(&mut self, op: CastOp, ty: RefType) -> Result<(), Error<'e>>
         requires { IsTrue (ref_type ty).is_covered }
         ensures appended { Puts S.rules (IsInstr (cast_instr op ty)) self.old.out.now self.new.out.now
@@ -350,11 +412,16 @@ impl<'s, S: Sink> InstructionSink<'s, S> {
         Ok(CastInstr { op, ty }.encode(self.out)?)
     }
 
-    /// Appends a branch on a cast from one type to another: `br_on_cast 0 anyref (ref i31)` (binary format, control
-    /// instructions). It needs covered types.
+    /// Appends a branch on a cast from one type to another (binary format: control instructions).
     ///
-    /// It appends the spelling of that row of the table. The only error is the sink's refusal; then nothing was
-    /// appended.
+    /// # Example
+    ///
+    ///     let target = reference(true, HeapType::Concrete(3));
+    ///     sink.br_cast(BrCastOp::Succeeds, 128, reference(false, i31), target)?;  // fb 18 02 80 01 6c 03
+    ///
+    /// # Requires
+    ///
+    /// Supported reference types (`from`, `to`).
     pub fn br_cast<'e>(
         &mut self,
         op: BrCastOp,
@@ -377,10 +444,15 @@ impl<'s, S: Sink> InstructionSink<'s, S> {
         .encode(self.out)?)
     }
 
-    /// Appends a fence: `atomic.fence` (binary format, atomic memory instructions). It needs an ordering that is covered.
+    /// Appends `atomic.fence` (binary format: atomic memory instructions).
     ///
-    /// It appends the spelling of that row of the table. The only error is the sink's refusal; then nothing was
-    /// appended.
+    /// # Example
+    ///
+    ///     sink.fence(Ordering::SeqCst)        // fe 03 00
+    ///
+    /// # Requires
+    ///
+    /// A supported ordering ([`Ordering::is_covered`]).
     pub fn fence<'e>(&mut self, ordering: Ordering) -> Result<(), Error<'e>>
         requires { IsTrue (is_covered_ordering ordering) }
         ensures appended { Puts S.rules (IsInstr (fence_instr ordering)) self.old.out.now self.new.out.now

@@ -1,4 +1,4 @@
-//! Instructions of the binary format.
+//! Instructions without immediates, and with indices, constants, memory arguments or types.
 
 ghost use Rattle.std.specs.List.{All, list_all};
 ghost use Rattle.std.specs.Option.{option_map, option_to_list};
@@ -22,12 +22,14 @@ use crate::ref_types::HeapType;
 use crate::sink::{Refusal, Sink};
 use wast_base::{IndexOp, IndexPairOp, MemOp, Plain};
 
-/// An instruction by the opcode that comes before its immediates (binary format, instructions).
+/// An instruction class whose values have an opcode (binary format: instructions).
+///
+/// For example, the opcode of `IndexOp::Call` is the byte `10`.
 pub trait HasOpcode {
     /// The key of the opcode.
     ghost key: { Self → ℕ };
 
-    /// The opcode. It takes no memory.
+    /// Returns the opcode. Does not allocate.
     fn opcode(&self) -> Opcode
         ensures { result ≡ opcode_of (key self.now) };
 }
@@ -49,10 +51,19 @@ impl HasOpcode for IndexPairOp {
     }
 }
 
-/// An instruction with an index: `call 3` (binary format, instructions).
+/// An instruction with an index (binary format: instructions).
+///
+/// For example, `call 3` is `10 03`.
+///
+/// # Example
+///
+///     let call = IndexInstr {
+///         op: IndexOp::Call,
+///         index: *index,
+///     };
 #[derive(Clone, Copy, Debug, PartialEq, Eq)]
 pub struct IndexInstr {
-    /// Which instruction it is.
+    /// The instruction.
     pub op: IndexOp,
     /// The index.
     pub index: u32,
@@ -74,14 +85,16 @@ impl Encode for IndexInstr {
     }
 }
 
-/// An instruction with two indices: `memory.copy 1 2` (binary format, instructions).
+/// An instruction with two indices (binary format: instructions).
+///
+/// For example, `memory.copy 1 2` is `fc 0a 01 02`.
 #[derive(Clone, Copy, Debug, PartialEq, Eq)]
 pub struct IndexPair {
-    /// Which instruction it is.
+    /// The instruction.
     pub op: IndexPairOp,
-    /// The index that is written first.
+    /// The first number in the encoding.
     pub first: u32,
-    /// The index behind it, or the length.
+    /// The second number in the encoding: an index, or a length.
     pub second: u32,
 }
 
@@ -97,7 +110,7 @@ impl Encode for IndexPair {
     }
 }
 
-/// An instruction without immediates: `drop` (binary format, instructions).
+/// An instruction without immediates: `drop` is `1a` (binary format: instructions).
 impl Encode for Plain {
     ghost spelling = { λ p. (instr (plain_instr p)).bytes };
 
@@ -111,7 +124,9 @@ impl Encode for Plain {
     }
 }
 
-/// A constant of 32 bits, by the signed number of its bits: `i32.const -1` (binary format, instructions).
+/// The instruction `i32.const`, with its bits as a signed number (binary format: instructions).
+///
+/// For example, `i32.const -1` is `41 7f`.
 #[derive(Clone, Copy, Debug, PartialEq, Eq)]
 pub struct I32Const(pub i32);
 
@@ -128,7 +143,9 @@ impl Encode for I32Const {
     }
 }
 
-/// A constant of 64 bits, by the signed number of its bits: `i64.const -1` (binary format, instructions).
+/// The instruction `i64.const`, with its bits as a signed number (binary format: instructions).
+///
+/// For example, `i64.const -1` is `42 7f`.
 #[derive(Clone, Copy, Debug, PartialEq, Eq)]
 pub struct I64Const(pub i64);
 
@@ -145,11 +162,13 @@ impl Encode for I64Const {
     }
 }
 
-/// A constant of 32 bits, by the number of its bits: `f32.const 1` is 1065353216 (binary format, instructions).
+/// The instruction `f32.const`, with its bits as a number (binary format: instructions).
+///
+/// For example, `f32.const 1` has the bits 1065353216, and is `43 00 00 80 3f`.
 #[derive(Clone, Copy, Debug, PartialEq, Eq)]
 pub struct F32Const(pub u32);
 
-/// The four bytes of its bits, the lowest first.
+/// The four bytes of the bits, the lowest first.
 impl Encode for F32Const {
     ghost spelling = { λ c. (instr (f32_const_instr c.0)).bytes };
 
@@ -163,11 +182,13 @@ impl Encode for F32Const {
     }
 }
 
-/// A constant of 64 bits, by the number of its bits: `f64.const 0` is 0 (binary format, instructions).
+/// The instruction `f64.const`, with its bits as a number (binary format: instructions).
+///
+/// For example, `f64.const 0` has the bits 0, and is `44 00 00 00 00 00 00 00 00`.
 #[derive(Clone, Copy, Debug, PartialEq, Eq)]
 pub struct F64Const(pub u64);
 
-/// The eight bytes of its bits, the lowest first.
+/// The eight bytes of the bits, the lowest first.
 impl Encode for F64Const {
     ghost spelling = { λ c. (instr (f64_const_instr c.0)).bytes };
 
@@ -181,12 +202,21 @@ impl Encode for F64Const {
     }
 }
 
-/// An instruction with a memory argument: `i32.load offset=4` (binary format, memory instructions).
+/// An instruction with a memory argument (binary format: memory instructions).
+///
+/// For example, `i32.load offset=4` is `28 02 04`.
+///
+/// # Example
+///
+///     let load = MemInstr {
+///         op: MemOp::i32_load,
+///         memarg: first,
+///     };
 #[derive(Clone, Copy, Debug, PartialEq, Eq)]
 pub struct MemInstr {
-    /// Which instruction it is.
+    /// The instruction.
     pub op: MemOp,
-    /// How the memory is accessed.
+    /// The memory argument.
     pub memarg: MemArg,
 }
 
@@ -207,8 +237,10 @@ impl Encode for MemInstr {
     }
 }
 
-/// The choice between two operands, with what spells a list of value types or without: `select (result i32)` (binary
-/// format, parametric instructions).
+/// The instruction `select`, with an encoding of its list of types, if it has one.
+///
+/// For example, `select (result i32)` is `1c 01 7f`, and `select` is `1b` (binary format:
+/// parametric instructions).
 #[derive(Clone, Copy, Debug)]
 pub struct Select<T>(pub Option<T>);
 
@@ -227,7 +259,9 @@ impl<T: Encode> Encode for Select<T> {
     }
 }
 
-/// A null reference of a heap type: `ref.null func` (binary format, instructions).
+/// The instruction `ref.null` with its heap type (binary format: instructions).
+///
+/// For example, `ref.null func` is `d0 70`.
 #[derive(Clone, Copy, Debug, PartialEq, Eq)]
 pub struct RefNull(pub HeapType);
 

@@ -1,4 +1,4 @@
-//! The laws of spellings: each value has one, and no spelling begins another.
+//! Theorems about the encodings: each value has exactly one, and none is the beginning of another.
 
 ghost use Rattle.std.specs.Prelude.{◌≡◌, ℕ, ℤ, true, List, [], ◌++◌, Some};
 ghost use Rattle.wasm_ops.specs.Codes.{IsCode, IsPrefixCode};
@@ -28,24 +28,50 @@ ghost use Rattle.wasm_ops.specs.declared.types.ArrayType.{ArrayType};
 ghost use Rattle.wasm_ops.specs.declared.types.CompositeType.{CompositeType};
 ghost use Rattle.wasm_ops.specs.declared.types.SubType.{SubType};
 
-/// The law of unsigned numbers: `unsigned n` spells `n`, no other bytes do, and no spelling begins another (binary
-/// format, integers).
+/// The theorem of unsigned numbers: bytes determine their number, and a number its bytes.
+///
+/// For example, `e5 8e 26` is the only encoding of 624485 that [`write_u32`](crate::write_u32) can
+/// append, although LEB128 permits longer ones (binary format: integers).
+///
+/// # Guarantees
+///
+/// - `exists`: `unsigned n` encodes `n` in the fewest bytes.
+/// - `only`: no other bytes do.
+/// - `begins`: if two byte lists both begin with the encoding of a number, and are equal, the
+///   numbers and the remaining bytes are equal too.
 pub fn unsigned_law()
     ensures exists { (n : ℕ) → SpellsUnsigned (unsigned n) n }
     ensures only { (bytes : List ℕ) (n : ℕ) → SpellsUnsigned bytes n → bytes ≡ unsigned n }
     ensures begins { (m n : ℕ) (r s : List ℕ) → unsigned m ++ r ≡ unsigned n ++ s → (m ≡ n) × (r ≡ s) }
 {}
 
-/// The law of signed numbers: `signed z` spells `z`, no other bytes do, and no spelling begins another (binary format,
-/// integers).
+/// The theorem of signed numbers: bytes determine their number, and a number its bytes.
+///
+/// For example, `bf 7f` is the only encoding of -65 in the fewest bytes (binary format: integers).
+///
+/// # Guarantees
+///
+/// - `exists`: `signed z` encodes `z` in the fewest bytes.
+/// - `only`: no other bytes do.
+/// - `begins`: if two byte lists both begin with the encoding of a number, and are equal, the
+///   numbers and the remaining bytes are equal too.
 pub fn signed_law()
     ensures exists { (z : ℤ) → SpellsSigned (signed z) z }
     ensures only { (bytes : List ℕ) (z : ℤ) → SpellsSigned bytes z → bytes ≡ signed z }
     ensures begins { (y z : ℤ) (r s : List ℕ) → signed y ++ r ≡ signed z ++ s → (y ≡ z) × (r ≡ s) }
 {}
 
-/// The law of names and types: bytes that begin with a spelling begin with that of one value only (binary format,
-/// values and types). Of types it speaks where the encoder covers them.
+/// The theorem of names and types: bytes begin with the encoding of at most one value of a kind.
+///
+/// For example, `64 70` is `(ref func)`, and no other value type begins with these bytes (binary
+/// format: values, types). Each clause is restricted to values that the encoder supports.
+///
+/// # Guarantees
+///
+/// `names`, `heap_types`, `ref_types`, `val_types`, `block_types`, `catches`, `storage_types`,
+/// `field_types`, `export_kinds`, `func_types`, `struct_types`, `array_types`, `composite_types`,
+/// `sub_types`, `table_types`, `memory_types`, `global_types`, `tag_types`, `entity_types`: the
+/// encoding of this kind of value is such a code (`IsCode`).
 pub fn type_spelling_law()
     ensures names { IsCode (List ℕ) InRangeName name }
     ensures heap_types { IsPrefixCode heap_type }
@@ -68,10 +94,19 @@ pub fn type_spelling_law()
     ensures entity_types { IsPrefixCode entity_type }
 {}
 
-/// The law of instructions: no two rows of the table share an opcode, no opcode of one byte is the prefix of another,
-/// and bytes that begin with the spelling of an instruction begin with that of one only (binary format, instructions).
-/// The byte that ends an expression is a row too, and bytes that begin with a constant expression begin with one only,
-/// since each block in one is closed (binary format, expressions).
+/// The theorem of instructions: bytes begin with at most one instruction, and with one expression.
+///
+/// For example, `fc 0a 03 04` is `memory.copy 3 4`, and nothing else (binary format: instructions,
+/// expressions).
+///
+/// # Guarantees
+///
+/// - `distinct`: no two entries of the opcode table have the same opcode.
+/// - `apart`: no opcode of one byte is the prefix byte of another one.
+/// - `instructions`: bytes begin with the encoding of at most one instruction.
+/// - `end`: the byte `0b`, which ends an expression, is an entry without immediates.
+/// - `expressions`: bytes begin with at most one constant expression, because its blocks are all
+///   closed.
 pub fn instruction_law()
     ensures distinct { ascends 0 table ≡ true }
     ensures apart { all_apart table ≡ true }

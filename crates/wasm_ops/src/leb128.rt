@@ -1,4 +1,4 @@
-//! Numbers as bytes: LEB128, unsigned and signed.
+//! LEB128 numbers, unsigned and signed (binary format: integers).
 
 ghost use Rattle.std.specs.Prelude.{◌≡◌, true, ◌≤◌, ◌<◌, ◌+◌, ◌^◌, ◌≤ℤ◌, pos, negsuc, take, length, vec_len, vec_capacity};
 ghost use Rattle.wasm_ops.specs.Leb128.{unsigned, signed, digits, complement_if};
@@ -10,7 +10,7 @@ use crate::encode::Encode;
 use crate::sink::{Refusal, Sink};
 use wast_base::Error;
 
-/// The bytes of a number, and how many they are.
+/// Returns the LEB128 bytes of an unsigned number in an array, and how many they are.
 pub(crate) fn unsigned_bytes(n: u64) -> ([u8; 10], usize)
     ensures within { result.1 ≤ 10 }
     ensures bytes { take result.1 result.0 ≡ unsigned n }
@@ -27,7 +27,9 @@ pub(crate) fn unsigned_bytes(n: u64) -> ([u8; 10], usize)
     (bytes, len + 1)
 }
 
-/// How many bytes an unsigned number has (binary format, integers: `u64`).
+/// Returns how many bytes the LEB128 encoding of an unsigned number has.
+///
+/// For example, it returns 1 for 127 and 2 for 128 (binary format: integers, `u64`).
 pub fn width(n: u64) -> u64
     ensures { result ≡ length (unsigned n) }
 {
@@ -49,14 +51,14 @@ pub fn width(n: u64) -> u64
     len
 }
 
-/// How many bytes an unsigned number has behind its first.
+/// Returns how many bytes the encoding of an unsigned number has after the first.
 pub(crate) fn further_width(n: u64) -> u64
     ensures { result + 1 ≡ length (unsigned n) }
 {
     width(n) - 1
 }
 
-/// Puts the bytes of a number in the place of a byte of a vector that has the room for them. It takes no memory.
+/// Replaces one byte of a vector by the encoding of a number. Does not allocate.
 pub(crate) fn set_unsigned(out: &mut Vec<u8>, at: usize, n: u64)
     requires in_bounds { at < vec_len out.old }
     requires room { vec_len out.old + length (unsigned n) ≤ vec_capacity out.old + 1 }
@@ -76,27 +78,45 @@ pub(crate) fn set_unsigned(out: &mut Vec<u8>, at: usize, n: u64)
     out[place] = rest as u8;
 }
 
-/// Appends an unsigned number (binary format, integers: `u64`).
+/// Appends an unsigned number of 64 bits in LEB128 (binary format: integers, `u64`).
 ///
-/// It appends the one spelling of the number, the shortest. The only error is the sink's refusal; then nothing was
-/// appended.
+/// # Example
+///
+///     write_u64(out, 18446744073709551615)?;      // ff ff ff ff ff ff ff ff ff 01
+///
+/// # Errors
+///
+/// The sink's error, only if the bytes do not fit. Nothing is appended then.
+///
+/// # Guarantees
+///
+/// The bytes are `unsigned n`, the shortest encoding.
 pub fn write_u64<'e, S: Sink>(out: &mut S, n: u64) -> Result<(), Error<'e>>
     ensures { Puts S.rules (Unit {0}) out.old out.new (unsigned n) result }
 {
     Ok(out.push_number(n)?)
 }
 
-/// Appends an unsigned number (binary format, integers: `u32`).
+/// Appends an unsigned number of 32 bits in LEB128 (binary format: integers, `u32`).
 ///
-/// It appends the one spelling of the number, the shortest. The only error is the sink's refusal; then nothing was
-/// appended.
+/// # Example
+///
+///     write_u32(out, 624485)?;        // e5 8e 26
+///
+/// # Errors
+///
+/// The sink's error, only if the bytes do not fit. Nothing is appended then.
+///
+/// # Guarantees
+///
+/// The bytes are `unsigned n`, the shortest encoding.
 pub fn write_u32<'e, S: Sink>(out: &mut S, n: u32) -> Result<(), Error<'e>>
     ensures { Puts S.rules (Unit {0}) out.old out.new (unsigned n) result }
 {
     write_u64(out, u64::from(n))
 }
 
-/// Seven bits of a number, or of its complement.
+/// Seven bits of a number, or of its complement if it is negative.
 #[inline(always)]
 pub(crate) fn turn(negative: bool, digit: u8) -> u8
     requires { digit < 128 }
@@ -105,7 +125,7 @@ pub(crate) fn turn(negative: bool, digit: u8) -> u8
     if negative { 127 - digit } else { digit }
 }
 
-/// The signed bytes of a number, or of its complement, and how many they are.
+/// Returns the signed LEB128 bytes of a number or of its complement, and how many they are.
 fn signed_digits(negative: bool, n: u64) -> ([u8; 10], usize)
     requires { n < 2 ^ 63 }
     ensures within { result.1 ≤ 10 }
@@ -123,7 +143,7 @@ fn signed_digits(negative: bool, n: u64) -> ([u8; 10], usize)
     (bytes, len + 1)
 }
 
-/// Whether a number is negative, and the number or its complement: of these two the one that is not negative.
+/// Returns whether a number is negative, and its magnitude: `n`, or `-n - 1` if `n` is negative.
 #[inline(always)]
 pub(crate) fn folded(n: i64) -> (bool, u64)
     ensures small { result.1 < 2 ^ 63 }
@@ -137,7 +157,7 @@ pub(crate) fn folded(n: i64) -> (bool, u64)
     }
 }
 
-/// The bytes of a signed number, and how many they are.
+/// Returns the signed LEB128 bytes of a number, and how many they are.
 fn signed_bytes(n: i64) -> ([u8; 10], usize)
     ensures within { result.1 ≤ 10 }
     ensures bytes { take result.1 result.0 ≡ signed n }
@@ -146,7 +166,7 @@ fn signed_bytes(n: i64) -> ([u8; 10], usize)
     signed_digits(negative, rest)
 }
 
-/// Appends the bytes of a signed number, the shortest.
+/// Appends a signed number in LEB128, in the fewest bytes.
 pub(crate) fn push_signed<S: Sink>(out: &mut S, n: i64) -> Result<(), Refusal>
     ensures { Writes S.rules (Unit {0}) out.old out.new (signed n) result }
 {
@@ -154,7 +174,7 @@ pub(crate) fn push_signed<S: Sink>(out: &mut S, n: i64) -> Result<(), Refusal>
     out.push_bytes(&bytes[..len])
 }
 
-/// A signed number, by its shortest bytes (binary format, integers: `s64`).
+/// A signed number in LEB128 (binary format: integers, `s64`).
 #[derive(Clone, Copy)]
 pub(crate) struct Signed(pub i64);
 
@@ -170,30 +190,64 @@ impl Encode for Signed {
     }
 }
 
-/// Appends a signed number (binary format, integers: `s64`).
+/// Appends a signed number of 64 bits in LEB128 (binary format: integers, `s64`).
 ///
-/// It appends the one spelling of the number, the shortest. The only error is the sink's refusal; then nothing was
-/// appended.
+/// # Example
+///
+///     write_s64(out, -9223372036854775808)?;      // 80 80 80 80 80 80 80 80 80 7f
+///
+/// # Errors
+///
+/// The sink's error, only if the bytes do not fit. Nothing is appended then.
+///
+/// # Guarantees
+///
+/// The bytes are `signed n`, the shortest encoding.
 pub fn write_s64<'e, S: Sink>(out: &mut S, n: i64) -> Result<(), Error<'e>>
     ensures { Puts S.rules (Unit {0}) out.old out.new (signed n) result }
 {
     Ok(push_signed(out, n)?)
 }
 
-/// Appends a signed number (binary format, integers: `s32`).
+/// Appends a signed number of 32 bits in LEB128 (binary format: integers, `s32`).
 ///
-/// It appends the one spelling of the number, the shortest. The only error is the sink's refusal; then nothing was
-/// appended.
+/// # Example
+///
+///     write_s32(out, -65)?;       // bf 7f
+///
+/// # Errors
+///
+/// The sink's error, only if the bytes do not fit. Nothing is appended then.
+///
+/// # Guarantees
+///
+/// The bytes are `signed n`, the shortest encoding.
 pub fn write_s32<'e, S: Sink>(out: &mut S, n: i32) -> Result<(), Error<'e>>
     ensures { Puts S.rules (Unit {0}) out.old out.new (signed n) result }
 {
     write_s64(out, i64::from(n))
 }
 
-/// Appends a signed number of 33 bits (binary format, integers: `s33`). It needs a number from -2^32 to 2^32 - 1.
+/// Appends a signed number of 33 bits in LEB128 (binary format: integers, `s33`).
 ///
-/// It appends the one spelling of the number, the shortest. The only error is the sink's refusal; then nothing was
-/// appended.
+/// Block types and heap types use this form for a type index, because their other variants are
+/// encoded as negative numbers.
+///
+/// # Example
+///
+///     write_s33(out, 4294967295)?;        // ff ff ff ff 0f
+///
+/// # Requires
+///
+/// `n` is from -2^32 to 2^32 - 1 (`low`, `high`).
+///
+/// # Errors
+///
+/// The sink's error, only if the bytes do not fit. Nothing is appended then.
+///
+/// # Guarantees
+///
+/// The bytes are `signed n`, the shortest encoding.
 pub fn write_s33<'e, S: Sink>(out: &mut S, n: i64) -> Result<(), Error<'e>>
     requires low { negsuc 4294967295 ≤ℤ n }
     requires high { n ≤ℤ pos 4294967295 }

@@ -1,4 +1,33 @@
-//! Numbers, types and instructions of the binary format of WebAssembly, as bytes.
+//! Encodes numbers, names, types and instructions as bytes of the WebAssembly binary format.
+//!
+//! `wasm_out` uses it to build sections, and `wast_core` to encode a module. Callers use it to
+//! write instructions and types by hand, or to define a destination of bytes ([`Sink`]).
+//!
+//! # Example
+//!
+//!     let mut sink = InstructionSink::new(out);
+//!     sink.plain(Plain::Bare(BareOp::drop))?;     // 1a
+//!     sink.index(IndexOp::Call, 300)?;            // 10 ac 02
+//!
+//! # Modules
+//!
+//! - `sink`, `room`: the destinations of bytes: a vector, a count, reserved memory, or a
+//!   user-defined sink.
+//! - `encode`: the trait [`Encode`], and pairs, lists, counted lists, lengths and names.
+//! - `leb128`: LEB128 numbers. `pieces`: an opcode and its short numbers in one push.
+//! - `types`, `ref_types`, `entities`, `blocks`: types (binary format: types).
+//! - `opcodes`, `instrs`, `control`, `casts`, `vectors`, `memargs`: instructions by kinds of
+//!   immediates.
+//! - `instr_sink`: one method for each kind of instruction. `const_exprs`: constant expressions.
+//! - `laws`: theorems about the encodings, for callers who prove more.
+//!
+//! # Guarantees
+//!
+//! - A call appends the whole encoding of its value, or nothing (`Writes` and `Puts` in
+//!   specs/Sinks.antt).
+//! - `unsigned_law`, `signed_law`: a number has one encoding, and it is the shortest.
+//! - `type_spelling_law`, `instruction_law`: no encoding is the beginning of another one of the
+//!   same kind, so that bytes determine their value.
 #![tactic(auto)]
 
 mod blocks;

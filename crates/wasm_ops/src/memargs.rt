@@ -1,4 +1,4 @@
-//! Memory arguments, and the orders in which memory is accessed.
+//! Memory arguments and memory orderings.
 
 ghost use Rattle.std.specs.Prelude.{◌≡◌, ◌&&◌, ◌∷◌, []};
 ghost use Rattle.wasm_ops.specs.Spelling.{Any};
@@ -7,17 +7,17 @@ ghost use Rattle.wasm_ops.specs.Memargs.{ordering_byte, is_covered_ordering, is_
 use crate::encode::Encode;
 use crate::sink::{Refusal, Sink};
 
-/// In which order accesses to memory are seen (binary format, atomic memory instructions).
+/// A memory ordering of an atomic access (binary format: atomic memory instructions).
 #[derive(Clone, Copy, Debug, PartialEq, Eq)]
 pub enum Ordering {
-    /// All see one order.
+    /// Sequentially consistent.
     SeqCst,
-    /// What was written before a write is seen after a read of it.
+    /// Acquire and release.
     AcqRel,
 }
 
 impl Ordering {
-    /// Whether the encoder covers it: it is sequentially consistent.
+    /// Returns whether the encoder supports it: only the sequentially consistent ordering.
     pub fn is_covered(self) -> bool
         ensures { result ≡ is_covered_ordering self }
     {
@@ -28,7 +28,7 @@ impl Ordering {
     }
 }
 
-/// A byte.
+/// An ordering is encoded as a byte.
 impl Encode for Ordering {
     ghost spelling = { λ o. ordering_byte o ∷ [] };
 
@@ -41,17 +41,20 @@ impl Encode for Ordering {
     }
 }
 
-/// An ordering that is written on a memory argument (binary format, atomic memory instructions).
+/// An ordering in a memory argument (binary format: atomic memory instructions).
+///
+/// The encoder supports none. The sequentially consistent ordering is the default, and needs no
+/// byte.
 #[derive(Clone, Copy, Debug, PartialEq, Eq)]
 pub enum MemArgOrdering {
-    /// Of a load or a store.
+    /// The ordering of a load or a store.
     Op(Ordering),
-    /// Of what reads and writes at once.
+    /// The orderings of a read-modify-write access.
     Rmw(Ordering),
 }
 
 impl MemArgOrdering {
-    /// Whether the encoder covers it. It covers none.
+    /// Returns whether the encoder supports it: never.
     pub fn is_covered(self) -> bool
         ensures { result ≡ is_covered_memarg_ordering self }
     {
@@ -59,7 +62,7 @@ impl MemArgOrdering {
     }
 }
 
-/// Where an access goes (binary format, memory instructions).
+/// The memory or array that an access goes to (binary format: memory instructions).
 #[derive(Clone, Copy, Debug, PartialEq, Eq)]
 pub enum MemArgTarget {
     /// The memory at an index.
@@ -69,7 +72,7 @@ pub enum MemArgTarget {
 }
 
 impl MemArgTarget {
-    /// Whether the encoder covers it: it is a memory.
+    /// Returns whether the encoder supports it: only a memory.
     pub fn is_covered(self) -> bool
         ensures { result ≡ is_covered_target self }
     {
@@ -79,7 +82,7 @@ impl MemArgTarget {
         }
     }
 
-    /// The index of the memory, or that of the type.
+    /// Returns the index of the memory, or of the array type.
     pub(crate) fn index(self) -> u32
         ensures { result ≡ index_of self }
     {
@@ -90,28 +93,39 @@ impl MemArgTarget {
     }
 }
 
-/// How a memory is accessed: `offset=4 align=2` (binary format, memory instructions).
+/// A memory argument: alignment, offset and memory (binary format: memory instructions).
+///
+/// # Example
+///
+/// The default access to memory 0, with an alignment of one byte:
+///
+///     MemArg {
+///         align: 0,
+///         target: MemArgTarget::Memory(0),
+///         offset: 0,
+///         ordering: None,
+///     }
 #[derive(Clone, Copy, Debug, PartialEq, Eq)]
 pub struct MemArg {
-    /// The alignment is 2 to this, which is below 64.
+    /// The binary logarithm of the alignment. It must be below 64.
     pub align: u32,
-    /// Where the access goes.
+    /// The memory or array of the access.
     pub target: MemArgTarget,
-    /// What is added to the address.
+    /// The number that is added to the address.
     pub offset: u64,
-    /// The ordering that is written on it.
+    /// The ordering, if one is written.
     pub ordering: Option<MemArgOrdering>,
 }
 
 impl MemArg {
-    /// Whether the logarithm of its alignment is below 64.
+    /// Returns whether the logarithm of the alignment is below 64.
     pub fn is_aligned(&self) -> bool
         ensures { result ≡ is_aligned self.now }
     {
         self.align < 64
     }
 
-    /// Whether the encoder covers it: it is of a memory, and no ordering is written on it.
+    /// Returns whether the encoder supports it: an access to a memory without an ordering.
     pub fn is_covered(&self) -> bool
         ensures { result ≡ (memarg self.now).is_covered }
     {
@@ -119,7 +133,8 @@ impl MemArg {
     }
 }
 
-/// The first memory is not named; the index of another is told by 64 more than the logarithm of the alignment.
+/// The memory index is left out for memory 0. Otherwise 64 is added to the logarithm of the
+/// alignment, and the index follows: `align=4`, memory 1 and `offset=4` are `42 01 04`.
 impl Encode for MemArg {
     ghost spelling = { λ x. (memarg x).bytes };
 

@@ -1,4 +1,4 @@
-//! What stands before the immediates of an instruction.
+//! Opcodes: the bytes before the immediates of an instruction.
 
 ghost use Rattle.std.specs.Prelude.{◌≡◌, ◌<◌, true};
 ghost use Rattle.wasm_ops.specs.Keys.{plain_key, mem_key, lane_key, mem_lane_key};
@@ -9,17 +9,19 @@ use crate::pieces::push_number_after;
 use crate::sink::{Refusal, Sink};
 use wast_base::{LaneOp, MemLaneOp, MemOp, Plain};
 
-/// What tells which instruction follows (binary format, instructions).
+/// The opcode of an instruction (binary format: instructions).
+///
+/// For example, `drop` is `Byte(0x1a)`, and `memory.copy` is `Prefixed(0xfc, 10)`.
 #[derive(Clone, Copy, Debug, PartialEq, Eq)]
 pub enum Opcode {
-    /// A byte.
+    /// One byte.
     Byte(u8),
-    /// A byte that is the prefix of several instructions, and a number.
+    /// A prefix byte that several instructions share, and a number.
     Prefixed(u8, u32),
 }
 
 impl Opcode {
-    /// The opcode of a key: the key is the byte, or 65536 times the prefix and the number behind it.
+    /// Returns the opcode of a key: the byte, or 65536 times the prefix plus the number after it.
     #[inline(always)]
     pub(crate) fn of(key: u32) -> Opcode
         requires { key < 0x1000000 }
@@ -48,7 +50,7 @@ impl Encode for Opcode {
     }
 }
 
-/// The key of an instruction without immediates.
+/// Returns the key of an instruction without immediates.
 fn plain_key(op: &Plain) -> u32
     ensures value { result ≡ plain_key op.now }
     ensures small { result < 0x1000000 }
@@ -74,7 +76,7 @@ fn plain_key(op: &Plain) -> u32
     }
 }
 
-/// The opcode of an instruction without immediates.
+/// Returns the opcode of an instruction without immediates.
 #[inline(always)]
 pub(crate) fn plain_opcode(op: &Plain) -> Opcode
     ensures { result ≡ opcode_of (plain_key op.now) }
@@ -82,7 +84,7 @@ pub(crate) fn plain_opcode(op: &Plain) -> Opcode
     Opcode::of(plain_key(op))
 }
 
-/// The opcode of an instruction with a memory argument.
+/// Returns the opcode of an instruction with a memory argument.
 #[inline(always)]
 pub(crate) fn mem_opcode(op: MemOp) -> Opcode
     ensures { result ≡ opcode_of (mem_key op) }
@@ -90,14 +92,14 @@ pub(crate) fn mem_opcode(op: MemOp) -> Opcode
     Opcode::of(op as u32)
 }
 
-/// The opcode of an instruction on a lane.
+/// Returns the opcode of an instruction with a lane number.
 pub(crate) fn lane_opcode(op: LaneOp) -> Opcode
     ensures { result ≡ opcode_of (lane_key op) }
 {
     Opcode::of(op as u32)
 }
 
-/// The opcode of a load or a store of a lane.
+/// Returns the opcode of a load or a store of a lane.
 pub(crate) fn mem_lane_opcode(op: MemLaneOp) -> Opcode
     ensures { result ≡ opcode_of (mem_lane_key op) }
 {

@@ -1,7 +1,8 @@
-//! An opcode and its short numbers, appended in one piece.
+//! Appends an opcode and its short numbers in one piece.
 //!
-//! Most of the time of encoding goes into small pushes. Most indices, constants and memory arguments have one or two
-//! bytes, so they are appended together with the byte before them, by one call of [`Sink::push_bytes`].
+//! Most of the time of encoding goes into small pushes. Most indices, constants and memory
+//! arguments have one or two bytes, so they are appended together with the byte before them, by one
+//! call of [`Sink::push_bytes`].
 
 ghost use Rattle.std.specs.Prelude.{◌∷◌, ◌++◌, ◌≤◌};
 ghost use Rattle.wasm_ops.specs.Leb128.{unsigned, signed};
@@ -12,7 +13,7 @@ use crate::encode::Encode;
 use crate::leb128::{Signed, folded, turn};
 use crate::sink::{Refusal, Sink};
 
-/// Appends a byte and an unsigned number. A number below 128 goes out with the byte in one piece.
+/// Appends a byte and an unsigned number. A number below 128 is written in the same piece.
 #[inline(always)]
 pub(crate) fn push_number_after<S: Sink>(byte: u8, n: u32, out: &mut S) -> Result<(), Refusal>
     ensures { Writes S.rules (InRangeU32 n) out.old out.new (byte ∷ unsigned n) result }
@@ -23,8 +24,10 @@ pub(crate) fn push_number_after<S: Sink>(byte: u8, n: u32, out: &mut S) -> Resul
     push_wide_after(byte, n, out)
 }
 
-/// Appends a byte and an unsigned number of two bytes or more. Two bytes go out with the byte in one piece. It is
-/// separate from [`push_number_after`], so that only the short case is compiled into each caller.
+/// Appends a byte and an unsigned number of two bytes or more, two bytes in the same piece.
+///
+/// It is separate from [`push_number_after`], so that only the short case is compiled into each
+/// caller.
 #[inline(never)]
 fn push_wide_after<S: Sink>(byte: u8, n: u32, out: &mut S) -> Result<(), Refusal>
     requires { 128 ≤ n }
@@ -36,8 +39,9 @@ fn push_wide_after<S: Sink>(byte: u8, n: u32, out: &mut S) -> Result<(), Refusal
     (byte, n).encode(out)
 }
 
-/// Appends a byte and two unsigned numbers, as the alignment and the offset of a memory argument are. Numbers below 128
-/// go out with the byte in one piece.
+/// Appends a byte and two unsigned numbers, such as the alignment and the offset of an access.
+///
+/// If both are below 128, all is one piece.
 #[inline(always)]
 pub(crate) fn push_numbers_after<S: Sink>(
     byte: u8,
@@ -53,8 +57,10 @@ pub(crate) fn push_numbers_after<S: Sink>(
     push_wide_numbers_after(byte, first, second, out)
 }
 
-/// Appends a byte and two unsigned numbers, not both of one byte. A second number of two bytes goes out in one piece
-/// with the byte and a short first number. It is separate for the reason that [`push_wide_after`] gives.
+/// Appends a byte and two unsigned numbers, if they are not both below 128.
+///
+/// A second number of two bytes after a short first one is written in the same piece. It is
+/// separate for the same reason as [`push_wide_after`].
 #[inline(never)]
 fn push_wide_numbers_after<S: Sink>(
     byte: u8,
@@ -75,7 +81,7 @@ fn push_wide_numbers_after<S: Sink>(
     (byte, (first, second)).encode(out)
 }
 
-/// Appends a byte and a signed number. A number from -64 to 63 goes out with the byte in one piece.
+/// Appends a byte and a signed number. A number from -64 to 63 is written in the same piece.
 #[inline(always)]
 pub(crate) fn push_signed_after<S: Sink>(byte: u8, n: i64, out: &mut S) -> Result<(), Refusal>
     ensures { Writes S.rules (InRangeS64 n) out.old out.new (byte ∷ signed n) result }
@@ -87,8 +93,10 @@ pub(crate) fn push_signed_after<S: Sink>(byte: u8, n: i64, out: &mut S) -> Resul
     push_wide_signed_after(byte, n, out)
 }
 
-/// Appends a byte and a signed number of two bytes or more. Two bytes, from -8192 to 8191, go out with the byte in one
-/// piece. It is separate for the reason that [`push_wide_after`] gives.
+/// Appends a byte and a signed number of two bytes or more, two bytes in the same piece.
+///
+/// Two bytes are enough from -8192 to 8191. It is separate for the same reason as
+/// [`push_wide_after`].
 #[inline(never)]
 fn push_wide_signed_after<S: Sink>(byte: u8, n: i64, out: &mut S) -> Result<(), Refusal>
     ensures { Writes S.rules (InRangeS64 n) out.old out.new (byte ∷ signed n) result }

@@ -1,4 +1,4 @@
-//! Reference types, and the heap types that they refer to.
+//! Reference types and heap types.
 
 ghost use Rattle.std.specs.Prelude.{◌≡◌, true, [], ◌∷◌};
 ghost use Rattle.wasm_ops.specs.Spelling.{is_short, heap_type, ref_type, is_covered_abstract_heap_type};
@@ -7,7 +7,9 @@ use crate::encode::Encode;
 use crate::leb128::push_signed;
 use crate::sink::{Refusal, Sink};
 
-/// A heap type that has a name of its own (binary format, heap types).
+/// An abstract heap type: one with a keyword (binary format: heap types).
+///
+/// The number of a variant is its byte.
 #[derive(Clone, Copy, Debug, PartialEq, Eq, Hash)]
 pub enum AbstractHeapType {
     /// `func`
@@ -41,7 +43,7 @@ pub enum AbstractHeapType {
 }
 
 impl AbstractHeapType {
-    /// Whether the encoder covers it: it is not `cont` or `nocont`.
+    /// Returns whether the encoder supports it: all but `cont` and `nocont`.
     pub fn is_covered(self) -> bool
         ensures { result ≡ is_covered_abstract_heap_type self }
     {
@@ -52,96 +54,100 @@ impl AbstractHeapType {
     }
 }
 
-/// What a reference leads to (binary format, heap types). Those that have a name of their own and are covered are constants.
+/// The heap type of a reference (binary format: heap types).
+///
+/// For example, `func` is `70`, and the type at index 64 is `c0 00`. The supported abstract types
+/// are constants, such as [`HeapType::FUNC`].
 #[derive(Clone, Copy, Debug, PartialEq, Eq, Hash)]
 pub enum HeapType {
-    /// A type that has a name of its own.
+    /// An abstract heap type, which has a keyword.
     Abstract {
         /// Whether it is shared.
         shared: bool,
-        /// Which type it is.
+        /// The abstract heap type.
         ty: AbstractHeapType,
     },
-    /// The type at an index, and those below it.
+    /// The type at an index, with its subtypes.
     Concrete(u32),
-    /// The type at an index alone.
+    /// The type at an index, without its subtypes.
     Exact(u32),
 }
 
 impl HeapType {
-    /// `func`, which is not shared.
+    /// The unshared `func`.
     pub const FUNC: HeapType = HeapType::Abstract {
         shared: false,
         ty: AbstractHeapType::Func,
     };
 
-    /// `extern`, which is not shared.
+    /// The unshared `extern`.
     pub const EXTERN: HeapType = HeapType::Abstract {
         shared: false,
         ty: AbstractHeapType::Extern,
     };
 
-    /// `exn`, which is not shared.
+    /// The unshared `exn`.
     pub const EXN: HeapType = HeapType::Abstract {
         shared: false,
         ty: AbstractHeapType::Exn,
     };
 
-    /// `noexn`, which is not shared.
+    /// The unshared `noexn`.
     pub const NO_EXN: HeapType = HeapType::Abstract {
         shared: false,
         ty: AbstractHeapType::NoExn,
     };
 
-    /// `any`, which is not shared.
+    /// The unshared `any`.
     pub const ANY: HeapType = HeapType::Abstract {
         shared: false,
         ty: AbstractHeapType::Any,
     };
 
-    /// `eq`, which is not shared.
+    /// The unshared `eq`.
     pub const EQ: HeapType = HeapType::Abstract {
         shared: false,
         ty: AbstractHeapType::Eq,
     };
 
-    /// `struct`, which is not shared.
+    /// The unshared `struct`.
     pub const STRUCT: HeapType = HeapType::Abstract {
         shared: false,
         ty: AbstractHeapType::Struct,
     };
 
-    /// `array`, which is not shared.
+    /// The unshared `array`.
     pub const ARRAY: HeapType = HeapType::Abstract {
         shared: false,
         ty: AbstractHeapType::Array,
     };
 
-    /// `nofunc`, which is not shared.
+    /// The unshared `nofunc`.
     pub const NO_FUNC: HeapType = HeapType::Abstract {
         shared: false,
         ty: AbstractHeapType::NoFunc,
     };
 
-    /// `noextern`, which is not shared.
+    /// The unshared `noextern`.
     pub const NO_EXTERN: HeapType = HeapType::Abstract {
         shared: false,
         ty: AbstractHeapType::NoExtern,
     };
 
-    /// `none`, which is not shared.
+    /// The unshared `none`.
     pub const NONE: HeapType = HeapType::Abstract {
         shared: false,
         ty: AbstractHeapType::None,
     };
 
-    /// `i31`, which is not shared.
+    /// The unshared `i31`.
     pub const I31: HeapType = HeapType::Abstract {
         shared: false,
         ty: AbstractHeapType::I31,
     };
 
-    /// Whether the encoder covers it: it is not shared, not exact, and none of continuations.
+    /// Returns whether the encoder supports it: an unshared abstract type other than `cont` and
+    /// `nocont`, or the type at an index, unless it is exact.
     pub fn is_covered(&self) -> bool
         ensures { result ≡ (heap_type self.now).is_covered }
     {
@@ -152,7 +158,7 @@ impl HeapType {
         }
     }
 
-    /// Whether a nullable reference to it is written as the heap type alone.
+    /// Returns whether a nullable reference to it is encoded as the heap type alone.
     fn is_short(&self) -> bool
         ensures { result ≡ is_short self.now }
     {
@@ -168,7 +174,7 @@ impl HeapType {
     }
 }
 
-/// An index is written as a signed number, since a number below 0 would be one of the other heap types.
+/// An index is encoded as a signed number, because negative numbers are the other heap types.
 impl Encode for HeapType {
     ghost spelling = { λ x. (heap_type x).bytes };
 
@@ -185,13 +191,22 @@ impl Encode for HeapType {
     }
 }
 
-/// A reference type (binary format, reference types). Those that have a word of their own in the text format, all nullable,
-/// are constants of that word.
+/// A reference type (binary format: reference types).
+///
+/// The types with one keyword in the text format, such as `funcref`, are constants. All of these
+/// are nullable.
+///
+/// # Example
+///
+///     RefType {
+///         nullable: true,
+///         heap_type: func(),
+///     }
 #[derive(Clone, Copy, Debug, PartialEq, Eq, Hash)]
 pub struct RefType {
-    /// Whether a reference may be null.
+    /// Whether the reference may be null.
     pub nullable: bool,
-    /// What a reference leads to.
+    /// The heap type.
     pub heap_type: HeapType,
 }
 
@@ -268,7 +283,7 @@ impl RefType {
         heap_type: HeapType::I31,
     };
 
-    /// Whether the encoder covers it: it covers its heap type.
+    /// Returns whether the encoder supports it: its heap type.
     pub fn is_covered(&self) -> bool
         ensures { result ≡ (ref_type self.now).is_covered }
     {
@@ -276,7 +291,8 @@ impl RefType {
     }
 }
 
-/// Nullable references to `func` and to `extern` are written as their heap type alone.
+/// Nullable references to `func` and `extern` are encoded as their heap type alone: `funcref` is
+/// `70`.
 impl Encode for RefType {
     ghost spelling = { λ x. (ref_type x).bytes };
 
@@ -295,7 +311,7 @@ impl Encode for RefType {
     }
 }
 
-/// The bytes of the reference types that are constants (binary format, reference types).
+/// The bytes of the constants of [`RefType`] (binary format: reference types).
 pub(crate) fn constant_ref_types()
     ensures func { (ref_type RefType.FUNCREF).bytes ≡ 0x70 ∷ [] }
     ensures extern_ { (ref_type RefType.EXTERNREF).bytes ≡ 0x6f ∷ [] }

@@ -1,4 +1,4 @@
-//! Room for bytes, reserved beforehand.
+//! A sink of fixed capacity, whose memory is reserved in advance.
 
 ghost use Rattle.std.specs.Prelude.{◌≡◌, ◌≤◌, ◌+◌, [], ◌++◌, length, vec_len, vec_capacity, IfOk, IfErr};
 ghost use Rattle.wast_base.specs.Faults.{out_of_memory};
@@ -12,7 +12,15 @@ use std::alloc::Global;
 use std::marker::Model;
 use wast_base::Error;
 
-/// Bytes, and room for so many more, with the memory for them. Contracts see it as both: `items` and `left`.
+/// Bytes, and reserved memory for `left` more. Its model in contracts is `items` and `left`.
+///
+/// Use it to encode into memory of a known size: after [`Room::reserve`], no write allocates.
+///
+/// # Example
+///
+///     let mut room = Room::reserve(rt.alloc(), 134).expect(&rt, "memory");
+///     assert!(rt; nested.encode(&mut room).is_ok());
+///     assert!(rt; room.left() == 0);
 #[derive(Debug, Drop)]
 pub struct Room {
     bytes: Vec<u8>,
@@ -33,8 +41,15 @@ impl Model for Room {
 }
 
 impl Room {
-    /// Room for so many bytes as `size` says, and none in it yet. It takes their memory at once. The only error is E12,
-    /// where that is refused.
+    /// Reserves memory for `size` bytes. The room contains no bytes yet.
+    ///
+    /// # Errors
+    ///
+    /// E12: allocation failed.
+    ///
+    /// # Memory
+    ///
+    /// Allocates `size` bytes at once.
     pub fn reserve<'e>(alloc: Global, size: usize) -> Result<Room, Error<'e>>
         ensures ok { IfOk result (λ r. r ≡ record { items = []; left = size }) }
         ensures err { IfErr result (λ e. e ≡ out_of_memory) }
@@ -44,14 +59,14 @@ impl Room {
         Ok(Room { bytes, left: size })
     }
 
-    /// How many more bytes it takes.
+    /// Returns how many more bytes fit.
     pub fn left(&self) -> usize
         ensures { result ≡ self.now.left }
     {
         self.left
     }
 
-    /// Its bytes, in the order in which they were appended. It takes no memory.
+    /// Returns the bytes, in the order in which they were appended. Does not allocate.
     pub fn finish(self) -> Vec<u8>
         ensures { result.items ≡ self.items }
     {
@@ -59,13 +74,13 @@ impl Room {
     }
 }
 
-/// Appends to a vector that has the room. It takes no memory.
+/// Appends to a vector with enough capacity. Does not allocate.
 fn push_reserved(out: &mut Vec<u8>, bytes: &[u8])
     requires { vec_len out.old + length bytes.now ≤ vec_capacity out.old }
     ensures items { out.new.items ≡ out.old.items ++ bytes.now }
     ensures capacity { vec_capacity out.old ≤ vec_capacity out.new }
 {
-    // One byte or two, as most numbers have, are put in their place without a call.
+    // Most numbers have one byte or two: they are written without a call.
     match bytes {
         [byte] => out.push_reserved(*byte),
         [first, second] => {
@@ -79,7 +94,9 @@ fn push_reserved(out: &mut Vec<u8>, bytes: &[u8])
     }
 }
 
-/// Appends the bytes of a number, digit by digit. It stands apart so that short numbers are quick.
+/// Appends the LEB128 encoding of a number, digit by digit.
+///
+/// It is a separate function, because only the code for short numbers should be inlined.
 #[cold]
 #[inline(never)]
 fn push_long(room: &mut Room, n: u64) -> Result<(), Refusal>
@@ -89,8 +106,8 @@ fn push_long(room: &mut Room, n: u64) -> Result<(), Refusal>
     room.push_bytes(&bytes[..len])
 }
 
-/// Bytes fit where there is room for all of them, and take no memory; others are refused as too large: E10. Cutting
-/// frees the room of what it takes off.
+/// Bytes fit if at most `left` of them are appended, and no write allocates. More is E10. Cutting
+/// bytes off makes their memory available again.
 impl Sink for Room {
     ghost rules = { rooms.rules };
 

@@ -1,4 +1,4 @@
-//! What takes bytes: a vector of them, a count, or room that was reserved.
+//! The destinations of bytes: the trait, its two smallest implementations, and its errors.
 
 ghost use Rattle.std.specs.Prelude.{◌≡◌, ◌≤◌, ◌<◌, ◌+◌, ◌^◌, ℕ, [], ◌++◌, take, length, IfOk, IfErr};
 ghost use Rattle.wasm_ops.specs.Leb128.{unsigned};
@@ -11,12 +11,19 @@ use crate::leb128::{further_width, set_unsigned, unsigned_bytes, width};
 use std::marker::Model;
 use wast_base::{Error, Fault};
 
-/// Why nothing was appended. It is small, so that each write can answer it; `?` makes an [`Error`] of it.
+/// Why nothing was appended: an error in one byte, because each small write returns one.
+///
+/// `?` converts it to an [`Error`] without a position: [`Refusal::TooLarge`] is E10, and
+/// [`Refusal::Memory`] is E12.
+///
+/// # Example
+///
+///     assert!(rt; Error::from(Refusal::Memory).number() == 12);
 #[derive(Clone, Copy, Debug, PartialEq, Eq)]
 pub enum Refusal {
-    /// E10: a number, count or length is out of range, or the bytes are more than a [`Length`] counts or a room holds.
+    /// E10: a number, count or length is out of range, or the bytes exceed a [`Length`] or a room.
     TooLarge,
-    /// E12: memory was refused.
+    /// E12: allocation failed.
     Memory,
 }
 
@@ -34,7 +41,7 @@ impl From<Refusal> for Error<'_> {
     }
 }
 
-/// The refusal that an error tells: the one that `?` makes this error of.
+/// Converts an error back to the [`Refusal`] that `?` makes it from.
 fn refusal_of(error: &Error) -> Refusal
     ensures { (r : Refusal) → error.now ≡ refused_as r → result ≡ r }
 {
@@ -44,28 +51,55 @@ fn refusal_of(error: &Error) -> Refusal
     }
 }
 
-/// Takes bytes at its end. Sizes and counts are numbers of bytes.
+/// A destination that takes bytes at its end. All sizes and counts are numbers of bytes.
 ///
-/// A writer appends all that it writes, or leaves the sink as it was. Who implements it says how bytes are put, how many
-/// there are, and how they are cut off; the other calls stand over these, and may be written anew to be faster.
+/// A writer appends all of its bytes, or leaves the sink unchanged. An implementation defines
+/// [`Sink::put`], [`Sink::size`] and [`Sink::cut`]. The other calls have bodies that use these
+/// three. An implementation may replace them to be faster: [`Length`] counts a number without its
+/// bytes.
+///
+/// # Example
+///
+/// Three bytes of reserved memory take three bytes, and no fourth one:
+///
+///     let mut room = Room::reserve(rt.alloc(), 3).expect(&rt, "memory");
+///     assert!(rt; room.put(&[7, 8, 9]).is_ok() && room.left() == 0);
+///
+/// # Guarantees
+///
+/// - `rules`: each implementation states what it contains, how many bytes fit, and its error.
+/// - `laws`: what was appended can be joined and cut back. [`Encode`](crate::Encode) relies on it.
 pub trait Sink {
-    /// What it holds, how many bytes fit, and the refusal where they do not.
+    /// What the sink contains, how many bytes fit, and its error if they do not.
     ghost rules: { SinkRules Self };
 
-    /// Appends bytes. The only error is the sink's refusal, where so many do not fit; then nothing was appended.
+    /// Appends bytes, or nothing if they do not fit.
+    ///
+    /// # Errors
+    ///
+    /// The sink's error, only if so many bytes do not fit: E12 for a vector, E10 for a room and a
+    /// count. Nothing is appended then.
     fn put<'e>(&mut self, bytes: &[u8]) -> Result<(), Error<'e>>
         ensures { Puts rules (Unit {0}) self.old self.new bytes.now result };
 
-    /// How many bytes stand in the sink.
+    /// Returns how many bytes are in the sink.
     fn size(&self) -> u64
         ensures { result ≡ rules.size_of self.now };
 
-    /// Takes bytes off the end, down to a size. It needs a size that is not above [`Sink::size`]; so many bytes stay.
+    /// Removes bytes from the end, so that `size` bytes are left.
+    ///
+    /// # Requires
+    ///
+    /// `size` is at most [`Sink::size`].
     fn cut(&mut self, size: u64)
         requires { size ≤ rules.size_of self.old }
         ensures { rules.is_cut self.old size self.new };
 
-    /// Appends bytes, as [`Sink::put`] does, and tells a refusal itself.
+    /// Appends bytes like [`Sink::put`], and returns the error as a [`Refusal`].
+    ///
+    /// # Errors
+    ///
+    /// The sink's error, only if so many bytes do not fit. Nothing is appended then.
     fn push_bytes(&mut self, bytes: &[u8]) -> Result<(), Refusal>
         ensures { Writes rules (Unit {0}) self.old self.new bytes.now result }
     {
@@ -75,8 +109,13 @@ pub trait Sink {
         }
     }
 
-    /// Appends the bytes of an unsigned number, the shortest (binary format, integers: `u64`). It refuses only where so
-    /// many do not fit; then nothing was appended.
+    /// Appends the LEB128 encoding of an unsigned number (binary format: integers, `u64`).
+    ///
+    /// The encoding is the shortest one: 300 is `ac 02`.
+    ///
+    /// # Errors
+    ///
+    /// The sink's error, only if so many bytes do not fit. Nothing is appended then.
     fn push_number(&mut self, n: u64) -> Result<(), Refusal>
         ensures { Writes rules (Unit {0}) self.old self.new (unsigned n) result }
     {
@@ -84,8 +123,14 @@ pub trait Sink {
         self.push_bytes(&bytes[..len])
     }
 
-    /// Takes a count of bytes without the bytes. `true` says that the sink now stands as if any bytes of that count had
-    /// been appended; `false` says that it took none, and stays as it was. A sink that keeps its bytes says `false`.
+    /// Counts bytes without their values, and returns whether the sink can do so.
+    ///
+    /// After `true` the sink is as if any `count` bytes had been appended. After `false` it is
+    /// unchanged. A sink that stores its bytes returns `false`.
+    ///
+    /// # Example
+    ///
+    ///     assert!(rt; length.skip(300) && !length.skip(u64::MAX) && length.count() == 300);
     fn skip(&mut self, count: u64) -> bool
         ensures { Skips rules self.old self.new count result }
     {
@@ -93,11 +138,21 @@ pub trait Sink {
         false
     }
 
-    /// Puts the bytes of an unsigned number, the shortest, in the place of the byte that stands at a place; what stands
-    /// behind that byte stands behind them. It needs a place below [`Sink::size`].
+    /// Replaces the byte at `at` by the LEB128 encoding of `n`, and returns whether it did.
     ///
-    /// `true` says that the sink now stands as if they had been appended there; `false` says that it did nothing, and
-    /// stays as it was. A sink that cannot change what was put says `false`.
+    /// The bytes after that byte move if the encoding has more than one byte. This is how a length
+    /// is written before its content: one byte reserves the position, and the length replaces it at
+    /// the end. After `true` the sink is as if the encoding had been appended at that position.
+    /// After `false` it is unchanged. A sink that cannot change bytes returns `false`.
+    ///
+    /// # Example
+    ///
+    ///     assert!(rt; kept.bytes.set_number(1, 16384));
+    ///     assert!(rt; kept.bytes.as_slice() == [0x84, 0x80, 0x80, 0x01, 0x02].as_slice());
+    ///
+    /// # Requires
+    ///
+    /// `at` is below [`Sink::size`].
     fn set_number(&mut self, at: u64, n: u64) -> bool
         requires { at < rules.size_of self.old }
         ensures { Sets rules self.old self.new at n result }
@@ -106,11 +161,13 @@ pub trait Sink {
         false
     }
 
-    /// What was appended can be joined and cut back.
+    /// Proofs that appended bytes can be joined and cut back.
     ghost laws: { AppendLaws rules };
 }
 
-/// Appends the bytes of a number to a vector, digit by digit. It is separate so that short numbers are quick.
+/// Appends the LEB128 encoding of a number to a vector, digit by digit.
+///
+/// It is a separate function, because only the code for short numbers should be inlined.
 #[cold]
 #[inline(never)]
 fn push_long(out: &mut Vec<u8>, n: u64) -> Result<(), Refusal>
@@ -121,7 +178,7 @@ fn push_long(out: &mut Vec<u8>, n: u64) -> Result<(), Refusal>
     out.push_bytes(&bytes[..len])
 }
 
-/// Bytes stand at the end of the vector. Any number of them may be refused, where memory is: E12.
+/// A vector appends at its end. Any call may fail with E12, because allocation may fail.
 impl Sink for Vec<u8> {
     ghost rules = { record {
       appended = λ a b x. b.items ≡ a.items ++ x;
@@ -184,7 +241,15 @@ impl Sink for Vec<u8> {
     } };
 }
 
-/// Counts the bytes that it takes, and keeps none. Contracts see it as the count. No call on it takes memory.
+/// A sink that counts bytes and stores none. Its model in contracts is the count.
+///
+/// Use it to compute a size before memory is reserved. No call on it allocates.
+///
+/// # Example
+///
+///     let mut length = Length::new();
+///     assert!(rt; nested.encode(&mut length).is_ok());
+///     assert!(rt; length.count() == 134);
 #[derive(Debug, Drop)]
 pub struct Length {
     count: u64,
@@ -199,14 +264,14 @@ impl Model for Length {
 }
 
 impl Length {
-    /// A count of no bytes: 0.
+    /// Creates a count of zero bytes.
     pub fn new() -> Length
         ensures { result ≡ 0 }
     {
         Length { count: 0 }
     }
 
-    /// How many bytes it took, without those that were cut off.
+    /// Returns how many bytes were appended and not cut off.
     pub fn count(&self) -> u64
         ensures { result ≡ self.now }
     {
@@ -215,7 +280,7 @@ impl Length {
     }
 }
 
-/// Bytes fit where the count stays below 2^64; others are refused as too large: E10. Bytes that are skipped count too.
+/// Bytes fit while the count is below 2^64. More is E10. Skipped bytes count too.
 impl Sink for Length {
     ghost rules = { record {
       appended = λ a b x. b ≡ a + length x;

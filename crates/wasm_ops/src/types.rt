@@ -1,4 +1,4 @@
-//! Types of the binary format, and the kinds of what a module exports.
+//! Value types, composite types and type definitions, and the kinds of exports.
 
 ghost use Rattle.std.specs.Prelude.{◌≡◌, true, false, [], ◌∷◌};
 ghost use Rattle.std.specs.List.{list_all};
@@ -9,7 +9,9 @@ use crate::ref_types::RefType;
 use crate::sink::{Refusal, Sink};
 use wast_base::Seq;
 
-/// A value type (binary format, value types).
+/// A value type (binary format: value types).
+///
+/// For example, `i32` is `7f`, and `(ref func)` is `64 70`.
 #[derive(Clone, Copy, Debug, PartialEq, Eq, Hash)]
 pub enum ValType {
     /// `i32`
@@ -22,7 +24,7 @@ pub enum ValType {
     F64,
     /// `v128`
     V128,
-    /// A reference.
+    /// A reference type.
     Ref(RefType),
 }
 
@@ -33,7 +35,7 @@ impl ValType {
     /// `externref`
     pub const EXTERNREF: ValType = ValType::Ref(RefType::EXTERNREF);
 
-    /// Whether the encoder covers it: it is a number, a vector, or a reference whose heap type it covers.
+    /// Returns whether the encoder supports it: all but references to unsupported heap types.
     pub fn is_covered(&self) -> bool
         ensures { result ≡ (val_type self.now).is_covered }
     {
@@ -64,25 +66,27 @@ impl Encode for ValType {
     }
 }
 
-/// The bytes of the value types that are constants (binary format, value types).
+/// The bytes of the constants of [`ValType`] (binary format: value types).
 pub(crate) fn constant_val_types()
     ensures func { (val_type ValType.FUNCREF).bytes ≡ 0x70 ∷ [] }
     ensures extern_ { (val_type ValType.EXTERNREF).bytes ≡ 0x6f ∷ [] }
 {}
 
-/// What a field of a struct or an element of an array is stored as (binary format, composite types).
+/// The type of a struct field or an array element in storage (binary format: composite types).
+///
+/// For example, `i8` is `78`, and `i32` is `7f`.
 #[derive(Clone, Copy, Debug, PartialEq, Eq, Hash)]
 pub enum StorageType {
     /// `i8`
     I8,
     /// `i16`
     I16,
-    /// A value type.
+    /// A value type, unpacked.
     Val(ValType),
 }
 
 impl StorageType {
-    /// Whether the encoder covers it: it is packed, or a value type that is covered.
+    /// Returns whether the encoder supports it: a packed type, or a supported value type.
     pub fn is_covered(&self) -> bool
         ensures { result ≡ (storage_type self.now).is_covered }
     {
@@ -94,7 +98,7 @@ impl StorageType {
     }
 }
 
-/// What is stored as a value type, and not packed.
+/// Converts a value type to the same type in storage, unpacked.
 impl From<ValType> for StorageType {
     ghost use Rattle.wasm_ops.specs.declared.types.StorageType.TheVariants.{Val};
 
@@ -121,17 +125,26 @@ impl Encode for StorageType {
     }
 }
 
-/// A field of a struct, or what the elements of an array are (binary format, composite types).
+/// The type of a struct field or of the elements of an array (binary format: composite types).
+///
+/// # Example
+///
+/// The field `(mut i8)` is `78 01`:
+///
+///     let field = FieldType {
+///         element_type: StorageType::I8,
+///         mutable: true,
+///     };
 #[derive(Clone, Copy, Debug, PartialEq, Eq, Hash)]
 pub struct FieldType {
-    /// What it is stored as.
+    /// The type in storage.
     pub element_type: StorageType,
-    /// Whether it can be changed.
+    /// Whether the field is mutable.
     pub mutable: bool,
 }
 
 impl FieldType {
-    /// Whether the encoder covers it: it covers its storage type.
+    /// Returns whether the encoder supports it, that is, its type in storage.
     pub fn is_covered(&self) -> bool
         ensures { result ≡ (field_type self.now).is_covered }
     {
@@ -151,7 +164,9 @@ impl Encode for FieldType {
     }
 }
 
-/// The kind of what is exported or imported, as a byte (binary format, export section).
+/// The kind of an export or import, encoded as a byte (binary format: export section).
+///
+/// For example, a memory is `02`.
 #[derive(Clone, Copy, Debug, PartialEq, Eq)]
 pub enum ExportKind {
     /// A function.
@@ -167,7 +182,7 @@ pub enum ExportKind {
 }
 
 impl ExportKind {
-    /// Whether the encoder covers it. It covers each one.
+    /// Returns whether the encoder supports it: always.
     pub fn is_covered(self) -> bool
         ensures { result ≡ true }
     {
@@ -187,14 +202,21 @@ impl Encode for ExportKind {
     }
 }
 
-/// Whether the encoder covers each of these types.
+/// Returns whether the encoder supports each of these types.
 fn are_covered(types: &[ValType]) -> bool
     ensures { result ≡ list_all (λ x. (val_type x).is_covered) types.now }
 {
     types.iter().all(|ty| ty.is_covered())
 }
 
-/// A function type (binary format, composite types).
+/// A function type (binary format: composite types).
+///
+/// # Example
+///
+/// `(func (param i32 i32) (result i32))` is `60 02 7f 7f 01 7f`:
+///
+///     let params = Seq::from_vec(Vec::from_slice(alloc, &[ValType::I32, ValType::I32])?);
+///     let results = Seq::from_vec(Vec::from_slice(alloc, &[ValType::I32])?);
 #[derive(Debug, Drop)]
 pub struct FuncType {
     /// The types of the parameters.
@@ -204,7 +226,7 @@ pub struct FuncType {
 }
 
 impl FuncType {
-    /// Whether the encoder covers it: it covers the types of its parameters and results.
+    /// Returns whether the encoder supports it: the types of its parameters and results.
     pub fn is_covered(&self) -> bool
         ensures { result ≡ (func_type self.now).is_covered }
     {
@@ -226,15 +248,17 @@ impl Encode for FuncType {
     }
 }
 
-/// A struct type (binary format, composite types).
+/// A struct type (binary format: composite types).
+///
+/// For example, `(struct (field (mut i8)))` is `5f 01 78 01`.
 #[derive(Debug, Drop)]
 pub struct StructType {
-    /// Its fields.
+    /// Its fields, in order.
     pub fields: Seq<FieldType>,
 }
 
 impl StructType {
-    /// Whether the encoder covers it: it covers each of its fields.
+    /// Returns whether the encoder supports it: each of its fields.
     pub fn is_covered(&self) -> bool
         ensures { result ≡ (struct_type self.now).is_covered }
     {
@@ -257,12 +281,14 @@ impl Encode for StructType {
     }
 }
 
-/// An array type, by what its elements are (binary format, composite types).
+/// An array type, with the type of its elements (binary format: composite types).
+///
+/// For example, `(array (mut i8))` is `5e 78 01`.
 #[derive(Clone, Copy, Debug, PartialEq, Eq, Hash)]
 pub struct ArrayType(pub FieldType);
 
 impl ArrayType {
-    /// Whether the encoder covers it: it covers what its elements are.
+    /// Returns whether the encoder supports it: the type of its elements.
     pub fn is_covered(&self) -> bool
         ensures { result ≡ (array_type self.now).is_covered }
     {
@@ -282,12 +308,12 @@ impl Encode for ArrayType {
     }
 }
 
-/// A continuation type, by the index of its function type (binary format, composite types).
+/// A continuation type, with the index of its function type (binary format: composite types).
 #[derive(Clone, Copy, Debug, PartialEq, Eq, Hash)]
 pub struct ContType(pub u32);
 
 impl ContType {
-    /// Whether the encoder covers it. It covers none.
+    /// Returns whether the encoder supports it: never.
     pub fn is_covered(&self) -> bool
         ensures { result ≡ false }
     {
@@ -295,7 +321,7 @@ impl ContType {
     }
 }
 
-/// What a composite type is made of (binary format, composite types).
+/// A function, struct, array or continuation type (binary format: composite types).
 #[derive(Debug, Drop)]
 pub enum CompositeInnerType {
     /// A function type.
@@ -309,7 +335,7 @@ pub enum CompositeInnerType {
 }
 
 impl CompositeInnerType {
-    /// Whether the encoder covers it: it covers each type that stands in it.
+    /// Returns whether the encoder supports it: the type inside, and never a continuation type.
     pub fn is_covered(&self) -> bool
         ensures { result ≡ (composite_inner_type self.now).is_covered }
     {
@@ -339,22 +365,31 @@ impl Encode for CompositeInnerType {
     }
 }
 
-/// A composite type, and how it stands to shared memory and to descriptors (binary format, composite types).
+/// A composite type with its extensions: sharing and descriptors (binary format: composite types).
+///
+/// # Example
+///
+///     let composite_type = CompositeType {
+///         inner: CompositeInnerType::Func(FuncType { params, results }),
+///         shared: false,
+///         descriptor: None,
+///         describes: None,
+///     };
 #[derive(Debug, Drop)]
 pub struct CompositeType {
-    /// What it is made of.
+    /// The function, struct, array or continuation type.
     pub inner: CompositeInnerType,
     /// Whether it is shared.
     pub shared: bool,
-    /// The type that describes it.
+    /// The index of its descriptor type.
     pub descriptor: Option<u32>,
-    /// The type that it describes.
+    /// The index of the type that it describes.
     pub describes: Option<u32>,
 }
 
 impl CompositeType {
-    /// Whether the encoder covers it: it is not shared, has no descriptor and describes nothing, and the encoder covers
-    /// what it is made of.
+    /// Returns whether the encoder supports it: an unshared type without descriptor and describes
+    /// clauses, if the type inside is supported.
     pub fn is_covered(&self) -> bool
         ensures { result ≡ (composite_type self.now).is_covered }
     {
@@ -377,19 +412,30 @@ impl Encode for CompositeType {
     }
 }
 
-/// A composite type, and the types above it (binary format, recursive types).
+/// A type definition: a composite type, its supertypes, and finality (binary format: recursive
+/// types).
+///
+/// # Example
+///
+/// A final type without supertypes is encoded as its composite type alone:
+///
+///     Ok(SubType {
+///         composite_type,
+///         is_final: true,
+///         supertype_idxs: Seq::new(alloc),
+///     })
 #[derive(Debug, Drop)]
 pub struct SubType {
     /// The composite type.
     pub composite_type: CompositeType,
-    /// Whether no type can be below it.
+    /// Whether no type can be a subtype of it.
     pub is_final: bool,
-    /// The types that it is a subtype of.
+    /// The indices of its supertypes.
     pub supertype_idxs: Seq<u32>,
 }
 
 impl SubType {
-    /// Whether the encoder covers it: it covers its composite type.
+    /// Returns whether the encoder supports it: its composite type.
     pub fn is_covered(&self) -> bool
         ensures { result ≡ (sub_type self.now).is_covered }
     {
@@ -397,7 +443,8 @@ impl SubType {
     }
 }
 
-/// A final type with no types above it is written as its composite type alone.
+/// A final type without supertypes is encoded as its composite type alone, because the binary
+/// format has this abbreviation. Others begin with `4f` (final) or `50`.
 impl Encode for SubType {
     ghost spelling = { λ x. (sub_type x).bytes };
 

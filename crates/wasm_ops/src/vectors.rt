@@ -1,4 +1,4 @@
-//! Instructions on vectors: constants, lanes, and loads and stores of lanes.
+//! Vector instructions: constants, lanes, and loads and stores of lanes.
 
 ghost use Rattle.std.specs.Prelude.{◌≡◌, ◌&&◌, true};
 ghost use Rattle.wasm_ops.specs.Memargs.{is_aligned, memarg};
@@ -12,17 +12,19 @@ use crate::opcodes::{Opcode, lane_opcode, mem_lane_opcode};
 use crate::sink::{Refusal, Sink};
 use wast_base::{LaneOp, MemLaneOp};
 
-/// An instruction whose immediate is sixteen bytes (binary format, vector instructions). The number of a variant is its key.
+/// An instruction with an immediate of sixteen bytes (binary format: vector instructions).
+///
+/// The number of a variant is its key in the opcode table.
 #[derive(Clone, Copy, Debug, PartialEq, Eq)]
 pub enum LanesOp {
-    /// `v128.const`, of the bytes of a vector, the lowest first
+    /// `v128.const`, with the bytes of a vector, the lowest first
     Const = 0xfd000c,
-    /// `i8x16.shuffle`, of the numbers of lanes
+    /// `i8x16.shuffle`, with lane numbers
     Shuffle,
 }
 
 impl LanesOp {
-    /// The opcode that stands before the bytes (binary format, vector instructions).
+    /// Returns the opcode, which comes before the bytes (binary format: vector instructions).
     pub fn opcode(self) -> Opcode
         ensures { result ≡ opcode_of (lanes_key self) }
     {
@@ -30,13 +32,15 @@ impl LanesOp {
     }
 }
 
-/// An instruction with sixteen bytes: `i8x16.shuffle 0 1 2 3 4 5 6 7 8 9 10 11 12 13 14 31` (binary format, vector
-/// instructions).
+/// An instruction with sixteen bytes (binary format: vector instructions).
+///
+/// For example, `i8x16.shuffle 0 1 2 3 4 5 6 7 8 9 10 11 12 13 14 31` is `fd 0d` and these sixteen
+/// bytes.
 #[derive(Clone, Copy, Debug, PartialEq, Eq)]
 pub struct LanesInstr {
-    /// Which instruction it is.
+    /// The instruction.
     pub op: LanesOp,
-    /// The bytes.
+    /// The bytes, or lane numbers.
     pub lanes: [u8; 16],
 }
 
@@ -53,10 +57,12 @@ impl Encode for LanesInstr {
     }
 }
 
-/// An instruction with the number of a lane: `i8x16.extract_lane_s 3` (binary format, vector instructions).
+/// An instruction with a lane number (binary format: vector instructions).
+///
+/// For example, `i8x16.extract_lane_s 3` is `fd 15 03`.
 #[derive(Clone, Copy, Debug, PartialEq, Eq)]
 pub struct LaneInstr {
-    /// Which instruction it is.
+    /// The instruction.
     pub op: LaneOp,
     /// The lane.
     pub lane: u8,
@@ -74,12 +80,14 @@ impl Encode for LaneInstr {
     }
 }
 
-/// A load of a lane, or a store of one: `v128.load8_lane offset=4 3` (binary format, vector instructions).
+/// A load or a store of a lane (binary format: vector instructions).
+///
+/// For example, `v128.load8_lane offset=4 3` is `fd 54 00 04 03`.
 #[derive(Clone, Copy, Debug, PartialEq, Eq)]
 pub struct MemLaneInstr {
-    /// Which instruction it is.
+    /// The instruction.
     pub op: MemLaneOp,
-    /// How the memory is accessed.
+    /// The memory argument.
     pub memarg: MemArg,
     /// The lane.
     pub lane: u8,

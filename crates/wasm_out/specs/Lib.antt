@@ -1,3 +1,10 @@
+-- The definitions of sections, function bodies, custom sections and modules.
+--
+-- - Parts, Readable, Reads: the items and bytes of each section, and reading bytes as a module.
+-- - Bodies: function bodies. ElementSegments, DataSegments: the segments in each form.
+-- - Built, BuiltElements, BuiltData: the contracts of methods that add an item.
+-- - NameSectionBytes, Producers, Hints: custom sections.
+-- - WorkedBytes, WorkedInstrs: examples that compute.
 pub mod Bodies
 pub mod Built
 pub mod BuiltData

@@ -1,11 +1,13 @@
--- The name section: a custom section called name, of subsections behind an id and a length (custom sections, name section).
+-- The name section, a custom section of subsections with an id and a length (custom sections: name section).
+--
+--   subsection Functions (01 00 01 66)       01 04 01 00 01 66: function 0 is "f"
 use Rattle.std.specs.Prelude.{ℕ, List, ◌∷◌, ◌++◌, length, codes, Result}
 use Rattle.wast_base.specs.declared.faults.Error.{Error}
 use Rattle.wasm_ops.specs.Leb128.{unsigned}
 use Rattle.wasm_ops.specs.Spelling.{InRangeU32, Encoding, u32, named, byte_then, seq, list_of, with_length, name}
 use Rattle.wasm_out.specs.Built.{Built, behind_count, Appends}
 
--- what the names are names of
+-- The kinds of subsections, by what has the names.
 pub data Named : Type 0 where
   Whole : Named
   Functions : Named
@@ -22,7 +24,7 @@ pub data Named : Type 0 where
   Parameters : Named
   TagParameters : Named
 
--- the ids of the standard and of its proposals; 12 and 13 are this encoder's own
+-- The ids of subsections, from the specification and its proposals. Only this project uses 12 and 13.
 abbrev pub subsection_id : Named → ℕ
 subsection_id Whole = 0
 subsection_id Functions = 1
@@ -39,44 +41,44 @@ subsection_id Tags = 11
 subsection_id Parameters = 12
 subsection_id TagParameters = 13
 
--- the id, the length of the content, and the content
+-- The bytes of a subsection: its id, the length of its content, and its content.
 abbrev pub subsection : Named → List ℕ → List ℕ
 subsection named content = subsection_id named ∷ (unsigned (length content) ++ content)
 
--- a map of names was appended as a subsection, and its length is in range; or the bytes stay
+-- On success a name map is appended as a subsection, and its length is in range. After an error nothing is changed.
 abbrev pub AppendsNames : {A : Type 0} → Named → Built → List ℕ → List ℕ → Result A Error → Type 0
 AppendsNames named names old new result =
     Appends (InRangeU32 (length (behind_count names))) old new (subsection named (behind_count names)) result
 
--- a name map's entry: an index and a name
+-- An entry of a name map: an index and a name.
 abbrev pub name_entry : ℕ × List ℕ → Encoding
 name_entry e = seq (u32 e.0) (named e.1)
 
--- what a subsection holds: one name, names by index, or maps of names by index
+-- The content of a subsection: one name, names by index, or name maps by index.
 pub data NameContent : Type 0 where
   One : List ℕ → NameContent
   Direct : List (ℕ × List ℕ) → NameContent
   Indirect : List (ℕ × List (ℕ × List ℕ)) → NameContent
 
--- a subsection: what its names are names of, and the names
+-- A subsection: its kind and its content.
 pub record NameSubsection : Type 0 where
   pub of : Named
   pub content : NameContent
 
--- an entry of a map of name maps: an index and a name map
+-- An entry of an indirect name map: an index and a name map.
 abbrev pub map_entry : ℕ × List (ℕ × List ℕ) → Encoding
 map_entry e = seq (u32 e.0) (list_of name_entry e.1)
 
--- what a subsection holds
+-- The content of a subsection.
 abbrev pub name_content : NameContent → Encoding
 name_content (One text) = named text
 name_content (Direct names) = list_of name_entry names
 name_content (Indirect maps) = list_of map_entry maps
 
--- a subsection: its id, the length of what it holds, and that
+-- A subsection: its id, the length of its content, and the content.
 abbrev pub name_subsection : NameSubsection → Encoding
 name_subsection s = byte_then (subsection_id s.of) (with_length (name_content s.content))
 
--- the payload of the name section, of its subsections
+-- The payload of the section, from the bytes of its subsections.
 abbrev pub name_payload : List ℕ → List ℕ
 name_payload subsections = name (codes "name") ++ subsections

@@ -1,4 +1,7 @@
--- The parts of a module, and their bytes: an id, the length of the payload, and the payload (binary format, modules: sections).
+-- The sections of a module and their bytes (binary format: modules, sections).
+--
+-- A section is its id, the length of its payload, and the payload. For example the start section of function 3 is 08 01 03.
+-- Each item of a section is described once, as an `Encoding`.
 use Rattle.std.specs.Prelude.{ℕ, Option, Some, None, List, [], ◌∷◌, ◌++◌, length}
 use Rattle.wasm_ops.specs.ConstExprs.{expression}
 use Rattle.wasm_ops.specs.Entities.{table_type, memory_type, global_type, tag_type, entity_type}
@@ -16,7 +19,7 @@ use Rattle.wasm_out.specs.Bodies.{Body, body_content}
 use Rattle.wasm_out.specs.DataSegments.{DataEntry, data_entry}
 use Rattle.wasm_out.specs.ElementSegments.{ElementEntry, element_entry}
 
--- sections whose content is a list
+-- The kinds of sections that hold a list.
 pub data SectionKind : Type 0 where
   Types : SectionKind
   Imports : SectionKind
@@ -30,34 +33,34 @@ pub data SectionKind : Type 0 where
   Code : SectionKind
   Data : SectionKind
 
--- a type on its own, or a group of types that may name one another
+-- A type, or a recursive group of types.
 pub data TypeEntry : Type 0 where
   Single : SubType → TypeEntry
   Group : List SubType → TypeEntry
 
--- the module and the name that it is imported by, and its type
+-- An import: its module, its name and its type.
 pub record ImportEntry : Type 0 where
   pub «module» : List ℕ
   pub name : List ℕ
   pub entity : EntityType
 
--- a table, and what its elements are at first where that is written
+-- A table, and the initial value of its elements if one is written.
 pub record TableEntry : Type 0 where
   pub ty : TableType
   pub init : Option (List Instr)
 
--- a global, and what it is at first
+-- A global and its initial value.
 pub record GlobalEntry : Type 0 where
   pub ty : GlobalType
   pub init : List Instr
 
--- the name of an export, and the kind and the index of the item
+-- An export: its name, and the kind and the index of the item.
 pub record ExportEntry : Type 0 where
   pub name : List ℕ
   pub kind : ExportKind
   pub index : ℕ
 
--- the items of a list: types, imports, the types of functions, tables, memories, tags, globals, exports, segments of elements, bodies, segments of data
+-- The items of a section.
 abbrev pub Entry : SectionKind → Type 0
 Entry Types = TypeEntry
 Entry Imports = ImportEntry
@@ -71,42 +74,42 @@ Entry Elements = ElementEntry
 Entry Code = Body
 Entry Data = DataEntry
 
--- a type, or a group after 0x4e and the number of its types
+-- A type, or 4e and the list of the types of a group.
 abbrev pub type_entry : TypeEntry → Encoding
 type_entry (Single t) = sub_type t
 type_entry (Group ts) = byte_then 0x4e (list_of sub_type ts)
 
--- the module, the name, and the type
+-- An import: its module, its name and its type.
 abbrev pub import_entry : ImportEntry → Encoding
 import_entry i = seq (named i.«module») (seq (named i.name) (entity_type i.entity))
 
--- the type alone, or after 0x40 and 0x00 with an expression
+-- The bytes of a table: its type alone, or 40 00, its type and the expression.
 abbrev pub table_bytes : TableType → Option (List Instr) → List ℕ
 table_bytes ty None = (table_type ty).bytes
 table_bytes ty (Some init) = 0x40 ∷ 0x00 ∷ ((table_type ty).bytes ++ (expression init).bytes)
 
--- what the elements of a table are at first
+-- The initial value of the elements of a table.
 abbrev pub table_init : Option (List Instr) → Encoding
 table_init None = fixed []
 table_init (Some init) = expression init
 
--- a table
+-- A table.
 abbrev pub table_entry : TableEntry → Encoding
 table_entry t = respelled (λ _. table_bytes t.ty t.init) (seq (table_type t.ty) (table_init t.init))
 
--- the type, and an expression
+-- A global: its type and an expression.
 abbrev pub global_entry : GlobalEntry → Encoding
 global_entry g = seq (global_type g.ty) (expression g.init)
 
--- the name, the kind, and the index
+-- An export: its name, its kind and its index.
 abbrev pub export_entry : ExportEntry → Encoding
 export_entry e = seq (named e.name) (respelled (λ index. export_kind e.kind ++ index) (u32 e.index))
 
--- the bytes of a body, after their number
+-- The bytes of a body, with their length.
 abbrev pub body : Body → List ℕ
 body b = (with_length (body_content b)).bytes
 
--- an item of a list
+-- An item of a section.
 abbrev pub item : (kind : SectionKind) → Entry kind → Encoding
 item Types t = type_entry t
 item Imports i = import_entry i
@@ -120,41 +123,41 @@ item Elements e = element_entry e
 item Code b = with_length (body_content b)
 item Data d = data_entry d
 
--- the bytes of an item
+-- The bytes of an item.
 abbrev pub entry : (kind : SectionKind) → Entry kind → List ℕ
 entry kind e = (item kind e).bytes
 
--- the numbers, counts and lengths of an item are in range
+-- The numbers, counts and lengths of an item are in range.
 abbrev pub InRangeEntry : (kind : SectionKind) → Entry kind → Type 0
 InRangeEntry kind e = (item kind e).in_range
 
--- the kinds of parts: sections of a list, and those that hold something else
+-- The kinds of sections. Most hold a list; the others hold a number, or bytes of any content.
 pub data PartKind : Type 0 where
   Custom : PartKind
   Start : PartKind
   DataCount : PartKind
   Listed : SectionKind → PartKind
 
--- a custom section: its name, and bytes of any content
+-- A custom section: its name, and its bytes.
 pub record CustomPart : Type 0 where
   pub name : List ℕ
   pub bytes : List ℕ
 
--- a start section and a data count hold one number
+-- The content of a section.
 abbrev pub PartItems : PartKind → Type 0
 PartItems Custom = CustomPart
 PartItems Start = ℕ
 PartItems DataCount = ℕ
 PartItems (Listed kind) = List (Entry kind)
 
--- what follows the length of a part: of a custom section the name, and the bytes as they are
+-- The payload of a section.
 abbrev pub payload : (kind : PartKind) → PartItems kind → Encoding
 payload Custom c = respelled (λ name. name ++ c.bytes) (named c.name)
 payload Start n = u32 n
 payload DataCount n = u32 n
 payload (Listed kind) items = list_of (item kind) items
 
--- the ids of sections, by kind
+-- The ids of sections that hold a list.
 abbrev pub section_id : SectionKind → ℕ
 section_id Types = 1
 section_id Imports = 2
@@ -168,26 +171,26 @@ section_id Elements = 9
 section_id Code = 10
 section_id Data = 11
 
--- the ids of parts, by kind
+-- The ids of sections.
 abbrev pub part_id : PartKind → ℕ
 part_id Custom = 0
 part_id Start = 8
 part_id DataCount = 12
 part_id (Listed kind) = section_id kind
 
--- a section of a module: its kind, and what it holds
+-- A section of a module.
 pub record Part : Type 0 where
   pub kind : PartKind
   pub items : PartItems kind
 
--- the id, the length of the payload, and the payload
+-- The bytes of a section: its id, the length of its payload, and the payload.
 abbrev pub section : ℕ → List ℕ → List ℕ
 section id bytes = id ∷ (unsigned (length bytes) ++ bytes)
 
--- the spelling of a part
+-- The bytes of a section.
 abbrev pub part : Part → List ℕ
 part p = section (part_id p.kind) (payload p.kind p.items).bytes
 
--- its numbers, counts and lengths are in range, and its own length
+-- The payload of a section is in range, and its length.
 abbrev pub InRangePart : Part → Type 0
 InRangePart p = (with_length (payload p.kind p.items)).in_range

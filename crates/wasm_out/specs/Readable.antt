@@ -1,5 +1,8 @@
--- Which parts can be read back from their bytes. Their numbers are in range and their forms are supported. Besides, their
--- instructions are in the opcode table, the blocks in their constant expressions are balanced, and their names are UTF-8.
+-- Which sections can be read back from their bytes.
+--
+-- Their numbers are in range, and their forms are supported. Besides, their instructions have entries in the opcode table,
+-- their constant expressions are balanced, and their names are UTF-8. For these three a reader needs only the lists of
+-- expressions, instructions and names of an item. For example an export has one name, and no instructions.
 use Rattle.std.specs.Prelude.{ℕ, List, [], ◌∷◌, ◌++◌, length, All, IsTrue}
 use Rattle.std.specs.Option.{option_to_list}
 use Rattle.std.specs.Str.{is_utf8}
@@ -10,7 +13,7 @@ use Rattle.wasm_out.specs.Parts.{SectionKind, Imports, Tables, Globals, Exports,
 use Rattle.wasm_out.specs.DataSegments.{data_expressions}
 use Rattle.wasm_out.specs.ElementSegments.{place_expressions, item_expressions}
 
--- the constant expressions in an item
+-- The constant expressions in an item.
 abbrev pub expressions : (kind : SectionKind) → Entry kind → List (List Instr)
 expressions Tables t = option_to_list t.init
 expressions Globals g = g.init ∷ []
@@ -24,44 +27,44 @@ abbrev pub instructions : (kind : SectionKind) → Entry kind → List (List Ins
 instructions Code b = b.instrs ∷ []
 instructions kind e = expressions kind e
 
--- the names in an item (binary format, names)
+-- The names in an item (binary format: names).
 abbrev pub names : (kind : SectionKind) → Entry kind → List (List ℕ)
 names Imports i = i.«module» ∷ i.name ∷ []
 names Exports e = e.name ∷ []
 names kind e = []
 
--- what is asked of an item apart from the range of its numbers
+-- An item can be read back, if its numbers are in range.
 pub record IsReadable (kind : SectionKind) (e : Entry kind) : Type 0 where
   pub covered : IsTrue (item kind e).is_covered
   pub rows : All HasRowsExpression (instructions kind e)
   pub balanced : All IsBalancedExpression (expressions kind e)
   pub name : All (λ text. IsTrue (is_utf8 text)) (names kind e)
 
--- what is asked of what a part holds
+-- The content of a section can be read back, if its numbers are in range.
 abbrev pub AreReadable : (kind : PartKind) → PartItems kind → Type 0
 AreReadable Custom c = IsTrue (is_utf8 c.name)
 AreReadable Start n = Unit {0}
 AreReadable DataCount n = Unit {0}
 AreReadable (Listed kind) items = All (IsReadable kind) items
 
--- what is asked of a part apart from the range of its numbers
+-- A section can be read back, if its numbers are in range.
 abbrev pub IsReadablePart : Part → Type 0
 IsReadablePart p = AreReadable p.kind p.items
 
--- an item has one spelling: its numbers are in range, the encoder covers it, its instructions are rows of the table, and each block in its constant expressions is closed
+-- An item can be written, and read back but for its names.
 pub record IsSpellable (kind : SectionKind) (e : Entry kind) : Type 0 where
   pub in_range : InRangeEntry kind e
   pub covered : IsTrue (item kind e).is_covered
   pub rows : All HasRowsExpression (instructions kind e)
   pub balanced : All IsBalancedExpression (expressions kind e)
 
--- what a part holds has one spelling
+-- The content of a section can be written, and read back but for its names.
 abbrev pub AreSpellable : (kind : PartKind) → PartItems kind → Type 0
 AreSpellable Custom c = InRangeName c.name
 AreSpellable Start n = InRangeU32 n
 AreSpellable DataCount n = InRangeU32 n
 AreSpellable (Listed kind) items = InRangeVec (IsSpellable kind) items
 
--- a part has one spelling
+-- A section can be written, and read back but for its names.
 abbrev pub IsSpellablePart : Part → Type 0
 IsSpellablePart p = InRangeU32 (length (payload p.kind p.items).bytes) × AreSpellable p.kind p.items

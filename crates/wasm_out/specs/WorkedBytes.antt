@@ -1,4 +1,7 @@
--- Worked examples with their bytes, which the definitions compute (worked_bytes.rt).
+-- Sections with their bytes, which the definitions compute (src/worked_bytes.rt).
+--
+--   RunsOfLocals       the locals i32, i32 and i64 are 02 02 7f 01 7e
+--   Spelled            a whole module of 52 bytes
 use Rattle.std.specs.Prelude.{◌≡◌, ℕ, pos, negsuc, true, false, List, [], ◌∷◌, ◌++◌, Some, None, codes}
 use Rattle.std.specs.List.{flat_map}
 use Rattle.wasm_ops.specs.declared.entities.EntityType.TheVariants as entity
@@ -21,7 +24,7 @@ use Rattle.wasm_out.specs.Parts.{Types, Imports, Functions, Tables, Memories, Ta
 use Rattle.wasm_out.specs.Producers.{producers}
 use Rattle.wasm_out.specs.Reads.{header, Reads}
 
--- runs of locals: two of i32, one of i64
+-- Two runs of locals: two of i32, and one of i64.
 abbrev pub RunsOfLocals : Type 0
 RunsOfLocals = locals (val.I32 ∷ val.I32 ∷ val.I64 ∷ []) ≡ 0x02 ∷ 0x02 ∷ 0x7f ∷ 0x01 ∷ 0x7e ∷ []
 
@@ -35,7 +38,7 @@ worked_parts =
     ∷ record { kind = Custom; items = record { name = codes "name"; bytes = 0x01 ∷ 0x04 ∷ 0x01 ∷ 0x00 ∷ 0x01 ∷ 0x66 ∷ 0x04 ∷ 0x04 ∷ 0x01 ∷ 0x00 ∷ 0x01 ∷ 0x74 ∷ [] } }
     ∷ []
 
--- the bytes of this module
+-- The bytes of this module.
 abbrev pub worked_bytes : List ℕ
 worked_bytes = 0x00 ∷ 0x61 ∷ 0x73 ∷ 0x6d ∷ 0x01 ∷ 0x00 ∷ 0x00 ∷ 0x00
     ∷ 0x01 ∷ 0x04 ∷ 0x01 ∷ 0x60 ∷ 0x00 ∷ 0x00
@@ -44,7 +47,7 @@ worked_bytes = 0x00 ∷ 0x61 ∷ 0x73 ∷ 0x6d ∷ 0x01 ∷ 0x00 ∷ 0x00 ∷ 0x
     ∷ 0x0a ∷ 0x06 ∷ 0x01 ∷ 0x04 ∷ 0x00 ∷ 0x10 ∷ 0x00 ∷ 0x0b
     ∷ 0x00 ∷ 0x11 ∷ 0x04 ∷ 0x6e ∷ 0x61 ∷ 0x6d ∷ 0x65 ∷ 0x01 ∷ 0x04 ∷ 0x01 ∷ 0x00 ∷ 0x01 ∷ 0x66 ∷ 0x04 ∷ 0x04 ∷ 0x01 ∷ 0x00 ∷ 0x01 ∷ 0x74 ∷ []
 
--- They are the spelling of its parts.
+-- The definitions compute these bytes.
 abbrev pub Spelled : Type 0
 Spelled = header ++ flat_map part worked_parts ≡ worked_bytes
 
@@ -70,7 +73,7 @@ worked_items =
     ∷ record { kind = Listed Globals; items = record { ty = record { val_type = val.I32; mutable = true; shared = false }; init = i32_const_instr (negsuc 0) ∷ [] } ∷ [] }
     ∷ []
 
--- the bytes of these parts
+-- The bytes of these sections.
 abbrev pub item_bytes : List ℕ
 item_bytes = 0x02 ∷ 0x08 ∷ 0x01 ∷ 0x01 ∷ 0x6d ∷ 0x01 ∷ 0x74 ∷ 0x04 ∷ 0x00 ∷ 0x00
     ∷ 0x04 ∷ 0x0d ∷ 0x02 ∷ 0x70 ∷ 0x00 ∷ 0x01 ∷ 0x40 ∷ 0x00 ∷ 0x70 ∷ 0x05 ∷ 0x01 ∷ 0x02 ∷ 0xd0 ∷ 0x70 ∷ 0x0b
@@ -78,11 +81,11 @@ item_bytes = 0x02 ∷ 0x08 ∷ 0x01 ∷ 0x01 ∷ 0x6d ∷ 0x01 ∷ 0x74 ∷ 0x04
     ∷ 0x0d ∷ 0x03 ∷ 0x01 ∷ 0x00 ∷ 0x00
     ∷ 0x06 ∷ 0x06 ∷ 0x01 ∷ 0x7f ∷ 0x01 ∷ 0x41 ∷ 0x7f ∷ 0x0b ∷ []
 
--- They are their spelling.
+-- The definitions compute these bytes.
 abbrev pub ItemsSpelled : Type 0
 ItemsSpelled = flat_map part worked_items ≡ item_bytes
 
--- what the offsets and the expressions of the segments are: (i32.const 1), (ref.func 2), (ref.null extern)
+-- The offsets and expressions of the segments: (i32.const 1), (ref.func 2), (ref.null extern).
 abbrev one_const : List Instr
 one_const = i32_const_instr (pos 1) ∷ []
 
@@ -95,7 +98,8 @@ extern_heap = heap.Abstract false heaps.Extern
 abbrev functions : ElementItems
 functions = Indices (0 ∷ 1 ∷ [])
 
--- segments of functions 0 and 1, and of one expression: in the first table, passive, in table 3, declared
+-- Segments of functions 0 and 1, and segments of one expression. Each is active in table 0, passive, active in table
+-- 3, and declarative.
 abbrev pub worked_segments : List Part
 worked_segments =
     record {
@@ -121,7 +125,7 @@ worked_segments =
     }
     ∷ []
 
--- the bytes of these segments
+-- The bytes of these segments.
 abbrev pub segments_in_bytes : List ℕ
 segments_in_bytes = 0x09 ∷ 0x3a ∷ 0x08
     ∷ 0x00 ∷ 0x41 ∷ 0x01 ∷ 0x0b ∷ 0x02 ∷ 0x00 ∷ 0x01
@@ -137,27 +141,27 @@ segments_in_bytes = 0x09 ∷ 0x3a ∷ 0x08
     ∷ 0x01 ∷ 0x01 ∷ 0x78
     ∷ 0x02 ∷ 0x01 ∷ 0x41 ∷ 0x01 ∷ 0x0b ∷ 0x01 ∷ 0x7a ∷ []
 
--- They are their spelling.
+-- The definitions compute these bytes.
 abbrev pub SegmentsSpelled : Type 0
 SegmentsSpelled = flat_map part worked_segments ≡ segments_in_bytes
 
--- a memory of 64 bits whose minimum has ten bytes: it is 2 ^ 64, which is out of range
+-- A memory of 64 bits whose minimum has ten bytes: it is 2^64, which is out of range.
 abbrev pub wide_bytes : List ℕ
 wide_bytes = 0x00 ∷ 0x61 ∷ 0x73 ∷ 0x6d ∷ 0x01 ∷ 0x00 ∷ 0x00 ∷ 0x00
     ∷ 0x05 ∷ 0x0c ∷ 0x01 ∷ 0x04 ∷ 0x80 ∷ 0x80 ∷ 0x80 ∷ 0x80 ∷ 0x80 ∷ 0x80 ∷ 0x80 ∷ 0x80 ∷ 0x80 ∷ 0x02 ∷ []
 
--- they are read as no module
+-- These bytes are not read as a module.
 abbrev pub IsNoModule : Type 0
 IsNoModule = (parts : List Part) → Reads wide_bytes parts → ⊥
 
--- (@producers (language "R" "1")): what stands behind the name of the section
+-- The field (@producers (language "R" "1")), as the bytes after the name of the section.
 abbrev pub ProducersSpelled : Type 0
 ProducersSpelled =
     (producers ((codes "language", (codes "R", codes "1") ∷ []) ∷ [])).bytes
     ≡ 0x01 ∷ 0x08 ∷ 0x6c ∷ 0x61 ∷ 0x6e ∷ 0x67 ∷ 0x75 ∷ 0x61 ∷ 0x67 ∷ 0x65 ∷ 0x01 ∷ 0x01 ∷ 0x52 ∷ 0x01 ∷ 0x31 ∷ []
 
--- Branch hints: what stands behind the name of the section. Function 0 has one at its byte 5, likely taken; function 3 has two, of
--- which the second stands behind more than 127 bytes.
+-- Branch hints, as the bytes after the name of the section. Function 0 has a likely hint at offset 5. Function 3 has
+-- two, and the offset of the second has two bytes.
 abbrev pub HintsSpelled : Type 0
 HintsSpelled =
     (hints ((0, record { branch_func_offset = 5; branch_hint_value = 1 } ∷ [])

@@ -1,4 +1,7 @@
--- Worked instructions of each kind of immediates, a body and constant expressions with their bytes, which the definitions compute (worked_bytes.rt).
+-- Instructions with each kind of immediates, a body and constant expressions with their bytes, which the definitions
+-- compute (src/worked_bytes.rt).
+--
+--   br_table 1 2 0       0e 02 01 02 00
 use Rattle.std.specs.Prelude.{◌≡◌, ℕ, pos, negsuc, true, false, List, [], ◌∷◌, Some, None}
 use Rattle.wast_base.specs.declared.mem_ops.MemOp.TheVariants as mem
 use Rattle.wast_base.specs.declared.plain.BareOp.TheVariants as bare
@@ -68,11 +71,11 @@ instr_bytes = 0x6a ∷ 0xfc ∷ 0x07 ∷ 0x24 ∷ 0x01 ∷ 0xfc ∷ 0x0f ∷ 0x0
     ∷ 0x0e ∷ 0x02 ∷ 0x01 ∷ 0x02 ∷ 0x00
     ∷ 0x1f ∷ 0x40 ∷ 0x04 ∷ 0x00 ∷ 0x01 ∷ 0x02 ∷ 0x01 ∷ 0x03 ∷ 0x04 ∷ 0x02 ∷ 0x05 ∷ 0x03 ∷ 0x06 ∷ []
 
--- the instructions have these bytes
+-- The definitions compute these bytes.
 abbrev pub InstrsSpelled : Type 0
 InstrsSpelled = instrs worked_instrs ≡ instr_bytes
 
--- what opens a block without a type, and what ends one
+-- A block without a type, and the end of one.
 abbrev opened : Instr
 opened = block_instr block.Block Empty
 
@@ -94,12 +97,12 @@ BodySpelled = (body_content nested_body).bytes ≡ 0x00 ∷ 0x02 ∷ 0x40 ∷ 0x
 abbrev pub worked_expression : List Instr
 worked_expression = opened ∷ ended ∷ i32_const_instr (pos 0) ∷ []
 
--- A constant expression may have blocks, each with its end.
+-- A constant expression may have blocks, if each has its end.
 pub record ExpressionSpelled : Type 0 where
   pub balanced : are_balanced worked_expression ≡ true
   pub bytes : (expression worked_expression).bytes ≡ 0x02 ∷ 0x40 ∷ 0x0b ∷ 0x41 ∷ 0x00 ∷ 0x0b ∷ []
 
--- It has no block without an end, and no end without a block before it; a delegate ends one.
+-- A block without an end, and an end without a block before it, are not balanced. A delegate ends one block only.
 pub record AreNoExpressions : Type 0 where
   pub unclosed : are_balanced (opened ∷ []) ≡ false
   pub unopened : are_balanced (ended ∷ opened ∷ []) ≡ false

@@ -1,4 +1,4 @@
-//! Bodies of functions.
+//! Function bodies.
 
 ghost use Rattle.std.specs.Prelude.{◌≡◌, ◌∷◌, [], length, IsTrue};
 ghost use Rattle.std.specs.List.{list_all};
@@ -13,7 +13,17 @@ use std::marker::Model;
 use wasm_ops::{AsItself, Encode, Sink, ValType};
 use wast_base::Error;
 
-/// The body of a function, without its length (binary format, code section). Contracts see it as its bytes.
+/// A function body that is built from encoded instructions (binary format: code section).
+///
+/// Its model in contracts is its bytes, without the length that [`CodeSection`](crate::CodeSection)
+/// adds.
+///
+/// # Example
+///
+///     let mut body = Function::new_with_locals_types(alloc, &[])?;
+///     body.raw(&instructions(alloc)?)?;
+///     body.end()?;
+///     Ok(body)
 #[derive(Debug, Drop)]
 pub struct Function {
     bytes: Vec<u8>,
@@ -28,9 +38,18 @@ impl Model for Function {
 }
 
 impl Function {
-    /// A body that has its locals, as maximal runs of equal types, and nothing yet behind them. It needs covered types.
+    /// Creates a body with these locals, and no instructions yet (binary format: code section).
     ///
-    /// E10 comes only where there are 2^32 locals or more, E12 where memory is refused.
+    /// The locals are encoded as maximal runs of equal types: `i32 i32 i64` is `02 02 7f 01 7e`.
+    ///
+    /// # Requires
+    ///
+    /// Supported types (`is_covered` of `ValType`).
+    ///
+    /// # Errors
+    ///
+    /// - E10, only if there are 2^32 locals or more.
+    /// - E12: allocation failed.
     pub fn new_with_locals_types<'e>(
         alloc: Global,
         types: &[ValType],
@@ -43,10 +62,18 @@ impl Function {
         Ok(Function { bytes })
     }
 
-    /// Appends instructions that are spelled already (binary format, instructions). It needs a spelled list of
-    /// instructions, in which blocks may be left open or closed without being opened: a body is read up to its length.
+    /// Appends encoded instructions (binary format: instructions).
     ///
-    /// E12 comes where memory is refused; then the body stays as it was.
+    /// Blocks may be left open, or closed without being opened, because a body is read up to its
+    /// length.
+    ///
+    /// # Requires
+    ///
+    /// The bytes are the encoding of a list of instructions (`SpellsInstrs`).
+    ///
+    /// # Errors
+    ///
+    /// E12: allocation failed. The body is unchanged then.
     pub fn raw<'e>(&mut self, bytes: &[u8]) -> Result<(), Error<'e>>
         requires { SpellsInstrs bytes.now }
         ensures { Appends (Unit {0}) self.old self.new bytes.now result }
@@ -54,23 +81,30 @@ impl Function {
         self.bytes.put(bytes)
     }
 
-    /// How many bytes the body has so far, without its length (binary format, code section).
+    /// Returns how many bytes the body has so far, without its length (binary format: code
+    /// section).
+    ///
+    /// # Example
+    ///
+    ///     assert!(rt; body.byte_len() == 8 && section.byte_len() == 9);
     pub fn byte_len(&self) -> usize
         ensures { result ≡ length self.now }
     {
         self.bytes.len()
     }
 
-    /// Appends the end of the body, `0b` (binary format, expressions).
+    /// Appends the `end` of the body, `0b` (binary format: expressions).
     ///
-    /// E12 comes where memory is refused; then the body stays as it was.
+    /// # Errors
+    ///
+    /// E12: allocation failed. The body is unchanged then.
     pub fn end<'e>(&mut self) -> Result<(), Error<'e>>
         ensures { Appends (Unit {0}) self.old self.new (0x0b ∷ []) result }
     {
         self.bytes.put(&[0x0b])
     }
 
-    /// The bytes of the body, to read.
+    /// Borrows the bytes of the body.
     pub(crate) fn as_bytes(&self) -> &[u8]
         ensures { result.now ≡ self.now }
     {

@@ -1,4 +1,4 @@
-//! The sections that are lists: types, functions, exports and code.
+//! Sections that are lists, and those of types, functions, exports and code.
 
 ghost use Rattle.std.specs.Prelude.{◌≡◌, ◌+◌, ◌++◌, length, refl, IsTrue};
 ghost use Rattle.std.specs.List.{list_all};
@@ -17,17 +17,32 @@ use std::marker::{Model, PhantomData};
 use wasm_ops::{AsItself, Counted, Encode, ExportKind, Name, Raw, SubType, WithLength};
 use wast_base::Error;
 
-/// A kind of sections whose content is a list.
+/// A marker for a kind of section whose content is a list.
+///
+/// For example, [`Types`] is the marker of [`TypeSection`].
 pub trait ListKind {
-    /// The kind, as definitions name it.
+    /// The kind in the definitions.
     ghost kind: { SectionKind };
 
-    /// The id of such a section (binary format, sections).
+    /// Returns the id of the section (binary format: sections).
     fn id() -> u8
         ensures { result ≡ section_id kind };
 }
 
-/// A section whose content is a list (binary format, sections). Contracts see it as its items.
+/// A section whose content is a list (binary format: sections).
+///
+/// Its model in contracts is the number of items and their bytes. The names [`TypeSection`],
+/// [`CodeSection`] and so on are this type, and each has its own methods to add items.
+///
+/// # Example
+///
+///     let mut functions = FunctionSection::new(alloc);
+///     functions.function(0)?;
+///
+/// # Guarantees
+///
+/// Each method that adds an item adds the encoding in its contract, or leaves the section
+/// unchanged.
 #[derive(Debug, Drop)]
 pub struct ListSection<K: ListKind> {
     pub(crate) items: BuiltItems,
@@ -87,14 +102,27 @@ impl ListKind for Types {
     }
 }
 
-/// The type section (binary format, type section). Contracts see it as its items.
+/// The type section (binary format: type section). Its model in contracts is its items.
 pub type TypeSection = ListSection<Types>;
 
 impl TypeSection {
-    /// Adds a type on its own. It needs a covered one.
+    /// Adds a type definition that is not in a `rec` group (binary format: type section).
     ///
-    /// E10 comes only where there would be 2^32 types, or where a list in the type has 2^32 items or more; E12 where
-    /// memory is refused. Then the section stays as it was.
+    /// # Example
+    ///
+    ///     let mut types = TypeSection::new(alloc);
+    ///     types.subtype(&function_type(alloc)?)?;
+    ///
+    /// # Requires
+    ///
+    /// A supported type (`is_covered` of `SubType`).
+    ///
+    /// # Errors
+    ///
+    /// - E10, only if there would be 2^32 items, or if a list in the type has 2^32 items or more.
+    /// - E12: allocation failed.
+    ///
+    /// The section is unchanged then.
     pub fn subtype<'e>(&mut self, ty: &SubType) -> Result<(), Error<'e>>
         requires { IsTrue (sub_type ty.now).is_covered }
         ensures { Adds (InRangeU32 (self.old.count + 1) × (sub_type ty.now).in_range) self.old self.new
@@ -103,10 +131,25 @@ impl TypeSection {
         self.items.push(ty)
     }
 
-    /// Adds a group of types, which may name one another. It needs covered ones.
+    /// Adds a `rec` group of type definitions, which may refer to one another (binary format: type
+    /// section).
     ///
-    /// E10 comes only where there would be 2^32 types and groups, or where the group or a list in one of its types has
-    /// 2^32 items or more; E12 where memory is refused. Then the section stays as it was.
+    /// # Example
+    ///
+    ///     let group = [plain(alloc, true), plain(alloc, false)];
+    ///     section.rec(&group)?;
+    ///
+    /// # Requires
+    ///
+    /// Supported types (`is_covered` of `SubType`).
+    ///
+    /// # Errors
+    ///
+    /// - E10, only if there would be 2^32 items, or if the group or a list in one of its types has
+    ///   2^32 items or more.
+    /// - E12: allocation failed.
+    ///
+    /// The section is unchanged then.
     pub fn rec<'e>(&mut self, types: &[SubType]) -> Result<(), Error<'e>>
         requires { IsTrue (list_all (λ x. (sub_type x).is_covered) types.now) }
         ensures { Adds (InRangeU32 (self.old.count + 1) × (type_entry (Group types.now)).in_range) self.old self.new
@@ -128,14 +171,23 @@ impl ListKind for Functions {
     }
 }
 
-/// The function section: the type of each function (binary format, function section). Contracts see it as its items.
+/// The function section: the type of each function (binary format: function section). Its model in
+/// contracts is its items.
 pub type FunctionSection = ListSection<Functions>;
 
 impl FunctionSection {
     /// Adds a function of the type at an index.
     ///
-    /// E10 comes only where there would be 2^32 functions, E12 where memory is refused. Then the section stays as it
-    /// was.
+    /// # Example
+    ///
+    ///     functions.function(0)?;
+    ///
+    /// # Errors
+    ///
+    /// - E10, only if there would be 2^32 functions.
+    /// - E12: allocation failed.
+    ///
+    /// The section is unchanged then.
     pub fn function<'e>(&mut self, type_index: u32) -> Result<(), Error<'e>>
         ensures { Adds (InRangeU32 (self.old.count + 1)) self.old self.new (unsigned type_index) result }
     {
@@ -155,14 +207,22 @@ impl ListKind for Exports {
     }
 }
 
-/// The export section (binary format, export section). Contracts see it as its items.
+/// The export section (binary format: export section). Its model in contracts is its items.
 pub type ExportSection = ListSection<Exports>;
 
 impl ExportSection {
-    /// Adds an export: a name, and the item of a kind at an index.
+    /// Adds an export: a name, and the kind and index of the exported item.
     ///
-    /// E10 comes only where there would be 2^32 exports, or where the name has 2^32 bytes or more; E12 where memory is
-    /// refused. Then the section stays as it was.
+    /// # Example
+    ///
+    ///     exports.export("sum", ExportKind::Func, 0)?;
+    ///
+    /// # Errors
+    ///
+    /// - E10, only if there would be 2^32 exports, or if the name has 2^32 bytes or more.
+    /// - E12: allocation failed.
+    ///
+    /// The section is unchanged then.
     pub fn export<'e>(&mut self, text: &str, kind: ExportKind, index: u32) -> Result<(), Error<'e>>
         ensures { Adds (InRangeU32 (self.old.count + 1) × InRangeName text.now) self.old self.new
             (export_entry (record { name = text.now; kind = kind; index = index })).bytes result }
@@ -183,15 +243,28 @@ impl ListKind for Code {
     }
 }
 
-/// The code section: the body of each function (binary format, code section). Contracts see it as its items.
+/// The code section: the body of each function (binary format: code section). Its model in
+/// contracts is its items.
 pub type CodeSection = ListSection<Code>;
 
 impl CodeSection {
-    /// Adds a body, behind the number of its bytes. It needs a function that spells a body: locals, a list of
-    /// instructions and an end.
+    /// Adds a function body, after its length in bytes.
     ///
-    /// E10 comes only where there would be 2^32 bodies, or where the body has 2^32 bytes or more; E12 where memory is
-    /// refused. Then the section stays as it was.
+    /// # Example
+    ///
+    ///     let mut code = CodeSection::new(alloc);
+    ///     code.function(&body(alloc)?)?;
+    ///
+    /// # Requires
+    ///
+    /// The function is the encoding of a body: locals, instructions, and an `end` (`SpellsBody`).
+    ///
+    /// # Errors
+    ///
+    /// - E10, only if there would be 2^32 bodies, or if the body has 2^32 bytes or more.
+    /// - E12: allocation failed.
+    ///
+    /// The section is unchanged then.
     pub fn function<'e>(&mut self, function: &Function) -> Result<(), Error<'e>>
         requires { SpellsBody function.now }
         ensures { Adds (InRangeU32 (self.old.count + 1) × InRangeU32 (length function.now)) self.old self.new
@@ -200,7 +273,11 @@ impl CodeSection {
         self.items.push(&WithLength(Raw(function.as_bytes())))
     }
 
-    /// How many bytes were added, behind the number of the bodies.
+    /// Returns how many bytes were added, without the number of bodies.
+    ///
+    /// # Example
+    ///
+    ///     assert!(rt; body.byte_len() == 8 && section.byte_len() == 9);
     pub fn byte_len(&self) -> usize
         ensures { result ≡ length self.now.bytes }
     {

@@ -1,4 +1,4 @@
-//! Items that a builder was given one by one, with their number.
+//! The items of a section, encoded one by one, with their number.
 
 ghost use Rattle.std.specs.Prelude.{◌≡◌, ◌+◌, ◌==◌, length, true, IsTrue};
 ghost use Rattle.wasm_ops.specs.Spelling.{InRangeU32};
@@ -9,7 +9,7 @@ use std::marker::Model;
 use wasm_ops::{Encode, Raw, Refusal, Sink};
 use wast_base::{Error, Fault};
 
-/// Items as bytes, and how many they are.
+/// Encoded items, and their number.
 #[derive(Debug, Drop)]
 pub(crate) struct BuiltItems {
     count: u32,
@@ -28,7 +28,7 @@ impl Model for BuiltItems {
 }
 
 impl BuiltItems {
-    /// No items. It takes no memory.
+    /// Creates an empty list. Does not allocate.
     pub(crate) fn new(alloc: Global) -> Self
         ensures { result ≡ empty }
     {
@@ -38,21 +38,21 @@ impl BuiltItems {
         }
     }
 
-    /// Whether there are no items.
+    /// Returns whether there are no items.
     pub(crate) fn is_empty(&self) -> bool
         ensures { result ≡ (self.now.count == 0) }
     {
         self.count == 0
     }
 
-    /// How many bytes the items have.
+    /// Returns how many bytes the items have.
     pub(crate) fn byte_len(&self) -> usize
         ensures { result ≡ length self.now.bytes }
     {
         self.bytes.len()
     }
 
-    /// Adds an item. It needs one that is covered.
+    /// Adds an item, which the encoder supports.
     pub(crate) fn push<'e, T: Encode>(&mut self, item: &T) -> Result<(), Error<'e>>
         requires { IsTrue (T.is_ready item.now) }
         ensures { Adds (InRangeU32 (self.old.count + 1) × T.in_range item.now) self.old self.new
@@ -67,7 +67,7 @@ impl BuiltItems {
     }
 }
 
-/// The number of the items, and the items (binary format, lists).
+/// The number of items, then the items (binary format: lists).
 impl Encode for BuiltItems {
     ghost spelling = { behind_count };
 

@@ -1,4 +1,4 @@
-//! Segments of data, and the section that holds them.
+//! Data segments and the data section.
 
 ghost use Rattle.std.specs.Prelude.{◌&&◌, ◌+◌, length, IsTrue};
 ghost use Rattle.wasm_ops.specs.Sinks.{Writes};
@@ -14,26 +14,30 @@ use crate::sections::DATA_ID;
 use wasm_ops::{ConstExpr, Encode, Raw, Refusal, Sink, WithLength};
 use wast_base::Error;
 
-/// Where data stands: in a memory from an offset on, or in none (binary format, data section).
+/// The mode of a data segment (binary format: data section).
+///
+/// The type parameter is the offset, because callers keep expressions in types of their own.
 #[derive(Clone, Copy, Debug)]
 pub enum DataMode<O> {
-    /// It is there for instructions that copy it.
+    /// Passive: instructions such as `memory.init` copy it.
     Passive,
-    /// It stands in a memory, from an offset on.
+    /// Active: it fills the memory at an index, from an offset on.
     Active(u32, O),
 }
 
-/// A segment of data: where it stands, and its bytes (binary format, data section).
+/// A data segment: its mode and its bytes (binary format: data section).
+///
+/// For example, `(data (i32.const 1) "ab")` is `00 41 01 0b 02 61 62`.
 #[derive(Clone, Copy)]
 pub struct DataSegment<O, B> {
-    /// Where it stands.
+    /// The mode.
     pub mode: DataMode<O>,
-    /// Its bytes.
+    /// The bytes.
     pub bytes: B,
 }
 
 impl<O: Encode, B: Encode> DataSegment<O, B> {
-    /// Appends a segment that stands in a memory; the first memory is not written.
+    /// Appends an active segment. The index of memory 0 is left out.
     fn put_active<S: Sink>(&self, memory: u32, offset: &O, out: &mut S) -> Result<(), Refusal>
         requires { IsTrue (O.is_ready offset.now && B.is_ready self.now.bytes) }
         ensures { Writes S.rules
@@ -48,7 +52,7 @@ impl<O: Encode, B: Encode> DataSegment<O, B> {
     }
 }
 
-/// The form of its mode: the first memory is not written.
+/// The mode determines the form. The index of memory 0 is left out.
 impl<O: Encode, B: Encode> Encode for DataSegment<O, B> {
     ghost spelling = { λ s. data_in O.spelling s.mode (B.spelling s.bytes) };
 
@@ -76,14 +80,22 @@ impl ListKind for DataSegments {
     }
 }
 
-/// The data section: segments of data (binary format, data section). Contracts see it as its items.
+/// The data section (binary format: data section). Its model in contracts is its items.
 pub type DataSection = ListSection<DataSegments>;
 
 impl DataSection {
-    /// Adds bytes that are there for instructions that copy them.
+    /// Adds a passive segment, which instructions such as `memory.init` copy.
     ///
-    /// E10 comes only where there would be 2^32 segments, or where there are 2^32 bytes or more; E12 where memory is
-    /// refused. Then the section stays as it was.
+    /// # Example
+    ///
+    ///     section.passive(b"x")?;
+    ///
+    /// # Errors
+    ///
+    /// - E10, only if there would be 2^32 segments, or if there are 2^32 bytes or more.
+    /// - E12: allocation failed.
+    ///
+    /// The section is unchanged then.
     pub fn passive<'e>(&mut self, bytes: &[u8]) -> Result<(), Error<'e>>
         ensures { Adds (InRangeU32 (self.old.count + 1) × InRangeU32 (length bytes.now)) self.old self.new
             (kept_bytes bytes.now) result }
@@ -94,10 +106,18 @@ impl DataSection {
         })
     }
 
-    /// Adds bytes that stand in a memory from an offset on; the first memory is not written.
+    /// Adds an active segment, which fills a memory from an offset on.
     ///
-    /// E10 comes only where there would be 2^32 segments, or where there are 2^32 bytes or more; E12 where memory is
-    /// refused. Then the section stays as it was.
+    /// # Example
+    ///
+    ///     section.active(0, &offset, b"yz")?;
+    ///
+    /// # Errors
+    ///
+    /// - E10, only if there would be 2^32 segments, or if there are 2^32 bytes or more.
+    /// - E12: allocation failed.
+    ///
+    /// The section is unchanged then.
     pub fn active<'e>(
         &mut self,
         memory: u32,

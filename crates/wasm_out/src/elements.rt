@@ -1,4 +1,4 @@
-//! Segments of elements, and the section that holds them.
+//! Element segments and the element section.
 
 ghost use Rattle.std.specs.Prelude.{◌&&◌, ◌+◌, IsTrue};
 ghost use Rattle.wasm_ops.specs.Sinks.{Writes};
@@ -14,7 +14,7 @@ use crate::sections::ELEMENT_ID;
 use wasm_ops::{AsItself, ConstExpr, Counted, Encode, RefType, Refusal, Sink};
 use wast_base::Error;
 
-/// What elements are (binary format, element section).
+/// The kind of the elements of a segment (binary format: element section).
 #[derive(Clone, Copy, Debug, PartialEq, Eq)]
 pub enum ElementKind {
     /// Indices of functions.
@@ -23,30 +23,36 @@ pub enum ElementKind {
     Expressions(RefType),
 }
 
-/// Where elements stand: in a table from an offset on, or in none (binary format, element section).
+/// The mode of an element segment (binary format: element section).
+///
+/// The type parameter is the offset, because callers keep expressions in types of their own.
 #[derive(Clone, Copy, Debug)]
 pub enum SegmentMode<O> {
-    /// They are there for instructions that copy them.
+    /// Passive: instructions such as `table.init` copy it.
     Passive,
-    /// They may be referred to.
+    /// Declarative: it only declares the functions that `ref.func` may refer to.
     Declared,
-    /// They fill a table, from an offset on. Without a table written it is the first.
+    /// Active: it fills a table from an offset on. Without an index it is table 0.
     Active(Option<u32>, O),
 }
 
-/// A segment of elements: where they stand, of which kind they are, and their list (binary format, element section).
+/// An element segment: its mode, the kind of its elements, and their list (binary format: element
+/// section).
+///
+/// For example, `(elem (i32.const 1) func 0 1)` is `00 41 01 0b 02 00 01`. The list is a type
+/// parameter for the same reason as in [`SegmentMode`].
 #[derive(Clone, Copy)]
 pub struct ElementSegment<O, L> {
-    /// Where they stand.
+    /// The mode.
     pub mode: SegmentMode<O>,
-    /// Of which kind they are.
+    /// The kind of the elements.
     pub kind: ElementKind,
-    /// Their list.
+    /// The list of the elements.
     pub list: L,
 }
 
 impl<O: Encode, L: Encode> ElementSegment<O, L> {
-    /// Appends a segment of functions.
+    /// Appends a segment of function indices.
     fn put_functions<S: Sink>(&self, out: &mut S) -> Result<(), Refusal>
         requires { IsTrue (is_ready_mode O.is_ready self.now.mode && L.is_ready self.now.list) }
         ensures { Writes S.rules (InRangeMode O.in_range self.now.mode × L.in_range self.now.list) out.old out.new
@@ -63,7 +69,8 @@ impl<O: Encode, L: Encode> ElementSegment<O, L> {
         }
     }
 
-    /// Appends a segment of expressions. It needs a covered type, and functions where no table is written.
+    /// Appends a segment of expressions. The type must be supported, and `funcref` without a table
+    /// index.
     fn put_expressions<S: Sink>(&self, ty: RefType, out: &mut S) -> Result<(), Refusal>
         requires { IsTrue ((ref_type ty).is_covered
             && (is_ready_mode O.is_ready self.now.mode && L.is_ready self.now.list)) }
@@ -83,8 +90,8 @@ impl<O: Encode, L: Encode> ElementSegment<O, L> {
     }
 }
 
-/// The form of its mode and its kind: of expressions without a table, which have no bytes for a type, it is that of
-/// `funcref` alone.
+/// The mode and the kind determine the form. Expressions without a table index have no bytes for
+/// their type, so it must be `funcref`.
 impl<O: Encode, L: Encode> Encode for ElementSegment<O, L> {
     ghost spelling = { λ s. segment_bytes O.spelling s.mode s.kind (L.spelling s.list) };
 
@@ -101,10 +108,15 @@ impl<O: Encode, L: Encode> Encode for ElementSegment<O, L> {
     }
 }
 
-/// Elements that a builder is given (binary format, element section).
+/// The elements of a segment that is added to an [`ElementSection`] (binary format: element
+/// section).
+///
+/// # Example
+///
+///     let functions = Elements::Functions(vec![in alloc; 0]?);
 #[derive(Debug, Drop)]
 pub enum Elements {
-    /// Functions, by their indices.
+    /// Functions, by index.
     Functions(Vec<u32>),
     /// Expressions of a reference type.
     Expressions(RefType, Vec<ConstExpr>),
@@ -122,14 +134,26 @@ impl ListKind for ElementSegments {
     }
 }
 
-/// The element section: segments of elements (binary format, element section). Contracts see it as its items.
+/// The element section (binary format: element section). Its model in contracts is its items.
 pub type ElementSection = ListSection<ElementSegments>;
 
 impl ElementSection {
-    /// Adds a segment that is there for instructions that copy it. It needs expressions of a covered type.
+    /// Adds a passive segment, which instructions such as `table.init` copy.
     ///
-    /// E10 comes only where there would be 2^32 segments, or where there are 2^32 elements or more; E12 where memory is
-    /// refused. Then the section stays as it was.
+    /// # Example
+    ///
+    ///     section.passive(&functions)?;
+    ///
+    /// # Requires
+    ///
+    /// If the elements are expressions, their type is supported (`AreElements`).
+    ///
+    /// # Errors
+    ///
+    /// - E10, only if there would be 2^32 segments, or if there are 2^32 elements or more.
+    /// - E12: allocation failed.
+    ///
+    /// The section is unchanged then.
     pub fn passive<'e>(&mut self, elements: &Elements) -> Result<(), Error<'e>>
         requires { AreElements elements.now }
         ensures { Adds (InRangeU32 (self.old.count + 1) × InRangeElements elements.now) self.old self.new
@@ -138,10 +162,22 @@ impl ElementSection {
         self.add(SegmentMode::Passive, elements)
     }
 
-    /// Adds a segment of elements that may be referred to. It needs expressions of a covered type.
+    /// Adds a declarative segment: functions that `ref.func` may refer to.
     ///
-    /// E10 comes only where there would be 2^32 segments, or where there are 2^32 elements or more; E12 where memory is
-    /// refused. Then the section stays as it was.
+    /// # Example
+    ///
+    ///     section.declared(&functions)?;
+    ///
+    /// # Requires
+    ///
+    /// If the elements are expressions, their type is supported (`AreElements`).
+    ///
+    /// # Errors
+    ///
+    /// - E10, only if there would be 2^32 segments, or if there are 2^32 elements or more.
+    /// - E12: allocation failed.
+    ///
+    /// The section is unchanged then.
     pub fn declared<'e>(&mut self, elements: &Elements) -> Result<(), Error<'e>>
         requires { AreElements elements.now }
         ensures { Adds (InRangeU32 (self.old.count + 1) × InRangeElements elements.now) self.old self.new
@@ -150,11 +186,24 @@ impl ElementSection {
         self.add(SegmentMode::Declared, elements)
     }
 
-    /// Adds a segment that fills a table from an offset on: without a table, the first. It needs expressions of a
-    /// covered type, which without a table is `funcref`.
+    /// Adds an active segment, which fills a table from an offset on. Without an index it is table
+    /// 0.
     ///
-    /// E10 comes only where there would be 2^32 segments, or where there are 2^32 elements or more; E12 where memory is
-    /// refused. Then the section stays as it was.
+    /// # Example
+    ///
+    ///     section.active(Some(1), &offset, &expressions)?;
+    ///
+    /// # Requires
+    ///
+    /// - `elements`: if the elements are expressions, their type is supported.
+    /// - `form`: without a table index, expressions have the type `funcref`.
+    ///
+    /// # Errors
+    ///
+    /// - E10, only if there would be 2^32 segments, or if there are 2^32 elements or more.
+    /// - E12: allocation failed.
+    ///
+    /// The section is unchanged then.
     pub fn active<'e>(
         &mut self,
         table: Option<u32>,
@@ -170,7 +219,7 @@ impl ElementSection {
         self.add(SegmentMode::Active(table, offset), elements)
     }
 
-    /// Adds a segment.
+    /// Adds a segment in any mode.
     fn add<'e>(
         &mut self,
         mode: SegmentMode<&ConstExpr>,

@@ -24,14 +24,27 @@ impl ListKind for Imports {
     }
 }
 
-/// The import section (binary format, import section). Contracts see it as its items.
+/// The import section (binary format: import section). Its model in contracts is its items.
 pub type ImportSection = ListSection<Imports>;
 
 impl ImportSection {
-    /// Adds an import: the module and the name that it is imported by, and its type. It needs a covered type.
+    /// Adds an import: the names of the module and of the item, and its type.
     ///
-    /// E10 comes only where there would be 2^32 imports, or where the module or the name has 2^32 bytes or more; E12
-    /// where memory is refused. Then the section stays as it was.
+    /// # Example
+    ///
+    ///     let tag = EntityType::Tag(TagType { func_type_idx: 0 });
+    ///     imports.import("m", "t", &tag)?;
+    ///
+    /// # Requires
+    ///
+    /// A supported type (`is_covered` of `EntityType`).
+    ///
+    /// # Errors
+    ///
+    /// - E10, only if there would be 2^32 imports, or if one of the names has 2^32 bytes or more.
+    /// - E12: allocation failed.
+    ///
+    /// The section is unchanged then.
     pub fn import<'e>(&mut self, module: &str, name: &str, ty: &EntityType) -> Result<(), Error<'e>>
         requires { IsTrue (entity_type ty.now).is_covered }
         ensures { Adds (InRangeU32 (self.old.count + 1)
@@ -54,13 +67,33 @@ impl ListKind for Tables {
     }
 }
 
-/// The table section (binary format, table section). Contracts see it as its items.
+/// The table section (binary format: table section). Its model in contracts is its items.
 pub type TableSection = ListSection<Tables>;
 
 impl TableSection {
-    /// Adds a table whose elements are null at first. It needs a covered type.
+    /// Adds a table whose elements are null at first.
     ///
-    /// E10 comes only where there would be 2^32 tables, E12 where memory is refused. Then the section stays as it was.
+    /// # Example
+    ///
+    ///     let ty = TableType {
+    ///         element_type: funcref(),
+    ///         minimum: 1,
+    ///         maximum: None,
+    ///         table64: false,
+    ///         shared: false,
+    ///     };
+    ///     section.table(&ty)?;
+    ///
+    /// # Requires
+    ///
+    /// A supported type (`is_covered` of `TableType`).
+    ///
+    /// # Errors
+    ///
+    /// - E10, only if there would be 2^32 tables.
+    /// - E12: allocation failed.
+    ///
+    /// The section is unchanged then.
     pub fn table<'e>(&mut self, ty: &TableType) -> Result<(), Error<'e>>
         requires { IsTrue (table_type ty.now).is_covered }
         ensures { Adds (InRangeU32 (self.old.count + 1) × (table_type ty.now).in_range) self.old self.new
@@ -69,9 +102,22 @@ impl TableSection {
         self.items.push(ty)
     }
 
-    /// Adds a table whose elements are at first what an expression gives. It needs a covered type.
+    /// Adds a table whose elements have the value of an expression at first.
     ///
-    /// E10 comes only where there would be 2^32 tables, E12 where memory is refused. Then the section stays as it was.
+    /// # Example
+    ///
+    ///     section.table_with_init(&wide, &init)?;
+    ///
+    /// # Requires
+    ///
+    /// A supported type (`is_covered` of `TableType`).
+    ///
+    /// # Errors
+    ///
+    /// - E10, only if there would be 2^32 tables.
+    /// - E12: allocation failed.
+    ///
+    /// The section is unchanged then.
     pub fn table_with_init<'e>(&mut self, ty: &TableType, init: &ConstExpr) -> Result<(), Error<'e>>
         requires { IsTrue (table_type ty.now).is_covered }
         ensures { Adds (InRangeU32 (self.old.count + 1) × (table_type ty.now).in_range) self.old self.new
@@ -93,14 +139,33 @@ impl ListKind for Memories {
     }
 }
 
-/// The memory section (binary format, memory section). Contracts see it as its items.
+/// The memory section (binary format: memory section). Its model in contracts is its items.
 pub type MemorySection = ListSection<Memories>;
 
 impl MemorySection {
-    /// Adds a memory. It needs a covered type.
+    /// Adds a memory.
     ///
-    /// E10 comes only where there would be 2^32 memories, E12 where memory is refused. Then the section stays as it
-    /// was.
+    /// # Example
+    ///
+    ///     let ty = MemoryType {
+    ///         minimum: 1,
+    ///         maximum: Some(2),
+    ///         memory64: false,
+    ///         shared: true,
+    ///         page_size_log2: Some(0),
+    ///     };
+    ///     memories.memory(&ty)?;
+    ///
+    /// # Requires
+    ///
+    /// A supported type. All memory types are.
+    ///
+    /// # Errors
+    ///
+    /// - E10, only if there would be 2^32 memories.
+    /// - E12: allocation failed.
+    ///
+    /// The section is unchanged then.
     pub fn memory<'e>(&mut self, ty: &MemoryType) -> Result<(), Error<'e>>
         requires { IsTrue (memory_type ty.now).is_covered }
         ensures { Adds (InRangeU32 (self.old.count + 1) × (memory_type ty.now).in_range) self.old self.new
@@ -122,13 +187,26 @@ impl ListKind for Tags {
     }
 }
 
-/// The tag section (binary format, tag section). Contracts see it as its items.
+/// The tag section (binary format: tag section). Its model in contracts is its items.
 pub type TagSection = ListSection<Tags>;
 
 impl TagSection {
-    /// Adds a tag. It needs a covered type.
+    /// Adds a tag.
     ///
-    /// E10 comes only where there would be 2^32 tags, E12 where memory is refused. Then the section stays as it was.
+    /// # Example
+    ///
+    ///     tags.tag(&TagType { func_type_idx: 0 })?;
+    ///
+    /// # Requires
+    ///
+    /// A supported type. All tag types are.
+    ///
+    /// # Errors
+    ///
+    /// - E10, only if there would be 2^32 tags.
+    /// - E12: allocation failed.
+    ///
+    /// The section is unchanged then.
     pub fn tag<'e>(&mut self, ty: &TagType) -> Result<(), Error<'e>>
         requires { IsTrue (tag_type ty.now).is_covered }
         ensures { Adds (InRangeU32 (self.old.count + 1) × (tag_type ty.now).in_range) self.old self.new
@@ -150,13 +228,27 @@ impl ListKind for Globals {
     }
 }
 
-/// The global section (binary format, global section). Contracts see it as its items.
+/// The global section (binary format: global section). Its model in contracts is its items.
 pub type GlobalSection = ListSection<Globals>;
 
 impl GlobalSection {
-    /// Adds a global that is at first what an expression gives. It needs a covered type.
+    /// Adds a global that has the value of an expression at first.
     ///
-    /// E10 comes only where there would be 2^32 globals, E12 where memory is refused. Then the section stays as it was.
+    /// # Example
+    ///
+    ///     let init = number(alloc, -1)?;
+    ///     globals.global(&ty, &init)?;
+    ///
+    /// # Requires
+    ///
+    /// A supported type (`is_covered` of `GlobalType`).
+    ///
+    /// # Errors
+    ///
+    /// - E10, only if there would be 2^32 globals.
+    /// - E12: allocation failed.
+    ///
+    /// The section is unchanged then.
     pub fn global<'e>(&mut self, ty: &GlobalType, init: &ConstExpr) -> Result<(), Error<'e>>
         requires { IsTrue (global_type ty.now).is_covered }
         ensures { Adds (InRangeU32 (self.old.count + 1) × (global_type ty.now).in_range) self.old self.new

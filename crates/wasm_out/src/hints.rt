@@ -13,16 +13,24 @@ use std::marker::Model;
 use wasm_ops::{AsItself, Counted, Encode, Name, Refusal, Sink};
 use wast_base::Error;
 
-/// A branch hint of a function (branch hinting).
+/// A branch hint: a position in a function body, and whether its branch is likely taken (branch
+/// hinting).
+///
+/// # Example
+///
+///     let first = [BranchHint {
+///         branch_func_offset: 5,
+///         branch_hint_value: 1,
+///     }];
 #[derive(Clone, Copy, Debug, PartialEq, Eq)]
 pub struct BranchHint {
-    /// Where its instruction begins, counted from the locals of the body.
+    /// The offset of the instruction, from the locals of the body.
     pub branch_func_offset: u32,
-    /// 1 where the branch is likely taken, and 0 where it is not.
+    /// 1 if the branch is likely taken, 0 if it is not.
     pub branch_hint_value: u32,
 }
 
-/// A hint (branch hinting). It needs the value 0 or 1, which takes one byte.
+/// A hint, whose value must be 0 or 1 and has one byte (branch hinting).
 impl Encode for BranchHint {
     ghost spelling = { λ x. (branch_hint x).bytes };
 
@@ -35,8 +43,13 @@ impl Encode for BranchHint {
     }
 }
 
-/// The section of branch hints: a custom section called `metadata.code.branch_hint` (branch hinting). It stands before the
-/// code section. Contracts see it as its functions.
+/// The custom section `metadata.code.branch_hint` (branch hinting).
+///
+/// It comes before the code section. Its model in contracts is its functions.
+///
+/// # Example
+///
+///     section.function_hints(0, &first)?;
 #[derive(Debug, Drop)]
 pub struct BranchHints {
     items: BuiltItems,
@@ -51,7 +64,7 @@ impl Model for BranchHints {
 }
 
 impl BranchHints {
-    /// No functions. It takes no memory.
+    /// Creates a section without functions. Does not allocate.
     pub fn new(alloc: Global) -> Self
         ensures { result ≡ empty }
     {
@@ -60,18 +73,31 @@ impl BranchHints {
         }
     }
 
-    /// Whether there are no functions.
+    /// Returns whether there are no functions.
     pub fn is_empty(&self) -> bool
         ensures { result ≡ (self.now.count == 0) }
     {
         self.items.is_empty()
     }
 
-    /// Adds a function: its index, imported functions counted, and its hints, in the order of their instructions. It needs
-    /// hints whose values are 0 or 1.
+    /// Adds the hints of a function, in the order of their instructions.
     ///
-    /// E10 comes only where there would be 2^32 functions, or where there are 2^32 hints or more; E12 where memory is refused.
-    /// Then the section stays as it was.
+    /// The index counts imported functions too.
+    ///
+    /// # Example
+    ///
+    ///     section.function_hints(0, &first)?;
+    ///
+    /// # Requires
+    ///
+    /// Each hint has the value 0 or 1 (`is_likely_or_not`).
+    ///
+    /// # Errors
+    ///
+    /// - E10, only if there would be 2^32 functions, or if there are 2^32 hints or more.
+    /// - E12: allocation failed.
+    ///
+    /// The section is unchanged then.
     pub fn function_hints<'e>(
         &mut self,
         function_index: u32,

@@ -1,4 +1,37 @@
-//! Sections, function bodies, maps of names and whole modules of the binary format of WebAssembly, as bytes.
+//! Builds binary WebAssembly modules: sections, function bodies, name sections and whole modules.
+//!
+//! Callers without a syntax tree use it to write a module section by section. `wast_core` encodes
+//! modules with its segments and locals.
+//!
+//! # Example
+//!
+//!     let mut types = TypeSection::new(alloc);
+//!     types.subtype(&function_type(alloc)?)?;
+//!     let mut functions = FunctionSection::new(alloc);
+//!     functions.function(0)?;
+//!
+//! Then a module is made of the sections, in the order of the binary format:
+//!
+//!     let mut module = Module::new(alloc)?;
+//!     module.section(&types)?;
+//!     module.section(&functions)?;
+//!
+//! # Modules
+//!
+//! - `modules`, `sections`: whole modules, the trait [`Section`], and sections without a list.
+//! - `builders`, `entity_sections`: sections that are lists. `built_items`: the items of such a
+//!   list.
+//! - `bodies`, `locals`: function bodies, and their locals as runs of equal types.
+//! - `elements`, `data_segments`: element and data segments in each form.
+//! - `names`, `producers`, `hints`: custom sections. `worked_bytes`: examples with their bytes.
+//! - `laws`: theorems about modules, for callers who prove more.
+//!
+//! # Guarantees
+//!
+//! - A call adds one item, or leaves the section unchanged (`Adds` in specs/Built.antt).
+//! - `building_law`: the payload of a section is the encoding of the items that were added.
+//! - `part_spelling_law`, `reading_laws`: the bytes of a module determine its sections, and the
+//!   sections determine the bytes.
 #![tactic(auto)]
 
 mod bodies;

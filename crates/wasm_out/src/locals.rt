@@ -1,4 +1,4 @@
-//! The locals of a body: maximal runs of equal types (binary format, code section).
+//! The locals of a body: maximal runs of equal types (binary format: code section).
 
 ghost use Rattle.std.specs.Prelude.{◌≡◌, ◌<◌, ◌^◌, ◌&&◌, Bool, true, length, map, All, IsTrue, IfOk};
 ghost use Rattle.std.specs.List.{flat_map, list_all};
@@ -9,15 +9,22 @@ ghost use Rattle.wasm_out.specs.Bodies.{is_same_type, local_runs, locals, local_
 
 use wasm_ops::{AsItself, Encode, Refusal, Sink, ValType};
 
-/// A way to see an item of a list as a local of a type.
+/// A way to read the type of a local from an item of a list.
+///
+/// For example, [`AsItself`] reads it from a list of types. `wast_core` reads it from the locals of
+/// its tree.
 pub trait LocalType<T> {
-    /// Its type.
+    /// The type.
     ghost ty: { Self → T → ValType };
 
-    /// It can be told.
+    /// Whether the type can be read.
     ghost is_ready: { Self → T → Bool };
 
-    /// The type of an item as a local. It needs an item whose type can be told.
+    /// Returns the type of an item, as the type of a local.
+    ///
+    /// # Requires
+    ///
+    /// An item whose type can be read (`is_ready`).
     fn local_type(&self, item: &T) -> ValType
         requires { IsTrue (is_ready self.now item.now) }
         ensures { result ≡ ty self.now item.now };
@@ -34,14 +41,14 @@ impl LocalType<ValType> for AsItself {
     }
 }
 
-/// Whether two types are the same.
+/// Returns whether two types are equal.
 fn is_same(one: ValType, other: ValType) -> bool
     ensures { result ≡ is_same_type one other }
 {
     one == other
 }
 
-/// Appends a run: its length, and its type. It needs a length below 2^32. It refuses as [`Encode::encode`] does.
+/// Appends a run: its length and its type. Fails like [`Encode::encode`].
 #[inline(always)]
 fn put_run<S: Sink>(out: &mut S, run: (usize, ValType)) -> Result<(), Refusal>
     requires few { run.0 < 2 ^ 32 }
@@ -57,8 +64,10 @@ fn put_run<S: Sink>(out: &mut S, run: (usize, ValType)) -> Result<(), Refusal>
     second
 }
 
-/// Appends the maximal runs of equal types one after another, and answers how many they are. It needs less than 2^32 items,
-/// whose types are covered. It refuses as [`Encode::encode`] does; then nothing was appended.
+/// Appends the maximal runs of equal types, and returns how many there are.
+///
+/// There must be fewer than 2^32 items, of supported types. It fails like [`Encode::encode`], and
+/// nothing is appended then.
 fn put_runs<T, W: LocalType<T>, S: Sink>(
     items: &[T],
     way: &W,
@@ -119,7 +128,9 @@ fn put_counted<T, W: LocalType<T>, S: Sink>(
     Ok(())
 }
 
-/// Appends the number of runs, and the runs. A byte keeps the place of their number, which is known once they were put.
+/// Appends the number of runs, then the runs.
+///
+/// One byte reserves the position of the number, which is known after the runs are written.
 fn put_locals<T, W: LocalType<T>, S: Sink>(items: &[T], way: &W, out: &mut S) -> Result<(), Refusal>
     requires few { length items.now < 2 ^ 32 }
     requires ready { IsTrue (list_all (λ x. W.is_ready way.now x && (val_type (W.ty way.now x)).is_covered) items.now) }
@@ -141,9 +152,11 @@ fn put_locals<T, W: LocalType<T>, S: Sink>(items: &[T], way: &W, out: &mut S) ->
     put_counted(items, way, count, out)
 }
 
-/// `Locals(items, way)`: the items as the locals of a body: the number of maximal runs of equal types, and each run as
-/// its length and its type, in the way to see an item as a local (binary format, code section: locals). From 2^32 on
-/// the number of locals is out of range. No memory is taken but what the sink takes.
+/// `Locals(items, way)`: the locals of a body, as maximal runs of equal types (binary format: code
+/// section).
+///
+/// The number of runs comes first, then each run as its length and its type: `i32 i32 i64` is
+/// `02 02 7f 01 7e`. A number of locals of 2^32 or more is out of range. Only the sink allocates.
 #[derive(Clone, Copy)]
 pub struct Locals<'a, T, W>(pub &'a [T], pub W);
 

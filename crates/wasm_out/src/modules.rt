@@ -12,10 +12,23 @@ use std::marker::Model;
 use wasm_ops::{Encode, Raw, Sink, WithLength};
 use wast_base::Error;
 
-/// The magic and the version, which begin each module (binary format, modules).
+/// The magic number and the version, which begin each module (binary format: modules).
 pub const HEADER: [u8; 8] = [0x00, 0x61, 0x73, 0x6d, 0x01, 0x00, 0x00, 0x00];
 
-/// A module: the header, and sections (binary format, modules). Contracts see it as its bytes.
+/// A module that is built section by section (binary format: modules).
+///
+/// Its model in contracts is its bytes. The caller adds sections in the order that the binary
+/// format requires.
+///
+/// # Example
+///
+///     let mut module = Module::new(alloc)?;
+///     module.section(&types)?;
+///     module.section(&functions)?;
+///     module.section(&exports)?;
+///     module.section(&code)?;
+///     module.section(&made)?;
+///     let bytes = module.finish();
 #[derive(Debug, Drop)]
 pub struct Module {
     alloc: Global,
@@ -31,7 +44,11 @@ impl Model for Module {
 }
 
 impl Module {
-    /// A module without sections: the header alone. The only error is E12, where memory is refused.
+    /// Creates a module without sections, which is only the [`HEADER`].
+    ///
+    /// # Errors
+    ///
+    /// E12: allocation failed.
     pub fn new<'e>(alloc: Global) -> Result<Module, Error<'e>>
         ensures { Makes (Unit {0}) header result }
     {
@@ -42,8 +59,17 @@ impl Module {
 
     /// Appends a section: its id, the length of its payload, and its payload.
     ///
-    /// E10 comes only where the payload has 2^32 bytes or more or a count or length in it is out of range, E12 where
-    /// memory is refused. Then the module stays as it was.
+    /// # Example
+    ///
+    ///     module.section(&types)?;
+    ///
+    /// # Errors
+    ///
+    /// - E10, only if the payload has 2^32 bytes or more, or a count or length in it is out of
+    ///   range.
+    /// - E12: allocation failed.
+    ///
+    /// The module is unchanged then.
     pub fn section<'e, S: Section>(&mut self, content: &S) -> Result<(), Error<'e>>
         ensures { Appends (InRangeSized S.in_range S.payload content.now) self.old self.new
             (section (S.number content.now) (S.payload content.now)) result }
@@ -53,7 +79,7 @@ impl Module {
         Ok((content.id(), WithLength(Raw(&payload))).encode(&mut self.bytes)?)
     }
 
-    /// The bytes of the module. It takes no memory.
+    /// Returns the bytes of the module. Does not allocate.
     pub fn finish(self) -> Vec<u8>
         ensures { result.items ≡ self }
     {

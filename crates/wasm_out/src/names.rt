@@ -1,4 +1,4 @@
-//! Maps of names, and the name section.
+//! Name maps, and the name section.
 
 ghost use Rattle.std.specs.Prelude.{◌≡◌, ◌+◌, ◌==◌, ◌++◌, [], length, IsTrue};
 ghost use Rattle.wasm_ops.specs.Leb128.{unsigned};
@@ -15,7 +15,13 @@ use std::marker::{Model, PhantomData};
 use wasm_ops::{Encode, Name, Raw, WithLength};
 use wast_base::Error;
 
-/// Names by index, or maps of them by index (custom sections, name maps). Contracts see it as its items.
+/// A map from indices to names, or to name maps (custom sections: name maps).
+///
+/// Its model in contracts is its items. Use it as [`NameMap`] or [`IndirectNameMap`].
+///
+/// # Example
+///
+///     assert!(rt; NameMap::new(alloc).is_empty() && IndirectNameMap::new(alloc).is_empty());
 #[derive(Debug, Drop)]
 pub struct IndexedNames<K> {
     items: BuiltItems,
@@ -31,7 +37,7 @@ impl<K> Model for IndexedNames<K> {
 }
 
 impl<K> IndexedNames<K> {
-    /// No items. It takes no memory.
+    /// Creates a map without entries. Does not allocate.
     pub fn new(alloc: Global) -> Self
         ensures { result ≡ empty }
     {
@@ -41,7 +47,7 @@ impl<K> IndexedNames<K> {
         }
     }
 
-    /// Whether there are no items.
+    /// Returns whether the map has no entries.
     pub fn is_empty(&self) -> bool
         ensures { result ≡ (self.now.count == 0) }
     {
@@ -49,18 +55,27 @@ impl<K> IndexedNames<K> {
     }
 }
 
-/// The kind of maps with a name at each index.
+/// The kind of maps with one name at each index.
 #[derive(Clone, Copy, Debug)]
 pub struct Direct;
 
-/// Names by index (custom sections, name maps). Contracts see it as its items.
+/// A map from indices to names (custom sections: name maps). Its model in contracts is its items.
 pub type NameMap = IndexedNames<Direct>;
 
 impl NameMap {
-    /// Adds the name of what stands at an index.
+    /// Adds the name of the item at an index.
     ///
-    /// E10 comes only where there would be 2^32 names, or where the name has 2^32 bytes or more; E12 where memory is
-    /// refused. Then the map stays as it was.
+    /// # Example
+    ///
+    ///     let mut map = NameMap::new(alloc);
+    ///     map.append(2, "x")?;
+    ///
+    /// # Errors
+    ///
+    /// - E10, only if there would be 2^32 names, or if the name has 2^32 bytes or more.
+    /// - E12: allocation failed.
+    ///
+    /// The map is unchanged then.
     pub fn append<'e>(&mut self, index: u32, text: &str) -> Result<(), Error<'e>>
         ensures { Adds (InRangeU32 (self.old.count + 1) × InRangeName text.now) self.old self.new
             (name_entry (index, text.now)).bytes result }
@@ -73,13 +88,24 @@ impl NameMap {
 #[derive(Clone, Copy, Debug)]
 pub struct Indirect;
 
-/// Name maps by index (custom sections, indirect name maps). Contracts see it as its items.
+/// A map from indices to name maps (custom sections: indirect name maps). Its model in contracts is
+/// its items.
 pub type IndirectNameMap = IndexedNames<Indirect>;
 
 impl IndirectNameMap {
-    /// Adds the names that belong to what stands at an index.
+    /// Adds the names that belong to the item at an index, such as the locals of a function.
     ///
-    /// E10 comes only where there would be 2^32 maps, E12 where memory is refused. Then the map stays as it was.
+    /// # Example
+    ///
+    ///     let mut maps = IndirectNameMap::new(alloc);
+    ///     maps.append(3, &map)?;
+    ///
+    /// # Errors
+    ///
+    /// - E10, only if there would be 2^32 maps.
+    /// - E12: allocation failed.
+    ///
+    /// The map is unchanged then.
     pub fn append<'e>(&mut self, index: u32, names: &NameMap) -> Result<(), Error<'e>>
         ensures { Adds (InRangeU32 (self.old.count + 1)) self.old self.new
             (unsigned index ++ behind_count names.now) result }
@@ -88,11 +114,29 @@ impl IndirectNameMap {
     }
 }
 
-/// The name section: a custom section called `name` (custom sections, name section). Contracts see it as the bytes of
-/// its subsections.
+/// The custom section `name` (custom sections: name section).
 ///
-/// Each call appends a subsection behind its id and length. E10 comes only where that length is 2^32 or more, E12
-/// where memory is refused; then the section stays as it was.
+/// Its model in contracts is the bytes of its subsections. Each method appends a subsection, after
+/// its id and its length. The specification requires increasing ids, which is the order of the
+/// methods.
+///
+/// # Example
+///
+///     let mut names = NameSection::new(alloc);
+///     add_names(&mut names, &map, &maps)?;
+///
+/// In `add_names`:
+///
+///     names.module("m")?;
+///     names.functions(map)?;
+///     names.locals(maps)?;
+///
+/// # Errors
+///
+/// Each method returns these, and leaves the section unchanged then:
+///
+/// - E10, only if the subsection has 2^32 bytes or more.
+/// - E12: allocation failed.
 #[derive(Debug, Drop)]
 pub struct NameSection {
     bytes: Vec<u8>,
@@ -107,7 +151,7 @@ impl Model for NameSection {
 }
 
 impl NameSection {
-    /// No subsections. It takes no memory.
+    /// Creates a section without subsections. Does not allocate.
     pub fn new(alloc: Global) -> Self
         ensures { result ≡ [] }
     {
@@ -116,7 +160,7 @@ impl NameSection {
         }
     }
 
-    /// Whether there are no subsections.
+    /// Returns whether there are no subsections.
     pub fn is_empty(&self) -> bool
         ensures { result ≡ (length self.now == 0) }
     {
@@ -132,7 +176,9 @@ impl NameSection {
         Ok((id, WithLength(content)).encode(&mut self.bytes)?)
     }
 
-    /// Appends the name of the module. E10 comes also where the name has 2^32 bytes or more.
+    /// Appends the name of the module.
+    ///
+    /// E10 also comes if the name has 2^32 bytes or more.
     pub fn module<'e>(&mut self, text: &str) -> Result<(), Error<'e>>
         ensures { Appends (InRangeSized InRangeName name text.now) self.old self.new
             (subsection named.Whole (name text.now)) result }
@@ -140,91 +186,91 @@ impl NameSection {
         self.subsection(0, &Name(text))
     }
 
-    /// Appends the names of functions.
+    /// Appends the names of functions (subsection 1).
     pub fn functions<'e>(&mut self, names: &NameMap) -> Result<(), Error<'e>>
         ensures { AppendsNames named.Functions names.now self.old self.new result }
     {
         self.subsection(1, &names.items)
     }
 
-    /// Appends the names of locals, by function.
+    /// Appends the names of locals, by function (subsection 2).
     pub fn locals<'e>(&mut self, names: &IndirectNameMap) -> Result<(), Error<'e>>
         ensures { AppendsNames named.Locals names.now self.old self.new result }
     {
         self.subsection(2, &names.items)
     }
 
-    /// Appends the names of labels, by function.
+    /// Appends the names of labels, by function (subsection 3).
     pub fn labels<'e>(&mut self, names: &IndirectNameMap) -> Result<(), Error<'e>>
         ensures { AppendsNames named.Labels names.now self.old self.new result }
     {
         self.subsection(3, &names.items)
     }
 
-    /// Appends the names of types.
+    /// Appends the names of types (subsection 4).
     pub fn types<'e>(&mut self, names: &NameMap) -> Result<(), Error<'e>>
         ensures { AppendsNames named.Types names.now self.old self.new result }
     {
         self.subsection(4, &names.items)
     }
 
-    /// Appends the names of tables.
+    /// Appends the names of tables (subsection 5).
     pub fn tables<'e>(&mut self, names: &NameMap) -> Result<(), Error<'e>>
         ensures { AppendsNames named.Tables names.now self.old self.new result }
     {
         self.subsection(5, &names.items)
     }
 
-    /// Appends the names of memories.
+    /// Appends the names of memories (subsection 6).
     pub fn memories<'e>(&mut self, names: &NameMap) -> Result<(), Error<'e>>
         ensures { AppendsNames named.Memories names.now self.old self.new result }
     {
         self.subsection(6, &names.items)
     }
 
-    /// Appends the names of globals.
+    /// Appends the names of globals (subsection 7).
     pub fn globals<'e>(&mut self, names: &NameMap) -> Result<(), Error<'e>>
         ensures { AppendsNames named.Globals names.now self.old self.new result }
     {
         self.subsection(7, &names.items)
     }
 
-    /// Appends the names of element segments.
+    /// Appends the names of element segments (subsection 8).
     pub fn elements<'e>(&mut self, names: &NameMap) -> Result<(), Error<'e>>
         ensures { AppendsNames named.Elements names.now self.old self.new result }
     {
         self.subsection(8, &names.items)
     }
 
-    /// Appends the names of data segments.
+    /// Appends the names of data segments (subsection 9).
     pub fn data_segments<'e>(&mut self, names: &NameMap) -> Result<(), Error<'e>>
         ensures { AppendsNames named.DataSegments names.now self.old self.new result }
     {
         self.subsection(9, &names.items)
     }
 
-    /// Appends the names of fields, by type.
+    /// Appends the names of struct fields, by type (subsection 10).
     pub fn fields<'e>(&mut self, names: &IndirectNameMap) -> Result<(), Error<'e>>
         ensures { AppendsNames named.Fields names.now self.old self.new result }
     {
         self.subsection(10, &names.items)
     }
 
-    /// Appends the names of tags.
+    /// Appends the names of tags (subsection 11).
     pub fn tags<'e>(&mut self, names: &NameMap) -> Result<(), Error<'e>>
         ensures { AppendsNames named.Tags names.now self.old self.new result }
     {
         self.subsection(11, &names.items)
     }
 
-    /// Appends the names of parameters of function types, by type.
+    /// Appends the names of parameters of function types, by type (subsection 12).
     pub fn parameters<'e>(&mut self, names: &IndirectNameMap) -> Result<(), Error<'e>>
         ensures { AppendsNames named.Parameters names.now self.old self.new result }
     {
         self.subsection(12, &names.items)
     }
 
-    /// Appends the names of parameters of tags, by tag.
+    /// Appends the names of parameters of tags, by tag (subsection 13).
     pub fn tag_parameters<'e>(&mut self, names: &IndirectNameMap) -> Result<(), Error<'e>>
         ensures { AppendsNames named.TagParameters names.now self.old self.new result }
     {

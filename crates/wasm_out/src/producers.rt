@@ -12,7 +12,14 @@ use std::marker::Model;
 use wasm_ops::{Encode, Name};
 use wast_base::Error;
 
-/// The values of a field of the producers section (tool conventions, producers section). Contracts see it as its items.
+/// The values of a field of the producers section (tool conventions: producers section).
+///
+/// Its model in contracts is its items.
+///
+/// # Example
+///
+///     let mut values = ProducersField::new(alloc);
+///     values.value("R", "1")?;
 #[derive(Debug, Drop)]
 pub struct ProducersField {
     items: BuiltItems,
@@ -27,7 +34,7 @@ impl Model for ProducersField {
 }
 
 impl ProducersField {
-    /// No values. It takes no memory.
+    /// Creates a field without values. Does not allocate.
     pub fn new(alloc: Global) -> Self
         ensures { result ≡ empty }
     {
@@ -36,7 +43,7 @@ impl ProducersField {
         }
     }
 
-    /// Whether there are no values.
+    /// Returns whether there are no values.
     pub fn is_empty(&self) -> bool
         ensures { result ≡ (self.now.count == 0) }
     {
@@ -45,8 +52,16 @@ impl ProducersField {
 
     /// Adds a value: its name and its version.
     ///
-    /// E10 comes only where there would be 2^32 values, or where one of the texts has 2^32 bytes or more; E12 where memory
-    /// is refused. Then the field stays as it was.
+    /// # Example
+    ///
+    ///     values.value("R", "1")?;
+    ///
+    /// # Errors
+    ///
+    /// - E10, only if there would be 2^32 values, or if a text has 2^32 bytes or more.
+    /// - E12: allocation failed.
+    ///
+    /// The field is unchanged then.
     pub fn value<'e>(&mut self, text: &str, version: &str) -> Result<(), Error<'e>>
         ensures { Adds (InRangeU32 (self.old.count + 1) × (InRangeName text.now × InRangeName version.now))
             self.old self.new (producer_value (text.now, version.now)).bytes result }
@@ -55,8 +70,14 @@ impl ProducersField {
     }
 }
 
-/// The producers section: a custom section called `producers` (tool conventions, producers section). Contracts see it as its
-/// items.
+/// The custom section `producers` (tool conventions: producers section).
+///
+/// Its model in contracts is its items.
+///
+/// # Example
+///
+///     let mut section = ProducersSection::new(alloc);
+///     section.field("language", &values)?;
 #[derive(Debug, Drop)]
 pub struct ProducersSection {
     items: BuiltItems,
@@ -71,7 +92,7 @@ impl Model for ProducersSection {
 }
 
 impl ProducersSection {
-    /// No fields. It takes no memory.
+    /// Creates a section without fields. Does not allocate.
     pub fn new(alloc: Global) -> Self
         ensures { result ≡ empty }
     {
@@ -80,7 +101,7 @@ impl ProducersSection {
         }
     }
 
-    /// Whether there are no fields.
+    /// Returns whether there are no fields.
     pub fn is_empty(&self) -> bool
         ensures { result ≡ (self.now.count == 0) }
     {
@@ -89,8 +110,16 @@ impl ProducersSection {
 
     /// Adds a field: its name and its values.
     ///
-    /// E10 comes only where there would be 2^32 fields, or where the name has 2^32 bytes or more; E12 where memory is
-    /// refused. Then the section stays as it was.
+    /// # Example
+    ///
+    ///     section.field("language", &values)?;
+    ///
+    /// # Errors
+    ///
+    /// - E10, only if there would be 2^32 fields, or if the name has 2^32 bytes or more.
+    /// - E12: allocation failed.
+    ///
+    /// The section is unchanged then.
     pub fn field<'e>(&mut self, text: &str, values: &ProducersField) -> Result<(), Error<'e>>
         ensures { Adds (InRangeU32 (self.old.count + 1) × InRangeName text.now) self.old self.new
             (name text.now ++ behind_count values.now) result }

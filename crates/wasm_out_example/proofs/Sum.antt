@@ -1,4 +1,4 @@
--- The module that is written, computed: its bytes are read as its sections.
+-- Computes that the bytes of the example are read as its sections.
 use Rattle.std.proofs.Common.{◌≡◌, ℕ, ◌<◌, true, List, [], ◌∷◌, ◌++◌, codes, refl, ap, ◌∙◌, arith}
 use Rattle.std.specs.Prelude.{All, IsTrue, nat_lt}
 use Rattle.std.specs.List.{flat_map, list_all}
@@ -18,13 +18,13 @@ use Rattle.wasm_out.specs.Parts.{Types, Functions, Exports, Code, InRangeEntry, 
 use Rattle.wasm_out.specs.Built.{Built, built_with, empty, behind_count}
 use Rattle.wasm_out.specs.Readable.{IsReadable, IsReadablePart}
 use Rattle.wasm_out.specs.Reads.{header, Reads}
-use Rattle.writer.specs.SumModule.{sum_type, sum_instrs, sum_body, sum_export, sum_module}
+use Rattle.wasm_out_example.specs.SumModule.{sum_type, sum_instrs, sum_body, sum_export, sum_module}
 
--- what is tested of each number
+-- Each number of a list is below a bound, if the test of the list is true.
 below : (bound : ℕ) (xs : List ℕ) → list_all (λ x. nat_lt x bound) xs ≡ true → All (λ x. x < bound) xs
 below bound xs e = λ k d lt. ltb-true _ _ (all_tested (λ x. nat_lt x bound) xs e k d lt)
 
--- a list of none, and of one
+-- A list of no items is in range, and a list of one.
 none : {A : Type 0} (P : A → Type 0) → InRangeVec P []
 none P = (omega arith, All-nil P)
 
@@ -74,20 +74,20 @@ readable = All-from_recursion IsReadablePart sum_module (
   ),
 )
 
--- the header and the sections are read as the module
+-- The header and the sections are read as the module.
 pub sum_reads : Reads (header ++ flat_map part sum_module) sum_module
 unfolding unsigned unsigned_in
 sum_reads = record { in_range = in_range; readable = readable; spelled = refl; are_bytes = below 256 (header ++ flat_map part sum_module) refl }
 
--- a builder without items to which one was added
+-- A builder without items, after one item is added.
 pub added : {old new : Built} {item : List ℕ} → old ≡ empty → new ≡ built_with old item → new ≡ built_with empty item
 added {item = item} e f = f ∙ ap (λ b. built_with b item) e
 
--- a section behind those that were there
+-- A section after the sections before it.
 pub appended : (id : ℕ) {front old new p q : List ℕ} → old ≡ front → p ≡ q → new ≡ old ++ section id p → new ≡ front ++ section id q
 appended id {front = front} {p = p} e f g = g ∙ ap (λ l. l ++ section id p) e ∙ ap (λ payload. front ++ section id payload) f
 
--- the sections one behind another
+-- The sections, one after another.
 pub joined : ((((header ++ section 1 (behind_count (built_with empty (sub_type sum_type).bytes))) ++ section 3 (behind_count (built_with empty (unsigned 0)))) ++ section 7 (behind_count (built_with empty (export_entry sum_export).bytes))) ++ section 10 (behind_count (built_with empty (body sum_body)))) ++ section 0 (payload Custom (record { name = codes "made"; bytes = codes "by hand" })).bytes ≡ header ++ flat_map part sum_module
 unfolding unsigned unsigned_in
 joined = refl

@@ -1,4 +1,6 @@
--- The module that is written: a type, a function of it, its export, its body, and a custom section.
+-- The module that the example writes, as a list of sections.
+--
+-- It has a type, a function of this type, its export "sum", its body, and a custom section.
 use Rattle.std.specs.Prelude.{true, false, List, [], ◌∷◌, None, codes}
 use Rattle.wast_base.specs.declared.plain.Plain.TheVariants as plain
 use Rattle.wast_base.specs.declared.plain.I32Op.TheVariants as i32
@@ -30,15 +32,15 @@ sum_type = record {
 abbrev pub sum_instrs : List Instr
 sum_instrs = index_instr op.LocalGet 0 ∷ index_instr op.LocalGet 1 ∷ plain_instr (plain.I32 i32.i32_add) ∷ []
 
--- a body of these instructions, without locals
+-- A body of these instructions, without locals.
 abbrev pub sum_body : Body
 sum_body = record { locals = []; instrs = sum_instrs }
 
--- "sum", the function at 0
+-- The export "sum" of function 0.
 abbrev pub sum_export : ExportEntry
 sum_export = record { name = codes "sum"; kind = kind.Func; index = 0 }
 
--- the sections, in the order in which they are written
+-- The sections, in the order of the module.
 abbrev pub sum_module : List Part
 sum_module =
     record { kind = Listed Types; items = Single sum_type ∷ [] }

@@ -1,11 +1,15 @@
-//! A module that is written section by section, without a tree: `(module (func (export "sum") ..) (@custom "made" "by hand"))`.
+//! Writes a module section by section, without a syntax tree, and prints its bytes.
+//!
+//! The module is `(module (func (export "sum") (param i32 i32) (result i32) ..))` with the
+//! annotation `(@custom "made" "by hand")`. The contract of `written` states that its bytes are
+//! read as this module.
 #![tactic(auto)]
 
 ghost use Rattle.std.specs.Prelude.{◌≡◌, IfOk, OnOk, All};
 ghost use Rattle.wasm_ops.specs.Table.{instrs, IsInstr};
 ghost use Rattle.wasm_out.specs.Bodies.{SpellsBody, body_content};
 ghost use Rattle.wasm_out.specs.Reads.{Reads};
-ghost use Rattle.writer.specs.SumModule.{sum_type, sum_instrs, sum_body, sum_module};
+ghost use Rattle.wasm_out_example.specs.SumModule.{sum_type, sum_instrs, sum_body, sum_module};
 
 use std::alloc::Global;
 use std::io;
@@ -19,7 +23,7 @@ use wasm_out::{
 };
 use wast_base::{Error, I32Op, Plain, Seq};
 
-/// `(func (param i32 i32) (result i32))`
+/// Returns the type `(func (param i32 i32) (result i32))`.
 fn function_type<'e>(alloc: Global) -> Result<SubType, Error<'e>>
     ensures { IfOk result (λ ty. ty ≡ sum_type) }
 {
@@ -38,7 +42,7 @@ fn function_type<'e>(alloc: Global) -> Result<SubType, Error<'e>>
     })
 }
 
-/// `local.get 0 local.get 1 i32.add`
+/// Returns the instructions `local.get 0 local.get 1 i32.add`.
 fn instructions<'e>(alloc: Global) -> Result<Vec<u8>, Error<'e>>
     ensures bytes { IfOk result (λ bytes. bytes.items ≡ instrs sum_instrs) }
     ensures rows { OnOk result (All IsInstr sum_instrs) }
@@ -51,7 +55,7 @@ fn instructions<'e>(alloc: Global) -> Result<Vec<u8>, Error<'e>>
     Ok(bytes)
 }
 
-/// A body of these instructions, without locals.
+/// Returns a body of these instructions, without locals.
 fn body<'e>(alloc: Global) -> Result<Function, Error<'e>>
     ensures bytes { IfOk result (λ body. body ≡ (body_content sum_body).bytes) }
     ensures spells { IfOk result SpellsBody }
@@ -62,7 +66,7 @@ fn body<'e>(alloc: Global) -> Result<Function, Error<'e>>
     Ok(body)
 }
 
-/// The bytes of the module.
+/// Returns the bytes of the module.
 fn written<'e>(alloc: Global) -> Result<Vec<u8>, Error<'e>>
     ensures { IfOk result (λ bytes. Reads bytes.items sum_module) }
 {

@@ -1,10 +1,10 @@
-//! The opcodes of atomic accesses to memories.
+//! The opcodes of atomic memory accesses.
 
 use crate::rising::rise;
 use wast_base::MemOp;
 
 #[test]
-fn opcodes_of_atomic_accesses_rise(rt: HostRuntime) {
+fn atomic_opcodes_are_consecutive(rt: HostRuntime) {
     let alloc = rt.alloc();
     rise(
         &rt,

@@ -1,4 +1,5 @@
-//! The bytes of numbers at the edges of their lengths, and how often a sink of a caller's own is written to.
+//! The bytes of numbers next to the limits of their lengths, and how often nested lengths write to
+//! a user-defined sink.
 
 use crate::kept::Kept;
 use std::alloc::Global;
@@ -9,7 +10,7 @@ use wasm_ops::{
 };
 use wast_base::MemOp;
 
-/// Each index has these bytes, after the byte of `call` and after the two of `data.drop`.
+/// Checks the bytes of indices, after the byte of `call` and after the two bytes of `data.drop`.
 fn index_rows(rt: &impl Abort, alloc: Global, rows: &[(u32, &[u8])]) {
     for (index, bytes) in rows {
         let call = IndexInstr {
@@ -30,7 +31,7 @@ fn index_rows(rt: &impl Abort, alloc: Global, rows: &[(u32, &[u8])]) {
     }
 }
 
-/// Each offset has these bytes, in the first memory and in another.
+/// Checks the bytes of offsets, in memory 0 and in another memory.
 fn offset_rows(rt: &impl Abort, alloc: Global, rows: &[(u64, &[u8])]) {
     for (offset, bytes) in rows {
         let first = MemArg {
@@ -67,7 +68,7 @@ fn offset_rows(rt: &impl Abort, alloc: Global, rows: &[(u64, &[u8])]) {
     }
 }
 
-/// Each signed number has these bytes, as a constant of 32 bits and as one of 64.
+/// Checks the bytes of signed numbers, as constants of 32 and of 64 bits.
 fn constant_rows(rt: &impl Abort, alloc: Global, rows: &[(i32, &[u8])]) {
     for (value, bytes) in rows {
         let mut out = Vec::new(alloc);
@@ -82,7 +83,7 @@ fn constant_rows(rt: &impl Abort, alloc: Global, rows: &[(i32, &[u8])]) {
 }
 
 #[test]
-fn numbers_at_the_edges_of_their_lengths_have_their_bytes(rt: HostRuntime) {
+fn numbers_encode_correctly_at_length_boundaries(rt: HostRuntime) {
     index_rows(
         &rt,
         rt.alloc(),
@@ -127,7 +128,8 @@ fn numbers_at_the_edges_of_their_lengths_have_their_bytes(rt: HostRuntime) {
     );
 }
 
-/// A sink gives these bytes for a value behind its length: a count of them, a room of exactly so many, and a vector.
+/// Checks the bytes of values with a length, in each sink: a count, a room of that size, and a
+/// vector.
 fn length_rows(rt: &impl Abort, alloc: Global, rows: &[(&[u8], &[u8])]) {
     for (content, front) in rows {
         let value = WithLength(Raw(*content));
@@ -148,7 +150,7 @@ fn length_rows(rt: &impl Abort, alloc: Global, rows: &[(&[u8], &[u8])]) {
 }
 
 #[test]
-fn lengths_at_the_edges_of_their_widths_have_their_bytes(rt: HostRuntime) {
+fn lengths_encode_correctly_at_width_boundaries(rt: HostRuntime) {
     let long = [7; 16384];
     length_rows(
         &rt,
@@ -164,7 +166,7 @@ fn lengths_at_the_edges_of_their_widths_have_their_bytes(rt: HostRuntime) {
 }
 
 #[test]
-fn a_sink_that_cannot_set_numbers_is_written_to_twice_a_level(rt: HostRuntime) {
+fn nested_lengths_write_twice_per_level_without_patching(rt: HostRuntime) {
     let bytes = [7; 3];
     let four = WithLength(WithLength(WithLength(WithLength(Raw(&bytes)))));
     let eight = WithLength(WithLength(WithLength(WithLength(four))));
@@ -173,7 +175,7 @@ fn a_sink_that_cannot_set_numbers_is_written_to_twice_a_level(rt: HostRuntime) {
         puts: 0,
     };
     assert!(rt; eight.encode(&mut kept).is_ok());
-    // Of each level a byte that is cut off again, and the length; and the bytes once.
+    // For each level a byte that is cut off again, and the length; and the bytes once.
     assert!(rt; kept.puts == 17);
     let expected = [10, 9, 8, 7, 6, 5, 4, 3, 7, 7, 7];
     assert!(rt; kept.bytes.as_slice() == expected.as_slice());

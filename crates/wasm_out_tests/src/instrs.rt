@@ -1,4 +1,4 @@
-//! The bytes of instructions, by their kinds of immediates.
+//! The bytes of instructions, by kinds of immediates.
 
 ghost use Rattle.std.specs.Prelude.{IsTrue};
 ghost use Rattle.wasm_ops.specs.Spelling as encodings;
@@ -13,7 +13,7 @@ use wasm_ops::{
 };
 use wast_base::{Error, MemOp};
 
-/// Each instruction with an index has its bytes.
+/// Checks the bytes of instructions with an index.
 fn index_rows(rt: &impl Abort, alloc: Global, rows: &[(IndexOp, u32, &[u8])]) {
     for (op, index, bytes) in rows {
         let mut out = Vec::new(alloc);
@@ -25,7 +25,7 @@ fn index_rows(rt: &impl Abort, alloc: Global, rows: &[(IndexOp, u32, &[u8])]) {
     }
 }
 
-/// Each load or store has its bytes.
+/// Checks the bytes of loads and stores.
 fn access_rows(rt: &impl Abort, alloc: Global, rows: &[(MemOp, MemArg, &[u8])]) {
     for (op, memarg, bytes) in rows {
         let mut out = Vec::new(alloc);
@@ -38,7 +38,7 @@ fn access_rows(rt: &impl Abort, alloc: Global, rows: &[(MemOp, MemArg, &[u8])]) 
     }
 }
 
-/// An access to a memory.
+/// Returns a memory argument without an ordering.
 fn access(align: u32, memory: u32, offset: u64) -> MemArg {
     MemArg {
         align,
@@ -48,7 +48,7 @@ fn access(align: u32, memory: u32, offset: u64) -> MemArg {
     }
 }
 
-/// Instructions with two indices, constants and choices, one after another.
+/// Writes instructions with two indices, constants and `select`.
 fn write_others<'e>(out: &mut Vec<u8>) -> Result<(), Error<'e>> {
     let mut sink = InstructionSink::new(out);
     sink.index_pair(IndexPairOp::CallIndirect, 128, 1)?;
@@ -63,7 +63,7 @@ fn write_others<'e>(out: &mut Vec<u8>) -> Result<(), Error<'e>> {
     sink.select(Some(&[ValType::I32, ValType::F64]))
 }
 
-/// Blocks of each kind, what ends them, and a branch by a table, one after another.
+/// Writes blocks of each kind, their ends, and a `br_table`.
 fn write_control<'e>(out: &mut Vec<u8>) -> Result<(), Error<'e>> {
     let mut sink = InstructionSink::new(out);
     sink.block(BlockOp::Block, BlockType::Result(ValType::I32))?;
@@ -84,7 +84,7 @@ fn write_control<'e>(out: &mut Vec<u8>) -> Result<(), Error<'e>> {
     sink.delimiter(Delimiter::End)
 }
 
-/// A reference to the type at an index, or to an abstract one.
+/// Returns a reference type.
 fn reference(nullable: bool, heap_type: HeapType) -> RefType
     requires { IsTrue (encodings.heap_type heap_type).is_covered }
     ensures { IsTrue (ref_type result).is_covered }
@@ -95,7 +95,7 @@ fn reference(nullable: bool, heap_type: HeapType) -> RefType
     }
 }
 
-/// Sixteen lanes, casts, branches on casts and a fence, one after another.
+/// Writes instructions with sixteen bytes, casts, branches on casts and a fence.
 fn write_lanes_and_casts<'e>(out: &mut Vec<u8>) -> Result<(), Error<'e>> {
     let i31 = HeapType::Abstract {
         shared: false,
@@ -116,7 +116,7 @@ fn write_lanes_and_casts<'e>(out: &mut Vec<u8>) -> Result<(), Error<'e>> {
 }
 
 #[test]
-fn instructions_with_immediates_have_their_bytes(rt: HostRuntime) {
+fn instructions_with_immediates_encode_correctly(rt: HostRuntime) {
     index_rows(
         &rt,
         rt.alloc(),

@@ -1,4 +1,4 @@
-//! A sink of a caller's own.
+//! A user-defined sink.
 
 ghost use Rattle.std.specs.Prelude.{◌≡◌, ◌++◌, take, length};
 ghost use Rattle.wasm_ops.specs.SinkLaws as laws;
@@ -7,16 +7,17 @@ ghost use Rattle.wasm_ops.specs.declared.sink.Refusal.TheVariants as refusal;
 use wasm_ops::Sink;
 use wast_base::Error;
 
-/// Bytes in the order in which they were put.
+/// A sink that stores its bytes, and counts the calls that append some.
 #[derive(Debug, Drop)]
 pub struct Kept {
     /// The bytes.
     pub bytes: Vec<u8>,
-    /// How often bytes were put, those that were cut off later too.
+    /// The number of calls of `put`, including those whose bytes were cut off later.
     pub puts: u64,
 }
 
-/// It says what a sink has to say, and no more. Any number of bytes may be refused, where memory is: E12.
+/// It defines only what a sink must define. Any call may fail with E12, because allocation may
+/// fail.
 impl Sink for Kept {
     ghost rules = { record {
       appended = λ a b x. b.bytes.items ≡ a.bytes.items ++ x;

@@ -1,4 +1,4 @@
-//! Tests of `wasm_ops` and `wasm_out`, as their callers use them.
+//! Tests of `wasm_ops` and `wasm_out` through their public calls.
 #![tactic(auto)]
 
 #[cfg(test)]

@@ -1,4 +1,4 @@
-//! The bytes of numbers, names, types and instructions of worked examples, in each sink.
+//! The bytes of numbers, names, types and instructions, in each sink.
 
 ghost use Rattle.std.specs.Prelude.{IsTrue};
 
@@ -14,7 +14,7 @@ use wasm_ops::{
 };
 use wast_base::{BareOp, Error, Plain, Seq};
 
-/// The value is spelled by these bytes.
+/// Checks the encoding of a value.
 fn is_spelled<T: Encode>(rt: &impl Abort, alloc: Global, value: &T, bytes: &[u8])
     requires { IsTrue (T.is_ready value.now) }
 {
@@ -23,7 +23,7 @@ fn is_spelled<T: Encode>(rt: &impl Abort, alloc: Global, value: &T, bytes: &[u8]
     assert!(rt; out.as_slice() == bytes, "for {bytes:?}");
 }
 
-/// Numbers, a name and instructions, one after another.
+/// Writes numbers, a name and instructions.
 fn write_all<'e>(out: &mut Vec<u8>) -> Result<(), Error<'e>> {
     write_u32(out, 624485)?;
     write_u64(out, 18446744073709551615)?;
@@ -40,7 +40,7 @@ fn write_all<'e>(out: &mut Vec<u8>) -> Result<(), Error<'e>> {
 }
 
 #[test]
-fn numbers_and_instructions_have_their_bytes(rt: HostRuntime) {
+fn numbers_and_instructions_encode_correctly(rt: HostRuntime) {
     let mut out = Vec::new(rt.alloc());
     assert!(rt; write_all(&mut out).is_ok());
     let expected = [
@@ -51,7 +51,7 @@ fn numbers_and_instructions_have_their_bytes(rt: HostRuntime) {
     assert!(rt; out.as_slice() == expected.as_slice());
 }
 
-/// A reference to an abstract heap type that is not shared.
+/// Returns a reference to an unshared abstract heap type.
 fn abstract_ref(nullable: bool, ty: AbstractHeapType) -> StorageType {
     let heap_type = HeapType::Abstract { shared: false, ty };
     StorageType::Val(ValType::Ref(RefType {
@@ -60,7 +60,7 @@ fn abstract_ref(nullable: bool, ty: AbstractHeapType) -> StorageType {
     }))
 }
 
-/// A reference to the type at an index.
+/// Returns a reference to the type at an index.
 fn concrete_ref(nullable: bool, index: u32) -> StorageType {
     let heap_type = HeapType::Concrete(index);
     StorageType::Val(ValType::Ref(RefType {
@@ -70,7 +70,7 @@ fn concrete_ref(nullable: bool, index: u32) -> StorageType {
 }
 
 #[test]
-fn storage_types_have_their_bytes(rt: HostRuntime) {
+fn storage_types_encode_correctly(rt: HostRuntime) {
     let types: [(StorageType, &[u8]); 26] = [
         (StorageType::I8, &[0x78]),
         (StorageType::I16, &[0x77]),
@@ -112,7 +112,7 @@ fn storage_types_have_their_bytes(rt: HostRuntime) {
 }
 
 #[test]
-fn composite_types_and_lists_have_their_bytes(rt: HostRuntime) {
+fn composite_types_and_lists_encode_correctly(rt: HostRuntime) {
     let alloc = rt.alloc();
     let field = FieldType {
         element_type: StorageType::I8,
@@ -132,7 +132,7 @@ fn composite_types_and_lists_have_their_bytes(rt: HostRuntime) {
 }
 
 #[test]
-fn what_is_shared_or_exact_is_not_covered(rt: HostRuntime) {
+fn shared_and_exact_types_are_unsupported(rt: HostRuntime) {
     let func = RefType {
         nullable: true,
         heap_type: HeapType::Concrete(0),
@@ -170,7 +170,7 @@ fn what_is_shared_or_exact_is_not_covered(rt: HostRuntime) {
 }
 
 #[test]
-fn each_sink_takes_the_same_bytes(rt: HostRuntime) {
+fn all_sinks_receive_the_same_bytes(rt: HostRuntime) {
     let bytes = [7; 128];
     let nested = WithLength(WithLength(WithLength(Raw(&bytes))));
     let mut length = Length::new();
@@ -196,7 +196,7 @@ fn each_sink_takes_the_same_bytes(rt: HostRuntime) {
 }
 
 #[test]
-fn a_room_takes_what_was_reserved(rt: HostRuntime) {
+fn room_rejects_bytes_beyond_its_capacity(rt: HostRuntime) {
     let mut room = Room::reserve(rt.alloc(), 3).expect(&rt, "memory");
     assert!(rt; room.put(&[7, 8, 9]).is_ok() && room.left() == 0);
     let number = match room.put(&[10]) {

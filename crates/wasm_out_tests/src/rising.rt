@@ -1,4 +1,4 @@
-//! Instructions of consecutive numbers, each with its bytes.
+//! Runs of instructions with consecutive opcodes.
 
 ghost use Rattle.std.specs.Prelude.{IsTrue};
 ghost use Rattle.wasm_ops.specs.Memargs.{is_aligned, memarg};
@@ -8,19 +8,19 @@ use std::process::Abort;
 use wasm_ops::{IndexOp, IndexPairOp, InstructionSink, MemArg, MemArgTarget};
 use wast_base::{Error, LaneOp, MemLaneOp, MemOp, Plain};
 
-/// Stands for a prefix byte where an opcode has none.
+/// Used as the prefix byte of opcodes without one.
 pub(crate) const NONE: u8 = 0;
 
 /// An instruction, with immediates that are 0.
 pub(crate) trait Row {
-    /// Appends it.
+    /// Appends the instruction.
     fn write<'e>(self, out: &mut Vec<u8>) -> Result<(), Error<'e>>;
 
-    /// The bytes of its immediates.
+    /// Returns the bytes of its immediates.
     fn zeros(self) -> &'static [u8];
 }
 
-/// The beginning of a memory.
+/// Returns the memory argument of the first byte of memory 0.
 fn start() -> MemArg
     ensures aligned { IsTrue (is_aligned result) }
     ensures covered { IsTrue (memarg result).is_covered }
@@ -93,7 +93,8 @@ impl Row for MemLaneOp {
     }
 }
 
-/// The bytes of an opcode: the number, or the prefix byte and the number, which is below 16384, by seven bits.
+/// Returns the bytes of an opcode: the number alone, or a prefix byte and the number in LEB128. The
+/// number is below 16384.
 fn opcode(rt: &impl Abort, alloc: Global, prefix: u8, number: u32) -> Vec<u8> {
     let low = (number & 127) as u8;
     let high = ((number >> 7) & 127) as u8;
@@ -106,7 +107,8 @@ fn opcode(rt: &impl Abort, alloc: Global, prefix: u8, number: u32) -> Vec<u8> {
     vec![in alloc; prefix, low | 128, high].expect(rt, "memory")
 }
 
-/// The instructions have numbers that rise by one from the first, behind this prefix byte.
+/// Checks that the opcodes of these instructions are consecutive, from the first number on, with
+/// this prefix byte.
 pub(crate) fn rise<T: Row + Copy>(
     rt: &impl Abort,
     alloc: Global,

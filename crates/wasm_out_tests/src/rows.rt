@@ -7,7 +7,7 @@ use wast_base::{
 };
 
 #[test]
-fn opcodes_of_one_byte_rise(rt: HostRuntime) {
+fn one_byte_opcodes_are_consecutive(rt: HostRuntime) {
     let alloc = rt.alloc();
     rise(
         &rt,
@@ -272,7 +272,7 @@ fn opcodes_of_one_byte_rise(rt: HostRuntime) {
 }
 
 #[test]
-fn opcodes_of_references_and_tables_rise(rt: HostRuntime) {
+fn reference_and_table_opcodes_are_consecutive(rt: HostRuntime) {
     let alloc = rt.alloc();
     rise(
         &rt,

@@ -1,5 +1,7 @@
-//! The bytes of a module that has each kind of sections. Where a request for memory is refused, the call that made it says so,
-//! and all is built again: `tools/refused-memory` refuses each one in turn.
+//! The bytes of a module with each kind of section.
+//!
+//! If an allocation fails, the call returns E12, and the test builds everything again:
+//! `tools/refused-memory` makes each allocation fail in turn.
 
 ghost use Rattle.std.specs.Prelude.{◌≡◌, IfOk, OnOk, IsTrue};
 ghost use Rattle.std.specs.List.{list_all};
@@ -26,7 +28,7 @@ use wasm_out::{
 };
 use wast_base::{Error, Fault, Seq};
 
-/// A call of the function at an index.
+/// Returns a call of the function at an index.
 fn call<'e>(alloc: Global, index: u32) -> Result<Vec<u8>, Error<'e>>
     ensures bytes { IfOk result (λ v. v.items ≡ (instr (index_instr ops.Call index)).bytes) }
     ensures in_range { OnOk result (IsInstr (index_instr ops.Call index)) }
@@ -36,7 +38,7 @@ fn call<'e>(alloc: Global, index: u32) -> Result<Vec<u8>, Error<'e>>
     Ok(bytes)
 }
 
-/// A body that has these locals and calls the function at an index.
+/// Returns a body with these locals, which calls the function at an index.
 fn calling<'e>(alloc: Global, types: &[ValType], index: u32) -> Result<Function, Error<'e>>
     requires { IsTrue (list_all (λ x. (val_type x).is_covered) types.now) }
     ensures { IfOk result SpellsBody }
@@ -48,7 +50,7 @@ fn calling<'e>(alloc: Global, types: &[ValType], index: u32) -> Result<Function,
     Ok(function)
 }
 
-/// A constant of 32 bits.
+/// Returns an `i32.const`.
 fn i32_const<'e>(alloc: Global, value: i32) -> Result<Vec<u8>, Error<'e>>
     ensures bytes { IfOk result (λ v. v.items ≡ (instr (i32_const_instr value)).bytes) }
     ensures in_range { OnOk result (IsInstr (i32_const_instr value)) }
@@ -58,13 +60,13 @@ fn i32_const<'e>(alloc: Global, value: i32) -> Result<Vec<u8>, Error<'e>>
     Ok(bytes)
 }
 
-/// The expression of a constant of 32 bits.
+/// Returns the expression of an `i32.const`.
 fn number<'e>(alloc: Global, value: i32) -> Result<ConstExpr, Error<'e>> {
     let bytes = i32_const(alloc, value)?;
     Ok(ConstExpr::raw(bytes))
 }
 
-/// A null reference of a heap type.
+/// Returns a `ref.null`.
 fn ref_null<'e>(alloc: Global, heap_type: HeapType) -> Result<Vec<u8>, Error<'e>>
     requires { IsTrue (encodings.heap_type heap_type).is_covered }
     ensures bytes { IfOk result (λ v. v.items ≡ (instr (ref_null_instr heap_type)).bytes) }
@@ -75,7 +77,7 @@ fn ref_null<'e>(alloc: Global, heap_type: HeapType) -> Result<Vec<u8>, Error<'e>
     Ok(bytes)
 }
 
-/// The expression of a null reference of a heap type.
+/// Returns the expression of a `ref.null`.
 fn null<'e>(alloc: Global, heap_type: HeapType) -> Result<ConstExpr, Error<'e>>
     requires { IsTrue (encodings.heap_type heap_type).is_covered }
 {
@@ -83,7 +85,7 @@ fn null<'e>(alloc: Global, heap_type: HeapType) -> Result<ConstExpr, Error<'e>>
     Ok(ConstExpr::raw(bytes))
 }
 
-/// The heap type of functions.
+/// Returns the heap type `func`.
 fn func() -> HeapType
     ensures { IsTrue (heap_type result).is_covered }
 {
@@ -93,7 +95,7 @@ fn func() -> HeapType
     }
 }
 
-/// Nullable references to functions.
+/// Returns the type `funcref`.
 fn funcref() -> RefType
     ensures { IsTrue (ref_type result).is_covered }
 {
@@ -103,7 +105,7 @@ fn funcref() -> RefType
     }
 }
 
-/// A type of functions without parameters and results.
+/// Returns a function type without parameters and results.
 fn plain(alloc: Global, is_final: bool) -> SubType
     ensures { IsTrue (sub_type result).is_covered }
 {
@@ -123,7 +125,7 @@ fn plain(alloc: Global, is_final: bool) -> SubType
     }
 }
 
-/// A type on its own, and a group of a final type and an open one.
+/// Adds a single type, and a group of a final type and an open one.
 fn add_types<'e>(alloc: Global, whole: &mut Module) -> Result<(), Error<'e>> {
     let mut section = TypeSection::new(alloc);
     section.subtype(&plain(alloc, true))?;
@@ -133,7 +135,7 @@ fn add_types<'e>(alloc: Global, whole: &mut Module) -> Result<(), Error<'e>> {
     Ok(())
 }
 
-/// A tag of the type at 0, imported as `m` `t`, and a function of that type.
+/// Adds an import `m` `t` of a tag of type 0, and a function of that type.
 fn add_imports_and_functions<'e>(alloc: Global, whole: &mut Module) -> Result<(), Error<'e>> {
     let mut imports = ImportSection::new(alloc);
     let tag = EntityType::Tag(TagType { func_type_idx: 0 });
@@ -145,7 +147,7 @@ fn add_imports_and_functions<'e>(alloc: Global, whole: &mut Module) -> Result<()
     Ok(())
 }
 
-/// A table of at least one function, and one of 64 bits of one to two, which are null.
+/// Adds a table of at least one function, and a table of 64 bits with one to two null elements.
 fn add_tables<'e>(alloc: Global, whole: &mut Module) -> Result<(), Error<'e>> {
     let mut section = TableSection::new(alloc);
     let ty = TableType {
@@ -168,7 +170,7 @@ fn add_tables<'e>(alloc: Global, whole: &mut Module) -> Result<(), Error<'e>> {
     Ok(())
 }
 
-/// A shared memory of one to two pages of one byte, and a tag of the type at 0.
+/// Adds a shared memory of one to two pages of one byte, and a tag of type 0.
 fn add_memory_and_tag<'e>(alloc: Global, whole: &mut Module) -> Result<(), Error<'e>> {
     let mut memories = MemorySection::new(alloc);
     let ty = MemoryType {
@@ -186,7 +188,8 @@ fn add_memory_and_tag<'e>(alloc: Global, whole: &mut Module) -> Result<(), Error
     Ok(())
 }
 
-/// A variable that is -1, the function at 0 as `a`, and that it runs first.
+/// Adds a mutable global with the value -1, an export `a` of function 0, and a start section with
+/// it.
 fn add_global_export_and_start<'e>(alloc: Global, whole: &mut Module) -> Result<(), Error<'e>> {
     let mut globals = GlobalSection::new(alloc);
     let ty = GlobalType {
@@ -204,7 +207,8 @@ fn add_global_export_and_start<'e>(alloc: Global, whole: &mut Module) -> Result<
     Ok(())
 }
 
-/// The function at 0 to be copied, a null reference in the table at 1, and the function at 0 to be referred to.
+/// Adds a passive segment of function 0, an active segment of a null reference in table 1, and a
+/// declarative segment of function 0.
 fn add_elements<'e>(alloc: Global, whole: &mut Module) -> Result<(), Error<'e>> {
     let functions = Elements::Functions(vec![in alloc; 0]?);
     let mut values = Vec::new(alloc);
@@ -219,7 +223,7 @@ fn add_elements<'e>(alloc: Global, whole: &mut Module) -> Result<(), Error<'e>> 
     Ok(())
 }
 
-/// The number of the data segments, and a body of three locals and a call.
+/// Adds the number of data segments, and a body with three locals and a call.
 fn add_code<'e>(alloc: Global, whole: &mut Module) -> Result<(), Error<'e>> {
     whole.section(&DataCountSection { count: 2 })?;
     let types = [ValType::I32, ValType::I32, ValType::I64];
@@ -230,7 +234,7 @@ fn add_code<'e>(alloc: Global, whole: &mut Module) -> Result<(), Error<'e>> {
     Ok(())
 }
 
-/// Bytes to be copied, and bytes in the first memory; and a custom section.
+/// Adds a passive data segment, an active one in memory 0, and a custom section.
 fn add_data_and_custom<'e>(alloc: Global, whole: &mut Module) -> Result<(), Error<'e>> {
     let offset = number(alloc, 1)?;
     let mut section = DataSection::new(alloc);
@@ -242,7 +246,7 @@ fn add_data_and_custom<'e>(alloc: Global, whole: &mut Module) -> Result<(), Erro
     Ok(())
 }
 
-/// The name of the module, and the names of what stands before the globals.
+/// Adds the name of the module, and the subsections up to memories.
 fn add_names<'e>(
     names: &mut NameSection,
     map: &NameMap,
@@ -258,7 +262,7 @@ fn add_names<'e>(
     Ok(())
 }
 
-/// The names of globals, and of what stands behind them.
+/// Adds the other subsections of names.
 fn add_more_names<'e>(
     names: &mut NameSection,
     map: &NameMap,
@@ -274,7 +278,8 @@ fn add_more_names<'e>(
     Ok(())
 }
 
-/// A name section with each subsection: by index the name `x` at 2, and at 3 the map of it.
+/// Returns a name section with each subsection. A name map has the name `x` at 2, and an indirect
+/// one has this map at 3.
 fn names<'e>(alloc: Global) -> Result<NameSection, Error<'e>> {
     let mut map = NameMap::new(alloc);
     map.append(2, "x")?;
@@ -286,7 +291,7 @@ fn names<'e>(alloc: Global) -> Result<NameSection, Error<'e>> {
     Ok(names)
 }
 
-/// A module that has each kind of sections.
+/// Returns a module with each kind of section.
 fn each_section<'e>(alloc: Global) -> Result<Vec<u8>, Error<'e>> {
     let mut whole = Module::new(alloc)?;
     add_types(alloc, &mut whole)?;
@@ -302,7 +307,7 @@ fn each_section<'e>(alloc: Global) -> Result<Vec<u8>, Error<'e>> {
     Ok(whole.finish())
 }
 
-/// One value of one field.
+/// Returns a section of one field with one value.
 fn producers<'e>(alloc: Global) -> Result<ProducersSection, Error<'e>> {
     let mut values = ProducersField::new(alloc);
     values.value("R", "1")?;
@@ -311,7 +316,7 @@ fn producers<'e>(alloc: Global) -> Result<ProducersSection, Error<'e>> {
     Ok(section)
 }
 
-/// A hint that the branch is likely taken, and two hints of another function.
+/// Returns one likely hint of a function, and two hints of another function.
 fn hints<'e>(alloc: Global) -> Result<BranchHints, Error<'e>> {
     let mut section = BranchHints::new(alloc);
     let first = [BranchHint {
@@ -333,7 +338,7 @@ fn hints<'e>(alloc: Global) -> Result<BranchHints, Error<'e>> {
     Ok(section)
 }
 
-/// A module of the custom sections that are built.
+/// Returns a module of the custom sections that have builders.
 fn each_custom<'e>(alloc: Global) -> Result<Vec<u8>, Error<'e>> {
     let mut whole = Module::new(alloc)?;
     let hints = hints(alloc)?;
@@ -344,7 +349,7 @@ fn each_custom<'e>(alloc: Global) -> Result<Vec<u8>, Error<'e>> {
 }
 
 #[test]
-fn each_section_has_its_bytes(rt: HostRuntime) {
+fn every_section_encodes_correctly(rt: HostRuntime) {
     let alloc = rt.alloc();
     let expected =
         b"\x00\x61\x73\x6d\x01\x00\x00\x00\x01\x0e\x02\x60\x00\x00\x4e\x02\x60\x00\x00\x50\x00\x60\x00\x00\
@@ -368,7 +373,7 @@ fn each_section_has_its_bytes(rt: HostRuntime) {
 }
 
 #[test]
-fn custom_sections_that_are_built_have_their_bytes(rt: HostRuntime) {
+fn built_custom_sections_encode_correctly(rt: HostRuntime) {
     let alloc = rt.alloc();
     let expected =
         b"\x00\x61\x73\x6d\x01\x00\x00\x00\x00\x29\x19metadata.code.branch_hint\x02\x00\x01\x05\x01\x01\
@@ -384,7 +389,7 @@ fn custom_sections_that_are_built_have_their_bytes(rt: HostRuntime) {
 }
 
 #[test]
-fn a_body_tells_its_length(rt: HostRuntime) {
+fn byte_len_counts_encoded_bytes(rt: HostRuntime) {
     let alloc = rt.alloc();
     let types = [ValType::I32, ValType::I32, ValType::I64];
     let body = calling(alloc, &types, 0).expect(&rt, "memory");
@@ -394,7 +399,7 @@ fn a_body_tells_its_length(rt: HostRuntime) {
 }
 
 #[test]
-fn what_is_new_is_empty(rt: HostRuntime) {
+fn new_sections_are_empty(rt: HostRuntime) {
     let alloc = rt.alloc();
     assert!(rt; TypeSection::new(alloc).is_empty() && NameSection::new(alloc).is_empty());
     assert!(rt; NameMap::new(alloc).is_empty() && IndirectNameMap::new(alloc).is_empty());

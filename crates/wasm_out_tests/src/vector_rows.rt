@@ -1,4 +1,4 @@
-//! The opcodes of instructions on vectors.
+//! The opcodes of vector instructions.
 
 use crate::rising::rise;
 use wast_base::{
@@ -6,7 +6,7 @@ use wast_base::{
 };
 
 #[test]
-fn opcodes_of_vectors_rise(rt: HostRuntime) {
+fn vector_opcodes_are_consecutive(rt: HostRuntime) {
     let alloc = rt.alloc();
     rise(
         &rt,

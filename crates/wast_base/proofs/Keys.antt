@@ -1,4 +1,4 @@
--- Keys of names, and the order of keys.
+-- Lemmas for compare_names: the key of a name identifies it, and the order of keys is total.
 use Rattle.std.proofs.Common.{◌≡◌, ◌∙◌, Some, None, true, false, refl, ap, sym, subst}
 use Rattle.std.specs.declared.cmp.Ordering.{Ordering}
 use Rattle.std.specs.Ordering.{nat_cmp, ordering_reverse}
@@ -18,7 +18,7 @@ pub generated_has_one : (n : Name) → is_generated n ≡ true → generation_if
 generated_has_one (Written t) h = cc
 generated_has_one (Generated n) h = refl
 
--- what a comparison of keys says of the pairs
+-- a comparison of keys is one of the pairs that they equal
 pub compared : (a b k l : Key) (o r : Ordering) → a ≡ k → b ≡ l → o ≡ key_cmp a b → o ≡ r → key_cmp k l ≡ r
 compared a b k l o r p q h e = subst (λ (x : Key). key_cmp x l ≡ r) p (subst (λ (y : Key). key_cmp a y ≡ r) q (sym h ∙ e))
 
@@ -28,7 +28,7 @@ exact_options None (Some n) e = cc
 exact_options (Some m) None e = cc
 exact_options (Some m) (Some n) e = ap Some (exact_unsigned m n e)
 
--- keys that compare alike are one
+-- keys that compare as equal are equal
 pub exact_keys : CmpEqualImpliesEq key_cmp
 exact_keys = exact_pairs (slice_cmp nat_cmp) (option_cmp nat_cmp) exact_bytes exact_options
 
@@ -38,7 +38,7 @@ keys_total = then_total (on_total (λ (k : Key). k.0) nat_list_cmp_total) (on_to
 pub turned : (x y : Key) (r : Ordering) → key_cmp x y ≡ r → key_cmp y x ≡ ordering_reverse r
 turned x y r h = keys_total.antisymm y x ∙ ap ordering_reverse h
 
--- a name is told by its key
+-- the name that has this key
 abbrev pub name_from : Key → Name
 name_from (text, None) = Written text
 name_from (text, Some n) = Generated n

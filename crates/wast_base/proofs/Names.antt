@@ -1,4 +1,4 @@
--- Names that are the same.
+-- Lemmas: the tests `same_name` and `is_called` decide equality.
 use Rattle.std.proofs.Common.{◌≡◌, Option, Some, None, true, refl, sym, ap, ◌∙◌}
 use Rattle.std.specs.Cmp.Lexicographic.{bytes_decides}
 use Rattle.std.proofs.lemmas.Bool.{eqb-true, eq-eqb}
@@ -16,7 +16,7 @@ pub same_name_itself : (a : Name) → same_name a a ≡ true
 same_name_itself (Written a) = nat_list_eq_equiv.refl a
 same_name_itself (Generated n) = eq-eqb n n refl
 
--- a name that an item has, or none
+-- if the test passes, the item has this name
 pub called_is : (q : Name) (o : Option Name) → is_called q o ≡ true → o ≡ Some q
 called_is q None h = cc
 called_is q (Some n) h = ap Some (sym (same_name_equal q n h))

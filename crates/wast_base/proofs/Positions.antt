@@ -1,4 +1,4 @@
--- The first place of a list that passes a test.
+-- Lemmas: how to show that `position` is a given index, or that no element passes.
 use Rattle.std.proofs.Common.{◌≡◌, ℕ, suc, ◌+◌, ◌<◌, List, ◌∷◌, length, get_or, Option, Some, None, option_map, Bool, true, false, cond, refl, ap, arith}
 use Prim.Native.Nat.compare
 use Rattle.std.specs.List.{position, position_or_len}

@@ -1,4 +1,4 @@
--- A search by halving among names in order.
+-- Lemmas for the binary search of place_among: its invariant, its two steps and its end.
 use Rattle.std.proofs.Common.{◌≡◌, ℕ, ◌+◌, ◌<◌, ◌≤◌, List, length, get_or, map, Bool, true, false, true≢false, sym, ◌∙◌, subst, arith, inl, inr}
 use Rattle.std.specs.Cmp.{IsStrictWeakOrder}
 use Rattle.std.proofs.lemmas.Bool.{cases_Bool}
@@ -11,7 +11,7 @@ use Rattle.wast_base.proofs.Keys.{keys_total}
 pub names_ranked : IsStrictWeakOrder name_lt
 names_ranked = ranks_by keys_total key_of
 
--- The place of a name is between low and high.
+-- The position of the name is between low and high.
 pub record IsHalved (names : List Name) (name : Name) (low high : ℕ) : Type 0 where
   pub order : low ≤ high
   pub within : high ≤ length names
@@ -19,7 +19,7 @@ pub record IsHalved (names : List Name) (name : Name) (low high : ℕ) : Type 0 
   pub behind : (j : ℕ) → high ≤ j → j < length names → name_lt (get_or names j name) name ≡ false
 
 module _ (names : List Name) (name : Name) (sorted : AreInOrder names) where
-  -- up to a place whose name stands before the name
+  -- all names up to one that is less than the name are less
   pub raised : (mid : ℕ) → mid < length names → name_lt (get_or names mid name) name ≡ true → (j : ℕ) → j < mid + 1 → name_lt (get_or names j name) name ≡ true
   raised mid lt h j before = elim (cases_Bool (name_lt (get_or names j name) name)) [
     | inl e ↦ e
@@ -28,12 +28,12 @@ module _ (names : List Name) (name : Name) (sorted : AreInOrder names) where
         absurd (true≢false (sym h ∙ names_ranked.chain (get_or names mid name) (get_or names j name) name far e))
   ]
 
-  -- from a place on whose name does not
+  -- no name from one on that is not less than the name is less
   pub lowered : (mid : ℕ) → name_lt (get_or names mid name) name ≡ false → (j : ℕ) → mid ≤ j → j < length names → name_lt (get_or names j name) name ≡ false
   lowered mid h j le lt =
       names_ranked.chain (get_or names j name) (get_or names mid name) name (sorted_far name_lt names_ranked names sorted mid j name le lt) h
 
--- where a search ends
+-- once low and high meet, low is the position
 pub ended : (names : List Name) (name : Name) (low high : ℕ) → high ≤ low → IsHalved names name low high → IsPlaceOf names name low
 ended names name low high le h = record {
   within = omega (arith, h.order, h.within);
@@ -41,7 +41,7 @@ ended names name low high le h = record {
   behind = λ j from lt. h.behind j (omega (arith, le)) lt;
 }
 
--- what a comparison with one of a list says of its name
+-- a comparison with an element of a slice is one with its name
 pub tested_there : {X : Type 0} (called : X → Name) (xs : List X) (i : ℕ) (d : X) (name : Name) (b : Bool) → i < length xs → name_lt (called (get_or xs i d)) name ≡ b → name_lt (get_or (map called xs) i name) name ≡ b
 tested_there called xs i d name b lt h = subst (λ (n : Name). name_lt n name ≡ b) (sym (get_or-map called xs i d name lt)) h
 

@@ -1,4 +1,4 @@
--- What the definitions say of a worked text and of worked names, computed.
+-- Proves the examples of specs/Worked by computing them.
 use Rattle.std.proofs.Common.{refl}
 use Rattle.wast_base.specs.Worked.{PlacesInTwoLines, NamesInOrder}
 

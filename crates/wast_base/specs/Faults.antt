@@ -1,4 +1,9 @@
--- Faults, without where their texts lie in memory.
+-- The errors E1 to E13: their numbers, which of them have a position, and their messages.
+--
+-- A `&str` in a contract has an address, so two faults with the same text at different addresses are not equal. A `Cause` is
+-- a fault with the bytes of its texts instead, so that definitions can compare errors.
+--
+--   E4 of "func" and "g" at offset 244     message "unknown func: failed to find name `$g`", number 4
 use Rattle.std.specs.Prelude.{ℕ, Bool, true, false, List, ◌++◌, codes, Option, Some, None}
 use Rattle.std.specs.Fmt.{decimal}
 use Rattle.wast_base.specs.declared.ids.Span.{Span}
@@ -8,7 +13,7 @@ use Rattle.wast_base.specs.declared.faults.Fault.{Fault}
 use Rattle.wast_base.specs.declared.faults.Fault.TheVariants as fault
 use Rattle.wast_base.specs.declared.faults.Error.{Error}
 
--- a fault with its texts as bytes
+-- a fault whose texts are bytes, without addresses
 pub data Cause : Type 0 where
   ImportAfter : List ℕ → Cause
   Duplicate : List ℕ → Cause
@@ -24,7 +29,7 @@ pub data Cause : Type 0 where
   Memory : Cause
   Component : Cause
 
--- a fault, by the bytes of its texts
+-- the cause of a fault
 abbrev pub cause_of : Fault → Cause
 cause_of (fault.ImportAfter kind) = ImportAfter kind.now
 cause_of (fault.Duplicate kind) = Duplicate kind.now
@@ -40,15 +45,15 @@ cause_of (fault.Uncovered f) = Uncovered f
 cause_of fault.Memory = Memory
 cause_of fault.Component = Component
 
--- what an error says
+-- the fault of an error
 abbrev pub fault_of : Error → Fault
 fault_of e = e.fault
 
--- where the fault of an error stands
+-- the position of an error, if it has one
 abbrev pub span_of : Error → Option Span
 span_of e = e.span
 
--- the number of a fault, from E1 to E13
+-- the number of a fault: 1 for E1, up to 13 for E13
 abbrev pub fault_number : Fault → ℕ
 fault_number (fault.ImportAfter kind) = 1
 fault_number (fault.Duplicate kind) = 2
@@ -64,7 +69,7 @@ fault_number (fault.Uncovered f) = 11
 fault_number fault.Memory = 12
 fault_number fault.Component = 13
 
--- E1 to E9 are faults of the text, which have a place
+-- whether a fault has a position: E1 to E9 do, since they are mistakes in the source
 abbrev pub is_placed : Fault → Bool
 is_placed fault.TooLarge = false
 is_placed (fault.Uncovered f) = false
@@ -72,11 +77,11 @@ is_placed fault.Memory = false
 is_placed fault.Component = false
 is_placed f = true
 
--- a fault of the text at its place
+-- an error with a position
 abbrev pub error_at : Span → Fault → Error
 error_at span fault = record { span = Some span; fault = fault }
 
--- a refusal, which has no place
+-- an error without a position
 abbrev pub error_without_place : Fault → Error
 error_without_place fault = record { span = None; fault = fault }
 
@@ -88,21 +93,21 @@ too_large = error_without_place fault.TooLarge
 abbrev pub out_of_memory : Error
 out_of_memory = error_without_place fault.Memory
 
--- what an error tells: a fault at a place, or one that has none
+-- the content of an error: a cause with a position, or without one
 pub data Diagnostic : Type 0 where
   At : Cause → Span → Diagnostic
   Nowhere : Cause → Diagnostic
 
--- a fault, at a place where there is one
+-- the diagnostic of a cause and an optional position
 abbrev pub told_at : Cause → Option Span → Diagnostic
 told_at fault (Some span) = At fault span
 told_at fault None = Nowhere fault
 
--- what an error tells
+-- the diagnostic of an error
 abbrev pub diagnostic_of : Error → Diagnostic
 diagnostic_of e = told_at (cause_of e.fault) e.span
 
--- what the text of E11 calls a form
+-- the name of a form in the message of E11
 abbrev pub form_text : Form → List ℕ
 form_text form.StackSwitching = codes "stack switching"
 form_text form.Shared = codes "shared type"
@@ -114,15 +119,15 @@ form_text form.ArrayMemArg = codes "array memory argument"
 form_text form.TargetArch = codes "target architecture"
 form_text form.Beyond = codes "instruction beyond the table"
 
--- the end of the text on an unknown name
+-- the end of the message of E4
 unfoldable pub unknown_text : List ℕ → List ℕ
 unknown_text name = codes ": failed to find name `$" ++ (name ++ codes "`")
 
--- the end of the text on a struct without named fields
+-- the end of the message of E9
 unfoldable pub unnamed_text : ℕ → List ℕ
 unnamed_text n = codes "` in a struct without named fields, type index " ++ decimal n
 
--- the text of a fault
+-- the message of a fault
 abbrev pub fault_text : Fault → List ℕ
 fault_text (fault.ImportAfter kind) = codes "import after " ++ kind.now
 fault_text (fault.Duplicate kind) = codes "duplicate " ++ (kind.now ++ codes " identifier")

@@ -1,6 +1,18 @@
--- What the contracts cite of what stands below the tree: ids, their order and what they denote, faults, demands and which
--- errors answer them, index spaces, blocks, generated ids, the borrows that lists and boxes lend, and lines and columns of
--- places.
+-- The definitions that contracts of this crate and of the crates above name.
+--
+--   Ids          names, ids and indices, and when two are the same
+--   Order        the order of names, and the position of a name in a sorted list
+--   Spaces       the index spaces, and the item that a name refers to
+--   Denoted      the number that an index refers to
+--   Gensym       the id counter
+--   Filling      generated ids for a list of items
+--   Faults       the errors E1 to E13 and their messages
+--   FirstUnmet   checks, and the first that fails
+--   Outcomes     results of calls that may fail with it
+--   Blocks       blocks of an expression, and whether they are balanced
+--   Lending      `&mut` into a `Seq` or a `Boxed`
+--   Lines        the line and column of a position
+--   Worked       examples that compute
 pub mod Blocks
 pub mod Denoted
 pub mod Faults

@@ -1,4 +1,4 @@
--- Lines and columns of places in a worked text, and names in their order, computed.
+-- Examples that compute: lines and columns of positions in a text, and the order of names.
 use Rattle.std.specs.Prelude.{◌≡◌, ℕ, true, false, List, ◌∷◌, ◌++◌, codes}
 use Rattle.wast_base.specs.declared.ids.Span.{Span}
 use Rattle.wast_base.specs.Ids.{Written, Generated}
@@ -9,18 +9,18 @@ use Rattle.wast_base.specs.Order.{name_lt}
 abbrev pub two_lines : List ℕ
 two_lines = codes "(module" ++ 10 ∷ codes " $m)"
 
--- a place in it
+-- a position in it
 abbrev pub at : ℕ → Span
 at n = record { offset = n }
 
--- The first byte, the line feed, and the last byte; what is behind the end is the end.
+-- The first byte, the line feed, the last byte, and a position after the end, which counts as the end.
 abbrev pub PlacesInTwoLines : Type 0
 PlacesInTwoLines =
     (line_of two_lines (at 0) ≡ 1) × (column_of two_lines (at 0) ≡ 1) × (line_of two_lines (at 7) ≡ 1)
     × (column_of two_lines (at 7) ≡ 8) × (line_of two_lines (at 11) ≡ 2) × (column_of two_lines (at 11) ≡ 4)
     × (line_of two_lines (at 100) ≡ 2) × (column_of two_lines (at 100) ≡ 5)
 
--- Texts stand in the order of their bytes; that of generated names is `gensym`, and a written one comes before them.
+-- Texts are sorted by bytes. The text of a generated name is `gensym`, and the source id `$gensym` comes before them.
 abbrev pub NamesInOrder : Type 0
 NamesInOrder =
     (name_lt (Written (codes "a")) (Written (codes "aa")) ≡ true) × (name_lt (Written (codes "aa")) (Written (codes "b")) ≡ true)

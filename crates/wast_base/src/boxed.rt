@@ -1,4 +1,4 @@
-//! A box that contracts see as its value.
+//! `Boxed`, a `Box` whose model in contracts is the value inside.
 
 ghost use Rattle.std.specs.Prelude.{◌≡◌, IfOk};
 ghost use Rattle.std.specs.Borrow.{sem};
@@ -7,7 +7,21 @@ use std::alloc::{AllocError, Global};
 use std::fmt::{self, Debug};
 use std::marker::Model;
 
-/// A `Box` that contracts see as its value. Only [`Boxed::new`] takes memory. It is printed as a `Box` is, as its value.
+/// A `Box` whose model in contracts is the value inside.
+///
+/// Large parts of the AST are boxed, and the model lets contracts compare them by value, not by
+/// address. `{:?}` prints the value, as for a `Box`.
+///
+/// # Example
+///
+///     let mut boxed = Boxed::new(alloc, 7).expect(&rt, "memory");
+///     assert!(rt; *boxed.get() == 7);
+///     *boxed.get_mut() = 8;
+///     assert!(rt; boxed.into_inner() == 8);
+///
+/// # Memory
+///
+/// Only [`Boxed::new`] allocates.
 #[derive(Drop)]
 pub struct Boxed<T> {
     inner: Box<T>,
@@ -24,14 +38,19 @@ impl<T> Model for Boxed<T> {
 impl<T> Boxed<T> {
     ghost use Rattle.wast_base.specs.Lending.{LendsValue};
 
-    /// The value, to read.
+    /// Borrows the value.
     pub fn get(&self) -> &T
         ensures { result.now ≡ self.now }
     {
         &self.inner
     }
 
-    /// The value, to change.
+    /// Borrows the value mutably.
+    ///
+    /// # Guarantees
+    ///
+    /// - `writes_back`: once the borrow ends, the box holds the last value written through it.
+    /// - `value`: the borrow begins with the current value.
     pub fn get_mut(&mut self) -> &mut T
         ensures* writes_back { sem 𝓛 (LendsValue T.row self.entry result) }
         ensures value { result.now ≡ self.old }
@@ -39,7 +58,7 @@ impl<T> Boxed<T> {
         &mut *self.inner
     }
 
-    /// The value, out of its box, whose memory is given back.
+    /// Moves the value out of the box and frees the box.
     pub fn into_inner(self) -> T
         ensures { result ≡ self }
     {
@@ -49,7 +68,11 @@ impl<T> Boxed<T> {
 }
 
 impl<T: Drop> Boxed<T> {
-    /// A value in a box. It takes memory for the value; where that is refused it answers an error and drops the value.
+    /// Allocates a box for the value.
+    ///
+    /// # Errors
+    ///
+    /// `AllocError` if the allocation failed. The value is then dropped.
     pub fn new(alloc: Global, value: T) -> Result<Self, AllocError>
         ensures { IfOk result (λ b. b ≡ value) }
     {

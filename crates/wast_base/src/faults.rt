@@ -1,4 +1,4 @@
-//! Why a module is refused.
+//! Errors: `Error` is a `Fault`, with its position in the source if it has one.
 
 ghost use Rattle.std.specs.Prelude.{◌≡◌, Some};
 ghost use Rattle.wast_base.specs.Faults.{fault_of, span_of, fault_number, is_placed, fault_text, form_text, unknown_text, unnamed_text, error_at, error_without_place, out_of_memory};
@@ -8,10 +8,13 @@ use crate::ids::Span;
 use std::alloc::{AllocError, AllocFailed};
 use std::fmt;
 
-/// A form of the text format or of a proposal that resolving covers and the encoder refuses. Its text goes into E11's.
+/// A kind of construct that resolving supports and the encoder does not.
+///
+/// E11 has a form, and `{}` of the form is part of its message. For example, the message of E11
+/// with [`Form::Shared`] is `uncovered form: shared type`.
 #[derive(Clone, Copy, Debug, PartialEq, Eq)]
 pub enum Form {
-    /// Continuations, and instructions on them.
+    /// A continuation type, or an instruction on continuations.
     StackSwitching,
     /// A shared type, table or global.
     Shared,
@@ -27,48 +30,67 @@ pub enum Form {
     ArrayMemArg,
     /// The target architecture of `dylink.0`.
     TargetArch,
-    /// An instruction that the table of instructions lacks.
+    /// An instruction that is not in the opcode table.
     Beyond,
 }
 
-/// What is wrong with a module, or why a call gave up. E1 to E9 are faults of the text (text format: identifiers, indices,
-/// type uses, control instructions, modules), which have a place; E10 to E13 are refusals, which have none.
+/// The reason for an error, E1 to E13, without its position.
 ///
-/// It is printed as an [`Error`] is, which prints no place.
+/// E1 to E9 are mistakes in the source, and an [`Error`] has a position for each of them (text
+/// format: identifiers, indices, type uses, control instructions, modules). E10 to E13 have no
+/// position, because they are limits of the encoder or of the machine.
+///
+/// `{}` prints the same text as for the [`Error`]. For example, `Fault::Unknown("func", "g")` is
+/// printed as "unknown func: failed to find name `$g`".
 #[derive(Clone, Copy, Debug, PartialEq, Eq)]
 pub enum Fault<'a> {
-    /// E1: an import stands after a definition of this kind.
+    /// E1: an import comes after a definition of this kind, such as `function` or `memory`.
     ImportAfter(&'a str),
     /// E2: two items of this kind have the same id.
     Duplicate(&'a str),
-    /// E3: two of this kind have the same id, which has this name.
+    /// E3: two items of this kind, such as `field`, have the same id, which has this name.
     DuplicateField(&'a str, &'a str),
     /// E4: no item of this kind has this name.
     Unknown(&'a str, &'a str),
-    /// E5: the type is no function type.
+    /// E5: a type use has the index of a type that is not a function type.
     NotFunc,
-    /// E6: no type stands at the index.
+    /// E6: a type use has an index that is out of bounds.
     OutOfBounds,
-    /// E7: the type that is written out is another than the one at the index.
+    /// E7: the inline type of a type use differs from the type at its index.
     NoMatch,
-    /// E8: the label at the end of a block is another than at its start.
+    /// E8: the label at an `else` or `end` differs from the label of its block.
     Labels,
-    /// E9: a field of this name is asked of a struct without names, whose type has this index.
+    /// E9: an access names a field of a struct type without field names; the type's index follows.
     NoNamedFields(&'a str, u32),
-    /// E10: a count or a length is 2^32 or more, or the counter of generated ids is at its end.
+    /// E10: a count or a length is 2^32 or more, or the id counter would overflow.
     TooLarge,
-    /// E11: the encoder does not cover this form.
+    /// E11: the encoder does not support this form.
     Uncovered(Form),
-    /// E12: memory was refused.
+    /// E12: allocation failed.
     Memory,
     /// E13: the module is a component.
     Component,
 }
 
-/// A fault, with its place where it has one: E1 to E9 have a place, and E10 to E13 have none.
+/// An error, E1 to E13: what is wrong, and for E1 to E9 the position in the source.
 ///
-/// Errors are equal where their faults and their places are. No call on an error takes memory. A refused request
-/// for memory becomes E12 by `?`.
+/// Two errors are equal if their faults and their positions are. `?` turns a failed allocation into
+/// E12. `{}` prints the message without the position; [`line_and_column`](crate::line_and_column)
+/// converts [`Error::span`] for a reader.
+///
+/// # Example
+///
+/// A `match` on `error.span()` that prints the error:
+///
+///     Some(place) => {
+///         let (line, column) = line_and_column(TEXT, place);
+///         println!(rt; "{line}:{column}: {error}")
+///     }
+///     None => println!(rt; "{error}"),
+///
+/// # Memory
+///
+/// No call on an error allocates.
 #[derive(Clone, Copy, Debug, PartialEq, Eq)]
 pub struct Error<'a> {
     pub(crate) span: Option<Span>,
@@ -76,7 +98,15 @@ pub struct Error<'a> {
 }
 
 impl<'a> Error<'a> {
-    /// A fault of the text, at its place. It needs one of E1 to E9.
+    /// Makes an error with a position.
+    ///
+    /// # Example
+    ///
+    ///     assert!(rt; twice == Err(Error::new(at(40), Fault::Duplicate("func"))));
+    ///
+    /// # Requires
+    ///
+    /// A fault that has a position. It needs one of E1 to E9.
     pub fn new(span: Span, fault: Fault<'a>) -> Self
         requires { IsTrue (is_placed fault) }
         ensures { result ≡ error_at span fault.entry }
@@ -87,7 +117,15 @@ impl<'a> Error<'a> {
         }
     }
 
-    /// A refusal, which has no place. It needs one of E10 to E13.
+    /// Makes an error without a position.
+    ///
+    /// # Example
+    ///
+    ///     let too_large = Error::refusal(Fault::TooLarge);
+    ///
+    /// # Requires
+    ///
+    /// A fault that has no position: one of E10 to E13.
     pub fn refusal(fault: Fault<'a>) -> Self
         requires { IsTrue (not (is_placed fault)) }
         ensures { result ≡ error_without_place fault.entry }
@@ -95,21 +133,21 @@ impl<'a> Error<'a> {
         Error { span: None, fault }
     }
 
-    /// What is wrong, without its place.
+    /// Returns what is wrong, without its position.
     pub fn fault(&self) -> Fault<'a>
         ensures { result ≡ fault_of self.now }
     {
         self.fault
     }
 
-    /// The place of the fault: there for E1 to E9, and `None` for E10 to E13.
+    /// Returns the position of the error: `Some` for E1 to E9, and `None` for E10 to E13.
     pub fn span(&self) -> Option<Span>
         ensures { result ≡ span_of self.now }
     {
         self.span
     }
 
-    /// The number of the fault: 1 for E1, and so on to 13.
+    /// Returns the number of the error: 1 for E1, and so on up to 13 for E13.
     pub fn number(&self) -> u32
         ensures { result ≡ fault_number (fault_of self.now) }
     {
@@ -149,7 +187,7 @@ impl fmt::Display for Form {
     }
 }
 
-/// The end of the text on an unknown name.
+/// The end of the message of E4.
 #[derive(Clone, Copy)]
 struct Missing<'a>(&'a str);
 
@@ -163,7 +201,7 @@ impl fmt::Display for Missing<'_> {
     }
 }
 
-/// The end of the text on a struct without named fields.
+/// The end of the message of E9.
 #[derive(Clone, Copy)]
 struct Unnamed(u32);
 

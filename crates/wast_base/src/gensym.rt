@@ -1,4 +1,4 @@
-//! The counter of generated ids.
+//! `Gensym`, the counter of generated ids.
 
 ghost use Rattle.std.specs.Prelude.{◌≡◌, ◌≤◌};
 ghost use Rattle.wast_base.specs.Gensym.{Generates, Fills};
@@ -7,9 +7,23 @@ use crate::faults::{Error, Fault};
 use crate::ids::{Id, Name, Span};
 use std::marker::Model;
 
-/// The counter of generated ids (text format, identifiers). Contracts see the generation of its next id, which is above 0.
+/// The counter that numbers generated ids.
 ///
-/// No call on it takes memory.
+/// Resolving generates an id for an item that needs one, because a reference by id stays right if
+/// more items are added before the item. The number of a generated id is its generation. The model
+/// of the counter in contracts is the generation of its next id, which is at least 1.
+///
+/// # Example
+///
+///     let mut gensym = Gensym::new(1);
+///     let made = gensym.generate(at(5)).expect(&rt, "counter");
+///     let next = gensym.generate(at(5)).expect(&rt, "counter");
+///
+/// The two ids have the generations 1 and 2.
+///
+/// # Memory
+///
+/// No call on the counter allocates.
 #[derive(Debug, Drop)]
 pub struct Gensym {
     next: u64,
@@ -26,7 +40,11 @@ impl Model for Gensym {
 }
 
 impl Gensym {
-    /// A counter whose first id has this generation. It needs a generation of 1 or more: 0 is that of written ids.
+    /// Makes a counter whose first id has the generation `first`.
+    ///
+    /// # Requires
+    ///
+    /// `first` is 1 or more, because generation 0 is that of source ids.
     pub fn new(first: u64) -> Self
         requires { 1 ≤ first }
         ensures { result ≡ first }
@@ -34,7 +52,7 @@ impl Gensym {
         Gensym { next: first }
     }
 
-    /// The generation of the next id, 1 or more.
+    /// Returns the generation of the next id, which is 1 or more.
     pub fn peek(&self) -> u64
         ensures next { result ≡ self.now }
         ensures positive { 1 ≤ result }
@@ -42,9 +60,11 @@ impl Gensym {
         self.next
     }
 
-    /// A new id at a place, of the next generation.
+    /// Returns a new id at the position `span`, and raises the counter by one.
     ///
-    /// Where that is the greatest `u64` it answers E10, and changes nothing.
+    /// # Errors
+    ///
+    /// E10 if the counter is at the greatest `u64`. The counter is then unchanged.
     pub fn generate<'a>(&mut self, span: Span) -> Result<Id<'a>, Error<'a>>
         ensures { Generates self.old span result self.new }
     {
@@ -59,9 +79,19 @@ impl Gensym {
         })
     }
 
-    /// The id that is there, or else a new one at the place, which is put there.
+    /// Returns the id in `slot`; if there is none, generates one at `span` and stores it there.
     ///
-    /// Where the slot is empty and the next generation is the greatest `u64`, it answers E10, and changes nothing.
+    /// # Example
+    ///
+    ///     let mut gensym = Gensym::new(3);
+    ///     let mut slot = None;
+    ///     let id = gensym.fill(at(4), &mut slot).expect(&rt, "counter");
+    ///
+    /// The id has generation 3 and is in `slot`, and a second call returns it again.
+    ///
+    /// # Errors
+    ///
+    /// E10 if `slot` is `None` and the counter is at the greatest `u64`. Nothing is then changed.
     pub fn fill<'a>(&mut self, span: Span, slot: &mut Option<Id<'a>>) -> Result<Id<'a>, Error<'a>>
         ensures { Fills self.old span slot.old result slot.new self.new }
     {

@@ -1,38 +1,42 @@
-//! Places, ids and indices.
+//! Positions in the source, ids and indices.
 
 ghost use Rattle.std.specs.Prelude.{◌≡◌, Some};
 ghost use Rattle.wast_base.specs.Ids.{source_id, text_of, name_of, place_of, generation_of, is_generated, span_of_index, is_number, same_id, same_index, text_start, index_of_number, by_id, id_text, index_text};
 
 use std::fmt;
 
-/// A place in the text: the offset of a character, in bytes. Places are equal where their offsets are. The start of the
-/// text is the default.
+/// A position in the source: the offset of a character in bytes. The default is the start.
 #[derive(Clone, Copy, Debug, PartialEq, Eq, Hash)]
 pub struct Span {
-    /// Bytes before the place.
+    /// The number of bytes before the position.
     pub offset: usize,
 }
 
-/// What an id is called: as it was written, or the generation of a generated id.
+/// The name of an id: the text of a source id, or the generation of a generated id.
 ///
-/// Names are ordered for maps: written ones, byte by byte, before generated ones, by their generations.
+/// The order is for maps. Source names, by bytes, come before generated names, by generation.
 #[derive(Clone, Copy, Debug, PartialEq, Eq, PartialOrd, Ord, Hash)]
 pub(crate) enum Name<'a> {
     Written(&'a str),
     Generated(u64),
 }
 
-/// An identifier (text format, identifiers): the name of an item, without its `$`, at a place.
+/// An identifier of the source, such as `$f`, or a generated id (text format: identifiers).
 ///
-/// Ids are equal where their names and generations are, whatever their places. A written id has generation 0. A
-/// generated id, which only a [`Gensym`](crate::Gensym) makes, has a generation above 0 and the name `gensym`. No call on
-/// an id takes memory.
+/// An id has a name, a generation and a position. A source id has generation 0. Only a
+/// [`Gensym`](crate::Gensym) makes a generated id, which has the name `gensym` and a generation
+/// above 0. Ids are equal if their names and generations are; positions are ignored.
 ///
-/// Ids have an order, for maps; the format gives it no meaning. Written ids, by the bytes of their names, come before
-/// generated ones, by their generations; places do not count.
+/// `{}` prints a source id as `$name`. It prints a generated id as `gensym 3`, which no source id
+/// looks like.
 ///
-/// A written id is printed as it is written, `$name`, and a generated one as `gensym 3`, by its generation: no written one is
-/// printed so.
+/// Ids are ordered so that they can be keys of maps. Source ids, by the bytes of their names, come
+/// before generated ids, by their generations. No call on an id allocates.
+///
+/// # Example
+///
+///     let id: Index<'static> = Id::new("f", at(4)).into();
+///     assert!(rt; id == Index::Id(Id::new("f", at(9))) && id.span() == at(4));
 #[derive(Clone, Copy, Debug)]
 #[derive_where(PartialEq, Eq, PartialOrd, Ord, Hash)]
 pub struct Id<'a> {
@@ -41,33 +45,36 @@ pub struct Id<'a> {
     pub(crate) span: Span,
 }
 
-/// A reference to an item (text format, indices): its number, or its id.
+/// A reference to an item, by its number or by its id (text format: indices).
 ///
-/// Indices are equal as numbers or as ids, whatever their places; a number and an id are never equal. No call on an index
-/// takes memory.
+/// Two indices are equal if they have the same number or equal ids; positions are ignored. A number
+/// and an id are never equal. `{}` prints a number in decimal digits, and an id like [`Id`].
 ///
-/// Indices have an order, for maps; the format gives it no meaning. Numbers, the lesser first, come before ids, in the
-/// order of ids; places do not count.
+/// Indices are ordered so that they can be keys of maps: numbers come before ids. No call on an
+/// index allocates.
 ///
-/// A number is printed in decimal digits, and an id as ids are.
+/// # Example
+///
+///     let number = Index::from(7);
+///     assert!(rt; number == Index::Num(7, at(3)) && number.span() == at(0));
 #[derive(Clone, Copy, Debug)]
 #[derive_where(PartialEq, Eq, PartialOrd, Ord, Hash)]
 pub enum Index<'a> {
-    /// A number, and the place of its first character, or of the id that it stands for.
+    /// A number, with the position of its first character or of the id that it replaces.
     Num(u32, #[derive_where(skip(EqHashOrd))] Span),
-    /// An id.
+    /// An id that is not resolved yet.
     Id(Id<'a>),
 }
 
-/// A name for the name section, `(@name "x")`, which goes before that of the id (custom annotations, name annotations).
+/// A name annotation, `(@name "x")`: the name for the name section, instead of the id.
 #[derive(Clone, Copy, Debug, PartialEq, Eq)]
 pub struct NameAnnotation<'a> {
-    /// The name.
+    /// The text of the name.
     pub name: &'a str,
 }
 
 impl<'a> Id<'a> {
-    /// An id that is written at a place of the text, as `name` without its `$`.
+    /// Makes a source id. `name` is without its `$`, and `span` is the position of the `$`.
     pub fn new(name: &'a str, span: Span) -> Self
         ensures { result ≡ source_id name.entry span }
     {
@@ -77,7 +84,7 @@ impl<'a> Id<'a> {
         }
     }
 
-    /// The name, without its `$`; `gensym` for a generated id.
+    /// Returns the name without its `$`, or `gensym` for a generated id.
     pub fn name(&self) -> &'a str
         ensures { result.now ≡ text_of (name_of self.now) }
     {
@@ -87,21 +94,21 @@ impl<'a> Id<'a> {
         }
     }
 
-    /// The place of the first character, its `$`; of a generated id, the place that it was made for.
+    /// Returns the position of the `$`, or for a generated id the position that it was made with.
     pub fn span(&self) -> Span
         ensures { result ≡ place_of self.now }
     {
         self.span
     }
 
-    /// Whether the id is generated, and not written.
+    /// Returns whether the id is generated.
     pub fn is_gensym(&self) -> bool
         ensures { result ≡ is_generated (name_of self.now) }
     {
         matches!(self.name, Name::Generated(_))
     }
 
-    /// The generation: 0 for a written id.
+    /// Returns the generation, which is 0 for a source id.
     pub fn generation(&self) -> u64
         ensures { result ≡ generation_of (name_of self.now) }
     {
@@ -111,7 +118,7 @@ impl<'a> Id<'a> {
         }
     }
 
-    /// Whether the names and generations are the same, whatever the places. This is `==`.
+    /// Returns whether the names and generations are equal, as `==` does. Positions are ignored.
     pub fn is_same(&self, other: &Id<'a>) -> bool
         ensures { result ≡ same_id self.now other.now }
     {
@@ -120,7 +127,7 @@ impl<'a> Id<'a> {
 }
 
 impl<'a> Index<'a> {
-    /// The place that the number has with it, or that of the id.
+    /// Returns the position of the number or of the id.
     pub fn span(&self) -> Span
         ensures { result ≡ span_of_index self.now }
     {
@@ -130,14 +137,14 @@ impl<'a> Index<'a> {
         }
     }
 
-    /// Whether it is a number, so that no id is left to be found.
+    /// Returns whether the index is a number, so that there is no id to resolve.
     pub fn is_resolved(&self) -> bool
         ensures { result ≡ is_number self.now }
     {
         matches!(self, Index::Num(_, _))
     }
 
-    /// Whether the numbers or the ids are the same, whatever the places. This is `==`.
+    /// Returns whether the numbers or the ids are equal, as `==` does. Positions are ignored.
     pub fn is_same(&self, other: &Index<'a>) -> bool
         ensures { result ≡ same_index self.now other.now }
     {
@@ -153,7 +160,7 @@ impl Default for Span {
     }
 }
 
-/// A number, at the start of the text, for an index that no text has.
+/// Makes an index from a number, for an index that is not from a source. Its position is 0.
 impl From<u32> for Index<'_> {
     ghost from_gives = { λ number index. index ≡ index_of_number number };
 
@@ -162,7 +169,7 @@ impl From<u32> for Index<'_> {
     }
 }
 
-/// The id, at its place.
+/// Makes an index from an id, with its position.
 impl<'a> From<Id<'a>> for Index<'a> {
     ghost from_gives = { λ id index. index ≡ by_id id };
 

@@ -1,8 +1,9 @@
-//! Instructions with one index or two. `tools/ops` writes this file.
+//! Names of instructions with one index or two. `tools/ops` writes this file.
 
-/// An instruction whose one immediate is an index (binary format, instructions).
+/// An instruction whose one immediate is an index (binary format: instructions).
 ///
-/// The number of a variant is its key: its opcode, or 65536 times its prefix byte and the number behind that.
+/// The number of a variant is its opcode. For an opcode of a prefix byte and a number it is 65536
+/// times the prefix byte, plus the number: `fc 09` is `0xfc0009`.
 #[derive(Clone, Copy, Debug, PartialEq, Eq)]
 pub enum IndexOp {
     /// `catch`, of a tag
@@ -81,9 +82,11 @@ pub enum IndexOp {
     TableFill,
 }
 
-/// An instruction whose immediates are two indices, or an index and a length (binary format, instructions).
+/// An instruction whose immediates are two indices, or an index and a length (binary format:
+/// instructions).
 ///
-/// The number of a variant is its key: its opcode, or 65536 times its prefix byte and the number behind that.
+/// The number of a variant is its opcode. For an opcode of a prefix byte and a number it is 65536
+/// times the prefix byte, plus the number: `fc 09` is `0xfc0009`.
 #[derive(Clone, Copy, Debug, PartialEq, Eq)]
 pub enum IndexPairOp {
     /// `call_indirect`, of a type and a table

@@ -1,8 +1,9 @@
-//! Instructions on a lane of a vector. `tools/ops` writes this file.
+//! Names of instructions on a lane of a vector. `tools/ops` writes this file.
 
-/// An instruction on a lane of a vector (text format, instructions).
+/// An instruction on a lane of a vector (text format: instructions).
 ///
-/// The number of a variant is its key: its opcode, or 65536 times its prefix byte and the number behind that.
+/// The number of a variant is its opcode. For an opcode of a prefix byte and a number it is 65536
+/// times the prefix byte, plus the number: `fc 09` is `0xfc0009`.
 #[allow(non_camel_case_types)]
 #[derive(Clone, Copy, Debug, PartialEq, Eq)]
 pub enum LaneOp {
@@ -36,9 +37,10 @@ pub enum LaneOp {
     f64x2_replace_lane,
 }
 
-/// A load of a lane of a vector, or a store of one (text format, instructions).
+/// A load of a lane of a vector, or a store of one (text format: instructions).
 ///
-/// The number of a variant is its key: its opcode, or 65536 times its prefix byte and the number behind that.
+/// The number of a variant is its opcode. For an opcode of a prefix byte and a number it is 65536
+/// times the prefix byte, plus the number: `fc 09` is `0xfc0009`.
 #[allow(non_camel_case_types)]
 #[derive(Clone, Copy, Debug, PartialEq, Eq)]
 pub enum MemLaneOp {

@@ -1,8 +1,34 @@
-//! What stands below the tree of a WebAssembly module in the text format: places, ids, their order and the numbers in
-//! their place, the counter of generated ids, faults, index spaces, the names of instructions, the lists and boxes that a
-//! tree is made of, and lines and columns of places.
+//! The parts of a module's AST that do not depend on its fields: ids, indices, index spaces,
+//! errors, the id counter, names of instructions, lists and boxes.
 //!
-//! A call takes memory only where its text says so. A call that can fail says when, and with what.
+//! Every other crate of the AST, of resolving and of encoding depends on this one. Callers use it
+//! through `wast_tree`, `wast_expand`, `wast_resolve` and `wast_core`, which re-export its types.
+//!
+//! # Example
+//!
+//! A number and an id become indices, and the id keeps its position:
+//!
+//!     let number = Index::from(7);
+//!     assert!(rt; number == Index::Num(7, at(3)) && number.span() == at(0));
+//!     let id: Index<'static> = Id::new("f", at(4)).into();
+//!
+//! # Modules
+//!
+//! - `ids`: positions, ids and indices; when two are equal, and how they are printed.
+//! - `order`: the order of names, and binary search among names.
+//! - `numbering`: replacing an id by its number, for any index space or list of labels.
+//! - `gensym`: the counter of generated ids.
+//! - `faults`: the errors E1 to E13, with their numbers and messages.
+//! - `spaces`: the eight index spaces.
+//! - `plain`, `mem_ops`, `lane_ops`, `index_ops`: names of instructions, written by `tools/ops`.
+//! - `seq`, `boxed`: a list and a box that contracts see by their contents.
+//! - `lines`: the line and column of a position.
+//!
+//! # Guarantees
+//!
+//! The contracts state the result of every call exactly. A failed allocation is the exception:
+//! contracts permit it from every call that can allocate, and its comment then has `# Memory` or
+//! `# Errors`.
 #![tactic(auto)]
 
 mod boxed;

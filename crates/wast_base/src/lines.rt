@@ -1,11 +1,11 @@
-//! Lines and columns of places, for messages.
+//! Lines and columns of positions, for messages.
 
 ghost use Rattle.std.specs.Prelude.{◌≡◌, ◌≤◌, length};
 ghost use Rattle.wast_base.specs.Lines.{line_of, column_of, behind_last};
 
 use crate::Span;
 
-/// How many bytes stand behind the last line feed, or in all where there is none.
+/// Returns the number of bytes after the last line feed, or of all bytes if there is none.
 fn behind_last_line_feed(bytes: &[u8]) -> usize
     ensures count { result ≡ behind_last bytes.now }
     ensures bound { result ≤ length bytes.now }
@@ -17,10 +17,22 @@ fn behind_last_line_feed(bytes: &[u8]) -> usize
     bytes.len() - start
 }
 
-/// The line and the column of a place in a text, to tell a reader where it is. It takes no memory.
+/// Returns the line and the column of a position in a text, for a message. Does not allocate.
 ///
-/// Both count from 1: lines by the line feeds (`\n`) before the place, and columns by the bytes behind the last of these.
-/// A place behind the end of the text has the line and the column of the end.
+/// Both count from 1. The line counts the line feeds (`\n`) before the position, and the column
+/// counts the bytes after the last of them. A position after the end of the text has the line and
+/// column of the end.
+///
+/// # Example
+///
+///     let (line, column) = line_and_column(TEXT, place);
+///     println!(rt; "{line}:{column}: {error}")
+///
+/// For offset 11 of the lines `(module` and ` $m)`, the result is line 2, column 4.
+///
+/// # Guarantees
+///
+/// `line`, `column`: the numbers are those of the definitions `line_of` and `column_of`.
 pub fn line_and_column(text: &str, place: Span) -> (usize, usize)
     ensures line { result.0 ≡ line_of text.now place }
     ensures column { result.1 ≡ column_of text.now place }

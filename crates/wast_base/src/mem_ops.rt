@@ -1,8 +1,9 @@
-//! Loads and stores, and what reads or writes a memory as one. `tools/ops` writes this file.
+//! Names of loads, stores and other memory accesses. `tools/ops` writes this file.
 
-/// An instruction with a memory argument (text format, instructions).
+/// An instruction with a memory argument (text format: instructions).
 ///
-/// The number of a variant is its key: its opcode, or 65536 times its prefix byte and the number behind that.
+/// The number of a variant is its opcode. For an opcode of a prefix byte and a number it is 65536
+/// times the prefix byte, plus the number: `fc 09` is `0xfc0009`.
 #[allow(non_camel_case_types)]
 #[derive(Clone, Copy, Debug, PartialEq, Eq)]
 pub enum MemOp {

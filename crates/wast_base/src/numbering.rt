@@ -1,4 +1,4 @@
-//! Numbers in the place of ids.
+//! Replacing ids by the numbers that they refer to.
 
 ghost use Rattle.std.specs.Prelude.{◌≡◌, ℕ, Some, Option as Maybe, IfOk};
 ghost use Rattle.wast_base.specs.Ids.{Name, name_of};
@@ -9,17 +9,23 @@ ghost use Rattle.wast_base.specs.Outcomes.{Outcome};
 use crate::faults::{Error, Fault};
 use crate::ids::{Id, Index};
 
-/// What ids denote, as a name space or the open blocks of an expression say it (text format, indices).
+/// A source of numbers for ids, such as a namespace or the enclosing blocks (text format: indices).
+///
+/// For example, in `(module (func $a) (func $b))` the namespace of functions has 1 for `$b`.
 pub trait Numbering<'a> {
     /// The number of a name, if the name is known.
+    /// Implementations define it, and the contracts below state their results by it.
     ghost numbers: { Self → Name → Maybe ℕ };
 
-    /// The number of an id, if the id is known; its place does not count. It takes no memory.
+    /// Returns the number of an id, or `None` if it is unknown. Ignores positions. Takes no memory.
     fn number_of(&self, id: &Id<'a>) -> Option<u32>
         ensures { result ≡ numbers self.now (name_of id.now) };
 }
 
-/// The number that an index denotes: a number is its own, and `None` is for an unknown id. It takes no memory.
+/// Returns the number that an index refers to, or `None` for an unknown id. Takes no memory.
+///
+/// For example, if `$f` has the number 2, the result for the index `$f` is 2, and for the index 5
+/// it is 5.
 pub fn denoted_number<'a, N: Numbering<'a>>(numbering: &N, idx: &Index<'a>) -> Option<u32>
     ensures { result ≡ denoted (N.numbers numbering.now) idx.now }
 {
@@ -29,9 +35,16 @@ pub fn denoted_number<'a, N: Numbering<'a>>(numbering: &N, idx: &Index<'a>) -> O
     }
 }
 
-/// The number of an index: a number is its own, and an id that is known is replaced by its number, at the id's place.
+/// Replaces a known id by its number, and returns the number, or `None` for an unknown id.
 ///
-/// It is `None` for an unknown id, and then the index stays. It takes no memory.
+/// The number has the position of the id. An index that is a number is returned and left unchanged,
+/// and so is an unknown id. For example, if `$f` has the number 2, `$f` at offset 8 becomes the
+/// number 2 at offset 8. Takes no memory.
+///
+/// # Guarantees
+///
+/// - `number`: the result is the number that the index referred to.
+/// - `index`: the new index is as described.
 pub fn try_number<'a, N: Numbering<'a>>(numbering: &N, idx: &mut Index<'a>) -> Option<u32>
     ensures number { result ≡ denoted (N.numbers numbering.now) idx.old }
     ensures index { idx.new ≡ resolved_index (N.numbers numbering.now) idx.old }
@@ -45,9 +58,19 @@ pub fn try_number<'a, N: Numbering<'a>>(numbering: &N, idx: &mut Index<'a>) -> O
     Some(number)
 }
 
-/// The number of an index, as [`try_number`] gives it.
+/// Resolves an index as [`try_number`] does, and fails if the id is unknown. Takes no memory.
 ///
-/// An unknown id is E4 at its place, with a word for what was looked for, and then the index stays. It takes no memory.
+/// For example, with the word "func" an unknown `$g` at offset 8 is the error "unknown func: failed
+/// to find name `$g`" at 8.
+///
+/// # Errors
+///
+/// E4 at the position of an unknown id. `word` is the kind in its message. The index is unchanged.
+///
+/// # Guarantees
+///
+/// - `answer`: the call fails exactly if the id is unknown, and E4 is the only error.
+/// - `number`, `index`: as for [`try_number`].
 pub fn number_index<'a, N: Numbering<'a>>(
     numbering: &N,
     idx: &mut Index<'a>,

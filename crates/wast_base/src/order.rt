@@ -1,4 +1,4 @@
-//! The order of names, and the place of a name among others that have it.
+//! The order of names, and the position of a name in a sorted list.
 
 ghost use Rattle.std.specs.Prelude.{◌≡◌, map};
 ghost use Rattle.wast_base.specs.Ids.{Name, name_of};
@@ -7,7 +7,7 @@ ghost use Rattle.wast_base.specs.Order.{key_cmp, key_of, AreInOrder, IsPlaceOf};
 use crate::ids::Id;
 use std::cmp::Ordering;
 
-/// What an id is called: its text, and its generation where it is generated.
+/// The sort key of an id: its text, and its generation if it is generated.
 #[derive(Clone, Copy, PartialEq, Eq, PartialOrd, Ord)]
 struct Key<'a> {
     text: &'a str,
@@ -15,7 +15,7 @@ struct Key<'a> {
 }
 
 impl<'a> Key<'a> {
-    /// What the id is called, whatever its place.
+    /// Returns the key of an id. Its position is ignored.
     #[tactic(auto, using(crate::proofs::Keys::written_has_none, crate::proofs::Keys::generated_has_one))]
     fn new(id: &Id<'a>) -> Self
         ensures { (result.text.now, result.generation) ≡ key_of (name_of id.now) }
@@ -32,8 +32,10 @@ impl<'a> Key<'a> {
     }
 }
 
-/// The order of what two ids are called: by the bytes of the names, then written before generated, then by generation.
-/// Places do not count. It takes no memory.
+/// Compares two ids by the bytes of their names, then source before generated, then by generation.
+///
+/// Positions are ignored. The name of a generated id is `gensym`, so that generated ids sort among
+/// source ids: `$a`, `$gensym`, generation 1, generation 2, `$h`. Takes no memory.
 #[tactic(auto, using(crate::proofs::Keys::compared))]
 pub fn compare_names<'a>(a: &Id<'a>, b: &Id<'a>) -> Ordering
     ensures { result ≡ key_cmp (key_of (name_of a.now)) (key_of (name_of b.now)) }
@@ -41,12 +43,14 @@ pub fn compare_names<'a>(a: &Id<'a>, b: &Id<'a>) -> Ordering
     Key::new(a).cmp(&Key::new(b))
 }
 
-/// What bears an id.
+/// A value that has an id, so that [`place_among`] can search a slice of such values.
+///
+/// For example, an id has itself, and the pair `(id, 3)` has `id`.
 pub trait Named<'a> {
-    /// What its id is called.
+    /// The name of its id.
     ghost name: { Self → Name };
 
-    /// Its id.
+    /// Returns its id.
     fn id(&self) -> Id<'a>
         ensures { name_of result ≡ name self.now };
 }
@@ -67,8 +71,14 @@ impl<'a> Named<'a> for (Id<'a>, u32) {
     }
 }
 
-/// The place of a name among names in order, by halving: those before it stand before the name, and the others do not. It
-/// takes no memory.
+/// Returns the position of a name in a sorted slice, by binary search. Takes no memory.
+///
+/// All names before the position are less than the name, and all others are not. For example, `$b`
+/// in `$a $b $b $d` has position 1, and `$c` has position 3.
+///
+/// # Requires
+///
+/// The names are sorted in the order of [`compare_names`]. Equal names are allowed.
 pub fn place_among<'a, T: Named<'a>>(named: &[T], id: &Id<'a>) -> usize
     requires { AreInOrder (map T.name named.now) }
     ensures { IsPlaceOf (map T.name named.now) (name_of id.now) result }

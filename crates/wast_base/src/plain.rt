@@ -1,8 +1,9 @@
-//! Instructions without immediates. `tools/ops` writes this file.
+//! Names of instructions without immediates. `tools/ops` writes this file.
 
-/// An instruction without immediates whose text is one word without a dot (text format, instructions).
+/// An instruction without immediates whose name has no dot (text format: instructions).
 ///
-/// The number of a variant is its key: its opcode, or 65536 times its prefix byte and the number behind that.
+/// The number of a variant is its opcode. For an opcode of a prefix byte and a number it is 65536
+/// times the prefix byte, plus the number: `fc 09` is `0xfc0009`.
 #[allow(non_camel_case_types)]
 #[derive(Clone, Copy, Debug, PartialEq, Eq)]
 pub enum BareOp {
@@ -20,9 +21,10 @@ pub enum BareOp {
     drop,
 }
 
-/// An instruction without immediates whose text begins with `i32` (text format, instructions).
+/// An instruction without immediates whose name begins with `i32` (text format: instructions).
 ///
-/// The number of a variant is its key: its opcode, or 65536 times its prefix byte and the number behind that.
+/// The number of a variant is its opcode. For an opcode of a prefix byte and a number it is 65536
+/// times the prefix byte, plus the number: `fc 09` is `0xfc0009`.
 #[allow(non_camel_case_types)]
 #[derive(Clone, Copy, Debug, PartialEq, Eq)]
 pub enum I32Op {
@@ -110,9 +112,10 @@ pub enum I32Op {
     i32_trunc_sat_f64_u,
 }
 
-/// An instruction without immediates whose text begins with `i64` (text format, instructions).
+/// An instruction without immediates whose name begins with `i64` (text format: instructions).
 ///
-/// The number of a variant is its key: its opcode, or 65536 times its prefix byte and the number behind that.
+/// The number of a variant is its opcode. For an opcode of a prefix byte and a number it is 65536
+/// times the prefix byte, plus the number: `fc 09` is `0xfc0009`.
 #[allow(non_camel_case_types)]
 #[derive(Clone, Copy, Debug, PartialEq, Eq)]
 pub enum I64Op {
@@ -204,9 +207,10 @@ pub enum I64Op {
     i64_trunc_sat_f64_u,
 }
 
-/// An instruction without immediates whose text begins with `f32` (text format, instructions).
+/// An instruction without immediates whose name begins with `f32` (text format: instructions).
 ///
-/// The number of a variant is its key: its opcode, or 65536 times its prefix byte and the number behind that.
+/// The number of a variant is its opcode. For an opcode of a prefix byte and a number it is 65536
+/// times the prefix byte, plus the number: `fc 09` is `0xfc0009`.
 #[allow(non_camel_case_types)]
 #[derive(Clone, Copy, Debug, PartialEq, Eq)]
 pub enum F32Op {
@@ -264,9 +268,10 @@ pub enum F32Op {
     f32_reinterpret_i32 = 0xbe,
 }
 
-/// An instruction without immediates whose text begins with `f64` (text format, instructions).
+/// An instruction without immediates whose name begins with `f64` (text format: instructions).
 ///
-/// The number of a variant is its key: its opcode, or 65536 times its prefix byte and the number behind that.
+/// The number of a variant is its opcode. For an opcode of a prefix byte and a number it is 65536
+/// times the prefix byte, plus the number: `fc 09` is `0xfc0009`.
 #[allow(non_camel_case_types)]
 #[derive(Clone, Copy, Debug, PartialEq, Eq)]
 pub enum F64Op {
@@ -324,9 +329,10 @@ pub enum F64Op {
     f64_reinterpret_i64 = 0xbf,
 }
 
-/// An instruction without immediates whose text begins with `ref` (text format, instructions).
+/// An instruction without immediates whose name begins with `ref` (text format: instructions).
 ///
-/// The number of a variant is its key: its opcode, or 65536 times its prefix byte and the number behind that.
+/// The number of a variant is its opcode. For an opcode of a prefix byte and a number it is 65536
+/// times the prefix byte, plus the number: `fc 09` is `0xfc0009`.
 #[allow(non_camel_case_types)]
 #[derive(Clone, Copy, Debug, PartialEq, Eq)]
 pub enum RefOp {
@@ -340,9 +346,10 @@ pub enum RefOp {
     ref_i31 = 0xfb001c,
 }
 
-/// An instruction without immediates whose text begins with `array` (text format, instructions).
+/// An instruction without immediates whose name begins with `array` (text format: instructions).
 ///
-/// The number of a variant is its key: its opcode, or 65536 times its prefix byte and the number behind that.
+/// The number of a variant is its opcode. For an opcode of a prefix byte and a number it is 65536
+/// times the prefix byte, plus the number: `fc 09` is `0xfc0009`.
 #[allow(non_camel_case_types)]
 #[derive(Clone, Copy, Debug, PartialEq, Eq)]
 pub enum ArrayOp {
@@ -350,9 +357,10 @@ pub enum ArrayOp {
     array_len = 0xfb000f,
 }
 
-/// An instruction without immediates whose text begins with `any` (text format, instructions).
+/// An instruction without immediates whose name begins with `any` (text format: instructions).
 ///
-/// The number of a variant is its key: its opcode, or 65536 times its prefix byte and the number behind that.
+/// The number of a variant is its opcode. For an opcode of a prefix byte and a number it is 65536
+/// times the prefix byte, plus the number: `fc 09` is `0xfc0009`.
 #[allow(non_camel_case_types)]
 #[derive(Clone, Copy, Debug, PartialEq, Eq)]
 pub enum AnyOp {
@@ -360,9 +368,10 @@ pub enum AnyOp {
     any_convert_extern = 0xfb001a,
 }
 
-/// An instruction without immediates whose text begins with `extern` (text format, instructions).
+/// An instruction without immediates whose name begins with `extern` (text format: instructions).
 ///
-/// The number of a variant is its key: its opcode, or 65536 times its prefix byte and the number behind that.
+/// The number of a variant is its opcode. For an opcode of a prefix byte and a number it is 65536
+/// times the prefix byte, plus the number: `fc 09` is `0xfc0009`.
 #[allow(non_camel_case_types)]
 #[derive(Clone, Copy, Debug, PartialEq, Eq)]
 pub enum ExternOp {
@@ -370,9 +379,10 @@ pub enum ExternOp {
     extern_convert_any = 0xfb001b,
 }
 
-/// An instruction without immediates whose text begins with `i31` (text format, instructions).
+/// An instruction without immediates whose name begins with `i31` (text format: instructions).
 ///
-/// The number of a variant is its key: its opcode, or 65536 times its prefix byte and the number behind that.
+/// The number of a variant is its opcode. For an opcode of a prefix byte and a number it is 65536
+/// times the prefix byte, plus the number: `fc 09` is `0xfc0009`.
 #[allow(non_camel_case_types)]
 #[derive(Clone, Copy, Debug, PartialEq, Eq)]
 pub enum I31Op {
@@ -382,9 +392,10 @@ pub enum I31Op {
     i31_get_u,
 }
 
-/// An instruction without immediates whose text begins with `i8x16` (text format, instructions).
+/// An instruction without immediates whose name begins with `i8x16` (text format: instructions).
 ///
-/// The number of a variant is its key: its opcode, or 65536 times its prefix byte and the number behind that.
+/// The number of a variant is its opcode. For an opcode of a prefix byte and a number it is 65536
+/// times the prefix byte, plus the number: `fc 09` is `0xfc0009`.
 #[allow(non_camel_case_types)]
 #[derive(Clone, Copy, Debug, PartialEq, Eq)]
 pub enum I8x16Op {
@@ -460,9 +471,10 @@ pub enum I8x16Op {
     i8x16_relaxed_laneselect = 0xfd0109,
 }
 
-/// An instruction without immediates whose text begins with `i16x8` (text format, instructions).
+/// An instruction without immediates whose name begins with `i16x8` (text format: instructions).
 ///
-/// The number of a variant is its key: its opcode, or 65536 times its prefix byte and the number behind that.
+/// The number of a variant is its opcode. For an opcode of a prefix byte and a number it is 65536
+/// times the prefix byte, plus the number: `fc 09` is `0xfc0009`.
 #[allow(non_camel_case_types)]
 #[derive(Clone, Copy, Debug, PartialEq, Eq)]
 pub enum I16x8Op {
@@ -560,9 +572,10 @@ pub enum I16x8Op {
     i16x8_relaxed_dot_i8x16_i7x16_s,
 }
 
-/// An instruction without immediates whose text begins with `i32x4` (text format, instructions).
+/// An instruction without immediates whose name begins with `i32x4` (text format: instructions).
 ///
-/// The number of a variant is its key: its opcode, or 65536 times its prefix byte and the number behind that.
+/// The number of a variant is its opcode. For an opcode of a prefix byte and a number it is 65536
+/// times the prefix byte, plus the number: `fc 09` is `0xfc0009`.
 #[allow(non_camel_case_types)]
 #[derive(Clone, Copy, Debug, PartialEq, Eq)]
 pub enum I32x4Op {
@@ -660,9 +673,10 @@ pub enum I32x4Op {
     i32x4_relaxed_dot_i8x16_i7x16_add_s = 0xfd0113,
 }
 
-/// An instruction without immediates whose text begins with `i64x2` (text format, instructions).
+/// An instruction without immediates whose name begins with `i64x2` (text format: instructions).
 ///
-/// The number of a variant is its key: its opcode, or 65536 times its prefix byte and the number behind that.
+/// The number of a variant is its opcode. For an opcode of a prefix byte and a number it is 65536
+/// times the prefix byte, plus the number: `fc 09` is `0xfc0009`.
 #[allow(non_camel_case_types)]
 #[derive(Clone, Copy, Debug, PartialEq, Eq)]
 pub enum I64x2Op {
@@ -720,9 +734,10 @@ pub enum I64x2Op {
     i64x2_relaxed_laneselect = 0xfd010c,
 }
 
-/// An instruction without immediates whose text begins with `f32x4` (text format, instructions).
+/// An instruction without immediates whose name begins with `f32x4` (text format: instructions).
 ///
-/// The number of a variant is its key: its opcode, or 65536 times its prefix byte and the number behind that.
+/// The number of a variant is its opcode. For an opcode of a prefix byte and a number it is 65536
+/// times the prefix byte, plus the number: `fc 09` is `0xfc0009`.
 #[allow(non_camel_case_types)]
 #[derive(Clone, Copy, Debug, PartialEq, Eq)]
 pub enum F32x4Op {
@@ -786,9 +801,10 @@ pub enum F32x4Op {
     f32x4_relaxed_max,
 }
 
-/// An instruction without immediates whose text begins with `f64x2` (text format, instructions).
+/// An instruction without immediates whose name begins with `f64x2` (text format: instructions).
 ///
-/// The number of a variant is its key: its opcode, or 65536 times its prefix byte and the number behind that.
+/// The number of a variant is its opcode. For an opcode of a prefix byte and a number it is 65536
+/// times the prefix byte, plus the number: `fc 09` is `0xfc0009`.
 #[allow(non_camel_case_types)]
 #[derive(Clone, Copy, Debug, PartialEq, Eq)]
 pub enum F64x2Op {
@@ -852,9 +868,10 @@ pub enum F64x2Op {
     f64x2_relaxed_max,
 }
 
-/// An instruction without immediates whose text begins with `v128` (text format, instructions).
+/// An instruction without immediates whose name begins with `v128` (text format: instructions).
 ///
-/// The number of a variant is its key: its opcode, or 65536 times its prefix byte and the number behind that.
+/// The number of a variant is its opcode. For an opcode of a prefix byte and a number it is 65536
+/// times the prefix byte, plus the number: `fc 09` is `0xfc0009`.
 #[allow(non_camel_case_types)]
 #[derive(Clone, Copy, Debug, PartialEq, Eq)]
 pub enum V128Op {
@@ -874,41 +891,43 @@ pub enum V128Op {
     v128_any_true,
 }
 
-/// An instruction that has no immediate, by the first word of its text (text format, instructions).
+/// An instruction without immediates, by the first word of its name (text format: instructions).
+///
+/// For example, `i32.add` is `Plain::I32(I32Op::i32_add)`; `drop` is `Plain::Bare(BareOp::drop)`.
 #[derive(Clone, Copy, Debug, PartialEq, Eq)]
 pub enum Plain {
-    /// One whose text has no dot.
+    /// An instruction whose name has no dot.
     Bare(BareOp),
-    /// One whose text begins with `i32`.
+    /// An instruction whose name begins with `i32`.
     I32(I32Op),
-    /// One whose text begins with `i64`.
+    /// An instruction whose name begins with `i64`.
     I64(I64Op),
-    /// One whose text begins with `f32`.
+    /// An instruction whose name begins with `f32`.
     F32(F32Op),
-    /// One whose text begins with `f64`.
+    /// An instruction whose name begins with `f64`.
     F64(F64Op),
-    /// One whose text begins with `ref`.
+    /// An instruction whose name begins with `ref`.
     Ref(RefOp),
-    /// One whose text begins with `array`.
+    /// An instruction whose name begins with `array`.
     Array(ArrayOp),
-    /// One whose text begins with `any`.
+    /// An instruction whose name begins with `any`.
     Any(AnyOp),
-    /// One whose text begins with `extern`.
+    /// An instruction whose name begins with `extern`.
     Extern(ExternOp),
-    /// One whose text begins with `i31`.
+    /// An instruction whose name begins with `i31`.
     I31(I31Op),
-    /// One whose text begins with `i8x16`.
+    /// An instruction whose name begins with `i8x16`.
     I8x16(I8x16Op),
-    /// One whose text begins with `i16x8`.
+    /// An instruction whose name begins with `i16x8`.
     I16x8(I16x8Op),
-    /// One whose text begins with `i32x4`.
+    /// An instruction whose name begins with `i32x4`.
     I32x4(I32x4Op),
-    /// One whose text begins with `i64x2`.
+    /// An instruction whose name begins with `i64x2`.
     I64x2(I64x2Op),
-    /// One whose text begins with `f32x4`.
+    /// An instruction whose name begins with `f32x4`.
     F32x4(F32x4Op),
-    /// One whose text begins with `f64x2`.
+    /// An instruction whose name begins with `f64x2`.
     F64x2(F64x2Op),
-    /// One whose text begins with `v128`.
+    /// An instruction whose name begins with `v128`.
     V128(V128Op),
 }

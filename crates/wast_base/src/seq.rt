@@ -1,4 +1,4 @@
-//! A list that contracts see as the list of its elements.
+//! `Seq`, a `Vec` whose model in contracts is the list of its elements.
 
 ghost use Rattle.std.specs.Prelude.{◌≡◌, [], ◌∷◌, ◌++◌, ◌<◌, ◌^◌, ◌==◌, length, Some, slice_get, slice_index_or, OnOk, OnErr};
 ghost use Rattle.std.specs.Borrow.{sem};
@@ -11,11 +11,24 @@ use std::fmt::{self, Debug};
 use std::marker::Model;
 use std::{ops, slice, vec};
 
-/// A `Vec` that contracts see as the list of its elements.
+/// A `Vec` whose model in contracts is the list of its elements.
 ///
-/// The lists of the tree are of this type, so that a tree is plain data where contracts speak of it. Only [`Seq::push`]
-/// takes memory. It is printed as a `Vec` is, as the list of its elements. `for item in &list` goes over its elements, and
-/// `list[index]` is one of them, where the index is below the length.
+/// The lists of the AST have this type. Contracts see a `Vec` with its pointer and capacity, so
+/// they could not state that two `Vec`s are equal. `for item in &list` and `list[index]` work as
+/// for a `Vec`, and `{:?}` prints the list of elements.
+///
+/// # Example
+///
+///     let mut list = Seq::new(alloc);
+///     assert!(rt; list.is_empty() && list.len() == 0);
+///     list.push(1).expect(&rt, "memory");
+///     list.push(2).expect(&rt, "memory");
+///     *list.at_mut(1) = 5;
+///     assert!(rt; !list.is_empty() && list.len() == 2 && list.as_slice() == [1, 5].as_slice());
+///
+/// # Memory
+///
+/// Only [`Seq::push`] allocates.
 #[derive(Drop)]
 pub struct Seq<T> {
     items: Vec<T>,
@@ -35,7 +48,7 @@ impl<T> Model for Seq<T> {
 impl<T> Seq<T> {
     ghost use Rattle.wast_base.specs.Lending.{LendsItem};
 
-    /// No elements. It takes no memory; `alloc` is what [`Seq::push`] will ask.
+    /// Makes an empty list. Takes no memory; [`Seq::push`] allocates from `alloc`.
     pub fn new(alloc: Global) -> Self
         ensures { result ≡ [] }
     {
@@ -44,14 +57,14 @@ impl<T> Seq<T> {
         }
     }
 
-    /// The elements of a vector, in order. It takes no memory.
+    /// Makes a list of the elements of a vector, in order. Takes no memory.
     pub fn from_vec(items: Vec<T>) -> Self
         ensures { result ≡ items.items }
     {
         Seq { items }
     }
 
-    /// The elements in order, as a vector. It takes no memory.
+    /// Returns the elements as a vector, in order. Takes no memory.
     pub fn into_vec(self) -> Vec<T>
         ensures { result.items ≡ self }
     {
@@ -59,14 +72,19 @@ impl<T> Seq<T> {
         items
     }
 
-    /// The elements in order, to read.
+    /// Borrows the elements as a slice, in order.
     pub fn as_slice(&self) -> &[T]
         ensures { result.now ≡ self.now }
     {
         self.items.as_slice()
     }
 
-    /// The elements in order, one by one, to read. This is what `for item in &list` goes over. It takes no memory.
+    /// Iterates over the elements, in order, as `for item in &list` does. Takes no memory.
+    ///
+    /// # Guarantees
+    ///
+    /// - `rest`, `len`, `bound`: the iterator has all elements, which are fewer than 2^64.
+    /// - `runs`, `runs_back`: it returns them in order, or in reverse order from the back.
     pub fn iter(&self) -> slice::Iter<'_, T>
         ensures rest { iter_rest result ≡ self.now }
         ensures len { length (iter_rest result) ≡ length self.now }
@@ -77,21 +95,31 @@ impl<T> Seq<T> {
         self.items.as_slice().iter()
     }
 
-    /// How many elements there are.
+    /// Returns the number of elements.
     pub fn len(&self) -> usize
         ensures { result ≡ length self.now }
     {
         self.items.len()
     }
 
-    /// Whether there are no elements.
+    /// Returns whether the list is empty.
     pub fn is_empty(&self) -> bool
         ensures { result ≡ (length self.now == 0) }
     {
         self.items.is_empty()
     }
 
-    /// The element at an index, to change. It needs an index below the length.
+    /// Borrows the element at `index` mutably.
+    ///
+    /// # Requires
+    ///
+    /// `index` is less than the length.
+    ///
+    /// # Guarantees
+    ///
+    /// - `writes_back`: once the borrow ends, the element is the last value written through it, and
+    ///   the other elements are unchanged.
+    /// - `value`: the borrow begins with the element at `index`.
     pub fn at_mut(&mut self, index: usize) -> &mut T
         requires { index < length self.old }
         ensures* writes_back { sem 𝓛 (LendsItem T.row self.entry index result) }
@@ -102,8 +130,15 @@ impl<T> Seq<T> {
 }
 
 impl<T: Drop> Seq<T> {
-    /// Puts an element at the end. It may take memory; where that is refused it answers an error, the list stays as it was,
-    /// and the element is dropped.
+    /// Appends an element. It may allocate.
+    ///
+    /// # Errors
+    ///
+    /// `AllocError` if an allocation failed. The list is then unchanged and the element is dropped.
+    ///
+    /// # Guarantees
+    ///
+    /// `ok`, `err`: the list has the element at its end, or is unchanged.
     pub fn push(&mut self, item: T) -> Result<(), AllocError>
         ensures ok { OnOk result (self.new ≡ self.old ++ item ∷ []) }
         ensures err { OnErr result (self.new ≡ self.old) }
@@ -114,7 +149,14 @@ impl<T: Drop> Seq<T> {
 }
 
 impl<T> Seq<T> {
-    /// The elements by value, in order. It takes no memory.
+    /// Returns an iterator over the elements by value, in order. Takes no memory.
+    ///
+    /// # Example
+    ///
+    ///     let mut rest = list.into_iter();
+    ///     for want in [Some(1), Some(5), Some(9), None] {
+    ///         assert!(rt; rest.next() == want);
+    ///     }
     pub fn into_iter(self) -> IntoIter<T>
         ensures { result ≡ self }
     {
@@ -137,7 +179,7 @@ impl<'a, T> IntoIterator for &'a Seq<T> {
     }
 }
 
-/// The element at an index, to read. It needs an index below the length.
+/// Borrows the element at an index, which has to be less than the length.
 impl<T> ops::Index<usize> for Seq<T> {
     type Output = T;
 
@@ -160,7 +202,9 @@ impl<T: Debug> Debug for Seq<T> {
     }
 }
 
-/// The elements of a `Seq` by value. Contracts see the list of those that are left. No call on it takes memory.
+/// An iterator over the elements of a `Seq` by value, from [`Seq::into_iter`].
+///
+/// Its model in contracts is the list of the elements that are left. No call on it allocates.
 #[derive(Drop)]
 pub struct IntoIter<T> {
     rest: vec::IntoIter<T>,

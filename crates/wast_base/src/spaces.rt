@@ -5,7 +5,15 @@ ghost use Rattle.wast_base.specs.Spaces.{word_of, rank_of, same_space};
 
 use std::fmt;
 
-/// A space of items that an index can stand for (text format, indices). It is printed as its word.
+/// An index space: a kind of item that has its own numbering (text format: indices).
+///
+/// In `(module (func $a) (memory $a))` both items have index 0, because functions and memories are
+/// in different index spaces. `{}` prints [`Space::word`].
+///
+/// # Example
+///
+///     let space = Space::ALL[rank];
+///     assert!(rt; space.rank() == rank && space.word() == words[rank]);
 #[derive(Clone, Copy, Debug, PartialEq, Eq, Hash)]
 pub enum Space {
     /// Functions.
@@ -27,7 +35,7 @@ pub enum Space {
 }
 
 impl Space {
-    /// All eight, each at its rank (text format, indices).
+    /// All eight index spaces, each at the position that is its rank.
     pub const ALL: [Space; 8] = [
         Space::Func,
         Space::Table,
@@ -39,7 +47,7 @@ impl Space {
         Space::Ty,
     ];
 
-    /// The word for an item of the space, as faults have it: `func`, .., `type`. It takes no memory.
+    /// Returns the word for an item of the space in messages: `func`, .., `type`.
     pub fn word(self) -> &'static str
         ensures { result.now ≡ word_of self }
     {
@@ -55,7 +63,7 @@ impl Space {
         }
     }
 
-    /// The number of the space, below 8: its place in [`Space::ALL`]. It takes no memory.
+    /// Returns the number of the space, from 0 to 7: its position in [`Space::ALL`].
     pub fn rank(self) -> usize
         ensures { result ≡ rank_of self }
     {
@@ -71,7 +79,7 @@ impl Space {
         }
     }
 
-    /// Whether it is this space.
+    /// Returns whether the two index spaces are the same.
     pub fn is(self, other: Space) -> bool
         ensures { result ≡ same_space self other }
     {

@@ -1,4 +1,4 @@
-//! Printed texts, and calls whose answers come from outside.
+//! Tests of messages, equality, printing, the id counter, lists, boxes and positions.
 
 ghost use Rattle.std.specs.Prelude.{IsTrue};
 ghost use Rattle.wast_base.specs.Faults.{is_placed};
@@ -17,7 +17,7 @@ fn fault_at(offset: usize, fault: Fault<'static>) -> Error<'static>
 }
 
 #[test]
-fn faults_have_their_texts(rt: HostRuntime) {
+fn errors_with_a_position_have_their_messages(rt: HostRuntime) {
     let placed = [
         (
             fault_at(1, Fault::ImportAfter("memory")),
@@ -66,7 +66,7 @@ fn faults_have_their_texts(rt: HostRuntime) {
 }
 
 #[test]
-fn faults_are_printed_without_places(rt: HostRuntime) {
+fn messages_have_no_position(rt: HostRuntime) {
     let faults = [
         (
             Fault::Unknown("func", "g"),
@@ -88,7 +88,7 @@ fn faults_are_printed_without_places(rt: HostRuntime) {
 }
 
 #[test]
-fn refusals_have_their_texts(rt: HostRuntime) {
+fn errors_without_a_position_have_their_messages(rt: HostRuntime) {
     let refused = [
         (10, Error::refusal(Fault::TooLarge), "too large"),
         (
@@ -114,7 +114,7 @@ fn refusals_have_their_texts(rt: HostRuntime) {
 }
 
 #[test]
-fn forms_have_their_texts(rt: HostRuntime) {
+fn unsupported_forms_have_their_messages(rt: HostRuntime) {
     let forms = [
         (Form::StackSwitching, "stack switching"),
         (Form::Shared, "shared type"),
@@ -133,7 +133,7 @@ fn forms_have_their_texts(rt: HostRuntime) {
 }
 
 #[test]
-fn places_tell_errors_apart(rt: HostRuntime) {
+fn errors_at_different_positions_differ(rt: HostRuntime) {
     let error = fault_at(1, Fault::Labels);
     assert!(rt; at(1) == at(1) && at(1) != at(2));
     assert!(rt; error == fault_at(1, Fault::Labels));
@@ -149,7 +149,7 @@ fn hash_of<T: Hash>(value: &T) -> u64 {
 }
 
 #[test]
-fn ids_and_indices_ignore_places(rt: HostRuntime) {
+fn equality_of_ids_ignores_positions(rt: HostRuntime) {
     let mut gensym = Gensym::new(1);
     let made = gensym.generate(at(5)).expect(&rt, "counter");
     let next = gensym.generate(at(5)).expect(&rt, "counter");
@@ -197,7 +197,7 @@ fn ids_and_indices_ignore_places(rt: HostRuntime) {
 }
 
 #[test]
-fn numbers_ignore_places(rt: HostRuntime) {
+fn equality_of_numbers_ignores_positions(rt: HostRuntime) {
     let (number, other) = (Index::Num(3, at(8)), Index::Num(3, at(9)));
     assert!(rt; number == other && number.is_same(&other) && hash_of(&number) == hash_of(&other));
     assert!(rt; number.is_resolved() && number.span() == at(8));
@@ -205,7 +205,7 @@ fn numbers_ignore_places(rt: HostRuntime) {
 }
 
 #[test]
-fn ids_and_indices_are_printed(rt: HostRuntime) {
+fn ids_and_numbers_are_printed(rt: HostRuntime) {
     let alloc = rt.alloc();
     let made = Gensym::new(3).generate(at(5)).expect(&rt, "counter");
     let indices = [
@@ -226,7 +226,7 @@ fn ids_and_indices_are_printed(rt: HostRuntime) {
 }
 
 #[test]
-fn numbers_and_ids_become_indices(rt: HostRuntime) {
+fn numbers_and_ids_convert_to_indices(rt: HostRuntime) {
     assert!(rt; Span::default() == at(0));
     let number = Index::from(7);
     assert!(rt; number == Index::Num(7, at(3)) && number.span() == at(0));
@@ -235,7 +235,7 @@ fn numbers_and_ids_become_indices(rt: HostRuntime) {
 }
 
 #[test]
-fn generated_ids_are_counted(rt: HostRuntime) {
+fn counter_rises_by_one_and_never_overflows(rt: HostRuntime) {
     let too_large = Error::refusal(Fault::TooLarge);
     let mut gensym = Gensym::new(3);
     let mut slot = None;
@@ -261,7 +261,7 @@ fn generated_ids_are_counted(rt: HostRuntime) {
 }
 
 #[test]
-fn lists_and_boxes_hold_their_values(rt: HostRuntime) {
+fn lists_and_boxes_return_stored_values(rt: HostRuntime) {
     let alloc = rt.alloc();
     let mut list = Seq::new(alloc);
     assert!(rt; list.is_empty() && list.len() == 0);
@@ -289,7 +289,7 @@ fn lists_and_boxes_hold_their_values(rt: HostRuntime) {
 }
 
 #[test]
-fn lists_and_boxes_are_printed_as_what_they_hold(rt: HostRuntime) {
+fn lists_and_boxes_print_their_contents(rt: HostRuntime) {
     let alloc = rt.alloc();
     let mut list = Seq::new(alloc);
     for item in [1, 20] {
@@ -309,7 +309,7 @@ fn lists_and_boxes_are_printed_as_what_they_hold(rt: HostRuntime) {
 }
 
 #[test]
-fn places_have_lines_and_columns(rt: HostRuntime) {
+fn lines_and_columns_count_from_one(rt: HostRuntime) {
     let text = "(module\n  ;; é\n\n)";
     let places = [
         (0, 1, 1),
@@ -330,7 +330,7 @@ fn places_have_lines_and_columns(rt: HostRuntime) {
 }
 
 #[test]
-fn spaces_have_words_and_ranks(rt: HostRuntime) {
+fn index_spaces_have_words_and_ranks(rt: HostRuntime) {
     let words = [
         "func", "table", "memory", "global", "tag", "elem", "data", "type",
     ];

@@ -1,4 +1,4 @@
--- The worked modules with exports, elements and data in place, computed.
+-- Proves the example modules with inline forms by computing them.
 use Rattle.std.proofs.Common.{refl}
 use Rattle.wasm_ops.specs.Leb128.{unsigned, unsigned_in, signed, signed_in}
 use Rattle.wast_core.specs.WorkedAbbreviations.{Row4, Row5, Row6, Row44}

@@ -1,4 +1,4 @@
--- The worked modules that are resolved and encoded a second time, computed.
+-- Proves the example modules that are resolved and encoded a second time, by computing them.
 use Rattle.std.proofs.Common.{None, refl, sym, subst, arith}
 use Rattle.wasm_out.specs.Reads.{Reads}
 use Rattle.wast_core.specs.Bounded.{IsBounded}
@@ -10,7 +10,7 @@ use Rattle.wast_tree_nodes.specs.WorkedModules.{Address}
 pub resolved_again : ResolvedAgain
 resolved_again a b c d e f names known = record { kind = (refl, refl, known); counter = refl }
 
--- It is as bounded as row 27: it has the same counts and the same bytes.
+-- The module is as bounded as row 27: it has the same counts and the same bytes.
 bounded_again : (a b c : Address) → IsBounded 5 None (numbered27 a b c)
 bounded_again a b c =
     let first = (worked.row27 a b c a a a).3 in

@@ -1,4 +1,4 @@
--- A module that is resolved is at rest.
+-- A resolved module does not change when it is resolved again.
 use Rattle.std.proofs.Common.{◌≡◌, ℕ, ◌+◌, ◌<◌, Bool, true, List, [], ◌∷◌, ◌++◌, map, append-nil, Option, Some, None, Result, Ok, Err, is_some, refl, sym, ap, ◌∙◌, subst, inl, inr, arith}
 use Rattle.std.specs.Bool.{⊤}
 use Rattle.std.specs.List.{list_all}
@@ -37,7 +37,7 @@ use Rattle.wast_core.specs.Meaning.{parts, meaning}
 use Rattle.wast_core.specs.Uncovered.{head_of, uncovered_forms, IsCovered}
 use Rattle.wast_core.proofs.Swapped.{parts_swapped}
 
--- An index that denotes something becomes a number.
+-- An index that names something becomes a number.
 record AreNumbers (is : List Index) : Type 0 where
   ks : List (ℕ × Span)
   are : is ≡ numbers ks
@@ -73,7 +73,7 @@ starts_last are_met before by_position means n name fields is above met denote =
           ∙ (sym (parts_swapped name js own types) ∙ (ap (parts name) (sym split.3) ∙ means n name (fields ++ start_fields_of is) above met_too))),
     )
 
--- Numbers are settled, denote themselves and stay.
+-- Numbers are settled, refer to themselves and do not change.
 numbers_settled : (xs : List ModuleField) (ks : List (ℕ × Span)) → list_all (is_settled_index ((id_context (items xs)).number space.Func)) (numbers ks) ≡ true
 numbers_settled xs [] = refl
 numbers_settled xs (k ∷ ks) = numbers_settled xs ks
@@ -92,7 +92,7 @@ numbers_last below last n name fields ks above met =
     let h = last n name fields (numbers ks) (omega (arith, same, above)) met (numbers_denote n fields ks) in
     (h.0, ap (λ is. meaning name (resolved_fields_from n fields ++ start_fields_of is)) (sym (numbers_stay n fields ks)) ∙ h.1)
 
--- An error of a list whose demands are met has no place.
+-- If the checks of a list pass, its error has no position.
 withheld_by : (many : Type 0) (f : Fault) (s : Option Span) → Answers ⊤ many (told_at (cause_of f) s) None → IsWithheld many (record { span = s; fault = f })
 withheld_by many fault.Memory None h = inl refl
 withheld_by many fault.TooLarge None h = inr (refl, h)
@@ -124,7 +124,7 @@ module _ (resting : RestsMet) (still : RestsStill) (n m : ℕ) (fields : List Mo
   names_stay : ItemsStay → id_context (items (explicit_fields_from m list)) ≡ id_context (items (explicit_fields_from n fields))
   names_stay its = ap id_context (sym (its m list) ∙ (ap items list_stays ∙ its n fields))
 
-  -- so resolving gives the same names and fields,
+  -- So resolving returns the same names and fields.
   resolves_list : ItemsStay → (names : KnownNames) → known_to names ≡ id_context (items (explicit_fields_from n fields)) → (result : Result KnownNames Error) (second : ModuleKind)
       → ResolvesKind m (kind.Text list) result second → (last : ℕ) → (second ≡ kind.Text list → last ≡ m) → ResolvesAgain names (kind.Text list) m result second last
   resolves_list its names know (Ok again) second h last counts =
@@ -132,7 +132,7 @@ module _ (resting : RestsMet) (still : RestsStill) (n m : ℕ) (fields : List Mo
       (h.2 ∙ (names_stay its ∙ sym know), is, counts is)
   resolves_list its names know (Err e) second h last counts = (unresolved e h.0, h.1)
 
-  -- and encoding the same bytes.
+  -- And encoding returns the same bytes.
   means_the_same : MeansWhatIsWritten → RestsByPosition → (name : Option (List ℕ)) → meaning name list ≡ meaning name fields
   means_the_same means by_position name = subst (λ xs. meaning name xs ≡ parts name list) bare (ap (parts name) (by_position n fields [] ∙ bare)) ∙ means n name fields above met
 

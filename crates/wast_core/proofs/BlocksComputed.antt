@@ -1,4 +1,4 @@
--- The worked modules with blocks and labels, computed.
+-- Proves the example modules with blocks and labels by computing them.
 use Rattle.std.proofs.Common.{refl}
 use Rattle.wasm_ops.specs.Leb128.{unsigned, unsigned_in, signed, signed_in}
 use Rattle.wast_core.specs.WorkedBlocks.{Row28, Row55, Row56}

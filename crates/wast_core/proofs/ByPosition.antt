@@ -1,5 +1,5 @@
--- The parts of a module tell nothing of generated ids, and of the places of type uses: so the list with the ids that a
--- counter gives has the parts of the list by positions.
+-- The parts of a module do not depend on generated ids or on positions of type uses. So fields resolved with a counter
+-- have the parts of fields numbered by position.
 use Rattle.std.proofs.Common.{◌≡◌, ℕ, ◌<◌, ◌^◌, ◌||◌, List, [], ◌∷◌, ◌++◌, length, Option, refl, sym, ap, ◌∙◌, subst}
 use Rattle.std.specs.Prelude.{All, codes, if◌then◌else◌}
 use Rattle.std.specs.List.{flat_map}
@@ -55,7 +55,7 @@ module _ (name : Option (List ℕ)) where
   slot_same xs slot.DataCount = same_slot stripping stripping_tells name xs slot.DataCount refl
   slot_same xs slot.Hints = same_slot stripping stripping_tells name xs slot.Hints refl
 
-  -- two lists that differ in nothing else
+  -- Two lists that differ in nothing else.
   module _ (xs ys : List ModuleField) (alike : all_mapped stripping xs ≡ all_mapped stripping ys) where
     slots_same : in_slot name xs ≡ in_slot name ys
     slots_same = fun_ext (λ (s : Slot). sym (slot_same xs s) ∙ (ap (λ zs. in_slot name zs s) alike ∙ slot_same ys s))
@@ -85,7 +85,7 @@ module _ (name : Option (List ℕ)) where
     pub writable_same : IsWritable name xs → IsWritable name ys
     writable_same w = record { in_range = range_same w.in_range; length = subst (λ (ps : List Part). length (header ++ flat_map part ps) < 2 ^ 64) parts_same w.length }
 
--- Where each demand is met, the ids that a counter gives tell nothing.
+-- If each check passes, the ids of a counter do not matter.
 pub means_what_is_written : SamePositions → MeansWhatIsWritten
 means_what_is_written positions n name fields above met = parts_same name (resolved_fields_from n fields) (resolved_fields (by_positions fields)) (positions n fields above met)
 

@@ -1,4 +1,4 @@
--- A module that is counted and refused is not writable.
+-- A module that counting finds too large is not writable.
 use Rattle.std.proofs.Common.{◌≡◌, ◌+◌, ◌<◌, ◌^◌, ℕ, List, length, Result, Ok, Err, IfErr, inl, inr, arith}
 use Rattle.wasm_ops.specs.SinkLaws.{count_with}
 use Rattle.wasm_ops.specs.Sinks.{SinkRules, Writes}
@@ -8,7 +8,7 @@ use Rattle.wast_core.specs.Bounded.{IsWritable, InRangeModule, bytes_of}
 use Rattle.wast_core.specs.Tree.{ModuleField}
 use Rattle.std.specs.Prelude.{Option}
 
--- the rules of `Length`
+-- The rules of the sink `Length`.
 abbrev pub count_rules : SinkRules ℕ
 count_rules = record {
   appended = λ a b x. b ≡ a + length x;

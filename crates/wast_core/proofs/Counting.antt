@@ -1,4 +1,4 @@
--- Which fields need a data count, and that no change of indices, type uses and ids changes it.
+-- Which fields need a data count. No change of indices, type uses and ids changes that.
 use Rattle.std.proofs.Common.{◌≡◌, ℕ, Bool, true, false, not, ◌||◌, List, [], ◌∷◌, ◌++◌, length, Result, Ok, refl, sym, ap, ◌∙◌, subst, arith}
 use Rattle.std.specs.Prelude.{All}
 use Rattle.std.specs.List.{flat_map, list_any}
@@ -27,12 +27,12 @@ use Rattle.wast_tree_nodes.specs.Instrs.{needs_data_count}
 use Rattle.wast_core.specs.DataCounts.{instrs_of, body_instrs, body_needs_count, needs_count, may_be_counted, count_parts}
 use Rattle.wast_core.specs.Meaning.{entries, data_counts}
 
--- a test over what the items of a list give
+-- A test on what the items of a list have.
 any_in_flat : {A B : Type 0} (t : B → Bool) (g : A → List B) (xs : List A) → list_any (λ x. list_any t (g x)) xs ≡ list_any t (flat_map g xs)
 any_in_flat t g [] = refl
 any_in_flat t g (x ∷ xs) = ap (λ b. list_any t (g x) || b) (any_in_flat t g xs) ∙ sym (list_any-append t (g x) (flat_map g xs))
 
--- An instruction needs it whatever the indices in it become,
+-- Whether an instruction needs a data count does not depend on its indices.
 need_stays : (f : Change) (h : BodyContext) (i : Instruction) → needs_data_count (mapped_instr f h i) ≡ needs_data_count i
 need_stays f h i = grind (arith, common_steps)
 
@@ -40,7 +40,7 @@ needs_stay : (f : Change) (h : BodyContext) (is : List Instruction) → list_any
 needs_stay f h [] = refl
 needs_stay f h (i ∷ is) = λ t. need_stays f h i t || needs_stay f (context_after h i) is t
 
--- and so does a body,
+-- The same for a body.
 body_need : (f : Change) (u : TypeUse FunctionType) (k : FuncKind) → list_any needs_data_count (instrs_of (mapped_func_kind f u k)) ≡ list_any needs_data_count (instrs_of k)
 body_need f u (func.Import import exact) = refl
 body_need f u (func.Inline locals e) = needs_stay f (body_here u (param_marks u.inline ++ local_marks locals)) e.instrs
@@ -49,12 +49,12 @@ field_need : (f : Change) (x : ModuleField) → body_needs_count (mapped_field f
 field_need f (field.Func x) = body_need f x.ty x.kind
 field_need f x = refl
 
--- and so do fields.
+-- The same for fields.
 pub same_need : (f : Change) (xs : List ModuleField) → needs_count (all_mapped f xs) ≡ needs_count xs
 same_need f [] = refl
 same_need f (x ∷ xs) = λ i. field_need f x i || same_need f xs i
 
--- No other field than a function has a body, so none but those in its reach needs it.
+-- Only functions have bodies, so only fields in their range need a data count.
 no_body_elsewhere : (x : ModuleField) → is_of kind.Func x ≡ false → body_instrs x ≡ []
 no_body_elsewhere (field.Func f) h = cc
 no_body_elsewhere x h = refl
@@ -63,27 +63,27 @@ pub functions_need : (fields : List ModuleField) (r : FieldRange) → is_reach (
 functions_need fields r h =
     any_in_flat needs_data_count body_instrs (fields_in r fields) ∙ (ap (list_any needs_data_count) (all_there body_instrs (is_of kind.Func) fields r no_body_elsewhere h) ∙ sym (any_in_flat needs_data_count body_instrs fields))
 
--- where no index of a data segment is asked for, none needs it
+-- Without an index of a data segment, none needs one.
 pub none_needs : (fields : List ModuleField) (asked : Bool) → asked ≡ false → may_be_counted fields asked ≡ true → needs_count fields ≡ false
 none_needs fields asked none may = not-true (needs_count fields) (subst (λ b. may_be_counted fields b ≡ true) none may)
 
--- the number that is told is that of the segments of data
+-- The count is the number of data segments.
 counts_are : (fields : List ModuleField) (needed : Bool) (count : ℕ) → needed ≡ needs_count fields → count ≡ length (entries Data fields) → count_parts needed count ≡ data_counts fields
 counts_are fields needed count is same = λ i. count_parts (is i) (same i)
 
--- a data count is left out where it is not needed
+-- A data count is left out if it is not needed.
 pub count_absent : {S : Type 0} (rules : SinkRules S) (fields : List ModuleField) (a : S) → AppendLaws rules → false ≡ needs_count fields
     → Writes {A = Unit {0}} rules (All InRangePart (data_counts fields)) a a (flat_map part (data_counts fields)) (Ok tt)
 count_absent rules fields a laws is =
     subst (λ (ps : List Part). Writes {A = Unit {0}} rules (All InRangePart ps) a a (flat_map part ps) (Ok tt)) (counts_are fields false (length (entries Data fields)) is refl) (laws.none a, All-nil InRangePart)
 
--- one that is needed is out of range where the segments are too many
+-- A needed data count is out of range if there are too many segments.
 pub count_in_range : (fields : List ModuleField) → true ≡ needs_count fields → All InRangePart (data_counts fields) → InRangeU32 (length (entries Data fields))
 count_in_range fields is h =
     let n = length (entries Data fields) in
     (All-head InRangePart (record { kind = DataCount; items = n }) [] (subst (λ (ps : List Part). All InRangePart ps) (sym (counts_are fields true n is refl)) h)).1
 
--- and is written as a section of one number
+-- A needed data count is written as a section with one number.
 pub count_written : {S A : Type 0} (rules : SinkRules S) (fields : List ModuleField) (count : ℕ) (a b : S) (r : Result A Refusal) → true ≡ needs_count fields → count ≡ length (entries Data fields)
     → Writes rules (Unit {0} × (InRangeU32 (length (unsigned count)) × InRangeU32 count)) a b (section 12 (unsigned count)) r
     → Writes rules (All InRangePart (data_counts fields)) a b (flat_map part (data_counts fields)) r

@@ -1,4 +1,4 @@
--- The worked modules with and without a data count, computed.
+-- Proves the example modules with and without a data count section by computing them.
 use Rattle.std.proofs.Common.{refl}
 use Rattle.wasm_ops.specs.Leb128.{unsigned, unsigned_in}
 use Rattle.wast_core.specs.WorkedCounts.{CountedData, CountedNone, UncountedData}

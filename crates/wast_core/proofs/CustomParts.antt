@@ -1,4 +1,4 @@
--- Custom sections of a place, told section by section, and as parts beside what stands in them.
+-- The custom sections at a position, as sections and as parts of a module.
 use Rattle.std.proofs.Common.{◌≡◌, List, map, Result, refl, sym}
 use Rattle.std.specs.Prelude.{All}
 use Rattle.std.specs.List.{flat_map}
@@ -12,7 +12,7 @@ use Rattle.wast_core.specs.Meaning.{custom_section}
 use Rattle.wast_core.specs.Tree.{Custom}
 use Rattle.wast_core_name_section.proofs.Each.{each_like}
 
--- A section is in range where its part is, and what stands in it.
+-- A section is in range if its part and its content are.
 in_range_apart : (cs : List Custom) → All InRangeCustom cs → All InRangePart (map custom_part cs) × All (λ x. (custom_bytes x).in_range) cs
 in_range_apart cs h = (
   all_map InRangePart custom_part cs (each_part cs h),
@@ -28,7 +28,7 @@ in_range_joined cs h = all_both (λ c. InRangePart (custom_part c)) (λ x. (cust
 sections_are_parts : (cs : List Custom) → flat_map custom_section cs ≡ flat_map part (map custom_part cs)
 sections_are_parts cs = sym (each_like custom_part part custom_section (λ c. refl) cs)
 
--- So sections that are written are parts that are written.
+-- So written sections are written parts.
 pub parts_written : {S A : Type 0} (rules : SinkRules S) (cs : List Custom) (a b : S) (r : Result A Refusal)
     → Writes rules (All InRangeCustom cs) a b (flat_map custom_section cs) r → Writes rules (All InRangePart (map custom_part cs) × All (λ x. (custom_bytes x).in_range) cs) a b (flat_map part (map custom_part cs)) r
 parts_written rules cs a b r p =

@@ -1,4 +1,4 @@
--- The worked modules with custom sections, computed, and the place of a custom section among those of a module.
+-- Proves the example modules with custom sections by computing them, and that a custom section has one position.
 use Rattle.std.proofs.Common.{◌≡◌, [], ◌∷◌, refl}
 use Rattle.std.specs.List.{filter}
 use Rattle.wasm_ops.specs.Leb128.{unsigned, unsigned_in}

@@ -1,4 +1,5 @@
--- An instruction that needs a data count asks for an index of a data segment, so a module that asks for none has no data count.
+-- An instruction that needs a data count has an index of a data segment. So a module without such an index has no data
+-- count section.
 use Rattle.std.proofs.Common.{◌≡◌, Bool, true, false, not, ◌||◌, List, [], ◌∷◌, ◌++◌, refl, ap, ◌∙◌}
 use Rattle.std.specs.List.{flat_map, list_any}
 use Rattle.std.proofs.Math.Bool.{or-true}
@@ -20,7 +21,7 @@ asks_data sites = list_any is_of_data (checks_of sites)
 both_ask : (xs ys : List Site) → asks_data (xs ++ ys) ≡ (asks_data xs || asks_data ys)
 both_ask xs ys = ap (list_any is_of_data) (asked_both xs ys) ∙ list_any-append is_of_data (checks_of xs) (checks_of ys)
 
--- where a need is met by some sites, it is by more
+-- If some sites pass a test, more sites do.
 join : (a b c d : Bool) → (a || not c) ≡ true → (b || not d) ≡ true → ((a || b) || not (c || d)) ≡ true
 join true b c d h k = refl
 join false true c d h k = refl

@@ -24,14 +24,14 @@ use Rattle.wast_core.specs.Uncovered.{head_of, uncovered_forms}
 use Rattle.wast_core.specs.Writing.{EncodesResolved}
 use Rattle.wast_core.proofs.ByPosition.{means_what_is_written, written_where_meant}
 
--- well formed fields whose demands are met are at rest once they are resolved
+-- Well-formed fields whose checks pass are already resolved after resolving.
 pub at_rest : FinishedStaysWellFormed → FinishedIsResolved → FinishedIsWrittenOut → (n : ℕ) (fields : List ModuleField)
     → greatest_generation fields < n → is_well_formed fields ≡ true → IsMet fields → is_at_rest (resolved_fields_from n fields) ≡ true
 at_rest stays resolved written n fields above h met =
     let new = resolved_fields_from n fields in
     fields_at_rest (id_context (items new)) new (stays n fields above h met) (resolved n fields above met) (written n fields)
 
--- encoding a resolved module answers as encoding the module that it was
+-- Encoding a resolved module returns what encoding the module before it was resolved returns.
 unwritten : SamePositions → (form : Option Form) (n : ℕ) (name : Option (List ℕ)) (fields : List ModuleField) (e : Error) → greatest_generation fields < n → IsMet fields → IsUnwritten form (IsWritable name (resolved_fields_from n fields)) e → IsUnwritten form (IsBounded n name fields) e
 unwritten positions (Some form) n name fields e above met h = h
 unwritten positions None n name fields e above met h = elim h [ inl memory ↦ inl memory | inr large ↦ inr (large.0, λ b. large.1 (written_where_meant positions n name fields above met b.writable)) ]

@@ -1,4 +1,4 @@
--- Resolved fields of a text module, encoded: told of the module.
+-- The result of encoding resolved fields, in terms of the module.
 use Rattle.std.proofs.Common.{◌≡◌, ℕ, List, [], Result, Ok, Err, Option, None, Some, subst}
 use Rattle.std.specs.Prelude.{IfOk, IfErr}
 use Rattle.std.specs.Global.{Vec}
@@ -21,7 +21,7 @@ unwritten : (form : Option Form) (small : Type 0) (e : Error) → form ≡ None 
 unwritten None small e covered h = h
 unwritten (Some form) small e covered h = absurd cc
 
--- the bytes of covered fields, or why there are none
+-- The bytes of supported fields, or why there are none.
 pub fields_encoded : (name : Option (List ℕ)) (fields : List ModuleField) (result : Result (Vec ℕ) Error) → head_of (uncovered_forms fields) ≡ None
     → IfOk result (λ v. Reads v.items (parts name fields)) → IfErr result (IsRefused (IsWritable name fields)) → EncodesFields name fields result
 fields_encoded name fields (Ok v) covered bytes refusal = (covered, bytes)
@@ -32,7 +32,7 @@ not_written : {S : Type 0} (form : Option Form) (rules : SinkRules S) (a b : S) 
 not_written None rules a b name fields r e covered is p = told_as rules (InRangeModule name fields) a b (bytes_of name fields) r e p is
 not_written (Some form) rules a b name fields r e covered is p = absurd cc
 
--- covered fields were put into a sink, or refused
+-- Supported fields were written to a sink, or writing failed.
 pub fields_put : {S : Type 0} (rules : SinkRules S) (a b : S) (seen name : Option (List ℕ)) (held fields : List ModuleField) → seen ≡ name → held ≡ fields → head_of (uncovered_forms fields) ≡ None
     → Writes {A = Unit {0}} rules (InRangeModule seen held) a b (bytes_of seen held) (Ok tt) → PutsModule rules name (kind.Text fields) a b (Ok tt)
 fields_put rules a b seen name held fields is same covered p =

@@ -1,4 +1,4 @@
--- The worked modules with entries of all sections, computed.
+-- Proves the example modules with entries of all sections by computing them.
 use Rattle.std.proofs.Common.{refl}
 use Rattle.wasm_ops.specs.Leb128.{unsigned, unsigned_in, signed, signed_in}
 use Rattle.wast_base.specs.Blocks.{stays_open}

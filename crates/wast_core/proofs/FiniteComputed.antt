@@ -1,4 +1,4 @@
--- The worked module whose generated name is sent to a written one, computed.
+-- Proves the example module whose generated id is renamed to a source id, by computing it.
 use Rattle.std.proofs.Common.{refl}
 use Rattle.wasm_ops.specs.Leb128.{unsigned, unsigned_in}
 use Rattle.wast_resolve_laws.proofs.Extending.{extended_is_injective}

@@ -1,4 +1,4 @@
--- A finite map of names without two that become one gives a renaming.
+-- A finite map of names that is injective is a renaming.
 use Rattle.std.proofs.Common.{◌≡◌, ℕ, Bool, true, false, cond, not, ◌&&◌, ◌||◌, List, [], ◌∷◌, Option, Some, None, refl, sym, ap, ◌∙◌}
 use Rattle.std.specs.List.{list_any}
 use Rattle.std.specs.Cmp.{first_so, second_so}
@@ -7,7 +7,7 @@ use Rattle.wast_base.proofs.Names.{same_name_equal, same_name_itself}
 use Rattle.wast_resolve_laws.specs.Extended.{FiniteNaming, renamed_name, IsInjective, extended, ExtendedIsInjective}
 use Rattle.wast_core.specs.FiniteNames.{is_injective, held_at, RenamesFinitely}
 
--- A name that the map gives is among those that its entries give.
+-- A name that the map returns is among the names in its entries.
 given_there : (m : FiniteNaming) (a c : Name) → renamed_name m a ≡ Some c → list_any (λ d. same_name c d.1) m ≡ true
 given_there [] a c h = absurd (cc h)
 given_there (e ∷ m) a c h = by (same_name a e.0) (renamed_name m a) (given_there m a c) h
@@ -22,7 +22,7 @@ given_there (e ∷ m) a c h = by (same_name a e.0) (renamed_name m a) (given_the
         ap (λ (b : Bool). b || list_any (λ d. same_name c d.1) m) (ap (same_name c) is ∙ same_name_itself c)
     by false o k g = rest (same_name c e.1) o k g
 
--- So two entries of an injective map give two names.
+-- So two entries of an injective map have two names.
 pub injective_so : (m : FiniteNaming) → is_injective m ≡ true → IsInjective m
 injective_so [] h a b c k l = absurd (cc k)
 injective_so (e ∷ m) h a b c k l =
@@ -40,7 +40,7 @@ injective_so (e ∷ m) h a b c k l =
     by alone others false true f g k l = absurd (clash alone (given_there m a e.1 (k ∙ sym l)))
     by alone others false false f g k l = others a b c k l
 
--- An id holds the name that it is given.
+-- An id has the name that it is given.
 named_so : (at : ℕ × ℕ) (q : Name) → named_by (held_at at q) ≡ q
 named_so at (Written text) = refl
 named_so at (Generated n) = refl

@@ -1,4 +1,4 @@
--- The parts before the names stay where each index reads the same number, and each type use the same type.
+-- The parts before the name section do not change, if each index has the same number and each type use the same type.
 use Rattle.std.proofs.Common.{◌≡◌, ℕ, Bool, true, false, ◌==◌, not, List, [], ◌∷◌, ◌++◌, map, length, Option, Some, None, refl, ap, ◌∙◌}
 use Rattle.std.specs.Prelude.{if◌then◌else◌}
 use Rattle.std.specs.Borrow.{Bor}
@@ -30,7 +30,7 @@ use Rattle.wast_core.specs.Meaning.{Contribution, start_part, starts_in, of_kind
 use Rattle.wast_core.proofs.Counting.{same_need}
 use Rattle.wast_core.proofs.Told.{contributed_told, body_told}
 
--- What is imported stays, but for its ids and types; an item of a group has its name there.
+-- An import does not change, except for its ids and types. An item of a group has its name there.
 module _ (f : Change) where
   pub same_space_of : (k : ItemKind) → space_of_kind (mapped_item_kind f k) ≡ space_of_kind k
   same_space_of (kind.Func u) = refl
@@ -58,7 +58,7 @@ module _ (f : Change) (tells : KeepsNumbers f) where
   same_entries : (kind : SectionKind) (xs : List ModuleField) → entries kind (all_mapped f xs) ≡ entries kind xs
   same_entries kind xs = each_like (mapped_field f) (entries_in kind) (entries_in kind) (λ x. ap (of_kind kind) (contributed_told f tells x)) xs
 
-  -- A custom section stays as it is.
+  -- A custom section does not change.
   pub same_customs : (place : CustomPlace) (xs : List ModuleField) → customs_at place (all_mapped f xs) ≡ customs_at place xs
   same_customs place xs = each_like (mapped_field f) (customs_in place) (customs_in place) each xs
     where
@@ -66,7 +66,7 @@ module _ (f : Change) (tells : KeepsNumbers f) where
       each (field.Ty t) = refl
       each x = refl
 
-  -- A function has the body and the hints that it had, and an import the functions.
+  -- A function has the same body and hints, and an import the same functions.
   same_hints : (u : TypeUse FunctionType) (k : FuncKind) → if_hinted (mapped_func_kind f u k) ≡ if_hinted k
   same_hints u (func.Import import exact) = refl
   same_hints u (func.Inline locals e) = ap (λ (b : Body). if not (length e.branch_hints == 0) then Some (record { body = b; hints = e.branch_hints }) else None) (body_told f tells u (func.Inline locals e))
@@ -84,7 +84,7 @@ module _ (f : Change) (tells : KeepsNumbers f) where
   pub same_hinted : (xs : List ModuleField) → hinted_functions (all_mapped f xs) ≡ hinted_functions xs
   same_hinted xs = ap (named_from 0) (each_like (mapped_field f) functions_in functions_in same_functions xs)
 
-  -- each place but that of the names
+  -- Each position but that of the name section.
   pub same_slot : (name : Option (List ℕ)) (xs : List ModuleField) (s : Slot) → is_front s ≡ true → in_slot name (all_mapped f xs) s ≡ in_slot name xs s
   same_slot name xs (slot.Custom place) h = ap (map custom_part) (same_customs place xs)
   same_slot name xs (slot.Section kind) h = ap (section_part (section_kind kind)) (same_entries (section_kind kind) xs)

@@ -1,4 +1,4 @@
--- Modules and what they are with other names, as bytes, computed.
+-- Proves the renamed example modules by computing their bytes.
 use Rattle.std.proofs.Common.{refl}
 use Rattle.wasm_ops.specs.Leb128.{unsigned, unsigned_in, signed, signed_in}
 use Rattle.wast_core.specs.WorkedFronts.{Row27, Row9, Row48}

@@ -1,4 +1,4 @@
--- The names of a module are given unless a custom section is called name; then none are left.
+-- The name section is written unless a custom section is called `name`.
 use Rattle.std.proofs.Common.{◌≡◌, ◌==◌, ◌+◌, not, ℕ, true, false, List, [], ◌∷◌, Option, Result, Ok, refl, sym, ap, subst}
 use Rattle.std.specs.Prelude.{All, if◌then◌else◌}
 use Rattle.std.specs.List.{flat_map}
@@ -24,21 +24,21 @@ given_unless name fields e = ap (λ b. if b then [] else name_subsections name f
 none_given : (name : Option (List ℕ)) (fields : List ModuleField) → has_own_names fields ≡ true → subsections_of name fields ≡ []
 none_given name fields e = ap (λ b. if b then [] else name_subsections name fields) e
 
--- where a custom section is called name, no names are written
+-- If a custom section is called `name`, no names are written.
 pub own_names_alone : {S : Type 0} (rules : SinkRules S) (a : S) (name : Option (List ℕ)) (fields : List ModuleField) → AppendLaws rules → has_own_names fields ≡ true
     → Writes {A = Unit {0}} rules (All InRangePart (names_part (subsections_of name fields)) × All (λ x. (name_subsection x).in_range) (subsections_of name fields)) a a (flat_map part (names_part (subsections_of name fields))) (Ok tt)
 own_names_alone rules a name fields laws own =
     subst (λ ss. Writes {A = Unit {0}} rules (All InRangePart (names_part ss) × All (λ x. (name_subsection x).in_range) ss) a a (flat_map part (names_part ss)) (Ok tt)) (sym (none_given name fields own))
     (laws.none a, (All-nil InRangePart, All-nil (λ x. (name_subsection x).in_range)))
 
--- else the names are written that are given
+-- Otherwise the names of the module are written.
 pub names_written : {S A : Type 0} (rules : SinkRules S) (a b : S) (name : Option (List ℕ)) (fields : List ModuleField) (r : Result A Refusal) → has_own_names fields ≡ false
     → Writes rules (All InRangePart (names_part (name_subsections name fields)) × All (λ x. (name_subsection x).in_range) (name_subsections name fields)) a b (flat_map part (names_part (name_subsections name fields))) r
     → Writes rules (All InRangePart (names_part (subsections_of name fields)) × All (λ x. (name_subsection x).in_range) (subsections_of name fields)) a b (flat_map part (names_part (subsections_of name fields))) r
 names_written rules a b name fields r none p =
     subst (λ ss. Writes rules (All InRangePart (names_part ss) × All (λ x. (name_subsection x).in_range) ss) a b (flat_map part (names_part ss)) r) (sym (given_unless name fields none)) p
 
--- where no field is a custom section, none is called name
+-- If no field is a custom section, none is called `name`.
 pub none_called : (fields : List ModuleField) → ((place : CustomPlace) → none_pass (is_of (kind.Custom place)) fields ≡ true) → has_own_names fields ≡ false
 none_called [] h = refl
 none_called (field.Custom c ∷ fields) h =

@@ -27,7 +27,7 @@ use Rattle.wast_core.specs.Tree.space
 use Rattle.wast_core.specs.Tree.field
 use Rattle.wast_core.specs.Hints.{has_hints, if_hinted, imported_func, functions_in, hinted_functions, as_function_hints, hinted_function, hints_part, InRangeHinted, InRangeHints}
 
--- No other field than a function and an import makes functions.
+-- Only functions and imports define functions.
 abbrev pub is_function_or_import : ModuleField → Bool
 is_function_or_import f = is_of kind.Func f || is_of kind.Import f
 
@@ -36,7 +36,7 @@ no_function_elsewhere (field.Func x) h = cc
 no_function_elsewhere (field.Import i) h = cc
 no_function_elsewhere f h = refl
 
--- An imported function has no hints, and an import of another kind makes none.
+-- An imported function has no hints, and an import of another kind defines no function.
 pub imported_unhinted : (n : ℕ) (sigs : List ItemSig) → named_from n (flat_map imported_func sigs) ≡ []
 imported_unhinted n [] = refl
 imported_unhinted n (s ∷ ss) = by_test (same_space space.Func (space_of_kind s.kind)) (imported_unhinted (n + 1) ss) (imported_unhinted n ss)
@@ -54,18 +54,18 @@ pub nothing_written : {S : Type 0} (rules : SinkRules S) (a : S) (n : ℕ) (i : 
     → rules.appended a a (flat_map hinted_function (named_from n (flat_map imported_func (item_sigs i)))) × All InRangeHinted (named_from n (flat_map imported_func (item_sigs i)))
 nothing_written rules a n i laws = rw (imported_unhinted n (item_sigs i)) (laws.none a, All-nil InRangeHinted)
 
--- A function stands there with its hints, or without any.
+-- A function occurs with its hints, or without any.
 pub hinted_if : (k : FuncKind) → has_hints k ≡ true → if_hinted k ≡ Some (as_hinted k)
 hinted_if k h = ap (λ b. if b then Some (as_hinted k) else None) h
 
 pub unhinted_if : (k : FuncKind) → has_hints k ≡ false → if_hinted k ≡ None
 unhinted_if k h = ap (λ b. if b then Some (as_hinted k) else None) h
 
--- The fields that are gone through have the functions of all fields.
+-- The fields that are walked have the functions of all fields.
 pub alike : (fields first : List ModuleField) → flat_map functions_in first ≡ flat_map functions_in fields → hinted_functions first ≡ hinted_functions fields
 alike fields first same = ap (named_from 0) same
 
--- So many functions with hints are among some fields, and with one field more.
+-- The number of functions with hints among some fields, and with one field more.
 pub hinted_more : (xs : List ModuleField) (k : ℕ) (x : ModuleField) → k < length xs → x ≡ get_or xs k x → length (hinted_functions (take (k + 1) xs)) ≡ length (hinted_functions (take k xs)) + length (named_from 0 (functions_in x))
 hinted_more xs k x lt item =
     let first = flat_map functions_in (take k xs) in
@@ -98,14 +98,14 @@ hints_are_these fs =
     ap (λ (n : ℕ). unsigned n ++ flat_map hinted_function fs) (sym (length-map fs as_function_hints))
     ∙ ap (λ (bs : List ℕ). unsigned (length (map as_function_hints fs)) ++ bs) (sym (flat_map-map (λ x. (function_hints x).bytes) as_function_hints fs))
 
--- as it is put together: the name, the number of functions, and each of them
+-- The section is the name, the number of functions, and each of them.
 abbrev pub held : ℕ → List (ℕ × HintedBody) → List ℕ
 held n fs = name hints_name ++ (unsigned n ++ flat_map hinted_function fs)
 
 abbrev pub InRangeHeld : ℕ → List (ℕ × HintedBody) → Type 0
 InRangeHeld n fs = InRangeName hints_name × (InRangeU32 n × All InRangeHinted fs)
 
--- the section is written, of so many functions
+-- The section is written with this number of functions.
 pub section_written : {S A : Type 0} (rules : SinkRules S) (fs : List (ℕ × HintedBody)) (a b : S) (n : ℕ) (r : Result A Refusal)
     → n ≡ length fs → (n ≡ 0 → ⊥)
     → Writes rules (Unit {0} × (InRangeU32 (length (held n fs)) × InRangeHeld n fs)) a b (section 0 (held n fs)) r
@@ -123,7 +123,7 @@ section_written rules (f ∷ fs) a b n r count some p =
     (ap (section 0) payload ∙ sym (flat_one part here))
     p
 
--- no function has hints, and nothing is written
+-- No function has hints, and nothing is written.
 pub section_absent : {S : Type 0} (rules : SinkRules S) (fs : List (ℕ × HintedBody)) (a : S) (n : ℕ) → AppendLaws rules → n ≡ length fs → n ≡ 0
     → Writes {A = Unit {0}} rules (All InRangePart (hints_part fs) × InRangeHints fs) a a (flat_map part (hints_part fs)) (Ok tt)
 section_absent rules [] a n laws count none = (laws.none a, (All-nil InRangePart, (omega arith, All-nil InRangeHinted)))

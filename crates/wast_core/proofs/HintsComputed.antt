@@ -1,4 +1,4 @@
--- The worked modules with branch hints, computed.
+-- Proves the example modules with branch hints by computing them.
 use Rattle.std.proofs.Common.{refl}
 use Rattle.wasm_ops.specs.Leb128.{unsigned, unsigned_in, signed, signed_in}
 use Rattle.wast_core.specs.WorkedHints.{Row11, Row54}

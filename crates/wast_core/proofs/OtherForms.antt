@@ -1,4 +1,4 @@
--- The uncovered forms are the same with other names, since no form is told by a name.
+-- Renaming keeps the unsupported constructs, because none depends on a name.
 use Rattle.std.proofs.Common.{◌≡◌, ◌<◌, ℕ, List, [], ◌∷◌, ◌++◌, map, Option, Some, None, option_map, refl, sym, ap, ◌∙◌}
 use Rattle.std.specs.List.{flat_map}
 use Rattle.std.specs.Prelude.{if◌then◌else◌}
@@ -31,18 +31,18 @@ use Rattle.wast_core.specs.Tree.space
 use Rattle.wast_core.specs.Headline.{IsMet}
 use Rattle.wast_core.specs.OtherForms.{SameForms, RenamedForms, WrittenForms}
 
--- the uncovered forms of what is asked
+-- The unsupported constructs among checks.
 abbrev forms : List Check → List Form
 forms asks = flat_map uncovered_in asks
 
--- A change of sites that keeps the forms of each keeps those of all.
+-- A change of sites that keeps the constructs of each site keeps those of all.
 sites_keep : (f : Site → Site) → ((s : Site) → forms (asked_in (f s)) ≡ forms (asked_in s)) → (ss : List Site) → forms (checks_of (map f ss)) ≡ forms (checks_of ss)
 sites_keep f same [] = refl
 sites_keep f same (s ∷ ss) =
     flat_map-append uncovered_in (asked_in (f s)) (checks_of (map f ss))
     ∙ ((λ i. same s i ++ sites_keep f same ss i) ∙ sym (flat_map-append uncovered_in (asked_in s) (checks_of ss)))
 
--- Generated ids and places of type uses tell no form.
+-- Generated ids and positions of type uses do not matter.
 use_stripped : (o : Option Index) (t : Option FunctionType)
     → forms (if_there (in_index space.Ty) (option_map at_start o) ++ if_there in_signature t) ≡ forms (if_there (in_index space.Ty) o ++ if_there in_signature t)
 use_stripped None t = refl
@@ -75,7 +75,7 @@ stripped_forms xs = ap (λ ss. forms (checks_of ss)) (stands stripping stripping
 forms_alike : (xs ys : List ModuleField) → all_mapped stripping xs ≡ all_mapped stripping ys → uncovered_forms xs ≡ uncovered_forms ys
 forms_alike xs ys alike = sym (stripped_forms xs) ∙ (ap uncovered_forms alike ∙ stripped_forms ys)
 
--- Nor do names.
+-- Names do not matter.
 module _ (r : Renaming) (is : IsRenaming r) where
   abbrev n : Naming
   n = r.name
@@ -114,13 +114,13 @@ module _ (r : Renaming) (is : IsRenaming r) where
   named_forms : (xs : List ModuleField) → uncovered_forms (renamed_fields r xs) ≡ uncovered_forms xs
   named_forms xs = ap (λ ss. forms (checks_of ss)) (stands_named n (renaming r) (names r is) xs) ∙ sites_keep (named_site n (renaming r)) site_named (in_module xs)
 
--- Where each demand was met, each is.
+-- If each check passed, each passes.
 met_so : (r : Renaming) (marks : List Mark) (a b : Option (Cause × Span)) → RenamesFault r.name marks a b → a ≡ None → b ≡ None
 met_so r marks None None f h = refl
 met_so r marks None (Some g) f h = absurd f
 met_so r marks (Some e) b f h = absurd (cc h)
 
--- The lists by positions decide the forms of the lists from counters.
+-- The fields numbered by position have the unsupported constructs of those resolved with a counter.
 by_position : SamePositions → (fields others : List ModuleField) → IsMet fields → IsMet others
     → uncovered_forms (resolved_fields (by_positions others)) ≡ uncovered_forms (resolved_fields (by_positions fields)) → SameForms fields others
 by_position positions fields others met still same m n above over =

@@ -1,5 +1,5 @@
--- Fields that are too large to be resolved are too large to be encoded: a memory with too many bytes in place would have a
--- data segment that is too long.
+-- Fields that are too large to resolve are too large to encode: a memory with too many bytes of inline data has a data
+-- segment that is too long.
 use Rattle.std.proofs.Common.{◌≡◌, ℕ, ◌^◌, Bool, true, false, not, ◌||◌, List, [], ◌∷◌, ◌++◌, map, length, Option, inl, inr, refl, sym, ap, ◌∙◌, arith}
 use Rattle.std.specs.Prelude.{All}
 use Rattle.std.specs.List.{list_any}
@@ -34,7 +34,7 @@ use Rattle.wast_core.specs.Meaning.{entries_in, entries, section_part}
 use Rattle.wast_core.specs.Bounded.{InRangeModule}
 use Rattle.wast_core.specs.Laws.{TooLargeIsUnbounded}
 
--- a data segment of 2^32 bytes or more
+-- A data segment of 2^32 bytes or more.
 abbrev is_long : ModuleField → Bool
 is_long (field.Data d) = are_too_many d.bytes
 is_long x = false
@@ -42,7 +42,7 @@ is_long x = false
 abbrev any_long : List ModuleField → Bool
 any_long xs = list_any is_long xs
 
--- It stands among what is written out,
+-- It is among the desugared fields.
 first_true : (a b : Bool) → a ≡ true → (a || b) ≡ true
 first_true a b h = ap (λ c. c || b) h
 
@@ -72,7 +72,7 @@ after_long before (x ∷ xs) h =
     let rest = written_after (before ++ items_in x) xs in
     list_any-append is_long here rest ∙ either_true (has_oversized_data x) (list_any has_oversized_data xs) (any_long here) (any_long rest) (field_long before x) (after_long (before ++ items_in x) xs) h
 
--- and stays where type uses are bound and indices are numbered.
+-- It does not change when type uses and indices are resolved.
 each_long : (f : ModuleField → ModuleField) → ((x : ModuleField) → is_long (f x) ≡ is_long x) → (xs : List ModuleField) → any_long (map f xs) ≡ any_long xs
 each_long f same [] = refl
 each_long f same (x ∷ xs) = ap (λ b. b || any_long (map f xs)) (same x) ∙ ap (λ b. is_long x || b) (each_long f same xs)
@@ -92,7 +92,7 @@ stays_long fields h =
     ∙ (each_long (mapped_field bind) (mapped_long bind) (fields_with_implied_types xs)
     ∙ (list_any-append is_long xs types ∙ first_true (any_long xs) (any_long types) (after_long [] fields h)))
 
--- But where all is in range, there is none.
+-- But if everything is in range, there is none.
 not_long : (x : ModuleField) → All (λ x. (data_entry x).in_range) (entries_in Data x) → is_long x ≡ false
 not_long (field.Data d) h = ap not (lt-ltb (length (all_bytes d.bytes)) (2 ^ 32) (All-head (λ x. (data_entry x).in_range) _ [] h).1)
 not_long x h = refl
@@ -106,7 +106,7 @@ all_in_range : (ds : List DataEntry) → All InRangePart (section_part Data ds) 
 all_in_range [] h = All-nil (λ x. (data_entry x).in_range)
 all_in_range (d ∷ ds) h = (All-head InRangePart _ [] h).1.1
 
--- the section stands in its place in the order
+-- The section has its position in the order.
 data_in_range : (name : Option (List ℕ)) (xs : List ModuleField) → InRangeModule name xs → All (λ x. (data_entry x).in_range) (entries Data xs)
 data_in_range name xs h = all_in_range (entries Data xs) (h 37 slot.Names (omega arith)).0
 

@@ -1,4 +1,4 @@
--- Branch hints point at their instructions: the bytes of a module, taken apart at an instruction.
+-- Branch hints point at their instructions: the bytes of a module, split at an instruction.
 use Rattle.std.proofs.Common.{◌≡◌, ℕ, zero, suc, ◌+◌, not, List, [], ◌∷◌, ◌++◌, length, take, drop, Option, Some, refl, sym, ap, ◌∙◌, subst, arith, append_assoc}
 use Rattle.std.specs.Prelude.{slice_get, Contains}
 use Rattle.std.specs.List.{flat_map}
@@ -26,7 +26,7 @@ use Rattle.wast_core.specs.declared.slots.Slot.{Slot}
 use Rattle.wast_core.specs.declared.slots.Slot.TheVariants as slot
 use Rattle.wast_core.proofs.Hinting.{hinted_if}
 
--- ---- the entry of the function
+-- ---- The entry of the function.
 
 has_some : (k : FuncKind) (h : BranchHint) → Contains (hints_of k) h → if_hinted k ≡ Some (as_hinted k)
 has_some k h c = let some = c.1 in hinted_if k (ap not (ne_eqb (length (hints_of k)) 0 (λ z. omega arith)))
@@ -43,7 +43,7 @@ told_by_index before behind f is =
     ∙ (named_append 0 first (Some (as_hinted f.kind) ∷ rest) ∙ ap (λ m. named_from 0 first ++ ((m, as_hinted f.kind) ∷ named_from (m + 1) rest)) start) in
     subst (λ es. Contains es here) (sym apart) (Contains-append_right (named_from 0 first) (here ∷ named_from (n + 1) rest) here (0, omega arith, refl))
 
--- ---- the body, at an instruction
+-- ---- The body, at an instruction.
 
 list_split : {A : Type 0} (f : A → List ℕ) (xs : List A) (n : ℕ) (x : A) → slice_get xs n ≡ Some x → flat_map f xs ≡ flat_map f (take n xs) ++ (f x ++ flat_map f (drop (suc n) xs))
 list_split f [] n x h = absurd (none-some x h)
@@ -58,7 +58,7 @@ content_split b n i h =
     ap (λ (z : List ℕ). locals b.locals ++ (z ++ 0x0b ∷ [])) (list_split (λ x. (instr x).bytes) b.instrs n i h)
     ∙ content_regrouped (locals b.locals) (flat_map (λ x. (instr x).bytes) (take n b.instrs)) (instr i).bytes (flat_map (λ x. (instr x).bytes) (drop (suc n) b.instrs)) (0x0b ∷ [])
 
--- ---- the code section, at a body
+-- ---- The code section, at a body.
 
 code_regrouped : (l n x s c y : List ℕ) → l ++ (n ++ (x ++ ((s ++ c) ++ y))) ≡ (l ++ (n ++ (x ++ s))) ++ (c ++ y)
 code_regrouped l n x s c y = simp append_assoc
@@ -74,9 +74,9 @@ one_section : (xs ys : List Body) (b : Body) → section_part Code (xs ++ b ∷ 
 one_section [] ys b = refl
 one_section (x ∷ xs) ys b = refl
 
--- ---- the module, at its code section
+-- ---- The module, at its code section.
 
--- the places behind the code section
+-- The positions after the code section.
 abbrev behind_code : List Slot
 behind_code = drop 35 order
 

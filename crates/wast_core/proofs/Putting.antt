@@ -1,4 +1,4 @@
--- Fields of other kinds put nothing into a section.
+-- Fields of other kinds have no entry in a section.
 use Rattle.std.proofs.Common.{◌≡◌, ◌==◌, ◌<◌, ◌+◌, ◌||◌, ℕ, Bool, true, false, List, [], ◌∷◌, length, refl, sym, ap, ◌∙◌, arith}
 use Rattle.wast_base.specs.Filling.{one_if}
 use Rattle.std.specs.Prelude.{if◌then◌else◌}
@@ -13,11 +13,11 @@ use Rattle.wast_core.specs.Putting.{can_contribute}
 use Rattle.wast_core.specs.Tree.{ModuleField}
 use Rattle.wast_core.specs.Tree.field
 
--- a custom section has the rank of no other kind
+-- A custom section has the rank of no other kind.
 apart : (n : ℕ) (c : Custom) → n < 12 → (n == 12 + place_rank (custom_place c)) ≡ false
 apart n c small = ne_eqb n (12 + place_rank (custom_place c)) (λ same. omega (arith, small, same))
 
--- a field has one entry in a section into which it puts something
+-- A field has one entry in a section of its kind.
 pub entries_told : (k : SectionKind) (f : ModuleField) → length (entries_in k f) ≡ one_if (can_contribute k f)
 entries_told Types (field.Ty t) = refl
 entries_told Types (field.Rec r) = refl
@@ -58,7 +58,7 @@ no_entry : {A : Type 0} (es : List A) → length es ≡ 0 → es ≡ []
 no_entry [] none = refl
 no_entry (e ∷ es) none = absurd (omega arith)
 
--- and none in the others
+-- It has none in the others.
 pub nothing_elsewhere : (k : SectionKind) (f : ModuleField) → can_contribute k f ≡ false → entries_in k f ≡ []
 nothing_elsewhere k f h = no_entry (entries_in k f) (entries_told k f ∙ ap one_if h)
 

@@ -49,7 +49,7 @@ use Rattle.wast_core_conv.proofs.SegmentsReady.{elem_covered, elem_rows, elem_ba
 use Rattle.wast_core_conv.proofs.Standing.{body_parts}
 use Rattle.wast_core_conv.proofs.TypesReady.{def_covered, locals_covered, types_covered}
 
--- ---- what an entry is read as
+-- ---- What an entry is read as.
 
 abbrev IsText : List ℕ → Type 0
 IsText text = IsTrue (is_utf8 text)
@@ -60,7 +60,7 @@ plain k e covered rows balanced name = all_one (IsReadable k) e record { covered
 nothing_more : (k : SectionKind) → All (IsReadable k) []
 nothing_more k = All-nil (IsReadable k)
 
--- a group is not covered
+-- An import group is an unsupported construct.
 group_fails : (ss : List Site) → are_entered (ss ++ check_sites (uncovered_check form.CompactImports)) ≡ true → ⊥
 group_fails ss e = let no = (both_lists is_entered_site ss (check_sites (uncovered_check form.CompactImports)) e).1 in cc
 
@@ -114,7 +114,7 @@ elem_read x e = plain Elements (meaning.as_element x) (elem_covered x e) (elem_r
 data_read : (x : tree.Data) → is_encodable_data x ≡ true → All (IsReadable Data) (meaning.as_data x ∷ [])
 data_read x e = plain Data (meaning.as_data x) (place_covered x.kind e) (place_rows x.kind e) (place_balanced x.kind e) (All-nil IsText)
 
--- ---- what a field puts into the sections is readable
+-- ---- What a field adds to the sections is readable.
 
 abbrev AreReadable : Contribution → Type 0
 AreReadable c = (k : SectionKind) → All (IsReadable k) (of_kind k c)

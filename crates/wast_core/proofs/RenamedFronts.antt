@@ -1,4 +1,4 @@
--- With other names the parts before the names are the same, and so are their bytes.
+-- Renaming keeps the parts before the name section, and their bytes.
 use Rattle.std.proofs.Common.{◌≡◌, ℕ, List, [], ◌∷◌, ◌++◌, map, Option, Some, None, option_map, refl, sym, ap, ◌∙◌}
 use Rattle.std.specs.Prelude.{unwrap_or}
 use Rattle.std.specs.List.{flat_map, filter}
@@ -52,7 +52,7 @@ module _ (r : Renaming) where
     block = λ u. block_told u.index u.inline;
   }
 
--- Other names tell nothing.
+-- Names do not matter.
 pub renamed_parts : RenamedPositions → RenamedParts
 renamed_parts positions r is fields = ap parts_before_names (positions r is fields) ∙ front_stays (renaming r) (renaming_tells r) (resolved_fields (by_positions fields))
 
@@ -64,7 +64,7 @@ written_means renamed written r is n fields above met =
     sym (front_stays stripping stripping_tells new) ∙ (ap parts_before_names (written n fields above met) ∙ front_stays stripping stripping_tells old) in
     (same, renamed_parts renamed r is (desugared_from n fields) ∙ same)
 
--- The names stand last.
+-- The name section is last.
 names_last : (name : Option (List ℕ)) (xs : List ModuleField) → parts name xs ≡ parts_before_names xs ++ in_slot name xs slot.Names
 names_last name xs =
     flat_map-append (in_slot name xs) (filter is_front order) (slot.Names ∷ [])

@@ -1,4 +1,4 @@
--- The worked modules that are resolved, computed.
+-- Proves the example modules that are resolved by computing them.
 use Rattle.std.proofs.Common.{◌≡◌, ℕ, List, Option, Some, None, cond, refl, ap, ◌∙◌, arith}
 use Rattle.std.specs.FinMap.{get-empty, get-insert, empty}
 use Rattle.std.specs.Ordering.{eq_by_cmp}
@@ -14,7 +14,7 @@ pub ready_modules : ReadyModules
 ready_modules a b c d e f =
     (record { well_formed = refl; above = omega arith }, record { well_formed = refl; above = omega arith }, record { well_formed = refl; above = omega arith }, refl, refl)
 
--- What a name denotes where one item has a name.
+-- What a name refers to if one item has a name.
 one_known : (name : List ℕ) (q : Name) → number_in (space_of_one name) q ≡ cond (eq_by_cmp key_cmp (key_of q) (key_of (Written name))) (Some 0) None
 one_known name q =
     get-insert keys_total empty (key_of (Written name)) 0 (key_of q)

@@ -1,4 +1,4 @@
--- A resolved list is bounded where the module was: to be numbered changes no count.
+-- Resolved fields are bounded if the module was, because numbering changes no count.
 use Rattle.std.proofs.Common.{◌≡◌, ℕ, ◌+◌, ◌<◌, ◌^◌, true, List, [], ◌∷◌, ◌++◌, map, length, append-nil, Option, Some, None, option_map, refl, sym, ap, ◌∙◌, subst, inl, inr, arith}
 use Rattle.std.specs.List.{flat_map, list_all}
 use Rattle.std.proofs.lemmas.List.{length-map}
@@ -44,7 +44,7 @@ module _ (c : Scope) where
   abbrev k : IdContext
   k = c.known
 
-  -- A function has as many parameters that its type use does not write.
+  -- A function has as many parameters that its type use does not list.
   params_still : (o : Option Shape) → params_of (option_map (numbered_shape k) o) ≡ params_of o
   params_still None = refl
   params_still (Some (Function s)) = length-map s.0 (mapped_val (numbered_at k))
@@ -59,7 +59,7 @@ module _ (c : Scope) where
       ap (λ o. params_of (type_at (rested c).types o)) (denoted_still (k.number space.Ty) i)
       ∙ (ap params_of (at_still c (denoted (k.number space.Ty) i)) ∙ params_still (type_at c.types (denoted (k.number space.Ty) i)))
 
-  -- It has as many that it writes, and as many locals.
+  -- It has as many that it lists, and as many locals.
   marks_still : (locals : List Local) → local_marks (map (mapped_local (numbering_change c)) locals) ≡ local_marks locals
   marks_still [] = refl
   marks_still (l ∷ ls) = λ t. (numbering_keeps c).owns l.id t ∷ marks_still ls t
@@ -72,7 +72,7 @@ module _ (c : Scope) where
   locals_still (field.Func f) = λ i. (unsaid_still f.ty.index f.ty.inline i + length ((numbering_keeps c).params f.ty i ++ kind_still f.ty f.kind i)) ∷ []
   locals_still x = refl
 
-  -- As many blocks are open wherever one begins.
+  -- As many blocks enclose each block.
   open_at : (s : Site) → open_counts_at (mapped_site (numbering_change c) s) ≡ open_counts_at s
   open_at (Begins blocks m) = refl
   open_at s = refl
@@ -93,7 +93,7 @@ resolved_bodies xs =
     ap (λ (d : Scope). flat_map (body_counts_in d) (resolved_fields xs)) (ap module_scope (sym (append-nil (resolved_fields xs))) ∙ scope_rests xs [])
     ∙ bodies_still (module_scope xs) xs
 
--- Numbering gives no type an id, and takes none.
+-- Numbering neither adds nor removes an id of a type.
 ids_kept : (c : Scope) (xs : List ModuleField) → missing_id_count lacks_id (all_mapped (numbering_change c) xs) ≡ missing_id_count lacks_id xs
 ids_kept c [] = refl
 ids_kept c (x ∷ xs) = λ t. one_if (kept x t) + ids_kept c xs t
@@ -102,7 +102,7 @@ ids_kept c (x ∷ xs) = λ t. one_if (kept x t) + ids_kept c xs t
     kept (field.Ty t) = refl
     kept x = refl
 
--- Nothing is left out of a resolved list.
+-- Nothing is removed from a resolved list.
 explicit_rests : (n : ℕ) (fields : List ModuleField) → explicit_fields (resolved_fields_from n fields) ≡ resolved_fields_from n fields
 explicit_rests n fields =
     let xs = explicit_fields_from n fields in
@@ -112,7 +112,7 @@ explicit_rests n fields =
     let say : list_all says (in_module (resolved_fields_from n fields)) ≡ true = still_says (module_scope xs) xs (expanded_says (n + reference_id_count fields) (desugared_from n fields)) in
     explicit_is (resolved_fields_from n fields) (finished_indexed n fields) ids say (finished_written_out n fields)
 
--- So it is as crowded as the fields.
+-- So it has as many items as the fields.
 crowded_before : SameCounts → SameBodyCounts → ItemsStay → (n : ℕ) (fields : List ModuleField) → greatest_generation fields < n → IsMet fields
     → IsCrowded (explicit_fields (resolved_fields_from n fields)) → IsCrowded (explicit_fields fields)
 crowded_before counts bodies stay n fields above met h = by (subst IsCrowded (explicit_rests n fields) h)

@@ -1,4 +1,4 @@
--- Worked modules with start fields put last, computed.
+-- Proves the example modules with added start fields by computing them.
 use Rattle.std.proofs.Common.{refl}
 use Rattle.wasm_ops.specs.Leb128.{unsigned, unsigned_in}
 use Rattle.wast_core.specs.WorkedStarts.{Row27, Row9, Row48}

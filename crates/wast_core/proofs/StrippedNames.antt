@@ -1,4 +1,4 @@
--- The name section tells nothing of generated ids, and of the places of type uses.
+-- The name section does not depend on generated ids, or on positions of type uses.
 use Rattle.std.proofs.Common.{◌≡◌, List, [], ◌∷◌, ◌++◌, map, Option, Some, None, option_map, refl, ap, arith}
 use Rattle.std.specs.Prelude.{cond}
 use Rattle.std.specs.List.{flat_map}
@@ -59,7 +59,7 @@ arity_stays xs None = refl
 arity_stays xs (Some (index.Num n span)) = same_arity (mapped_field stripping) arities_in xs n
 arity_stays xs (Some (index.Id id)) = refl
 
--- The names of what stands within items.
+-- The names inside items.
 names_inside : (u : TypeUse FunctionType) (k : FuncKind) → locals_in (mapped_func_kind stripping u k) ≡ locals_in k
 names_inside u (func.Import import exact) = refl
 names_inside u (func.Inline locals e) = each_alike (mapped_local stripping) local_name (λ l. refl) locals

@@ -1,4 +1,4 @@
--- No part of a module tells what is taken away: generated ids, and the places of the indices of type uses.
+-- No part of a module depends on generated ids, or on positions in type uses.
 use Rattle.std.proofs.Common.{◌≡◌, Option, Some, None, option_map, refl, ap}
 use Rattle.std.specs.Prelude.{unwrap_or}
 use Rattle.wast_tree_map.specs.Mapped.{mapped_def}
@@ -10,11 +10,11 @@ use Rattle.wast_core.specs.Tree.ty
 use Rattle.wast_core_conv.specs.Values.{index_value, use_as_block}
 use Rattle.wast_core.specs.Front.{KeepsNumbers}
 
--- Types stay, as no index in them changes.
+-- Types do not change, because no index in them does.
 pub def_stays : (t : ty.«Type») → mapped_def stripping.index t.def ≡ t.def
 def_stays t = ap (λ (s : ty.«Type»). s.def) (type_at t).still
 
--- A type use is read as a number; that of a block as an index, or as what its inline type gives.
+-- A type use is read as a number, and that of a block as an index or as its short inline type.
 use_told : (i : Option Index) → unwrap_or (option_map index_value (option_map at_start i)) 0 ≡ unwrap_or (option_map index_value i) 0
 use_told None = refl
 use_told (Some (index.Num n span)) = refl

@@ -1,4 +1,4 @@
--- Parts go by kind: start fields may stand before or behind types that are fields of their own.
+-- Parts are grouped by kind, so start fields may come before or after types that are fields of their own.
 use Rattle.std.proofs.Common.{◌≡◌, ℕ, Bool, true, false, ◌||◌, List, [], ◌∷◌, ◌++◌, map, length, append-nil, Option, refl, sym, ap, ◌∙◌}
 use Rattle.std.specs.Prelude.{if◌then◌else◌, codes}
 use Rattle.std.specs.List.{flat_map, list_any}
@@ -39,7 +39,7 @@ no_entries Elements i = refl
 no_entries Code i = refl
 no_entries Data i = refl
 
--- a test that no start field passes
+-- A test that no start field passes.
 module _ (t : ModuleField → Bool) (none : (i : Index) → t (field.Start i) ≡ false) where
   starts_fail : (is : List Index) → list_any t (start_fields_of is) ≡ false
   starts_fail [] = refl
@@ -56,7 +56,7 @@ module _ (t : ModuleField → Bool) (none : (i : Index) → t (field.Start i) �
       ∙ (sym (list_any-append t xs ys)
       ∙ (sym (or_false (list_any t (xs ++ ys))) ∙ (ap (λ b. list_any t (xs ++ ys) || b) (sym (starts_fail is)) ∙ sym (list_any-append t (xs ++ ys) (start_fields_of is))))))
 
--- Types have no start.
+-- Types have no start section.
 no_starts : (ts : List ty.«Type») → flat_map starts_in (map field.Ty ts) ≡ []
 no_starts [] = refl
 no_starts (t ∷ ts) = no_starts ts

@@ -1,4 +1,4 @@
--- What is read of a field stays where each index reads the same number, and each type use the same type.
+-- What is read of a field does not change, if each index has the same number and each type use the same type.
 use Rattle.std.proofs.Common.{◌≡◌, List, [], ◌∷◌, ◌++◌, map, Option, option_map, refl, ap, arith}
 use Rattle.std.proofs.lemmas.Grind.{common_steps}
 use Rattle.wast_base.specs.Blocks.{Blocks}
@@ -64,7 +64,7 @@ module _ (f : Change) (t : KeepsNumbers f) where
   block_told : (b : BlockType) → as_block_type (mapped_block f b) ≡ as_block_type b
   block_told b = t.block b.ty
 
-  -- Labels and what is caught.
+  -- Labels and catch clauses.
   catch_told : (blocks : Blocks) (c : TryTableCatch) → as_catch (mapped_catch f blocks c) ≡ as_catch c
   catch_told blocks c = grind (arith, common_steps, index_told, label_told)
 

@@ -1,4 +1,4 @@
--- The worked modules, computed.
+-- Proves the example modules by computing them.
 use Rattle.std.proofs.Common.{◌≡◌, ℕ, ◌<◌, ◌^◌, true, List, [], ◌∷◌, Option, None, inl, inr, codes, refl, arith}
 use Rattle.std.specs.Prelude.{All, nat_lt}
 use Rattle.std.specs.List.{list_all}
@@ -35,7 +35,7 @@ use Rattle.wast_core.specs.Slots.{order}
 use Rattle.wast_core.specs.WorkedMeanings.{Row1, Row2, Row8, Row24, Row27, AnnotatedFunction, SecondNamed, LongSection}
 use Rattle.wast_core.proofs.Readings.{reads_module}
 
--- what is tested of each number
+-- A test of each number.
 below : (bound : ℕ) (xs : List ℕ) → list_all (λ x. nat_lt x bound) xs ≡ true → All (λ x. x < bound) xs
 below bound xs e = λ k d lt. ltb-true _ _ (all_tested (λ x. nat_lt x bound) xs e k d lt)
 
@@ -45,14 +45,14 @@ not_many ns e c = let at = c.1.0 in let few = below (2 ^ 32) ns e at.0 c.0 at.1 
 not_crowded : (fields : List ModuleField) → list_all (λ n. nat_lt n (2 ^ 32)) (item_counts (items fields)) ≡ true → list_all (λ n. nat_lt n (2 ^ 32)) (body_counts fields) ≡ true → IsCrowded fields → ⊥
 not_crowded fields e f c = elim c [ inl many ↦ not_many (item_counts (items fields)) e many | inr many ↦ not_many (body_counts fields) f many.1 ]
 
--- a list of none, and of one
+-- A list of none, and of one.
 none : {A : Type 0} (P : A → Type 0) → InRangeVec P []
 none P = (omega arith, All-nil P)
 
 one : {A : Type 0} (P : A → Type 0) (x : A) → P x → InRangeVec P (x ∷ [])
 one P x h = (omega arith, all_one P x h)
 
--- what is in range in the parts and in the names is so in each place
+-- What is in range in the parts and in the names is so at each position.
 each_place : (name : Option (List ℕ)) (fields : List ModuleField) → All InRangePart (parts name fields) → ((place : CustomPlace) → All (λ x. (custom_bytes x).in_range) (customs_at place fields)) → InRangeHints (hinted_functions fields) → All (λ x. (name_subsection x).in_range) (subsections_of name fields) → InRangeModule name fields
 each_place name fields h customs hints names = all_both (λ s. All InRangePart (in_slot name fields s)) (InRangeHeld name fields) (InRangeSlot name fields) (λ s p q. (p, q)) order (all_of_flat InRangePart (in_slot name fields) order h) (all_each (InRangeHeld name fields) held order)
   where

@@ -1,5 +1,10 @@
--- A module that is resolved is at rest: with start fields behind it, it means what it means with them put last, and a second call
--- changes nothing (binary format, modules, start section).
+-- Resolving and encoding a module a second time, and with added start fields: nothing changes (binary format, modules:
+-- start section).
+--
+-- A module that resolving has left is already resolved. So another call finds nothing to replace. A start field at the
+-- end means the same as one that was there before the first call.
+--
+--   (func $f)  resolved, and then (start 0) added     means what (func $f) (start $f) means
 use Rattle.std.specs.Prelude.{◌≡◌, ℕ, ◌<◌, ◌^◌, is_some, List, ◌++◌, map, Option, Result, Ok, Err, ◌⊎◌, IsTrue}
 use Rattle.std.specs.List.{list_all}
 use Rattle.std.specs.Global.{Vec}
@@ -22,63 +27,62 @@ use Rattle.wast_core.specs.Headline.{IsMet, Resolves, EncodesKind}
 use Rattle.wast_core.specs.Meaning.{meaning}
 use Rattle.wast_core.specs.Modules.{bound_of_kind}
 
--- Start fields, each of a function that the resolved names know, demand nothing more; and the resolved list means the same with
--- them behind it, each with the number that it denotes, as the fields with them put last.
+-- Start fields of functions that the names know add no failing demand. Their numbers, added to the resolved fields,
+-- mean the same as the ids added before.
 abbrev pub StartsLast : Type 0
 StartsLast = (n : ℕ) (name : Option (List ℕ)) (fields : List ModuleField) (is : List Index) → greatest_generation (fields ++ start_fields_of is) < n → IsMet fields
     → IsTrue (list_all (λ i. is_some (denoted ((final_names n fields).number space.Func) i)) is)
     → IsMet (fields ++ start_fields_of is) × (meaning name (resolved_fields_from n fields ++ start_fields_of (map (numbered_at (final_names n fields) space.Func) is)) ≡ meaning name (fields ++ start_fields_of is))
 
--- So do start fields of numbers, whatever they denote.
+-- So do start fields of numbers, whatever they refer to.
 abbrev pub NumbersLast : Type 0
 NumbersLast = (n : ℕ) (name : Option (List ℕ)) (fields : List ModuleField) (ks : List (ℕ × Span)) → greatest_generation fields < n → IsMet fields
     → IsMet (fields ++ start_fields_of (numbers ks)) × (meaning name (with_start_fields n fields ks) ≡ meaning name (fields ++ start_fields_of (numbers ks)))
 
--- Memory is refused, or there is too much of something; the text has no fault.
+-- The error is E12, or E10 if something is too large. So the source has no error.
 abbrev pub IsWithheld : Type 0 → Error → Type 0
 IsWithheld many e = (e ≡ out_of_memory) ⊎ ((e ≡ too_large) × many)
 
--- Resolved again, a list at rest is refused for no fault of the text.
+-- Resolving a second time returns no error of the source.
 abbrev pub RestsWithheld : Type 0
 RestsWithheld = (m n : ℕ) (fields : List ModuleField) (ks : List (ℕ × Span)) (e : Error) → greatest_generation fields < n → IsMet fields
     → IsUnresolved m (with_start_fields n fields ks) e → IsWithheld (IsTooLarge m (with_start_fields n fields ks)) e
 
--- the fields are too large to be resolved, from this counter
+-- The fields are too large to be resolved from this counter.
 abbrev pub IsTooLargeKind : ℕ → ModuleKind → Type 0
 IsTooLargeKind n (kind.Text fields) = IsTooLarge n fields
 IsTooLargeKind n (kind.Binary pieces) = ⊥
 IsTooLargeKind n (kind.Refused e) = ⊥
 
--- the fields are too large to be encoded
+-- The fields are too large to be encoded.
 abbrev pub IsUnbounded : ℕ → Option (List ℕ) → ModuleKind → Type 0
 IsUnbounded n name (kind.Text fields) = IsBounded n name fields → ⊥
 IsUnbounded n name (kind.Binary pieces) = ⊥
 IsUnbounded n name (kind.Refused e) = ⊥
 
--- the answer of a second resolving, after one that gave these names and left this: the names know the same, nothing changes, and
--- the counter stays
+-- The result of resolving a second time, after a call that returned these names and left this. The names know the same,
+-- and neither the fields nor the counter change.
 abbrev pub ResolvesAgain : KnownNames → ModuleKind → ℕ → Result KnownNames Error → ModuleKind → ℕ → Type 0
 ResolvesAgain names first before (Ok again) second after = (known_to again ≡ known_to names) × (second ≡ first) × (after ≡ before)
 ResolvesAgain names first before (Err e) second after = IsWithheld (IsTooLargeKind before first) e × (second ≡ kind.Refused e)
 
--- A second resolving succeeds, where memory is found and nothing is too large, and changes no field.
+-- Resolving a second time succeeds and changes no field, unless allocation fails or something is too large.
 abbrev pub SecondResolve : Type 0
 SecondResolve = (old first second : ModuleKind) (n m after last : ℕ) (names : KnownNames) (result : Result KnownNames Error) → bound_of_kind old < n
     → Resolves old n (Ok names) first after → Resolves first m result second last → ResolvesAgain names first m result second last
 
--- the answer of a second encoding, after one that gave these bytes and left this: the same bytes
+-- The result of encoding a second time, after a call that returned these bytes and left this: the same bytes.
 abbrev pub EncodesAgain : List ℕ → Option (List ℕ) → ModuleKind → ℕ → Result (Vec ℕ) Error → ModuleKind → Type 0
 EncodesAgain bytes name first before (Ok again) second = (again.items ≡ bytes) × (second ≡ first)
 EncodesAgain bytes name first before (Err e) second = IsWithheld (IsUnbounded before name first) e
 
--- A second encoding gives the same bytes, where memory is found and the module is bounded.
+-- Encoding a second time returns the same bytes, unless allocation fails or the module is too large.
 abbrev pub SecondEncoding : Type 0
 SecondEncoding = (old first second : ModuleKind) (n m : ℕ) (name : Option (List ℕ)) (bytes : Vec ℕ) (result : Result (Vec ℕ) Error) → bound_of_kind old < n
     → EncodesKind n name old (Ok bytes) first → EncodesKind m name first result second → EncodesAgain bytes.items name first m result second
 
--- What is resolved is bounded where the module was, from any counter below 2^64. So the text alone
--- excludes E10 of a second call: where `IsBounded` holds of the fields, it holds of the list that
--- the first call left.
+-- Resolved fields are bounded if the fields were, from any counter below 2^64. So if `IsBounded` holds of the source, a
+-- second call does not return E10.
 abbrev pub RestsBounded : Type 0
 RestsBounded = (m n : ℕ) (name : Option (List ℕ)) (fields : List ModuleField) → greatest_generation fields < n → IsMet fields
     → m < 2 ^ 64 → IsBounded n name fields → IsBounded m name (resolved_fields_from n fields)

@@ -1,4 +1,8 @@
--- Which text modules are bounded: every count, length and position that the binary format writes is below 2^32, all bytes are at most the greatest usize, and the counter does not run out.
+-- Which text modules are small enough to encode: every count, length and position in the binary format is below 2^32,
+-- the bytes fit in a usize, and the counter does not overflow.
+--
+--   (module (func))                                  bounded
+--   a module with a data segment of 2^32 bytes       not bounded
 use Rattle.std.specs.Prelude.{ℕ, ◌+◌, ◌<◌, ◌^◌, ◌++◌, List, length, Option, All}
 use Rattle.std.specs.List.{flat_map}
 use Rattle.wasm_out.specs.Parts.{part, InRangePart}

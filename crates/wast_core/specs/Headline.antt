@@ -1,4 +1,14 @@
--- What resolving and encoding a module answer, and what they leave.
+-- The contracts of Module::resolve and EncodeOptions::encode_module: what they return, and what they leave in the
+-- module and the counter. Read this file first if you want to know what the project proves.
+--
+--   Resolves old before result new after     `old` held the module and `before` was the counter; the call returned
+--                                            `result`, and left `new` and `after`
+--   Encodes                                  the same for encode_module
+--
+-- A text module, a binary module and a module that an earlier error left are separate cases. Both calls permit E12 for a
+-- text module, and encode_module for a binary one, because a contract cannot express whether memory was left; tests check
+-- that it is not returned without need. E10 is permitted only if a bound is exceeded: see IsTooLarge (resolving) and
+-- IsBounded (encoding).
 use Rattle.std.specs.Prelude.{◌≡◌, ℕ, ◌+◌, List, [], Option, Some, None, Result, Ok, Err, ◌⊎◌}
 use Rattle.std.specs.List.{flat_map}
 use Rattle.std.specs.Borrow.{Bor}
@@ -23,11 +33,13 @@ use Rattle.wast_core.specs.Meaning.{meaning}
 use Rattle.wast_core.specs.Bounded.{IsBounded}
 use Rattle.wast_core.specs.Uncovered.{head_of, uncovered_forms, IsCovered}
 
--- each demand is met of the fields with all that stands in place, and of the types that they imply
+-- Each demand (check of resolving) is met. The demands are those of the fields after inline forms became fields, with
+-- the implicit type definitions.
 abbrev pub IsMet : List ModuleField → Type 0
 IsMet fields = first_unmet (demands (explicit_fields fields)) ≡ None
 
--- A text module is resolved exactly where each demand is met, with the ids that a counter gives; a refusal is kept, and answered from then on.
+-- What resolving returns, and the new content. A text module is resolved only if each demand is met; its ids are then
+-- those of the counter. An error is kept, and returned from then on.
 abbrev pub ResolvesKind : ℕ → ModuleKind → Result KnownNames Error → ModuleKind → Type 0
 ResolvesKind n (kind.Text fields) (Ok names) new = IsMet fields × (new ≡ kind.Text (resolved_fields_from n fields)) × (known_to names ≡ id_context (items (explicit_fields_from n fields)))
 ResolvesKind n (kind.Text fields) (Err e) new = IsUnresolved n fields e × (new ≡ kind.Refused e)
@@ -36,7 +48,8 @@ ResolvesKind n (kind.Binary pieces) (Err e) new = ⊥
 ResolvesKind n (kind.Refused e) (Ok names) new = ⊥
 ResolvesKind n (kind.Refused e) (Err d) new = (d ≡ e) × (new ≡ kind.Refused e)
 
--- How far the counter rises: where fields are resolved by as many ids as are filled in; else it stays, where they are refused too.
+-- How the counter changes. It rises by the number of generated ids if fields are resolved. Otherwise it does not
+-- change, after an error either.
 abbrev pub Counts : ModuleKind → ModuleKind → ℕ → ℕ → Type 0
 Counts (kind.Text fields) (kind.Text resolved) before after = after ≡ before + generated_id_count fields
 Counts (kind.Text fields) (kind.Binary pieces) before after = ⊥
@@ -44,31 +57,33 @@ Counts (kind.Text fields) (kind.Refused e) before after = after ≡ before
 Counts (kind.Binary pieces) new before after = after ≡ before
 Counts (kind.Refused e) new before after = after ≡ before
 
--- resolving what a module holds, and the counter, before and after
+-- Resolving the content of a module: the result and the counter.
 pub record Resolves (old : ModuleKind) (before : ℕ) (result : Result KnownNames Error) (new : ModuleKind) (after : ℕ) : Type 0 where
   pub kind : ResolvesKind before old result new
   pub counter : Counts old new before after
 
--- the name that the name section gives the module
+-- The name of the module in the name section.
 abbrev pub name_of_module : Module → Option (List ℕ)
 name_of_module m = given_name m.name m.id
 
--- the bytes of the pieces, one after another
+-- The pieces of a binary module, joined.
 abbrev pub joined_pieces : List (Bor (List ℕ)) → List ℕ
 joined_pieces pieces = flat_map (λ p. p.now) pieces
 
--- why resolved fields give no bytes: a form is not covered; else memory was refused, or they are too large
+-- Why resolved fields are not encoded: an unsupported construct; or else allocation failed, or they are too large.
 abbrev pub IsUnwritten : Option Form → Type 0 → Error → Type 0
 IsUnwritten (Some form) is_bounded e = e ≡ error_without_place (fault.Uncovered form)
 IsUnwritten None is_bounded e = (e ≡ out_of_memory) ⊎ ((e ≡ too_large) × (is_bounded → ⊥))
 
--- Why a text module gives no bytes: it is not resolved, and keeps why; or it is resolved, and gives none.
+-- Why a text module is not encoded: it is not resolved, and keeps the error; or it is resolved, and its fields are not
+-- encoded.
 abbrev pub IsUnencoded : ℕ → Option (List ℕ) → List ModuleField → Error → ModuleKind → Type 0
 IsUnencoded n name fields e new =
     (IsUnresolved n fields e × (new ≡ kind.Refused e))
     ⊎ (IsMet fields × IsUnwritten (head_of (uncovered_forms (resolved_fields_from n fields))) (IsBounded n name fields) e × (new ≡ kind.Text (resolved_fields_from n fields)))
 
--- A text module gives bytes only where each demand is met and each form covered, and then bytes that are read as what it means.
+-- What encoding returns, and the new content. A text module is encoded only if each demand is met and each construct is
+-- supported. The grammar reads its bytes as the module's meaning.
 abbrev pub EncodesKind : ℕ → Option (List ℕ) → ModuleKind → Result (Vec ℕ) Error → ModuleKind → Type 0
 EncodesKind n name (kind.Text fields) (Ok bytes) new = IsMet fields × IsCovered (resolved_fields_from n fields) × Reads bytes.items (meaning name fields) × (new ≡ kind.Text (resolved_fields_from n fields))
 EncodesKind n name (kind.Text fields) (Err e) new = IsUnencoded n name fields e new
@@ -77,7 +92,7 @@ EncodesKind n name (kind.Binary pieces) (Err e) new = (e ≡ out_of_memory) × (
 EncodesKind n name (kind.Refused e) (Ok bytes) new = ⊥
 EncodesKind n name (kind.Refused e) (Err d) new = (d ≡ e) × (new ≡ kind.Refused e)
 
--- encoding a module, and the counter, before and after
+-- Encoding a module: the result and the counter.
 pub record Encodes (old : Module) (before : ℕ) (result : Result (Vec ℕ) Error) (new : Module) (after : ℕ) : Type 0 where
   pub kind : EncodesKind before (name_of_module old) old.kind result new.kind
   pub counter : Counts old.kind new.kind before after

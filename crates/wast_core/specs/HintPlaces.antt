@@ -1,4 +1,7 @@
--- Where the hints of a module point: in its bytes, at the instructions that they stand on (branch hinting).
+-- Where the branch hints of a module point in its bytes: at their instructions (branch hinting).
+--
+--   (func (local i32) i32.const 0 (@metadata.code.branch_hint "\00") if end)
+--                                  offset 5: after the size come 01 01 7f (locals) and 41 00 (`i32.const 0`), and then 04 (`if`)
 use Rattle.std.specs.Prelude.{◌≡◌, ℕ, List, [], ◌∷◌, ◌++◌, length, slice_get, Option, Some, Contains}
 use Rattle.std.specs.List.{flat_map}
 use Rattle.wasm_ops.specs.Leb128.{unsigned}
@@ -17,32 +20,31 @@ use Rattle.wast_core.specs.declared.slots.SectionKind.TheVariants as kind
 use Rattle.wast_core.specs.declared.slots.Slot.{Slot}
 use Rattle.wast_core.specs.declared.slots.Slot.TheVariants as slot
 
--- behind a front of the bytes, and so many further on, an instruction is spelled
+-- After the first bytes, and so many bytes further, an instruction is encoded.
 pub record IsSpelledAt (bytes front : List ℕ) (offset : ℕ) (i : Instr) : Type 0 where
   pub between : List ℕ
   pub behind : List ℕ
   pub counted : length between ≡ offset
   pub spelled : bytes ≡ front ++ (between ++ ((instr i).bytes ++ behind))
 
--- the places before the code section
+-- The positions before the code section.
 abbrev pub until_code : List Slot → List Slot
 until_code [] = []
 until_code (slot.Section kind.Code ∷ ss) = []
 until_code (s ∷ ss) = s ∷ until_code ss
 
--- a code section of all these bodies, up to behind the size of one: its id, its length, the number of bodies, those before that
--- one, and the size
+-- A code section with these bodies, up to the end of the size of one: its id, its length, the number of bodies, the
+-- bodies before that one, and the size.
 abbrev pub up_to_size : List Body → List Body → Body → List ℕ
 up_to_size all before b = section_id Code ∷ (unsigned (length (vec body all)) ++ (unsigned (length all) ++ (flat_map body before ++ unsigned (length (body_content b).bytes))))
 
--- the bytes of a module up to behind the size of the body of a function, which stands behind these fields
+-- The bytes of a module up to the end of the size of a function body. The function comes after these fields.
 abbrev pub up_to_body : Option (List ℕ) → List ModuleField → List ModuleField → Func → List ℕ
 up_to_body name fields before f =
     header ++ (flat_map part (flat_map (in_slot name fields) (until_code order)) ++ up_to_size (entries Code fields) (entries Code before) (as_body f.kind))
 
--- Where bytes are read as the parts of fields, each function with a hint is told in the section of hints by its index, which is the
--- number of functions before it; and the offset of the hint, counted from the first byte behind the size of the body in the code
--- section, is where the spelling of its instruction begins.
+-- If bytes are read as the parts of fields, each function with a hint is in the section of hints by its index. Its
+-- instruction is encoded at the offset of the hint, counted from the first byte after the size of the body.
 abbrev pub HintsPointAtInstructions : Type 0
 HintsPointAtInstructions = (bytes : List ℕ) (name : Option (List ℕ)) (before behind : List ModuleField) (f : Func) (h : BranchHint) (i : Instr)
     → let fields = before ++ field.Func f ∷ behind in

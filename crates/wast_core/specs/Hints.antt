@@ -1,4 +1,8 @@
--- The branch hints of a module: those of each function that has some, behind its index (branch hinting).
+-- The branch hints of a module: those of each function that has some, after its index (branch hinting).
+--
+-- Imported functions count in the index. If no function has hints, there is no section.
+--
+--   (import "" "" (func)) (func .. (@metadata.code.branch_hint "\01") if ..)     one function with hints, of index 1
 use Rattle.std.specs.Prelude.{ℕ, ◌==◌, Bool, not, List, [], ◌∷◌, length, map, Option, Some, None, if◌then◌else◌}
 use Rattle.std.specs.List.{flat_map}
 use Rattle.wast_base.specs.Spaces.{same_space}

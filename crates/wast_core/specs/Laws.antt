@@ -1,5 +1,7 @@
--- What resolving leaves of a text module is what the module means; what is too large to be resolved; and where custom
--- sections stand.
+-- Theorems about modules: resolving keeps the meaning; what is too large to resolve is too large to encode; a custom
+-- section has one position.
+--
+--   (module (func $f) (start $f))      resolved from any counter, its parts are those of `meaning`
 use Rattle.std.specs.Prelude.{◌≡◌, ℕ, ◌<◌, List, [], ◌∷◌, Option}
 use Rattle.std.specs.List.{filter}
 use Rattle.wast_tree_nodes.specs.Customs.{custom_place}
@@ -13,14 +15,14 @@ use Rattle.wast_core.specs.Bounded.{IsBounded}
 use Rattle.wast_core.specs.Headline.{IsMet}
 use Rattle.wast_core.specs.Meaning.{parts, meaning}
 
--- Where each demand is met, the ids that a counter gives tell nothing: the parts are those by positions.
+-- If each demand is met, the generated ids do not matter: the parts are those of the meaning.
 abbrev pub MeansWhatIsWritten : Type 0
 MeansWhatIsWritten = (n : ℕ) (name : Option (List ℕ)) (fields : List ModuleField) → greatest_generation fields < n → IsMet fields → parts name (resolved_fields_from n fields) ≡ meaning name fields
 
--- Fields that are too large to be resolved are too large to be encoded.
+-- Fields that are too large to resolve are too large to encode.
 abbrev pub TooLargeIsUnbounded : Type 0
 TooLargeIsUnbounded = (n : ℕ) (name : Option (List ℕ)) (fields : List ModuleField) → IsTooLarge n fields → IsBounded n name fields → ⊥
 
--- Each custom section stands in one place of a module alone, which is its own.
+-- Each custom section has one position in the order of sections.
 abbrev pub CustomsStandOnce : Type 0
 CustomsStandOnce = (c : Custom) → filter (is_place (custom_place c)) order ≡ slot.Custom (custom_place c) ∷ []

@@ -1,4 +1,11 @@
--- What a text module means: its parts, in the order of the sections, with the numbers of its resolved list (binary format, modules).
+-- What a text module means: the parts of a binary module, in the order of the sections, with the indices of the
+-- resolved fields (binary format: modules).
+--
+-- The definition numbers items by their positions, and generates no ids. So the meaning does not depend on a counter.
+--
+--   (module (func))     a type section with `(func)`, a function section with type 0, and a code section with an empty body
+--
+-- Examples that compute: the files `Worked..` of this crate.
 use Rattle.std.specs.Prelude.{ℕ, Bool, List, [], ◌∷◌, map, length, codes, Option, if◌then◌else◌}
 use Rattle.std.specs.List.{flat_map, list_any}
 use Rattle.wast_core.specs.Tree as tree
@@ -26,7 +33,7 @@ use Rattle.wast_core.specs.Slots.{section_kind, order}
 pub use Rattle.wast_core_conv.specs.Values.{index_value, as_abstract_type, as_heap_type, as_ref_type, as_val_type, as_storage_type, as_field_type, as_struct_type, as_array_type, as_func_type, as_inner_type, as_sub_type, type_index, as_table_type, as_memory_type, as_global_type, as_tag_type, as_entity_type, as_instr, as_expression, body_of, as_body, as_export_kind}
 pub use Rattle.wast_core_conv.specs.FieldEntries.{as_group, as_import, as_table, as_memory, as_global, as_tag, as_export, as_element_items, as_element_mode, as_element, as_data_mode, as_data}
 
--- what a field puts into the sections: the entries of those that are lists, and the functions of start sections
+-- What a field adds to the sections: entries of those that are lists, and functions of start sections.
 pub record Contribution : Type 0 where
   pub types : List TypeEntry
   pub imports : List ImportEntry
@@ -41,7 +48,7 @@ pub record Contribution : Type 0 where
   pub code : List Body
   pub «data» : List DataEntry
 
--- a field that puts nothing into any section
+-- A field that adds nothing to any section.
 abbrev pub no_contribution : Contribution
 no_contribution = record {
   types = [];
@@ -58,55 +65,55 @@ no_contribution = record {
   «data» = [];
 }
 
--- what a field of each kind contributes: a type is one entry
+-- What a field of each kind adds. A type is one entry.
 abbrev pub of_type : ty.«Type» → Contribution
 of_type t = record no_contribution { types = Single (as_sub_type t.def) ∷ [] }
 
--- a group is one entry, whatever its types
+-- A recursion group is one entry, with any number of types.
 abbrev pub of_rec : Rec → Contribution
 of_rec r = record no_contribution { types = as_group r ∷ [] }
 
--- an import is one entry
+-- An import is one entry.
 abbrev pub of_import : tree.Imports → Contribution
 of_import i = record no_contribution { imports = as_import i ∷ [] }
 
--- a function is its type among the functions, and its body in the code
+-- A function is its type in the function section, and its body in the code section.
 abbrev pub of_func : Func → Contribution
 of_func f = record no_contribution { functions = type_index f.ty ∷ []; code = as_body f.kind ∷ [] }
 
--- a table is one entry
+-- A table is one entry.
 abbrev pub of_table : Table → Contribution
 of_table t = record no_contribution { tables = as_table t ∷ [] }
 
--- a memory is one entry
+-- A memory is one entry.
 abbrev pub of_memory : Memory → Contribution
 of_memory m = record no_contribution { memories = as_memory m ∷ [] }
 
--- a global is one entry
+-- A global is one entry.
 abbrev pub of_global : Global → Contribution
 of_global g = record no_contribution { globals = as_global g ∷ [] }
 
--- a tag is one entry
+-- A tag is one entry.
 abbrev pub of_tag : Tag → Contribution
 of_tag t = record no_contribution { tags = as_tag t ∷ [] }
 
--- an export is one entry
+-- An export is one entry.
 abbrev pub of_export : Export → Contribution
 of_export e = record no_contribution { exports = as_export e ∷ [] }
 
--- a start field is its function
+-- A start field is its function.
 abbrev pub of_start : Index → Contribution
 of_start i = record no_contribution { starts = index_value i ∷ [] }
 
--- an element segment is one entry
+-- An element segment is one entry.
 abbrev pub of_elem : Elem → Contribution
 of_elem e = record no_contribution { elements = as_element e ∷ [] }
 
--- a data segment is one entry
+-- A data segment is one entry.
 abbrev pub of_data : tree.Data → Contribution
 of_data d = record no_contribution { «data» = as_data d ∷ [] }
 
--- what a field contributes
+-- What a field adds to the sections.
 abbrev pub contribution_of : ModuleField → Contribution
 contribution_of (field.Ty t) = of_type t
 contribution_of (field.Rec r) = of_rec r
@@ -122,7 +129,7 @@ contribution_of (field.Data d) = of_data d
 contribution_of (field.Tag t) = of_tag t
 contribution_of (field.Custom c) = no_contribution
 
--- what is put into the section of a kind
+-- What is added to the section of a kind.
 abbrev pub of_kind : (kind : SectionKind) → Contribution → List (Entry kind)
 of_kind Types c = c.types
 of_kind Imports c = c.imports
@@ -136,44 +143,44 @@ of_kind Elements c = c.elements
 of_kind Code c = c.code
 of_kind Data c = c.«data»
 
--- the entries of a field in the section of a kind
+-- The entries of a field in the section of a kind.
 abbrev pub entries_in : (kind : SectionKind) → ModuleField → List (Entry kind)
 entries_in kind f = of_kind kind (contribution_of f)
 
--- the entries of a list of fields in the section of a kind
+-- The entries of a list of fields in the section of a kind.
 abbrev pub entries : (kind : SectionKind) → List ModuleField → List (Entry kind)
 entries kind fields = flat_map (entries_in kind) fields
 
--- a kind without items gives no part
+-- The section of a kind. Without entries it is left out.
 abbrev pub section_part : (kind : SectionKind) → List (Entry kind) → List Part
 section_part kind [] = []
 section_part kind (item ∷ items) = record { kind = Listed kind; items = item ∷ items } ∷ []
 
--- each start field is a section of its own
+-- The start section of one start field. Several start fields have several sections.
 abbrev pub start_part : ℕ → Part
 start_part n = record { kind = Start; items = n }
 
--- the start sections of a field
+-- The start sections of a field.
 abbrev pub starts_in : ModuleField → List Part
 starts_in f = map start_part (contribution_of f).starts
 
--- where a body needs it, one section tells how many segments of data there are
+-- The data count section, if a body needs it: the number of data segments.
 abbrev pub data_counts : List ModuleField → List Part
 data_counts fields = count_parts (needs_count fields) (length (entries Data fields))
 
--- the bytes of a custom section
+-- The bytes of a custom section.
 abbrev pub custom_section : Custom → List ℕ
 custom_section c = part (custom_part c)
 
--- whether a custom section is called name
+-- Whether a custom section is called `name`.
 abbrev pub has_own_names : List ModuleField → Bool
 has_own_names fields = list_any (is_custom_called (codes "name")) fields
 
--- the subsections of names; where a custom section is called name, there are none
+-- The subsections of the name section. If a custom section is called `name`, there are none.
 abbrev pub subsections_of : Option (List ℕ) → List ModuleField → List NameSubsection
 subsections_of name fields = if has_own_names fields then [] else name_subsections name fields
 
--- the parts in a place of a module with this name, of these fields
+-- The parts at a position of a module with this name and these fields.
 abbrev pub in_slot : Option (List ℕ) → List ModuleField → Slot → List Part
 in_slot name fields (slot.Custom place) = map custom_part (customs_at place fields)
 in_slot name fields (slot.Section kind) = section_part (section_kind kind) (entries (section_kind kind) fields)
@@ -182,11 +189,11 @@ in_slot name fields slot.DataCount = data_counts fields
 in_slot name fields slot.Hints = hints_part (hinted_functions fields)
 in_slot name fields slot.Names = names_part (subsections_of name fields)
 
--- the parts of a resolved list, of a module with this name
+-- The parts of resolved fields, of a module with this name.
 abbrev pub parts : Option (List ℕ) → List ModuleField → List Part
 parts name fields = flat_map (in_slot name fields) order
 
--- What a text module means: the parts of its fields, with what stands in place as fields of their own, and of the types that
--- they imply; each type use that needs a type by the position of it, and each id by the position of what it denotes.
+-- What a text module means: the parts of its fields after desugaring, with the implicit type definitions. Each id is
+-- the position of its item, and each type use has the position of its type.
 abbrev pub meaning : Option (List ℕ) → List ModuleField → List Part
 meaning name fields = parts name (resolved_fields (by_positions fields))

@@ -1,11 +1,13 @@
--- Which fields put something into the section of a kind, by what kind of fields they are.
+-- Which kinds of fields can have an entry in a section (binary format: modules).
+--
+--   type section     types and recursion groups          function and code section     functions
 use Rattle.std.specs.Prelude.{Bool, ◌||◌}
 use Rattle.wasm_out.specs.Parts.{SectionKind, Types, Imports, Functions, Tables, Memories, Tags, Globals, Exports, Elements, Code, Data}
 use Rattle.wast_tree_nodes.specs.Kinds.{is_of}
 use Rattle.wast_tree_nodes.specs.declared.kinds.FieldKind.TheVariants as kind
 use Rattle.wast_core.specs.Tree.{ModuleField}
 
--- whether a field can have an entry in the section of a kind
+-- Whether a field can have an entry in the section of a kind.
 abbrev pub can_contribute : SectionKind → ModuleField → Bool
 can_contribute Types f = is_of kind.Ty f || is_of kind.Rec f
 can_contribute Imports f = is_of kind.Import f

@@ -1,4 +1,6 @@
--- The places of sections in a module, in the order of the binary format (binary format, modules).
+-- The order of the sections in a module, with the positions of custom sections between them (binary format: modules).
+--
+--   (@custom "c" (before start) "x")     comes after the custom sections after exports, and before the start section
 use Rattle.std.specs.Prelude.{◌==◌, Bool, false, List, [], ◌∷◌, ◌++◌}
 use Rattle.wasm_out.specs.Parts as parts
 use Rattle.wast_tree_nodes.specs.Customs.{place_rank}
@@ -10,7 +12,7 @@ use Rattle.wast_core.specs.declared.slots.SectionKind.TheVariants as kind
 use Rattle.wast_core.specs.declared.slots.Slot.{Slot}
 use Rattle.wast_core.specs.declared.slots.Slot.TheVariants as slot
 
--- the kind as the parts of a module name it
+-- The kind, as the parts of a module name it.
 abbrev pub section_kind : SectionKind → parts.SectionKind
 section_kind kind.Types = parts.Types
 section_kind kind.Imports = parts.Imports
@@ -24,11 +26,11 @@ section_kind kind.Elements = parts.Elements
 section_kind kind.Code = parts.Code
 section_kind kind.Data = parts.Data
 
--- the custom sections directly before a section, the section, and those directly behind it
+-- A section, and the custom sections directly before and after it.
 abbrev pub around : CustomPlaceAnchor → Slot → List Slot
 around a s = slot.Custom (at.Before a) ∷ s ∷ slot.Custom (at.After a) ∷ []
 
--- the places, one behind the other
+-- The positions, in order.
 abbrev pub order : List Slot
 order =
     slot.Custom at.BeforeFirst
@@ -47,7 +49,7 @@ order =
     ∷ (around anchor.Data (slot.Section kind.Data)
     ++ (slot.Custom at.AfterLast ∷ slot.Names ∷ [])))))))))))))
 
--- whether it is this place of custom sections
+-- Whether it is this position of custom sections.
 abbrev pub is_place : CustomPlace → Slot → Bool
 is_place place (slot.Custom other) = place_rank other == place_rank place
 is_place place s = false

@@ -1,4 +1,6 @@
--- Lists of fields without a form that no encoder covers.
+-- Lists of fields without an unsupported construct.
+--
+--   (func memory.discard 0)      has one, so the list is not covered
 use Rattle.std.specs.Prelude.{◌≡◌, List, None}
 use Rattle.wast_core.specs.Tree.{ModuleField}
 pub use Rattle.wast_tree_nodes.specs.Uncovered.{uncovered_forms, head_of}

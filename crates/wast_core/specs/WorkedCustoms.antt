@@ -1,4 +1,5 @@
--- Small modules with custom sections, and what they mean, computed. A text may lie anywhere in memory.
+-- Example modules with custom sections, and what they mean, as the prover computes it. They hold for texts at any
+-- addresses.
 use Rattle.std.specs.Prelude.{ℕ, List, [], ◌∷◌, ◌++◌, Some, codes}
 use Rattle.wast_tree_nodes.specs.WorkedModules.{Address, text, place, id_at, by_number, plain_func}
 use Rattle.wast_core.specs.Tree.{CustomPlace}
@@ -10,21 +11,22 @@ use Rattle.wast_core.specs.Tree.{ModuleField}
 use Rattle.wast_core.specs.Tree.custom
 use Rattle.wast_core.specs.Tree.field
 
--- `(@custom ".." .. "..")`, of a name, a place and one piece
+-- `(@custom ".." .. "..")`, with a name, a position and one piece.
 abbrev pub custom_of : Address → Address → List ℕ → CustomPlace → List ℕ → ModuleField
 custom_of a b name stands letters = field.Custom (custom.Raw (record { span = place 9; place = stands; name = text a name; bytes = text b letters ∷ [] }))
 
--- `(module (type (func)) (func $f (type 0)) (@custom "name" ""))`: the names of the module are left out
+-- `(module (type (func)) (func $f (type 0)) (@custom "name" ""))`: the names of the module are left out.
 abbrev pub OwnNames : Type 0
 OwnNames = (a b c : Address) →
     let named = field.Func (plain_func (Some (id_at a (codes "f") 28)) 22 (by_number 0 37) []) in
     HasBytes (first_type ∷ named ∷ custom_of b c (codes "name") at.AfterLast [] ∷ []) (one_type ++ (one_func ++ (one_body ++ 0x00 ∷ 0x05 ∷ 0x04 ∷ 0x6e ∷ 0x61 ∷ 0x6d ∷ 0x65 ∷ [])))
 
--- `(module (@custom "c" (before start) "x"))`: it stands there, though no start section is written
+-- `(module (@custom "c" (before start) "x"))`: it is written, although there is no start section.
 abbrev pub Row29 : Type 0
 Row29 = (a b : Address) → HasBytes (custom_of a b (codes "c") (at.Before anchor.Start) (codes "x") ∷ []) (0x00 ∷ 0x03 ∷ 0x01 ∷ 0x63 ∷ 0x78 ∷ [])
 
--- `(module (@custom "a" (before func) "1") (@custom "b" (after type) "2"))`: the places decide, and not the order of the text
+-- `(module (@custom "a" (before func) "1") (@custom "b" (after type) "2"))`: the positions decide, and not the order of
+-- the source.
 abbrev pub Row51 : Type 0
 Row51 = (a b c d : Address) →
     HasBytes (custom_of a b (codes "a") (at.Before anchor.Func) (codes "1") ∷ custom_of c d (codes "b") (at.After anchor.Ty) (codes "2") ∷ [])

@@ -1,4 +1,5 @@
--- Small modules with imports, tables, memories, globals, start functions and segments, and what they mean, computed. A text may lie anywhere in memory.
+-- Example modules with imports, tables, memories, globals, start functions and segments, and what they mean, as the
+-- prover computes it. They hold for texts at any addresses.
 use Rattle.std.specs.Prelude.{ℕ, negsuc, true, false, List, [], ◌∷◌, Some, None, codes, pos}
 use Rattle.wast_tree_nodes.specs.WorkedModules.{Address, text, place, id_at, by_number, plain_global_type, plain_memory}
 use Rattle.wast_core.specs.WorkedMeanings.{HasBytes, first_type, first_func}
@@ -25,7 +26,7 @@ funcref = record { nullable = true; heap = heap.Abstract false abstract.Func }
 abbrev pub one_funcref : TableType
 one_funcref = record { limits = record { is64 = false; min = 1; max = None }; elem = funcref; shared = false }
 
--- a constant expression of one instruction
+-- A constant expression with one instruction.
 abbrev pub one_instr : Instruction → Expression
 one_instr i = record { instrs = i ∷ []; branch_hints = [] }
 
@@ -47,7 +48,8 @@ ImportedEntities = (a b c d e f : Address) →
     HasBytes (import_of a b (codes "t") (kind.Table one_funcref) ∷ import_of c d (codes "m") (kind.Memory (record { limits = record { is64 = false; min = 1; max = Some 2 }; shared = false; page_size_log2 = None })) ∷ import_of e f (codes "g") (kind.Global plain_global_type) ∷ [])
     (0x02 ∷ 0x18 ∷ 0x03 ∷ 0x01 ∷ 0x65 ∷ 0x01 ∷ 0x74 ∷ 0x01 ∷ 0x70 ∷ 0x00 ∷ 0x01 ∷ 0x01 ∷ 0x65 ∷ 0x01 ∷ 0x6d ∷ 0x02 ∷ 0x01 ∷ 0x01 ∷ 0x02 ∷ 0x01 ∷ 0x65 ∷ 0x01 ∷ 0x67 ∷ 0x03 ∷ 0x7f ∷ 0x00 ∷ [])
 
--- `(module (memory 1) (global $g (mut i64) (i64.const -1)) (data "x") (data (i32.const 8) "yz"))`: a passive segment of data, and one in the first memory; the global has a name
+-- `(module (memory 1) (global $g (mut i64) (i64.const -1)) (data "x") (data (i32.const 8) "yz"))`: a passive data
+-- segment, and an active one in memory 0. The global has a name.
 abbrev pub MemoryAndData : Type 0
 MemoryAndData = (a b c : Address) →
     HasBytes
@@ -69,7 +71,7 @@ TableAndElements =
     ∷ [])
     (0x04 ∷ 0x04 ∷ 0x01 ∷ 0x70 ∷ 0x00 ∷ 0x01 ∷ 0x09 ∷ 0x0a ∷ 0x02 ∷ 0x03 ∷ 0x00 ∷ 0x00 ∷ 0x05 ∷ 0x70 ∷ 0x01 ∷ 0xd0 ∷ 0x70 ∷ 0x0b ∷ [])
 
--- `(module (type (func)) (func (type 0)) (start 0) (start 0))`: each start field is a section of its own
+-- `(module (type (func)) (func (type 0)) (start 0) (start 0))`: each start field is a section of its own.
 abbrev pub TwoStarts : Type 0
 TwoStarts = HasBytes (first_type ∷ first_func ∷ field.Start (by_number 0 46) ∷ field.Start (by_number 0 56) ∷ [])
     (0x01 ∷ 0x04 ∷ 0x01 ∷ 0x60 ∷ 0x00 ∷ 0x00 ∷ 0x03 ∷ 0x02 ∷ 0x01 ∷ 0x00 ∷ 0x08 ∷ 0x01 ∷ 0x00 ∷ 0x08 ∷ 0x01 ∷ 0x00 ∷ 0x0a ∷ 0x04 ∷ 0x01 ∷ 0x02 ∷ 0x00 ∷ 0x0b ∷ [])

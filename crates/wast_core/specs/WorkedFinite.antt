@@ -1,5 +1,5 @@
--- A worked module whose generated name is sent to a written one by a map of one entry, computed. A
--- text may lie anywhere in memory.
+-- An example module whose generated id is renamed by a map of one entry, as the prover computes it. It holds for texts
+-- at any addresses.
 use Rattle.std.specs.Prelude.{◌≡◌, List, [], ◌∷◌, None, codes}
 use Rattle.wast_base.specs.Ids.{Written, Generated}
 use Rattle.wast_tree_nodes.specs.WorkedModules.{Address, text}
@@ -18,17 +18,17 @@ use Rattle.wast_core.specs.WorkedMeanings.{one_name}
 abbrev pub exported : Address → List ModuleField
 exported a = field.Func (record a_func { exports = record { names = text a (codes "a") ∷ [] } }) ∷ []
 
--- the id that the counter gives at 1, sent to `$f`
+-- The map from the id that the counter generates at 1 to `$f`.
 abbrev pub one_sent : FiniteNaming
 one_sent = (Generated 1, Written (codes "f")) ∷ []
 
--- by this map, with the text of each id at one address
+-- The renaming by this map, with the text of each id at one address.
 abbrev pub sending : Address → Renaming
 sending b = renaming_by (λ id. b) one_sent
 
--- The map is a renaming. What is written out from 1, `(func $gensym) (export "a" (func $gensym))`
--- with the generated id, becomes `(func $f) (export "a" (func $f))`: it has the bytes of the module
--- before its names, and a name section that calls function 0 `f`, where the module has none.
+-- The map is a renaming. Desugaring from 1 returns `(func $gensym) (export "a" (func $gensym))`. Renamed, it is `(func
+-- $f) (export "a" (func $f))`. The bytes before the name section are those of the module. A name section that calls
+-- function 0 `f` follows, which the module does not have.
 abbrev pub GeneratedIsWritten : Type 0
 GeneratedIsWritten = (a b : Address) →
     let out = desugared_from 1 (exported a) in

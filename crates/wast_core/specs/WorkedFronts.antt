@@ -1,4 +1,4 @@
--- Modules and what they are with other names, as bytes, computed. A text may lie anywhere in memory.
+-- Example modules and their renamed forms, as bytes that the prover computes. They hold for texts at any addresses.
 use Rattle.std.specs.Prelude.{◌≡◌, ℕ, List, [], ◌∷◌, ◌++◌, None, codes}
 use Rattle.wasm_out.specs.WorkedBytes.{worked_bytes}
 use Rattle.wast_tree_nodes.specs.WorkedModules.{Address, by_id, row27}
@@ -9,14 +9,15 @@ use Rattle.wast_resolve_laws.specs.WorkedRenaming.{prefixing}
 use Rattle.wast_core.specs.Front.{front_bytes, names_bytes}
 use Rattle.wast_core.specs.Tree.{ModuleField}
 
--- With `r` before each name, the bytes before the names are the same, and the names are these behind `name`.
+-- With `r` before each name, the bytes before the name section are the same, and these are the subsections of the
+-- names.
 abbrev pub HasOtherNames : List ModuleField → List ℕ → Type 0
 HasOtherNames fields names =
     let others = renamed_fields prefixing fields in
     (front_bytes others ≡ front_bytes fields) × (names_bytes None others ≡ names)
 
--- `(module (type $t (func)) (func $f (type $t) call $f) (export "a" (func $f)))`: its bytes are those before its names and those of
--- its names; `rf` is a function, and `rt` a type.
+-- `(module (type $t (func)) (func $f (type $t) call $f) (export "a" (func $f)))`: the bytes before its name section,
+-- and the name section. `rf` is a function, and `rt` a type.
 abbrev pub Row27 : Type 0
 Row27 = (a b c d e f : Address) →
     let fields = row27 a b c d e f in

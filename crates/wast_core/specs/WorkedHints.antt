@@ -1,4 +1,5 @@
--- Small modules with branch hints, and what they mean, computed. A text may lie anywhere in memory.
+-- Example modules with branch hints, and what they mean, as the prover computes it. They hold for texts at any
+-- addresses.
 use Rattle.std.specs.Prelude.{ℕ, pos, List, [], ◌∷◌, ◌++◌, None, codes}
 use Rattle.wast_tree_nodes.specs.WorkedModules.{Address, text, place, by_number}
 use Rattle.wast_resolve_rules.specs.WorkedBodies.{not_said, in_place, labelled}
@@ -11,15 +12,16 @@ use Rattle.wast_core.specs.Tree.func
 use Rattle.wast_core.specs.Tree.field
 use Rattle.wast_core.specs.WorkedMeanings.{HasBytes, one_type, one_func}
 
--- `(func ..)` with a type use, locals and instructions, and one hint
+-- `(func ..)` with a type use, locals, instructions and one hint.
 abbrev pub hinted_func : TypeUse FunctionType → List Local → List Instruction → BranchHint → ModuleField
 hinted_func u locals instrs h = field.Func (record { span = place 9; id = None; name = None; exports = record { names = [] }; kind = func.Inline locals (record { instrs = instrs; branch_hints = h ∷ [] }); ty = u })
 
--- `metadata.code.branch_hint` behind its length
+-- `metadata.code.branch_hint` after its length.
 abbrev pub section_name : List ℕ
 section_name = 0x19 ∷ codes "metadata.code.branch_hint"
 
--- `(module (func (param i32) block local.get 0 (@metadata.code.branch_hint "\01") br_if 0 end))`: five bytes stand before the branch
+-- `(module (func (param i32) block local.get 0 (@metadata.code.branch_hint "\01") br_if 0 end))`: five bytes come
+-- before the branch.
 abbrev pub Row11 : Type 0
 Row11 =
     let params = in_place (record { params = (None, None, value.I32) ∷ []; results = [] }) in
@@ -28,8 +30,8 @@ Row11 =
     (0x01 ∷ 0x05 ∷ 0x01 ∷ 0x60 ∷ 0x01 ∷ 0x7f ∷ 0x00 ∷ (one_func ++ (0x00 ∷ 0x20 ∷ (section_name ++ 0x01 ∷ 0x00 ∷ 0x01 ∷ 0x05 ∷ 0x01 ∷ 0x01
     ∷ 0x0a ∷ 0x0b ∷ 0x01 ∷ 0x09 ∷ 0x00 ∷ 0x02 ∷ 0x40 ∷ 0x20 ∷ 0x00 ∷ 0x0d ∷ 0x00 ∷ 0x0b ∷ 0x0b ∷ []))))
 
--- `(module (import "" "" (func)) (func (local i32) i32.const 0 (@metadata.code.branch_hint "\00") if end))`: the imported function is
--- function 0, and the offset counts the locals
+-- `(module (import "" "" (func)) (func (local i32) i32.const 0 (@metadata.code.branch_hint "\00") if end))`: the
+-- imported function is function 0, and the offset counts the locals.
 abbrev pub Row54 : Type 0
 Row54 = (a b : Address) →
     let imported = field.Import (record { span = place 9; items = import_items.Single (text a (codes "")) (text b (codes "")) (record { span = place 23; id = None; name = None; kind = kind.Func not_said }) }) in

@@ -1,4 +1,5 @@
--- Which small modules are ready to be resolved, and what resolving them leaves, computed. A text may lie anywhere in memory.
+-- Which example modules may be resolved, and what resolving them leaves, as the prover computes it. They hold for texts
+-- at any addresses.
 use Rattle.std.specs.Prelude.{◌≡◌, ℕ, false, List, [], ◌∷◌, Some, None, Ok, Err, codes}
 use Rattle.wast_base.specs.declared.ids.Index.TheVariants as index
 use Rattle.wast_base.specs.Faults.{error_at}
@@ -16,12 +17,12 @@ use Rattle.wast_core.specs.declared.module.Module.{Module}
 use Rattle.wast_core.specs.declared.module.ModuleKind.{ModuleKind}
 use Rattle.wast_core.specs.declared.module.ModuleKind.TheVariants as kind
 
--- `(module ..)`, which holds this
+-- `(module ..)` with this content.
 abbrev pub module_of : ModuleKind → Module
 module_of k = record { span = place 1; id = None; name = None; kind = k }
 
--- Row 27 is ready, whatever the counter, and so is what holds no fields. A generated id wants a counter above it; where an index
--- is one and no item has it, the module is not well formed.
+-- Row 27 may be resolved with any counter, and so may content without fields. A generated id needs a counter past it.
+-- If an index is a generated id and no item has it, the module is not well formed.
 abbrev pub ReadyModules : Type 0
 ReadyModules = (a b c d e f : Address) →
     let unknown = module_of (kind.Text (export_field a 8 (index.Id (gensym_id 7 (place 26))) ∷ [])) in
@@ -31,15 +32,15 @@ ReadyModules = (a b c d e f : Address) →
     × (generation_bound unknown ≡ 7)
     × (is_well_formed unknown ≡ false)
 
--- a name space of one item, which has this name
+-- A namespace with one item, which has this name.
 abbrev pub space_of_one : List ℕ → NameSpace
 space_of_one name = registered (empty_from 0) (Some (Written name, place 14))
 
--- the names of row 27: of its functions, of five spaces without names, of two without items, and of its types
+-- The names of row 27: of its functions, of five namespaces without names, of two without items, and of its types.
 abbrev pub names27 : KnownNames
 names27 = let none = empty_from 0 in record { spaces = space_of_one (codes "f") ∷ none ∷ none ∷ none ∷ none ∷ none ∷ none ∷ space_of_one (codes "t") ∷ [] }
 
--- In row 27 `$f` is function 0 and `$t` is type 0, and nothing else is known.
+-- In row 27 `$f` is function 0 and `$t` is type 0, and no other id is known.
 abbrev pub KnownNames27 : Type 0
 KnownNames27 =
     ((known_to names27).number space.Func (Written (codes "f")) ≡ Some 0)
@@ -49,8 +50,8 @@ KnownNames27 =
     × ((known_to names27).number space.Ty (Generated 1) ≡ None)
     × ((known_to no_names).number space.Func (Written (codes "f")) ≡ None)
 
--- `(module)` stays, and knows no name. In row 27 each index becomes a number, and no id is taken from the counter. A second type
--- `$t` is refused at its id, and the module keeps why. What holds no fields stays.
+-- `(module)` does not change, and has no names. In row 27 each index becomes a number, and no id is generated. A second
+-- type `$t` is an error at its id, and the module keeps it. Content without fields does not change.
 abbrev pub ResolvedModules : Type 0
 ResolvedModules = (a b c d e f : Address) (names : KnownNames) →
     let refusal = error_at (place 31) (fault.Duplicate (text c (codes "type"))) in

@@ -1,4 +1,5 @@
--- Worked modules with start fields put last, and what they mean, computed. A text may lie anywhere in memory.
+-- Example modules with start fields added at the end, and what they mean, as the prover computes it. They hold for
+-- texts at any addresses.
 use Rattle.std.specs.Prelude.{◌≡◌, List, [], ◌∷◌, ◌++◌, None, codes}
 use Rattle.wast_tree_nodes.specs.WorkedModules.{Address, by_id, by_number, row27}
 use Rattle.wast_resolve_rules.specs.Finished.{resolved_fields_from}
@@ -10,12 +11,13 @@ use Rattle.wast_core.specs.Meaning.{meaning}
 use Rattle.wast_core.specs.Tree.{ModuleField}
 use Rattle.wast_core.specs.WorkedMeanings.{HasBytes, one_type, one_func}
 
--- With start fields of numbers behind it, the resolved list means what the fields mean with them put last.
+-- With start fields of numbers after them, the resolved fields mean what the source means with these start fields at
+-- the end.
 abbrev pub MeansWithTwo : List ModuleField → Type 0
 MeansWithTwo fields = meaning None (with_start_fields 5 fields two_numbers) ≡ meaning None (fields ++ start_fields_of (numbers two_numbers))
 
--- `(module (type $t (func)) (func $f (type $t) call $f) (export "a" (func $f)) (start $f))`: the start section stands behind the
--- exports.
+-- `(module (type $t (func)) (func $f (type $t) call $f) (export "a" (func $f)) (start $f))`: the start section comes
+-- after the exports.
 abbrev pub Row27 : Type 0
 Row27 = (a b c d e f g : Address) →
     let fields = row27 a b c d e f in
@@ -27,7 +29,7 @@ Row27 = (a b c d e f g : Address) →
     × (meaning None (resolved_fields_from 5 fields ++ start_fields_of (by_number 0 80 ∷ [])) ≡ meaning None (fields ++ start_fields_of (by_id g (codes "f") 80 ∷ [])))
     × MeansWithTwo fields
 
--- `(module (tag $e) (func block $h try_table (catch $e $h) end end))`: its type is implied.
+-- `(module (tag $e) (func block $h try_table (catch $e $h) end end))`: its type is implicit.
 abbrev pub Row9 : Type 0
 Row9 = (a b c d : Address) → MeansWithTwo (catching a b c d)
 

@@ -1,4 +1,4 @@
-//! The data count section, which tells before the code how many segments of data there are.
+//! The data count section, which states the number of data segments before the code section.
 
 ghost use Rattle.std.specs.Prelude.{◌≡◌, All, IsTrue};
 ghost use Rattle.std.specs.List.{flat_map, list_any};
@@ -15,7 +15,7 @@ use wasm_ops::{Encode, Refusal, Sink, WithLength};
 use wast_core_ranges::{FieldKind, FieldRanges};
 use wast_tree_nodes::{FuncKind, Instruction, ModuleField};
 
-/// Whether one of these instructions needs a data count.
+/// Returns whether one of these instructions needs a data count.
 fn any_needs(instrs: &[Instruction]) -> bool
     ensures { result ≡ list_any needs_data_count instrs.now }
 {
@@ -24,7 +24,7 @@ fn any_needs(instrs: &[Instruction]) -> bool
         .any(|instruction| instruction.needs_data_count())
 }
 
-/// Whether a field is a function in whose body an instruction needs a data count.
+/// Returns whether a field is a function whose body has an instruction that needs a data count.
 fn body_needs_count(field: &ModuleField) -> bool
     ensures { result ≡ body_needs_count field.now }
 {
@@ -37,14 +37,14 @@ fn body_needs_count(field: &ModuleField) -> bool
     }
 }
 
-/// Whether a body of these fields needs a data count.
+/// Returns whether a body of these fields needs a data count.
 fn needs_count(fields: &[ModuleField]) -> bool
     ensures { result ≡ needs_count fields.now }
 {
     fields.iter().any(|field| body_needs_count(field))
 }
 
-/// The fields from the first function to the last.
+/// Returns the fields from the first function to the last.
 fn functions<'b, 'a>(fields: &'b [ModuleField<'a>], reaches: &FieldRanges) -> &'b [ModuleField<'a>]
     requires { IsTrue (are_reaches fields.now reaches.now) }
     ensures { needs_count result.now ≡ needs_count fields.now }
@@ -52,8 +52,8 @@ fn functions<'b, 'a>(fields: &'b [ModuleField<'a>], reaches: &FieldRanges) -> &'
     reaches.of_kind(FieldKind::Func).of(fields)
 }
 
-/// Whether a body of these fields needs a data count. It needs where in these fields the functions stand, and whether an
-/// index of a data segment stands in them: where none does, it does not walk over them.
+/// Returns whether a body of these fields needs a data count. Without an index of a data segment in
+/// the fields it does not walk them. Requires the ranges of these fields.
 fn is_counted(fields: &[ModuleField], reaches: &FieldRanges, has_data_index: bool) -> bool
     requires reaches { IsTrue (are_reaches fields.now reaches.now) }
     requires data { IsTrue (may_be_counted fields.now has_data_index) }
@@ -65,8 +65,8 @@ fn is_counted(fields: &[ModuleField], reaches: &FieldRanges, has_data_index: boo
     needs_count(functions(fields, reaches))
 }
 
-/// Appends the data count section, if a body needs it. It needs where in these fields those of each kind stand, and whether an
-/// index of a data segment stands in them.
+/// Appends the data count section, if a body needs it. Requires the ranges of these fields, and
+/// whether they have an index of a data segment.
 pub(crate) fn put_data_count<S: Sink>(
     fields: &[ModuleField],
     reaches: &FieldRanges,

@@ -1,4 +1,4 @@
-//! Custom sections at their places, and the one that stands for the names.
+//! Custom sections at their positions, and the test for one called `name`.
 
 ghost use Rattle.std.specs.Prelude.{◌≡◌, All, IsTrue, codes};
 ghost use Rattle.std.specs.List.{flat_map};
@@ -15,7 +15,7 @@ use wast_core_conv::Resolved;
 use wast_core_ranges::{FieldKind, FieldRanges};
 use wast_tree_nodes::{CustomPlace, ModuleField};
 
-/// The fields from the first to the last that put a custom section into a place.
+/// Returns the fields from the first to the last custom section at a position.
 fn custom_fields<'b, 'a>(
     place: CustomPlace,
     fields: &'b [ModuleField<'a>],
@@ -28,7 +28,7 @@ fn custom_fields<'b, 'a>(
     reaches.of_kind(FieldKind::Custom(place)).of(fields)
 }
 
-/// The custom section that a field puts into a place, where it does.
+/// The custom section of a field, if it is at this position.
 #[derive(Clone, Copy)]
 struct CustomOf(CustomPlace);
 
@@ -53,7 +53,8 @@ impl EncodeWith<ModuleField<'_>> for CustomOf {
     }
 }
 
-/// The custom sections of a place, in the order of the fields. It needs where in these fields those of each kind stand.
+/// Appends the custom sections at a position, in the order of the fields. Requires the ranges of
+/// these fields.
 pub(crate) fn put_customs<S: Sink>(
     place: CustomPlace,
     fields: &[ModuleField],
@@ -68,7 +69,7 @@ pub(crate) fn put_customs<S: Sink>(
     put_items(custom_fields(place, fields, reaches), CustomOf(place), out)
 }
 
-/// Whether a field is a custom section called `name`.
+/// Returns whether a field is a custom section called `name`.
 fn is_called_name(field: &ModuleField) -> bool
     ensures { result ≡ is_custom_called (codes "name") field.now }
 {
@@ -78,8 +79,8 @@ fn is_called_name(field: &ModuleField) -> bool
     }
 }
 
-/// Whether one of these fields is: then the names of the module are not written. It needs where in these fields those of each
-/// kind stand.
+/// Returns whether one of these fields is a custom section called `name`. The names of the module
+/// are not written then. Requires the ranges of these fields.
 pub(crate) fn has_own_names(fields: &[ModuleField], reaches: &FieldRanges) -> bool
     requires { IsTrue (are_reaches fields.now reaches.now) }
     ensures { result ≡ has_own_names fields.now }

@@ -26,15 +26,15 @@ use wast_resolve::{discard_names, resolved_laws};
 use wast_tree_nodes::{Custom, ModuleField};
 use wast_tree_visit::scan_for_encoding;
 
-/// The vector as it is: a proof knows of each item of a vector that a call answers that it is a byte.
+/// Returns the vector unchanged. It lets a proof use that each item of a returned vector is a byte.
 fn as_it_is(bytes: Vec<u8>) -> Vec<u8>
     ensures { result ≡ bytes }
 {
     bytes
 }
 
-/// How many bytes the field holds in pieces, up to the greatest `u64`: those of a data segment or of a
-/// custom section.
+/// Returns how many bytes the pieces of a data segment or a custom section have, at most the
+/// largest `u64`.
 fn pieces_length(field: &ModuleField) -> u64 {
     let mut sum = 0u64;
     match field {
@@ -53,8 +53,8 @@ fn pieces_length(field: &ModuleField) -> u64 {
     sum
 }
 
-/// Whether the pieces of the module have 4 GiB or more together. They can have more bytes than memory
-/// holds, because a slice may be in many pieces.
+/// Returns whether the pieces of the module have 4 GiB or more together. They can have more bytes
+/// than memory holds, because a slice may be in many pieces.
 fn is_huge(fields: &[ModuleField]) -> bool {
     let mut sum = 0u64;
     for field in fields {
@@ -63,8 +63,8 @@ fn is_huge(fields: &[ModuleField]) -> bool {
     sum > u64::from(u32::MAX)
 }
 
-/// Counts the bytes of a module without writing them, and refuses a module that is too large. It
-/// needs what writing them needs.
+/// Counts the bytes of a module without writing them, and fails if the module is too large.
+/// Requires what writing them requires.
 fn count_sections(
     fields: &[ModuleField],
     name: Option<&str>,
@@ -79,8 +79,8 @@ fn count_sections(
     put_sections(fields, name, has_data_index, &mut length)
 }
 
-/// The bytes of a module with this name, of these resolved fields. It needs names that are UTF-8, and whether an index of a data
-/// segment stands in the fields.
+/// Returns the bytes of a resolved module with this name. Requires names that are UTF-8, and
+/// whether the fields have an index of a data segment.
 fn encode_fields<'e>(
     alloc: Global,
     fields: &[ModuleField],
@@ -94,7 +94,8 @@ fn encode_fields<'e>(
     ensures refusal { IfErr result (IsRefused (IsWritable (text_seen name.entry) fields.now)) }
 {
     if is_huge(fields) {
-        // counted first, because 4 GiB would be written before a section is found to be too large
+        // Count first, because otherwise 4 GiB would be written before a section is found to be too
+        // large.
         count_sections(fields, name, has_data_index)?;
     }
     let mut bytes = Vec::new(alloc);
@@ -103,7 +104,7 @@ fn encode_fields<'e>(
     Ok(written)
 }
 
-/// Appends the bytes of a module with this name, of these resolved fields, to a sink, where each form is covered.
+/// Appends the bytes of a resolved module with this name to a sink, if each construct is supported.
 fn put_fields<'e, S: Sink>(
     fields: &[ModuleField],
     name: Option<&str>,
@@ -119,7 +120,7 @@ fn put_fields<'e, S: Sink>(
     }
 }
 
-/// The bytes of a module with this name, of these resolved fields, where each form is covered.
+/// Returns the bytes of a resolved module with this name, if each construct is supported.
 fn encode_covered<'e>(
     alloc: Global,
     fields: &[ModuleField],
@@ -138,7 +139,7 @@ fn encode_covered<'e>(
     }
 }
 
-/// The pieces of a binary module, one after another.
+/// Joins the pieces of a binary module.
 fn join<'e>(alloc: Global, pieces: &[&[u8]]) -> Result<Vec<u8>, Error<'e>>
     ensures bytes { IfOk result (λ v. v.items ≡ joined_pieces pieces.now) }
     ensures refusal { IfErr result (λ e. e ≡ out_of_memory) }
@@ -150,7 +151,8 @@ fn join<'e>(alloc: Global, pieces: &[&[u8]]) -> Result<Vec<u8>, Error<'e>>
     Ok(out)
 }
 
-/// The bytes of a module that is resolved, or the refusal that it keeps. The module cannot change.
+/// Returns the bytes of a module that is already resolved, or the error that it keeps. The module
+/// does not change.
 fn encode_resolved<'a>(alloc: Global, module: &Module<'a>) -> Result<Vec<u8>, Error<'a>>
     requires { IsAtRest «module».now.kind }
     ensures { EncodesResolved (name_of_module «module».now) «module».now.kind result }
@@ -163,7 +165,11 @@ fn encode_resolved<'a>(alloc: Global, module: &Module<'a>) -> Result<Vec<u8>, Er
     }
 }
 
-/// How modules are encoded: there is one way.
+/// The options of encoding. There are none yet.
+///
+/// # Example
+///
+///     let bytes = EncodeOptions::new().encode_module(alloc, module, gensym)?;
 #[derive(Clone, Copy, Debug)]
 pub struct EncodeOptions {}
 
@@ -176,20 +182,47 @@ impl Default for EncodeOptions {
 }
 
 impl EncodeOptions {
-    /// The one way to encode, as `default` gives it.
+    /// Returns the default options.
     pub fn new() -> Self {
         EncodeOptions::default()
     }
 
-    /// Resolves the module, and gives its bytes (binary format, modules).
+    /// Resolves the module and returns its binary encoding (binary format: modules).
     ///
-    /// It needs what [`Module::resolve`] needs. The bytes of a text module are read as what its fields mean, and as no other
-    /// ([`one_meaning`](crate::laws::one_meaning)). A refusal of resolving is answered and kept, and a refused module answers
-    /// what it keeps; a refusal of encoding leaves the module resolved: E11, first and without memory, exactly where a form
-    /// stands in the resolved fields that no encoder covers, and it names the first one; E10 where a count, length or position
-    /// is 2^32 or more, E12 where memory is refused. A binary module gives its
-    /// pieces, one after another, and stays as it is. The module is well formed afterwards, and its span, id and name stay. The
-    /// counter is left as [`Module::resolve`] leaves it.
+    /// Call it directly on a module from a parser. Calling [`Module::resolve`] first is only needed
+    /// to look up ids. Afterwards the module is resolved, and a second call returns the same bytes,
+    /// unless it returns E10 or E12 ([`at_rest`](crate::laws::at_rest)).
+    ///
+    /// # Example
+    ///
+    ///     let bytes = EncodeOptions::new().encode_module(alloc, module, gensym)?;
+    ///
+    /// For `(module (func))` the bytes are `00 61 73 6d 01 00 00 00`, a type section `01 04 01 60
+    /// 00 00`, a function section `03 02 01 00` and a code section `0a 04 01 02 00 0b`.
+    ///
+    /// # Requires
+    ///
+    /// As [`Module::resolve`]: a well-formed module, and an id counter past its generated ids.
+    ///
+    /// # Errors
+    ///
+    /// - An error of [`Module::resolve`]. The module keeps it.
+    /// - E11: the resolved module has a construct that the encoder does not support. It names the
+    ///   first one, and is returned before anything is allocated for the encoding.
+    /// - E10: a count, length or position does not fit in 32 bits, or the bytes do not fit in a
+    ///   `usize`.
+    /// - E12: allocation failed.
+    ///
+    /// After E10, E11 and E12 from encoding the module stays resolved, so a caller can report
+    /// `first_uncovered` of `wast_tree`, which has a position.
+    ///
+    /// # Guarantees
+    ///
+    /// - `answer`: the formal grammar of the binary format reads the bytes as the sections that the
+    ///   definition `meaning` has for the module as it was before the call. By
+    ///   [`one_meaning`](crate::laws::one_meaning) it reads them as no other module. A binary
+    ///   module returns its pieces, joined, whatever they contain.
+    /// - `stays` and `ready`: as [`Module::resolve`].
     pub fn encode_module<'a>(
         &self,
         alloc: Global,
@@ -206,13 +239,33 @@ impl EncodeOptions {
         encode_resolved(alloc, module)
     }
 
-    /// Appends the bytes of a resolved text module to a sink (binary format, modules). It takes no memory of its own.
+    /// Appends the bytes of a resolved text module to a sink (binary format: modules).
     ///
-    /// It needs a text module at rest: nothing stands in place in it, its indices are numbers, and each type use has
-    /// one, but that of a block with a short type. A text module that [`Module::resolve`] did not refuse is so, as its
-    /// clause `at_rest` tells. E11 comes exactly where a form in its fields is not covered, and names the first one.
-    /// Else the errors are the sink's refusal, where all the bytes do not fit, and E10, where a count, length or
-    /// position is 2^32 or more. Then the sink stays as it was.
+    /// # Example
+    ///
+    ///     let mut length = Length::new();
+    ///     assert!(rt; options.put_module(&module, &mut length).is_ok() && length.count() == 52);
+    ///     let mut out = Vec::new(alloc);
+    ///     assert!(rt; options.put_module(&module, &mut out).is_ok());
+    ///
+    /// # Requires
+    ///
+    /// A text module on which [`Module::resolve`] succeeded (its clause `at_rest`). So inline
+    /// exports, imports, elements and data are fields, indices are numbers, and each type use has
+    /// an index unless it is a short block type.
+    ///
+    /// # Errors
+    ///
+    /// After an error the sink is as it was.
+    ///
+    /// - E11: the module has an unsupported construct. It names the first one. If there is one, no
+    ///   other error is returned.
+    /// - The error of the sink, only if the bytes do not fit in it.
+    /// - E10, only if a count, length or position does not fit in 32 bits.
+    ///
+    /// # Memory
+    ///
+    /// Allocates nothing, except in the sink.
     pub fn put_module<'e, S: Sink>(self, module: &Module, out: &mut S) -> Result<(), Error<'e>>
         requires { IsTextAtRest «module».now.kind }
         ensures { PutsModule S.rules (name_of_module «module».now) «module».now.kind out.old out.new result }
@@ -226,7 +279,11 @@ impl EncodeOptions {
 }
 
 impl<'a> Module<'a> {
-    /// [`EncodeOptions::encode_module`] of the options as they are, with the same needs.
+    /// Encodes the module with the default options, as [`EncodeOptions::encode_module`] does.
+    ///
+    /// # Example
+    ///
+    ///     let first = module.encode(alloc, &mut gensym);
     pub fn encode(&mut self, alloc: Global, gensym: &mut Gensym) -> Result<Vec<u8>, Error<'a>>
         requires { IsReady self.old gensym.old }
         ensures answer { Encodes self.old gensym.old result self.new gensym.new }

@@ -1,4 +1,4 @@
-//! What fields put into the sections that are lists.
+//! The entries that fields have in the sections that are lists.
 
 ghost use Rattle.std.specs.Prelude.{◌≡◌, length, List, All, IfSome, IsNone, IsTrue};
 ghost use Rattle.std.specs.List.{flat_map};
@@ -19,7 +19,7 @@ use wast_core_conv::{RecOrType, Resolved};
 use wast_core_ranges::{FieldKind, FieldRange, FieldRanges};
 use wast_tree_nodes::ModuleField;
 
-/// Whether a field puts an entry into the section of a kind.
+/// Returns whether a field has an entry in the section of a kind.
 fn puts(kind: SectionKind, field: &ModuleField) -> bool
     ensures { result ≡ can_contribute (section_kind kind) field.now }
 {
@@ -37,7 +37,7 @@ fn puts(kind: SectionKind, field: &ModuleField) -> bool
     }
 }
 
-/// How many entries a field puts into the section of a kind: at most one.
+/// Returns how many entries a field has in the section of a kind: none or one.
 fn entries_of(kind: SectionKind, field: &ModuleField) -> u32
     ensures { result ≡ length (entries_in (section_kind kind) field.now) }
 {
@@ -47,7 +47,7 @@ fn entries_of(kind: SectionKind, field: &ModuleField) -> u32
     0
 }
 
-/// Appends the entry of a field to the section of a kind, where it has one.
+/// Appends the entry of a field to the section of a kind, if it has one.
 fn put_entry<S: Sink>(kind: SectionKind, field: &ModuleField, out: &mut S) -> Result<(), Refusal>
     requires { IsTrue (is_encodable_field field.now) }
     ensures { Writes S.rules (All (InRangeEntry (section_kind kind)) (entries_in (section_kind kind) field.now))
@@ -82,7 +82,7 @@ fn put_entry<S: Sink>(kind: SectionKind, field: &ModuleField, out: &mut S) -> Re
     }
 }
 
-/// What a field puts into the section of this kind.
+/// The entry of a field in the section of this kind.
 #[derive(Clone, Copy)]
 struct EntriesOf(SectionKind);
 
@@ -98,7 +98,7 @@ impl EncodeWith<ModuleField<'_>> for EntriesOf {
     }
 }
 
-/// How many entries the section of a kind has, where these are less than 2^32.
+/// Returns how many entries the section of a kind has, if these are less than 2^32.
 fn count(kind: SectionKind, fields: &[ModuleField]) -> Option<u32>
     ensures some { IfSome result (λ n. n ≡ length (entries (section_kind kind) fields.now)) }
     ensures none { IsNone result → InRangeU32 (length (entries (section_kind kind) fields.now)) → ⊥ }
@@ -113,7 +113,7 @@ fn count(kind: SectionKind, fields: &[ModuleField]) -> Option<u32>
     Some(sum)
 }
 
-/// Where the fields stand that put something into the section of a kind.
+/// Returns the range of the fields that have an entry in the section of a kind.
 fn reach_of(kind: SectionKind, reaches: &FieldRanges) -> FieldRange
     ensures { (fields : List ModuleField) → IsTrue (are_reaches fields reaches.now)
         → IsTrue (is_reach (can_contribute (section_kind kind)) fields result) }
@@ -135,7 +135,7 @@ fn reach_of(kind: SectionKind, reaches: &FieldRanges) -> FieldRange
     }
 }
 
-/// The fields from the first to the last that put something into the section of a kind.
+/// Returns the fields from the first to the last that has an entry in the section of a kind.
 fn section_fields<'b, 'a>(
     kind: SectionKind,
     fields: &'b [ModuleField<'a>],
@@ -148,7 +148,7 @@ fn section_fields<'b, 'a>(
     reach_of(kind, reaches).of(fields)
 }
 
-/// The fields from the first start field to the last.
+/// Returns the fields from the first start field to the last.
 pub(crate) fn start_fields<'b, 'a>(
     fields: &'b [ModuleField<'a>],
     reaches: &FieldRanges,
@@ -160,8 +160,8 @@ pub(crate) fn start_fields<'b, 'a>(
     reaches.of_kind(FieldKind::Start).of(fields)
 }
 
-/// How many entries the section of a kind has, where these are less than 2^32. It needs where in these fields those of each
-/// kind stand.
+/// Returns how many entries the section of a kind has, if these are less than 2^32. Requires the
+/// ranges of these fields.
 pub(crate) fn count_of(
     kind: SectionKind,
     fields: &[ModuleField],
@@ -174,7 +174,7 @@ pub(crate) fn count_of(
     count(kind, section_fields(kind, fields, reaches))
 }
 
-/// The section of a kind, where it has entries. It needs where in these fields those of each kind stand.
+/// Appends the section of a kind, if it has entries. Requires the ranges of these fields.
 pub(crate) fn put_section<S: Sink>(
     kind: SectionKind,
     fields: &[ModuleField],
@@ -197,7 +197,7 @@ pub(crate) fn put_section<S: Sink>(
     put_listed(there, EntriesOf(kind), id, count, out)
 }
 
-/// The start section of a field, where it is a start field.
+/// The start section of a field, if it is a start field.
 #[derive(Clone, Copy)]
 struct StartOf;
 
@@ -216,7 +216,7 @@ impl EncodeWith<ModuleField<'_>> for StartOf {
     }
 }
 
-/// The start sections, one for each start field.
+/// Appends the start sections, one for each start field.
 pub(crate) fn put_starts<S: Sink>(fields: &[ModuleField], out: &mut S) -> Result<(), Refusal>
     requires { IsTrue (is_encodable fields.now) }
     ensures { Writes S.rules (All InRangePart (flat_map starts_in fields.now))

@@ -1,4 +1,4 @@
-//! Worked modules, whose meaning the definitions compute.
+//! Example modules whose meaning the prover computes.
 
 ghost use Rattle.wast_core.specs.WorkedMeanings.{Row1, Row2, Row8, Row24, Row27, AnnotatedFunction, SecondNamed, LongSection};
 ghost use Rattle.wast_core.specs.WorkedAbbreviations.{Row4, Row5, Row6, Row44};
@@ -13,9 +13,9 @@ ghost use Rattle.wast_core.specs.WorkedResolving.{ReadyModules, KnownNames27, Re
 ghost use Rattle.wast_core.specs.WorkedAgain as again;
 ghost use Rattle.wast_core.specs.WorkedFinite.{GeneratedIsWritten};
 
-/// The modules of the rows 1 and 27 are bounded and read from their bytes; an implied type is written without a
-/// name, also beside a group; a written number stays; a name annotation stands before an id; an item without a name
-/// counts; and a length takes two bytes from 128 on.
+/// Computes the bytes of small modules. An implicit type definition is written without a name, also
+/// after a recursion group. A number from the source stays. A name annotation is used before an id.
+/// An item without a name is counted. A length of 128 or more takes two bytes.
 pub(crate) fn worked_modules()
     ensures row1 { Row1 }
     ensures row2 { Row2 }
@@ -27,8 +27,9 @@ pub(crate) fn worked_modules()
     ensures long { LongSection }
 {}
 
-/// Imported tables, memories and globals are told with their types; a passive segment of data tells that it is one, and an
-/// active one its offset; segments of elements have the form of their kind; and each start field is a section of its own.
+/// Computes entries of sections. Imported tables, memories and globals have their types. A passive
+/// data segment has its own flag, and an active one its offset. An element segment has the flags of
+/// its kind. Each start field is a section of its own.
 pub(crate) fn worked_entries()
     ensures imports { ImportedEntities }
     ensures data { MemoryAndData }
@@ -36,8 +37,8 @@ pub(crate) fn worked_entries()
     ensures starts { TwoStarts }
 {}
 
-/// Exports, elements and data in place stand in their sections, and refer to the position of their item; a memory has as
-/// many pages as hold its bytes, and a table as many elements.
+/// Computes inline forms. Inline exports, elements and data are in their sections, and refer to the
+/// index of their item. A memory has as many pages as its bytes need, and a table as many elements.
 pub(crate) fn worked_abbreviations()
     ensures row4 { Row4 }
     ensures row5 { Row5 }
@@ -45,24 +46,26 @@ pub(crate) fn worked_abbreviations()
     ensures row44 { Row44 }
 {}
 
-/// Where a body needs it, a data count stands before the code, and tells how many segments of data there are, be there none;
-/// where no body needs it, there is none.
+/// Computes data count sections. If a body needs one, it is before the code section, with the
+/// number of data segments, even if that is 0. If no body needs one, there is none.
 pub(crate) fn worked_counts()
     ensures counted { CountedData }
     ensures none { CountedNone }
     ensures uncounted { UncountedData }
 {}
 
-/// A label is told by how many blocks stand open within its own, and each block that has a label gives it a name, in the
-/// order in which they begin; an `end` that closes no block is written as it stands.
+/// Computes labels. A label becomes the number of enclosing blocks inside its own block. Each
+/// labelled block has a name, in the order in which the blocks begin. An `end` that closes no block
+/// is written like any other.
 pub(crate) fn worked_blocks()
     ensures row28 { Row28 }
     ensures row55 { Row55 }
     ensures row56 { Row56 }
 {}
 
-/// A custom section stands beside the place of a section that is not written, where its place says and not where the text
-/// has it; one called `name` leaves out the names; and producers and what a linker wants have their own bytes.
+/// Computes custom sections. A custom section is before or after the section that its anchor names,
+/// even if that section is left out. One called `name` replaces the name section. Producers
+/// sections and `dylink.0` have their own bytes.
 pub(crate) fn worked_customs()
     ensures own_names { OwnNames }
     ensures row29 { Row29 }
@@ -71,22 +74,23 @@ pub(crate) fn worked_customs()
     ensures row53 { Row53 }
 {}
 
-/// The offset of a branch hint counts the locals of its body and the instructions before its own, and imported functions are
-/// counted in the index of the function.
+/// Computes branch hints. The offset of a hint counts the locals of its body and the instructions
+/// before its own. Imported functions are counted in the index of the function.
 pub(crate) fn worked_hints()
     ensures row11 { Row11 }
     ensures row54 { Row54 }
 {}
 
-/// With `r` before each name the bytes before the names are the same, and the names have their `r`.
+/// Computes renamed modules. With `r` before each name, the bytes before the name section are the
+/// same, and the names have their `r`.
 pub(crate) fn worked_fronts()
     ensures row27 { fronts.Row27 }
     ensures row9 { fronts.Row9 }
     ensures row48 { fronts.Row48 }
 {}
 
-/// A start field that is put last has its section behind the exports, and the resolved list with the number of its function
-/// means the same.
+/// Computes added start fields. A start field at the end has its section after the exports. The
+/// resolved fields with the number of its function mean the same.
 #[tactic(auto, using(crate::proofs::StartsComputed::row9, crate::proofs::StartsComputed::row48))]
 pub(crate) fn worked_starts()
     ensures row27 { started.Row27 }
@@ -94,17 +98,17 @@ pub(crate) fn worked_starts()
     ensures row48 { started.Row48 }
 {}
 
-/// A module is ready where it is well formed and the counter stands above its generated ids; and resolving leaves numbers, or
-/// keeps why it refused.
+/// Computes what resolving returns. A module can be resolved if it is well formed and the counter
+/// is past its generated ids. Resolving leaves numbers, or keeps the error.
 pub(crate) fn worked_resolving()
     ensures ready { ReadyModules }
     ensures names { KnownNames27 }
     ensures resolved { ResolvedModules }
 {}
 
-/// A second call changes no field and no counter, and gives the same bytes. For example, row 27
-/// after a first call has numbers for indices, and a second call with another counter leaves these
-/// and gives the bytes of the first.
+/// Computes second calls. A second call changes no field and no counter, and returns the same
+/// bytes. For example, row 27 after a first call has numbers for indices. A second call with
+/// another counter leaves these, and returns the bytes of the first.
 pub(crate) fn worked_again()
     ensures resolved { again.ResolvedAgain }
     ensures encoded { again.EncodedAgain }
@@ -112,9 +116,9 @@ pub(crate) fn worked_again()
     ensures row48 { again.Row48 }
 {}
 
-/// A finite map sends a generated name to a written one. For example, the function of `(module
-/// (func (export "a")))` gets a generated id, which a map of one entry sends to `$f`: only the name
-/// section of the bytes changes.
+/// Computes a renaming by a finite map, which maps a generated name to a source name. For example,
+/// the function of `(module (func (export "a")))` gets a generated id. A map of one entry maps it
+/// to `$f`, and only the name section of the bytes changes.
 pub(crate) fn worked_finite_names()
     ensures { GeneratedIsWritten }
 {}

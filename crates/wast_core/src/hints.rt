@@ -1,4 +1,4 @@
-//! The section of branch hints, which tells before the code where in a body an instruction with a hint begins.
+//! The section of branch hints, which is before the code section.
 
 ghost use Rattle.std.specs.Prelude.{◌≡◌, ◌+◌, Bool, List, ◌∷◌, [], length, Option, All, IsNone, IsTrue, IfOk, IfSome};
 ghost use Rattle.std.specs.List.{flat_map, list_all};
@@ -19,7 +19,7 @@ use wast_core_conv::BodyHints;
 use wast_core_ranges::{FieldKind, FieldRanges};
 use wast_tree_nodes::{FuncKind, ImportItems, Imports, ModuleField};
 
-/// The fields from the first to the last that hold a function.
+/// Returns the fields from the first function to the last, imports included.
 fn function_fields<'b, 'a>(
     fields: &'b [ModuleField<'a>],
     reaches: &FieldRanges,
@@ -32,7 +32,7 @@ fn function_fields<'b, 'a>(
     reaches.of_kind(FieldKind::Func).union(imports).of(fields)
 }
 
-/// Whether a function has hints.
+/// Returns whether a function has hints.
 fn has_hints(kind: &FuncKind) -> bool
     ensures { result ≡ has_hints kind.now }
 {
@@ -42,7 +42,7 @@ fn has_hints(kind: &FuncKind) -> bool
     }
 }
 
-/// How many functions of a field have hints: at most one.
+/// Returns how many functions of a field have hints: none or one.
 fn hinted_in(field: &ModuleField) -> u32
     ensures { result ≡ length (named_from 0 (functions_in field.now)) }
 {
@@ -52,7 +52,7 @@ fn hinted_in(field: &ModuleField) -> u32
     }
 }
 
-/// How many functions of these fields have hints, where these are less than 2^32.
+/// Returns how many functions of these fields have hints, if these are less than 2^32.
 fn count(fields: &[ModuleField]) -> Option<u32>
     ensures some { IfSome result (λ n. n ≡ length (hinted_functions fields.now)) }
     ensures none { IsNone result → InRangeU32 (length (hinted_functions fields.now)) → ⊥ }
@@ -67,7 +67,8 @@ fn count(fields: &[ModuleField]) -> Option<u32>
     Some(sum)
 }
 
-/// How many functions an import makes: one, or none. It needs an import that is no group.
+/// Returns how many functions an import defines: none or one. Requires an import that is not a
+/// group.
 fn imported(imports: &Imports) -> u64
     requires { IsTrue (is_encodable_import imports.now) }
     ensures { result ≡ length (flat_map imported_func (item_sigs imports.now.items)) }
@@ -78,8 +79,8 @@ fn imported(imports: &Imports) -> u64
     }
 }
 
-/// Appends the hints of a function at its index, where it has some, and answers the index behind it. From 2^32 on, an index is
-/// out of range.
+/// Appends the hints of a function at its index, if it has some, and returns the next index. From
+/// 2^32 on, an index is out of range.
 fn put_function<S: Sink>(kind: &FuncKind, index: u64, out: &mut S) -> Result<u64, Refusal>
     requires { IsTrue (are_encodable_hints kind.now) }
     ensures written { WritesItems S.rules hinted_function InRangeHinted (if_hinted kind.now ∷ []) index out.old out.new result }
@@ -96,17 +97,17 @@ fn put_function<S: Sink>(kind: &FuncKind, index: u64, out: &mut S) -> Result<u64
     Ok(next)
 }
 
-/// A field of a module, by the hints of its functions. Who goes through a list of fields is generic in the field: a proof would
-/// else compare the type of a list of fields with itself.
+/// A field whose hints are written. It is a trait, because a proof would otherwise compare the type
+/// of a list of fields with itself.
 trait PutHints {
-    /// Its functions, those without hints too.
+    /// The functions of the field, with and without hints.
     ghost functions: { Self → List (Option HintedBody) };
 
-    /// Their hints can be appended.
+    /// Whether the hints can be encoded.
     ghost is_ready: { Self → Bool };
 
-    /// Appends the hints of its functions, the first of which stands at an index, and answers the index behind the last. It takes
-    /// no memory but the sink's.
+    /// Appends the hints of its functions, numbered from an index on, and returns the next index.
+    /// Allocates nothing, except in the sink.
     fn put_hints<S: Sink>(&self, index: u64, out: &mut S) -> Result<u64, Refusal>
         requires { IsTrue (is_ready self.now) }
         ensures written { WritesItems S.rules hinted_function InRangeHinted (functions self.now) index out.old out.new result }
@@ -127,7 +128,7 @@ impl PutHints for ModuleField<'_> {
     }
 }
 
-/// The hints of the functions of these fields, each behind its index.
+/// The hints of the functions of these fields, each after its index.
 #[derive(Clone, Copy)]
 struct EachHint<'b, F>(&'b [F]);
 
@@ -154,7 +155,8 @@ impl<F: PutHints> Encode for EachHint<'_, F> {
     }
 }
 
-/// Appends the section of the hints of these fields, where a function has some. It needs how many functions have hints.
+/// Appends the section of the hints of these fields, if a function has some. Requires the number of
+/// functions that have hints.
 fn put_counted<'b, F: PutHints, S: Sink>(
     fields: &'b [F],
     count: u32,
@@ -172,7 +174,8 @@ fn put_counted<'b, F: PutHints, S: Sink>(
     (0u8, WithLength(payload)).encode(out)
 }
 
-/// The section of branch hints, where a function has some. It needs where in these fields those of each kind stand.
+/// Appends the section of branch hints, if a function has some. Requires the ranges of these
+/// fields.
 pub(crate) fn put_hints<S: Sink>(
     fields: &[ModuleField],
     reaches: &FieldRanges,

@@ -1,5 +1,7 @@
-//! Lists whose items are spelled in a way. They are made into values of the binary format by functions that are generic in an
-//! item: a proof would else compare the type of a list of fields with itself.
+//! Lists of items that are written one after another.
+//!
+//! The functions are generic in the item, because a proof would otherwise compare the type of a
+//! list of fields with itself.
 
 ghost use Rattle.std.specs.Prelude.{◌++◌, length, All, IsTrue};
 ghost use Rattle.std.specs.List.{flat_map, list_all};
@@ -22,7 +24,7 @@ pub(crate) fn put_items<'b, T, W: EncodeWith<T> + Copy, S: Sink>(
     Each(items, way).encode(out)
 }
 
-/// Appends the items as a section of this id, behind its length and a count.
+/// Appends the items as a section with this id, after its length and a count.
 pub(crate) fn put_listed<'b, T, W: EncodeWith<T> + Copy, S: Sink>(
     items: &'b [T],
     way: W,

@@ -1,4 +1,4 @@
-//! Laws of text modules, for callers to cite.
+//! Theorems about text modules, for callers' proofs. The functions do nothing when they run.
 
 ghost use Rattle.std.specs.Prelude.{◌≡◌, ℕ, List};
 ghost use Rattle.wasm_out.specs.Parts.{Part};
@@ -16,10 +16,17 @@ use wasm_out::reading_laws;
 use wast_resolve::laws::naming_laws;
 use wast_resolve::resolved_laws;
 
-/// Bytes have one meaning, and a meaning has one spelling (binary format, modules): no bytes are read as two lists of parts, and
-/// no list of parts is read from two lists of bytes. So the bytes that
-/// [`EncodeOptions::encode_module`](crate::EncodeOptions::encode_module) gives are read as what the module means and as no other,
-/// and no other bytes are read as it. It does nothing.
+/// Bytes are the encoding of one module only, and a module has one encoding (binary format:
+/// modules).
+///
+/// So the grammar reads the bytes that
+/// [`EncodeOptions::encode_module`](crate::EncodeOptions::encode_module) returns as what the module
+/// means, as no other module, and it reads no other bytes as this module.
+///
+/// # Guarantees
+///
+/// - `one_module`: no bytes are read as two lists of parts.
+/// - `one_spelling`: no list of parts is read from two lists of bytes.
 pub fn one_meaning()
     ensures one_module { (bytes : List ℕ) (p q : List Part) → Reads bytes p → Reads bytes q → p ≡ q }
     ensures one_spelling { (b c : List ℕ) (p : List Part) → Reads b p → Reads c p → b ≡ c }
@@ -27,62 +34,70 @@ pub fn one_meaning()
     reading_laws();
 }
 
-/// What resolving leaves of a text module is what the module means (binary format, modules): where the counter begins above
-/// the ids of the fields and each demand is met, the parts of the list with the ids that the counter gives are those of the
-/// list by positions, in which no id is made. It does nothing.
+/// The meaning of a module does not depend on the counter that resolved it (binary format:
+/// modules).
+///
+/// If every check passes and the counter is past the ids of the fields, the parts of the resolved
+/// fields are those of `meaning`. That definition numbers items by position and generates no ids.
 pub fn meaning_law()
     ensures { MeansWhatIsWritten }
 {
     resolved_laws();
 }
 
-/// Fields that are too large to be resolved are too large to be encoded: where a space has 2^32 items or more, a struct as
-/// many fields, a function as many parameters and locals, an expression as many open blocks, or a memory as many bytes in
-/// place, or where the counter would run out, the module is not bounded. So resolving and encoding answer E10 only where it
-/// is not bounded. It does nothing.
+/// Fields that are too large to resolve are also too large to encode.
+///
+/// So a caller that knows that a module is bounded (`IsBounded`) knows that neither resolving nor
+/// encoding returns E10. For example, a module with 2^32 functions is not bounded, and neither is
+/// one with so many locals in a function.
 pub fn bounded_law()
     ensures { TooLargeIsUnbounded }
 {}
 
-/// Each custom section stands in one place of a module alone, which is its own (text format, custom annotations): so in what
-/// a module means each field of that kind has one part, and those of one place stand in the order of the fields. It does
-/// nothing.
+/// Each custom section has one position in a module (text format: custom annotations).
+///
+/// So each custom section occurs once in the encoding. Custom sections with the same position are
+/// in the order of the fields.
 pub fn customs_law()
     ensures { CustomsStandOnce }
 {}
 
-/// Branch hints point at their instructions (branch hinting): where bytes are read as the parts of fields, as those of
-/// [`EncodeOptions::encode_module`](crate::EncodeOptions::encode_module) are read as what the module means, the offset of each hint,
-/// counted from the first byte behind the size of the body in the code section, is where the spelling of its instruction begins;
-/// and the section of hints has the function by its index. It does nothing.
+/// Branch hints point at their instructions (branch hinting).
+///
+/// The theorem is about bytes that are read as the parts of some fields, as those of
+/// [`EncodeOptions::encode_module`](crate::EncodeOptions::encode_module) are. The offset of a hint
+/// counts from the first byte after the size of the body in the code section. At this offset the
+/// instruction of the hint begins. The section of hints has the function by its index.
 pub fn hint_places()
     ensures { HintsPointAtInstructions }
 {}
 
-/// Other names change nothing but names (text format, identifiers). If each id of a module gets
-/// another name, at its position, and no two names become one, then:
+/// Renaming ids changes nothing but names (text format: identifiers).
 ///
-/// - resolving succeeds for both or fails for both. The first failed check has the same error at
-///   the same position, because checks compare names and do not read them; an error that tells a
-///   name tells what the name of an id there becomes (`answer`);
-/// - both have as many items, fields of structs, parameters, locals and open blocks (`counts`), as
-///   many ids are generated (`filled`), and E10 for resolving is possible for both or for neither
-///   (`large`);
-/// - both have the same unsupported constructs in the same order, so E11 comes for both or for
-///   neither, and names the same one (`uncovered`);
-/// - the parts before the name section are the same, so the bytes that
-///   [`EncodeOptions::encode_module`](crate::EncodeOptions::encode_module) gives begin alike, each
-///   with its own name section after them (`parts`, `bytes`).
+/// Each id of a module gets another name at the same position, and no two names become the same.
+/// Then:
 ///
-/// The same is so of what `deinline::run` writes from a counter above the ids of the fields: it
-/// gives the same answer, and if each check passes, it has the same unsupported constructs and the
-/// same parts before its names, as it is and with other names, for example with written names for
-/// the ids that the counter gave (the `written` clauses).
+/// - Resolving succeeds for both or fails for both. The first failed check has the same error at
+///   the same position, because checks compare names and do not read them. An error that has a name
+///   has the new name of an id there (`answer`).
+/// - Both have as many items, fields of structs, parameters, locals and enclosing blocks
+///   (`counts`). As many ids are generated (`filled`). E10 from resolving is possible for both or
+///   for neither (`large`).
+/// - Both have the same unsupported constructs in the same order. So E11 comes for both or for
+///   neither, and names the same construct (`uncovered`).
+/// - The parts before the name section are the same. So the bytes that
+///   [`EncodeOptions::encode_module`](crate::EncodeOptions::encode_module) returns begin the same,
+///   each with its own name section after them (`parts`, `bytes`).
 ///
-/// A caller gives the other names as a finite map, such as that of the names of one tree.
-/// `extended` makes a map of all names of it (`injective`, `agrees`), and `renaming_by` gives each
-/// id its other name; if `is_injective` of the map is true, that is a renaming of which all this
-/// holds (`finite`). It does nothing.
+/// The same holds for what `deinline::run` produces from a counter past the ids of the fields: it
+/// has the same result. If each check passes, it also has the same unsupported constructs and the
+/// same parts before its names. This is so with its generated ids and with other names for them,
+/// for example with source ids (the `written` clauses).
+///
+/// A caller describes the other names by a finite map, for example from the names of one tree.
+/// `extended` makes a map of all names of it (`injective`, `agrees`), and `renaming_by` renames
+/// each id. If `is_injective` of the map is true, that is a renaming for which all of this holds
+/// (`finite`).
 pub fn renaming()
     ensures answer { RenamedAnswer }
     ensures counts { RenamedCounts }

@@ -1,4 +1,37 @@
-//! Modules of the text format, and their encoding as binary modules.
+//! Resolves and encodes modules of the WebAssembly text format.
+//!
+//! This is the crate that callers use: they take a module from a parser, or build one with
+//! `wast_tree`, and encode it here.
+//!
+//! # Example
+//!
+//!     let names = module.resolve(alloc, gensym)?;
+//!
+//! The program `crates/wast_core_example` builds a module, resolves ids in it and prints its bytes.
+//! To encode a module, one call is enough:
+//!
+//!     let bytes = EncodeOptions::new().encode_module(alloc, module, gensym)?;
+//!
+//! # Modules
+//!
+//! - `module` has [`Module`] and [`Module::resolve`]. `wat` has [`Wat`]: a module or a component.
+//! - `encode` has [`EncodeOptions`], and `spelled` has [`Encode`].
+//! - `sections` writes a whole module, in the order of sections that `slots` defines. `entries`,
+//!   `counts`, `customs` and `hints` write single kinds of sections, and `items` their lists.
+//! - [`laws`] and `rests` have theorems about modules, for callers' proofs. `utf8_names` has one
+//!   for this crate.
+//! - `examples` has example modules whose meaning the prover computes.
+//!
+//! The rules are in `specs/`: `Headline` has the contracts, `Meaning` defines the sections of a
+//! module, and `Bounded` when a module is too large.
+//!
+//! # Guarantees
+//!
+//! - [`Module::resolve`], `answer`: it succeeds only if every check of resolving passes. An error
+//!   is that of the first check that fails, or E10 or E12.
+//! - [`EncodeOptions::encode_module`], `answer`: the grammar of the binary format reads the bytes
+//!   of a text module as what the module means.
+//! - [`one_meaning`]: it reads the bytes as no other module.
 #![tactic(auto)]
 
 mod counts;

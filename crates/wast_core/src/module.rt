@@ -1,4 +1,4 @@
-//! Modules of the text format.
+//! Modules of the text format, and how they are resolved.
 
 ghost use Rattle.std.specs.Prelude.{◌≡◌, ◌<◌, ◌≤◌, Some, None, is_none, OnOk, IsTrue};
 ghost use Rattle.wast_base.specs.Ids.{text_start};
@@ -15,18 +15,22 @@ use wast_resolve::{Names, resolved_laws};
 use wast_tree_nodes::{ModuleField, discard_fields};
 use wast_tree_visit::{gensym_bound, ill_formed, well_formed};
 
-/// What a module holds.
+/// The content of a module.
+///
+/// # Example
+///
+///     let kind = ModuleKind::Text(fields(alloc, start)?);
 #[derive(Drop)]
 pub enum ModuleKind<'a> {
-    /// Fields in the text format.
+    /// The fields of a text module.
     Text(Seq<ModuleField<'a>>),
-    /// A binary module, as pieces of its bytes: `(module binary "..")`.
+    /// The pieces of the bytes of a binary module: `(module binary "..")`.
     Binary(Seq<&'a [u8]>),
-    /// Nothing any more: resolving refused the fields, and this is why.
+    /// The error of an earlier [`Module::resolve`]. The fields are gone.
     Refused(Error<'a>),
 }
 
-/// Tells fields, one after another.
+/// Writes fields for `Debug`, one after another.
 fn tell_fields<W: fmt::Write>(
     fields: &[ModuleField<'_>],
     f: &mut fmt::Formatter<W>,
@@ -51,23 +55,34 @@ impl Debug for ModuleKind<'_> {
     }
 }
 
-/// A module: `(module $m ..)`.
+/// A module: `(module $m ..)` (text format: modules).
+///
+/// # Example
+///
+///     let mut module = Module {
+///         span: at(1),
+///         id: None,
+///         name: None,
+///         kind,
+///     };
 #[derive(Debug, Drop)]
 pub struct Module<'a> {
-    /// The place of its keyword.
+    /// The position of the keyword `module`.
     pub span: Span,
-    /// Its id.
+    /// The id of the module, if it has one.
     pub id: Option<Id<'a>>,
-    /// Its name annotation.
+    /// The `@name` annotation of the module, if it has one.
     pub name: Option<NameAnnotation<'a>>,
-    /// What it holds.
+    /// The content of the module.
     pub kind: ModuleKind<'a>,
 }
 
 impl<'a> Module<'a> {
-    /// A module of these fields, at the start of the text, without an id and a name annotation (text format, modules).
+    /// Returns a module with these fields, without an id and without a name (text format: modules).
+    /// Its position is the start of the text.
     ///
-    /// It takes no memory, and is ready to be resolved where the fields are.
+    /// For example, the module of no fields is `(module)`, and its bytes are `00 61 73 6d 01 00 00
+    /// 00`.
     pub fn new(fields: Seq<ModuleField<'a>>) -> Self
         ensures { result ≡ record { span = text_start; id = None; name = None; kind = module_kind.Text fields.entry } }
     {
@@ -79,7 +94,8 @@ impl<'a> Module<'a> {
         }
     }
 
-    /// The module with a name annotation (text format, custom annotations). It takes no memory.
+    /// Returns the module with a `@name` annotation (text format: custom annotations). For example,
+    /// `with_name("m")` makes `(module (@name "m"))` of `(module)`.
     pub fn with_name(self, name: &'a str) -> Self
         ensures { result ≡ record self.entry { name = Some (record { name = name.entry }) } }
     {
@@ -87,16 +103,21 @@ impl<'a> Module<'a> {
         Module { name, ..self }
     }
 
-    /// The module at a place, that of its keyword. It takes no memory.
+    /// Returns the module with this position of its keyword.
     pub fn with_span(self, span: Span) -> Self
         ensures { result ≡ record self.entry { span = span } }
     {
         Module { span, ..self }
     }
 
-    /// Whether the module can be resolved and encoded. It takes no memory.
+    /// Returns whether the module is well formed, as [`Module::resolve`] and
+    /// [`EncodeOptions::encode_module`](crate::EncodeOptions::encode_module) require.
     ///
-    /// It can, where no clause of "well formed" fails, as [`Module::ill_formed`] tells.
+    /// To learn which rule it breaks, call [`Module::ill_formed`]. Does not allocate.
+    ///
+    /// # Example
+    ///
+    ///     let is_ready = module.well_formed() && module.gensym_bound() < gensym.peek();
     pub fn well_formed(&self) -> bool
         ensures { result ≡ is_well_formed self.now }
     {
@@ -106,11 +127,19 @@ impl<'a> Module<'a> {
         }
     }
 
-    /// The least number of a clause of "well formed" that fails in the module, and `None` where it is well formed (text format:
-    /// indices, modules). It takes no memory.
+    /// Returns the number of the first rule of well-formedness that the module breaks, or `None` if
+    /// it is well formed (text format: indices, modules).
     ///
-    /// `ill_formed` of `wast_tree` lists the clauses, of which none fails in a binary module and in one that was refused.
-    /// `first_ill_formed` of `wast_tree` tells a place in fields. Forms that no encoder covers are well formed.
+    /// `ill_formed` of `wast_tree` lists the rules, and `first_ill_formed` of `wast_tree` returns a
+    /// position. A binary module and one with an earlier error break no rule. Unsupported
+    /// constructs are well formed, because they are reported when the module is encoded. Does not
+    /// allocate.
+    ///
+    /// # Example
+    ///
+    ///     if let Some(clause) = module.ill_formed() {
+    ///         return Ok(ill_formed(alloc, clause)?);
+    ///     }
     pub fn ill_formed(&self) -> Option<u8>
         ensures least { result ≡ ill_formed self.now }
         ensures none { is_none result ≡ is_well_formed self.now }
@@ -121,7 +150,10 @@ impl<'a> Module<'a> {
         }
     }
 
-    /// The greatest generation of an id in the module, and 0 where no id is generated. It takes no memory.
+    /// Returns the largest generation of a generated id in the module, or 0 if it has none.
+    ///
+    /// A counter for [`Module::resolve`] has to be larger, so that new ids are new. Does not
+    /// allocate. [`Module::well_formed`] has an example.
     pub fn gensym_bound(&self) -> u64
         ensures { result ≡ generation_bound self.now }
     {
@@ -136,35 +168,60 @@ impl<'a> Module<'a> {
         own.max(held)
     }
 
-    /// Writes abbreviations out, gives each type use that needs a type an index and each index the number of what it
-    /// names, and answers what the names of the module denote (text format, abbreviations, identifiers, indices and
-    /// type uses).
+    /// Resolves the module: desugars it, and replaces every id by the index that it names.
     ///
-    /// It needs a well formed module and a counter above its generated ids, and leaves both so. A text module is
-    /// resolved where no import, also none in place, stands behind a function, table, memory, global or tag of the
-    /// module, the id of each item is new in its space, that of each field of a struct new in the struct, each id that
-    /// stands for an index denotes an item, a local, an open block or a field, each inline type is that of the index
-    /// beside it, the parameters and locals of a function differ in their ids, and a label at an `else` or `end` is
-    /// that of its block. Exports, imports, elements and data in place are then fields of their own, and a type for
-    /// each signature that a type use needs and no type has is put after all fields. Each item without an id that is
-    /// exported or filled in place, each field that is a type without an id, and each type that is put there, is given
-    /// a generated one, and no member of a group: the counter rises by as many.
+    /// Inline exports, imports, elements and data become fields of their own. A type use without an
+    /// index gets one; if no type definition matches, one is appended after all fields. For
+    /// example, `(func (export "a") (result i32) i32.const 7)` becomes `(export "a" (func 0)) (func
+    /// (type 0) (result i32) i32.const 7)` and `(type (func (result i32)))` (text format:
+    /// abbreviations, type uses, indices).
     ///
-    /// Else the answer is the first that is not so, with its place: E1 at an import behind what is defined; after that
-    /// E2 where two items of a space have one id, and directly after a type E3 where two of its fields have one; after
-    /// all of these, field by field, E4 where an id denotes nothing, E9 where a field is named of a type that is no struct
-    /// with a named field, E6, E5 or E7 where an inline type is not that of the index, E2 where two parameters or locals
-    /// of a function have one id, and E8 where a label at an `else` or `end` is not that of its block; E10 only where a
-    /// space has 2^32 items or more, a struct as many fields, a function as many parameters and locals, an expression as
-    /// many open blocks, a memory as many bytes in place, or the counter would pass the greatest u64, E12 where memory is
-    /// refused. The module keeps a refusal, and answers it from then on; the counter then stays, so that no module uses
-    /// another's up. A binary module stays as it is, and binds no names; for it, and for a refused module, the counter
-    /// stays too. Span, id and name stay.
+    /// The returned [`Names`] look up more ids, for indices that the caller keeps outside the
+    /// module. A binary module is not changed and has no names.
     ///
-    /// A module that is not refused is at rest afterwards (clause `at_rest`): it is what
-    /// [`EncodeOptions::put_module`](crate::EncodeOptions::put_module) needs, and where `uncovered` of `wast_tree` finds no
-    /// form in its fields, each of them, and what stands in these, is what [`SectionItem`](crate::SectionItem) and
-    /// [`conv`](crate::conv) need. So this call is the test of their needs.
+    /// # Example
+    ///
+    ///     let names = module.resolve(alloc, gensym)?;
+    ///     let mut read = Index::Id(Id::new("read", at(244)));
+    ///
+    /// # Requires
+    ///
+    /// A well-formed module and an id counter that is past every generated id in it (`IsReady`).
+    /// Test both with [`Module::well_formed`] and `module.gensym_bound() < gensym.peek()`.
+    ///
+    /// # Errors
+    ///
+    /// The first check that fails, with its position. The order is E1, then E2 and E3 of the items,
+    /// then all others field by field.
+    ///
+    /// - E1: an import comes after the definition of a function, table, memory, global or tag.
+    /// - E2: two items of an index space have the same id. Field by field: two parameters or locals
+    ///   of a function have the same id.
+    /// - E3: two fields of a struct have the same id.
+    /// - E4: an id is not defined.
+    /// - E5, E6, E7: an inline type does not match the index beside it.
+    /// - E8: the label at an `else` or `end` is not that of its block.
+    /// - E9: a field is named of a type that is not a struct with named fields.
+    ///
+    /// Two errors without a position can come in place of any result:
+    ///
+    /// - E10, only if the id counter would overflow, or if a part is too large. Too large is an index
+    ///   space with 2^32 items or more, a struct with as many fields, or a function with as many
+    ///   parameters and locals. So is an expression with as many enclosing blocks, or a memory with
+    ///   as many bytes of inline data.
+    /// - E12: allocation failed.
+    ///
+    /// The module keeps the error, and every later call returns it again.
+    ///
+    /// # Guarantees
+    ///
+    /// - `answer`: all of the above. On success the counter rises by the number of ids generated.
+    ///   After an error it has its old value, so other modules can reuse it.
+    /// - `stays`: `span`, `id` and `name` do not change. `ready`: the requirements hold again.
+    /// - `at_rest`: the module is what
+    ///   [`EncodeOptions::put_module`](crate::EncodeOptions::put_module) requires, if it is a text
+    ///   module. If `uncovered` of `wast_tree` finds no unsupported construct in it, each of its
+    ///   fields is also what [`SectionItem`](crate::SectionItem) and [`conv`](crate::conv) require.
     pub fn resolve(&mut self, alloc: Global, gensym: &mut Gensym) -> Result<Names<'a>, Error<'a>>
         requires { IsReady self.old gensym.old }
         ensures answer { Resolves self.old.kind gensym.old result self.new.kind gensym.new }
@@ -180,7 +237,7 @@ impl<'a> Module<'a> {
     }
 }
 
-/// What a module holds once it is resolved, and what resolving it answers.
+/// Resolves the content of a module, and returns the new content and the result.
 fn resolve_kind<'a>(
     alloc: Global,
     kind: ModuleKind<'a>,
@@ -206,7 +263,7 @@ fn resolve_kind<'a>(
     }
 }
 
-/// Drops what a module holds.
+/// Frees the content of a module.
 fn discard_kind(kind: ModuleKind<'_>) {
     match kind {
         ModuleKind::Text(fields) => discard_fields(fields),
@@ -214,7 +271,11 @@ fn discard_kind(kind: ModuleKind<'_>) {
     }
 }
 
-/// Drops a module.
+/// Frees a module.
+///
+/// # Example
+///
+///     discard_module(module);
 pub fn discard_module(module: Module<'_>) {
     discard_kind(module.kind);
 }

@@ -1,4 +1,4 @@
-//! The law of a module that is at rest, for callers to cite.
+//! The theorem that resolving and encoding a second time changes nothing, for callers' proofs.
 
 ghost use Rattle.wast_resolve_laws.specs.Rests.{RestsMet, RestsStill, FillsNoMore, StartsStayWellFormed, StartsStayBelow};
 ghost use Rattle.wast_core.specs.AtRest.{StartsLast, NumbersLast, RestsBounded, RestsWithheld, SecondResolve, SecondEncoding};
@@ -6,20 +6,30 @@ ghost use Rattle.wast_core.specs.AtRest.{StartsLast, NumbersLast, RestsBounded, 
 use crate::laws::{bounded_law, meaning_law, one_meaning};
 use wast_resolve::{resolved_laws, resting_laws};
 
-/// A module that is resolved is at rest (text format, modules; binary format, start section).
+/// A resolved module does not change when it is resolved again (text format: modules; binary
+/// format: start section). The function does nothing when it runs.
 ///
-/// Where the demands of a module are met, those of its resolved list are met; that list, resolved again from any counter, is
-/// itself, and no id is filled in. All this holds too where start fields of numbers stand behind it, any number of them; it is
-/// then well formed if the module is, has the generations that it had, and means what the module means with these put last. So
-/// do start fields of ids that denote functions, once each is its number.
+/// So a second [`Module::resolve`](crate::Module::resolve), from any counter, succeeds. It returns
+/// names that know the same, and changes neither a field nor the counter. A second
+/// [`EncodeOptions::encode_module`](crate::EncodeOptions::encode_module) returns the same bytes.
 ///
-/// So a second [`Module::resolve`](crate::Module::resolve), from any counter, succeeds, gives names
-/// that know the same, and changes neither a field nor the counter; and a second
-/// [`EncodeOptions::encode_module`](crate::EncodeOptions::encode_module) gives the same bytes:
-/// neither answers a fault of the text. E12 is possible still, if memory is refused. E10 is not, if
-/// the fields were bounded and the counter is below 2^64, because the resolved fields are then
-/// bounded too (`bounded`): a caller that knows this of the text needs to ask nothing of the
-/// resolved fields. It does nothing.
+/// A second call can still return E12, if allocation fails. It does not return E10, if the fields
+/// were bounded and the counter is below 2^64, because the resolved fields are then bounded too
+/// (`bounded`). So a caller that knows this of the source has nothing to check of the resolved
+/// fields.
+///
+/// # Guarantees
+///
+/// For a module whose checks all pass:
+///
+/// - `met`, `still`, `fills`: the checks of the resolved fields pass. Resolving them again from any
+///   counter returns them, and generates no id.
+/// - `well_formed`, `below`, `numbers_last`: the same holds with start fields of numbers after
+///   them. These fields are well formed if the module is, have its largest generation, and mean
+///   what the module means with these start fields last.
+/// - `starts_last`: so do start fields of ids that name functions, once each is a number.
+/// - `second_resolve`, `second_encoding`, `withheld`: the second calls, as above.
+/// - `bounded`: the resolved fields are bounded if the fields are.
 pub fn at_rest()
     ensures met { RestsMet }
     ensures still { RestsStill }

@@ -1,4 +1,4 @@
-//! The whole of a binary module: the header, and what stands in each place.
+//! A whole binary module: the header, and the parts at each position.
 
 ghost use Rattle.std.specs.Prelude.{All, IsTrue};
 ghost use Rattle.std.specs.List.{flat_map};
@@ -23,7 +23,8 @@ use wast_core_name_section::put_names;
 use wast_core_ranges::FieldRanges;
 use wast_tree_nodes::ModuleField;
 
-/// The name section; none where a custom section is called `name`. It needs where in these fields those of each kind stand.
+/// Appends the name section, unless a custom section is called `name`. Requires the ranges of these
+/// fields.
 fn put_given_names<S: Sink>(
     fields: &[ModuleField],
     name: Option<&str>,
@@ -40,11 +41,11 @@ fn put_given_names<S: Sink>(
     put_names(fields, name, reaches, out)
 }
 
-/// Appends what stands in a place. It needs where in these fields those of each kind stand, and whether an index of a data
-/// segment stands in them.
+/// Appends the parts at a position. Requires the ranges of these fields, and whether they have an
+/// index of a data segment.
 ///
-/// The fields stand first, here and in all that they are handed to: so a callee has their lifetimes at the places at which its
-/// caller has them, and the prover does not compare the whole tree.
+/// The fields are the first parameter, here and in all calls. Then the lifetimes of a callee are at
+/// the same positions as those of its caller, and the prover does not compare the whole tree.
 fn put_slot<'b, S: Sink>(
     fields: &[ModuleField],
     name: Option<&str>,
@@ -69,7 +70,7 @@ fn put_slot<'b, S: Sink>(
     }
 }
 
-/// Appends what stands in places, one after another. It needs what `put_slot` needs.
+/// Appends the parts at several positions. Requires what `put_slot` requires.
 fn put_slots<'b, S: Sink>(
     fields: &[ModuleField],
     name: Option<&str>,
@@ -95,12 +96,14 @@ fn put_slots<'b, S: Sink>(
     Ok(())
 }
 
-/// Appends the bytes of a module of this name and these resolved fields: the header, and what stands in each place. Each part is
-/// written once, and its length is put in front of it once it stands there. It needs whether an index of a data segment stands
-/// in the fields.
+/// Appends the bytes of a resolved module with this name: the header, and the parts at each
+/// position.
 ///
-/// It takes no memory of its own. It refuses as the sink does, where not all the bytes fit, and as too large, where a number,
-/// count or length in the module is out of range; then nothing was appended.
+/// Each part is written once, and its length is inserted before it afterwards. Requires whether the
+/// fields have an index of a data segment. Allocates nothing, except in the sink.
+///
+/// It fails with the error of the sink, only if the bytes do not fit. It fails as too large, only
+/// if a number, count or length in the module is out of range. After an error nothing was appended.
 pub(crate) fn put_sections<S: Sink>(
     fields: &[ModuleField],
     name: Option<&str>,

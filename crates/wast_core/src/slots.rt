@@ -1,4 +1,4 @@
-//! The order in which the sections of a module stand.
+//! The order of the sections of a module.
 
 ghost use Rattle.std.specs.Prelude.{◌≡◌};
 ghost use Rattle.wasm_out.specs.Parts.{section_id};
@@ -6,35 +6,35 @@ ghost use Rattle.wast_core.specs.Slots.{section_kind};
 
 use wast_tree_nodes::{CustomPlace, CustomPlaceAnchor};
 
-/// A kind of sections that are lists (binary format, modules: sections).
+/// A kind of section that is a list (binary format, modules: sections).
 #[derive(Clone, Copy)]
 pub(crate) enum SectionKind {
-    /// Types.
+    /// Type section.
     Types,
-    /// Imports.
+    /// Import section.
     Imports,
-    /// The types of functions.
+    /// Function section: the types of functions.
     Functions,
-    /// Tables.
+    /// Table section.
     Tables,
-    /// Memories.
+    /// Memory section.
     Memories,
-    /// Tags.
+    /// Tag section.
     Tags,
-    /// Globals.
+    /// Global section.
     Globals,
-    /// Exports.
+    /// Export section.
     Exports,
-    /// Segments of elements.
+    /// Element section.
     Elements,
-    /// Bodies.
+    /// Code section: the bodies of functions.
     Code,
-    /// Segments of data.
+    /// Data section.
     Data,
 }
 
 impl SectionKind {
-    /// The id of such a section.
+    /// Returns the id of such a section.
     pub(crate) fn id(self) -> u8
         ensures { result ≡ section_id (section_kind self) }
     {
@@ -54,24 +54,24 @@ impl SectionKind {
     }
 }
 
-/// A place for sections in a module.
+/// A position for sections in a module.
 #[derive(Clone, Copy)]
 pub(crate) enum Slot {
     /// Custom sections.
     Custom(CustomPlace),
-    /// A section with a list.
+    /// A section that is a list.
     Section(SectionKind),
     /// Start sections, one for each start field.
     Start,
-    /// A data count, where a body needs it.
+    /// The data count section, if a body needs it.
     DataCount,
-    /// Branch hints, where a body has some.
+    /// The branch hints, if a body has some.
     Hints,
-    /// Names.
+    /// The name section.
     Names,
 }
 
-/// The order of the binary format (binary format, modules).
+/// The positions, in the order of the binary format (binary format: modules).
 pub(crate) const ORDER: [Slot; 41] = [
     Slot::Custom(CustomPlace::BeforeFirst),
     Slot::Custom(CustomPlace::Before(CustomPlaceAnchor::Ty)),

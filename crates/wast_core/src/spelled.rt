@@ -1,4 +1,4 @@
-//! Values of the tree that are spelled on their own.
+//! Parts of a module that have bytes of their own.
 
 ghost use Rattle.std.specs.Prelude.{ℕ, List, Bool, IsTrue};
 ghost use Rattle.wasm_out.specs.Built.{Appends};
@@ -8,28 +8,43 @@ use wast_base::Error;
 use wast_core_conv::SubsectionContent;
 use wast_tree_nodes::Dylink0Subsection;
 
-/// A value of the tree that has a spelling of its own (binary format).
+/// A part of a module that can be encoded on its own (binary format).
+///
+/// It is implemented for the subsections of `dylink.0`.
+///
+/// # Example
+///
+///     let mut out = Vec::new(alloc);
+///     subsection.encode(&mut out).expect(rt, "memory");
 pub trait Encode {
-    /// Its bytes.
+    /// The bytes of the part.
     ghost spelling: { Self → List ℕ };
 
-    /// The numbers, counts and lengths in them are in range.
+    /// Whether its numbers, counts and lengths are in range.
     ghost in_range: { Self → Type 0 };
 
-    /// It is of a covered form.
+    /// Whether it has no unsupported construct.
     ghost is_covered: { Self → Bool };
 
-    /// Appends the value's bytes. It needs a value of a covered form.
+    /// Appends the bytes of the part.
     ///
-    /// E10 comes only where a count or length in the value is 2^32 or more, E12 where memory is refused; then the bytes stay
-    /// as they were.
+    /// # Requires
+    ///
+    /// A part without unsupported constructs.
+    ///
+    /// # Errors
+    ///
+    /// After an error the bytes are as they were.
+    ///
+    /// - E10, only if a number, count or length in the part does not fit in 32 bits.
+    /// - E12: allocation failed.
     fn encode<'e>(&self, out: &mut Vec<u8>) -> Result<(), Error<'e>>
         requires { IsTrue (is_covered self.now) }
         ensures { Appends (in_range self.now) out.old.items out.new.items (spelling self.now) result };
 }
 
-/// What a subsection of `dylink.0` holds (tool conventions, dynamic linking): it is covered where it is another than that of an
-/// architecture. Its number and length stand before it in the section.
+/// The content of a `dylink.0` subsection, without its number and length (tool conventions: dynamic
+/// linking). `TargetArch` is an unsupported construct.
 impl Encode for Dylink0Subsection<'_> {
     ghost spelling = { λ x. (subsection_content x).bytes };
 

@@ -1,4 +1,4 @@
-//! The names in fields are UTF-8.
+//! Lemmas that the names in fields are UTF-8.
 
 ghost use Rattle.std.specs.Prelude.{All, IsTrue};
 ghost use Rattle.std.specs.Str.{is_utf8};
@@ -6,12 +6,12 @@ ghost use Rattle.wast_core.specs.Utf8Names.{HasUtf8Items, HasUtf8Names};
 
 use wast_tree_nodes::{ImportItems, ModuleField};
 
-/// The law of texts: they are UTF-8. It does nothing.
+/// States that a text is UTF-8. Does nothing.
 fn text_law(text: &str)
     ensures { IsTrue (is_utf8 text.now) }
 {}
 
-/// The law of the names of an import. It does nothing.
+/// States that the names of an import are UTF-8. Does nothing.
 fn import_law(items: &ImportItems)
     ensures { HasUtf8Items items.now }
 {
@@ -24,7 +24,7 @@ fn import_law(items: &ImportItems)
     }
 }
 
-/// The law of the names of a field. It does nothing.
+/// States that the names of a field are UTF-8. Does nothing.
 fn field_law(field: &ModuleField)
     ensures { HasUtf8Names field.now }
 {
@@ -36,7 +36,7 @@ fn field_law(field: &ModuleField)
     }
 }
 
-/// The law of the names that fields put into the sections. It does nothing.
+/// States that the names that fields have in sections are UTF-8. Does nothing.
 pub(crate) fn names_law(fields: &[ModuleField])
     ensures { All HasUtf8Names fields.now }
 {

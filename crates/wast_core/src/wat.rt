@@ -1,4 +1,4 @@
-//! What a text holds: a module or a component.
+//! The content of a text: a module or a component.
 
 ghost use Rattle.wast_core.specs.Wats.{IsReadyWat, EncodesWat};
 
@@ -7,19 +7,37 @@ use crate::module::Module;
 use std::alloc::Global;
 use wast_base::{Error, Fault, Gensym, Span};
 
-/// What a text holds (text format, modules).
+/// The content of a text (text format: modules).
+///
+/// # Example
+///
+///     let mut wat = Wat::Module(row(&rt, alloc, 27));
+///     let answer = wat.encode(alloc, &mut Gensym::new(1));
 #[derive(Debug, Drop)]
 pub enum Wat<'a> {
-    /// `(module ..)`, or the fields of one.
+    /// `(module ..)`, or only the fields of one.
     Module(Module<'a>),
-    /// `(component ..)`, by its place. Components are not encoded.
+    /// The position of `(component ..)`. Components are not encoded.
     Component(Span),
 }
 
 impl EncodeOptions {
-    /// What [`EncodeOptions::encode_module`] answers for the module, with the same needs.
+    /// Encodes the module of a text, as [`EncodeOptions::encode_module`] does, with the same
+    /// requirements and errors.
     ///
-    /// A component is refused by E13, without memory, and nothing changes.
+    /// # Example
+    ///
+    ///     let mut wat = Wat::Module(row(&rt, alloc, 27));
+    ///     let answer = EncodeOptions::new().encode_wat(alloc, &mut wat, &mut Gensym::new(1));
+    ///
+    /// # Errors
+    ///
+    /// E13: the text is a component. Nothing changes then, and nothing is allocated.
+    ///
+    /// # Guarantees
+    ///
+    /// - `answer`: the result for the module, or E13.
+    /// - `ready`: the requirements hold again.
     pub fn encode_wat<'a>(
         &self,
         alloc: Global,
@@ -38,7 +56,8 @@ impl EncodeOptions {
 }
 
 impl<'a> Wat<'a> {
-    /// [`EncodeOptions::encode_wat`] of the options as they are, with the same needs.
+    /// Encodes the module of a text with the default options, as [`EncodeOptions::encode_wat`]
+    /// does. [`Wat`] has an example.
     pub fn encode(&mut self, alloc: Global, gensym: &mut Gensym) -> Result<Vec<u8>, Error<'a>>
         requires { IsReadyWat self.old gensym.old }
         ensures answer { EncodesWat self.old gensym.old result self.new gensym.new }

@@ -1,4 +1,5 @@
-//! Tests of `wast_core` on modules of many parts of one kind. `tools/speed` counts the work that each of them takes.
+//! Tests of `wast_core` on modules with many parts of one kind. `tools/speed` counts the work of
+//! each.
 #![tactic(auto)]
 
 #[cfg(test)]

@@ -1,4 +1,4 @@
-//! Modules of many parts of one kind, each resolved and encoded.
+//! Modules with many parts of one kind, which are resolved and encoded.
 
 ghost use Rattle.std.specs.Prelude.{IsTrue, ◌≡◌};
 ghost use Rattle.wast_core.specs.Modules.{generation_bound, is_well_formed};
@@ -18,17 +18,17 @@ fn at(offset: usize) -> Span {
     Span { offset }
 }
 
-/// The id of a number.
+/// Returns the id with this number.
 fn id<'a>(i: usize) -> Id<'a> {
     Id::new(name(i), at(i))
 }
 
-/// The same, where an index stands.
+/// Returns an index that is this id.
 fn by_id<'a>(i: usize) -> Index<'a> {
     Index::Id(id(i))
 }
 
-/// What fields are made by, and the fields so far.
+/// A builder, and the fields so far.
 struct Shape<'a> {
     alloc: Global,
     maker: TreeBuilder,
@@ -44,12 +44,12 @@ impl<'a> Shape<'a> {
         }
     }
 
-    /// Puts a field behind the others.
+    /// Appends a field.
     fn push(&mut self, field: ModuleField<'a>) {
         self.maker.push_field(&mut self.fields, field);
     }
 
-    /// Puts a function behind the fields.
+    /// Appends a function.
     fn push_func(
         &mut self,
         i: usize,
@@ -61,13 +61,13 @@ impl<'a> Shape<'a> {
         self.push(ModuleField::Func(func));
     }
 
-    /// Puts a type behind the fields.
+    /// Appends a type.
     fn push_type(&mut self, i: usize, kind: InnerTypeKind<'a>) {
         let ty = Type::new(at(i), Some(id(i)), TypeDef::new(self.alloc, kind));
         self.push(ModuleField::Ty(ty));
     }
 
-    /// Eight parameters, whose types tell the number.
+    /// Returns a function type with eight parameters, whose types are the bits of the number.
     fn signature(&mut self, number: usize) -> FunctionType<'a> {
         let params: [Param<'a>; 8] = [
             param(number, 1),
@@ -83,7 +83,7 @@ impl<'a> Shape<'a> {
         self.maker.function_type(&params, &results)
     }
 
-    /// `call` of a function.
+    /// Returns `call` of a function.
     fn calling(&mut self, function: Index<'a>) -> Seq<Instruction<'a>> {
         let mut instrs = Seq::new(self.alloc);
         self.maker
@@ -91,7 +91,7 @@ impl<'a> Shape<'a> {
         instrs
     }
 
-    /// Encodes the module of the fields.
+    /// Encodes the module with these fields.
     fn encodes(self, rt: &impl Abort) {
         let Shape {
             alloc,
@@ -113,7 +113,8 @@ impl<'a> Shape<'a> {
         discard_module(module);
     }
 
-    /// Sees that the fields are well formed. It is a call of its own, so that it is counted alone.
+    /// Checks that the fields are well formed. It is a call of its own, so that its work is counted
+    /// apart.
     #[inline(never)]
     fn is_seen(self, rt: &impl Abort) {
         let Shape {
@@ -128,7 +129,7 @@ impl<'a> Shape<'a> {
     }
 }
 
-/// Ids that a counter gives, in their order.
+/// Returns ids that a counter generates, in order.
 fn generated<'a>(rt: &impl Abort) -> [Id<'a>; COUNT] {
     let mut gensym = Gensym::new(1);
     let mut ids = [id(0); COUNT];
@@ -141,7 +142,7 @@ fn generated<'a>(rt: &impl Abort) -> [Id<'a>; COUNT] {
 /// An id, a name annotation and a type.
 type Param<'a> = (Option<Id<'a>>, Option<NameAnnotation<'a>>, ValType<'a>);
 
-/// A parameter of one of two types, by whether a number has a bit.
+/// Returns a parameter of one of two types, depending on a bit of the number.
 fn param<'a>(number: usize, bit: usize) -> Param<'a> {
     let ty = if number & bit == 0 {
         ValType::I32
@@ -151,7 +152,7 @@ fn param<'a>(number: usize, bit: usize) -> Param<'a> {
     (None, None, ty)
 }
 
-/// The module, where it can be encoded with a counter at 1.
+/// Returns the module, if it can be encoded with a counter at 1.
 fn ready<'a>(rt: &impl Abort, module: Module<'a>) -> Module<'a>
     ensures well_formed { IsTrue (is_well_formed result) }
     ensures bound { generation_bound result ≡ 0 }
@@ -193,7 +194,7 @@ fn functions_by_number(rt: HostRuntime) {
 }
 
 #[test]
-fn types_that_are_written(rt: HostRuntime) {
+fn explicit_type_definitions(rt: HostRuntime) {
     let mut shape = Shape::new(rt.alloc());
     for i in 0..COUNT {
         let ty = shape.signature(i);
@@ -208,7 +209,7 @@ fn types_that_are_written(rt: HostRuntime) {
 }
 
 #[test]
-fn types_that_are_implied(rt: HostRuntime) {
+fn implicit_type_definitions(rt: HostRuntime) {
     let mut shape = Shape::new(rt.alloc());
     for i in 0..COUNT {
         let ty = shape.signature(i);
@@ -282,7 +283,7 @@ fn labels_by_name(rt: HostRuntime) {
     shape.encodes(&rt);
 }
 
-/// Opens so many blocks within each other, whose names have the numbers from this one on.
+/// Opens nested blocks, whose labels have the numbers from this one on.
 fn open_blocks<'a>(
     shape: &mut Shape<'a>,
     instrs: &mut Seq<Instruction<'a>>,
@@ -295,14 +296,14 @@ fn open_blocks<'a>(
     }
 }
 
-/// How many blocks are open at once where blocks are opened again and again.
+/// How many blocks are nested, if blocks are opened again and again.
 const DEEP: usize = 20;
 
 /// How often they are opened.
 const AGAIN: usize = 12;
 
-/// `switch` as it is compiled: blocks within each other, a jump to one of them by its number, and behind each `end` but the last
-/// a jump out of all.
+/// `switch` as a compiler writes it: nested blocks, a jump to one of them by its number, and after
+/// each `end` but the last a jump out of all.
 #[test]
 fn labels_of_switches(rt: HostRuntime) {
     let mut shape = Shape::new(rt.alloc());
@@ -337,9 +338,10 @@ fn labels_of_switches(rt: HostRuntime) {
     shape.encodes(&rt);
 }
 
-/// Blocks within each other, a branch to the outermost one and to one in the middle, and so again behind their ends.
+/// Nested blocks with a branch to the outermost one and to one in the middle, and the same again
+/// after their ends.
 #[test]
-fn labels_that_are_opened_again(rt: HostRuntime) {
+fn labels_of_reopened_blocks(rt: HostRuntime) {
     let mut shape = Shape::new(rt.alloc());
     let mut instrs = Seq::new(shape.alloc);
     for k in 0..AGAIN {

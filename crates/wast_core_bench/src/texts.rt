@@ -1,12 +1,12 @@
-//! Names that are told apart.
+//! Names that are all different.
 
-/// How many names there are.
+/// The number of names.
 pub(crate) const COUNT: usize = 256;
 
 /// The length of each name, in bytes.
 const LENGTH: usize = 3;
 
-/// The names, one behind the other.
+/// The names, one after another.
 const NAMES: &str = "\
     000001002003004005006007008009010011012013014015016017018019020021022023024025026027028029030031\
     032033034035036037038039040041042043044045046047048049050051052053054055056057058059060061062063\
@@ -17,7 +17,7 @@ const NAMES: &str = "\
     192193194195196197198199200201202203204205206207208209210211212213214215216217218219220221222223\
     224225226227228229230231232233234235236237238239240241242243244245246247248249250251252253254255";
 
-/// The name of a number below `COUNT`; above it, the empty name.
+/// Returns the name with a number below `COUNT`, and otherwise the empty name.
 pub(crate) fn name(i: usize) -> &'static str {
     let at = (i % COUNT) * LENGTH;
     NAMES.get(at..at + LENGTH).unwrap_or("")

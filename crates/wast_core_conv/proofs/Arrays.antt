@@ -1,7 +1,7 @@
--- A list of a known length is its elements, one by one.
+-- A list of a known length equals the list of its elements, taken one by one.
 use Rattle.std.proofs.Common.{◌≡◌, ℕ, zero, suc, List, [], ◌∷◌, length, get_or, refl, ap, ◌∙◌, arith}
 
--- elements, as many as this, from a place on
+-- The elements from an index on, as many as this.
 abbrev pub from_place : {A : Type 0} → A → ℕ → ℕ → List A → List A
 from_place d at zero xs = []
 from_place d at (suc n) xs = get_or xs at d ∷ from_place d (suc at) n xs

@@ -1,4 +1,4 @@
--- Instructions open and close blocks as the rows do that they become; and what is balanced does not depend on labels.
+-- Instructions open and close blocks as their entries in the opcode table do, and labels do not affect that.
 use native.Mathlib.Omega.{arith}
 use Rattle.std.proofs.Common.{◌≡◌, ◌+◌, ◌==◌, ℕ, zero, suc, Bool, true, false, ◌&&◌, length, take, map, List, [], ◌∷◌, Option, refl, ap, ◌∙◌}
 use Rattle.std.specs.Prelude.{nat_le, None, Some, option_map}
@@ -26,9 +26,9 @@ use Rattle.wast_core_conv.specs.Tree.{Instruction}
 use Rattle.wast_core_conv.specs.Tree.instr as instruction
 use Rattle.wast_core_conv.specs.Meaning as meaning
 
--- ---- turns without their labels
+-- ---- Block effects without their labels.
 
--- a block opens with no label
+-- A block opens with no label.
 abbrev bare : BlockEffect → BlockEffect
 bare (Opens l) = Opens None
 bare Closes = Closes
@@ -46,7 +46,7 @@ closers_bare (Opens l ∷ ts) = closers_bare ts
 closers_bare (Closes ∷ ts) = ap (λ (n : ℕ). n + 1) (closers_bare ts)
 closers_bare (Stays ∷ ts) = closers_bare ts
 
--- one front has as many closers and openers
+-- A prefix has the same number of closers and openers.
 front_bare : (ts : List BlockEffect) (n : ℕ) → nat_le (closers (take n (map bare ts))) (openers (take n (map bare ts))) ≡ nat_le (closers (take n ts)) (openers (take n ts))
 front_bare ts n =
     ap (λ us. nat_le (closers us) (openers us)) (take-map bare n ts)
@@ -69,7 +69,7 @@ balanced_bare ts =
     ∙ ap (λ k. stays_open ts && k == openers (map bare ts)) (closers_bare ts)
     ∙ ap (λ k. stays_open ts && closers ts == k) (openers_bare ts)
 
--- ---- what instructions become
+-- ---- What instructions become.
 
 plain_turn : (op : Plain) → turn_of (plain_instr op) ≡ Stays
 plain_turn op = grind (arith)
@@ -110,6 +110,6 @@ turns_as : (is : List Instruction) → map turn_of (map meaning.as_instr is) ≡
 turns_as [] = refl
 turns_as (i ∷ is) = ap (λ t. t ∷ map turn_of (map meaning.as_instr is)) (turn_as i) ∙ ap (λ ts. bare (tree.turn_of i) ∷ ts) (turns_as is)
 
--- instructions that close their blocks become rows that do
+-- Instructions that close their blocks become entries that do.
 pub balanced_as : (is : List Instruction) → is_balanced (block_effects is) ≡ true → are_balanced (map meaning.as_instr is) ≡ true
 balanced_as is h = ap is_balanced (turns_as is) ∙ balanced_bare (block_effects is) ∙ h

@@ -1,4 +1,4 @@
--- A test that each item of a list passes.
+-- Lemmas about a test that each item of a list passes.
 use Rattle.std.proofs.Common.{◌≡◌, ℕ, ◌<◌, Bool, true, false, ◌&&◌, List, [], ◌∷◌, ◌++◌, map, length, get_or, refl, sym, ap, ◌∙◌}
 use Rattle.std.specs.Prelude.{All}
 use Rattle.std.specs.List.{list_all, flat_map}
@@ -19,7 +19,7 @@ item_passes p xs i d lt h = by_test (p (get_or xs i d)) (λ e. list_all_at p xs 
     by_test true f h = refl
     by_test false f h = let e = f refl in cc
 
--- each part passes where all that they give does
+-- Each part passes if everything in the parts does.
 pub each_passes : {A B : Type 0} (p : B → Bool) (f : A → List B) (xs : List A) → list_all p (flat_map f xs) ≡ list_all (λ x. list_all p (f x)) xs
 each_passes p f [] = refl
 each_passes p f (x ∷ xs) = list_all-append p (f x) (flat_map f xs) ∙ ap (λ b. list_all p (f x) && b) (each_passes p f xs)
@@ -28,21 +28,21 @@ pub all_pass : {A : Type 0} (p : A → Bool) (xs : List A) → ((x : A) → p x 
 all_pass p [] h = refl
 all_pass p (x ∷ xs) h = ap (λ b. b && list_all p xs) (h x) ∙ all_pass p xs h
 
--- where each part gives one
+-- The same if each part has one item.
 pub each_of_one : {A B : Type 0} (p : B → Bool) (f : A → B) (xs : List A) → list_all p (flat_map (λ x. f x ∷ []) xs) ≡ list_all (λ x. p (f x)) xs
 each_of_one p f [] = refl
 each_of_one p f (x ∷ xs) = ap (λ b. p (f x) && b) (each_of_one p f xs)
 
--- two tests that tell the same of each item
+-- Two tests with the same result on each item.
 pub each_same : {A : Type 0} (p q : A → Bool) → ((x : A) → p x ≡ q x) → (xs : List A) → list_all p xs ≡ list_all q xs
 each_same p q h [] = refl
 each_same p q h (x ∷ xs) = ap (λ b. b && list_all p xs) (h x) ∙ ap (λ b. q x && b) (each_same p q h xs)
 
--- both of two joined lists pass
+-- Both of two joined lists pass.
 pub both_lists : {A : Type 0} (p : A → Bool) (xs ys : List A) → list_all p (xs ++ ys) ≡ true → (list_all p xs ≡ true) × (list_all p ys ≡ true)
 both_lists p xs ys h = both_pass (list_all p xs) (list_all p ys) (sym (list_all-append p xs ys) ∙ h)
 
--- what one test and another tell of each item, a third tells
+-- If two tests on each item imply a third, the list passes the third.
 pub each_by : {A : Type 0} (p q r : A → Bool) → ((x : A) → p x ≡ true → q x ≡ true → r x ≡ true)
     → (xs : List A) → list_all p xs ≡ true → list_all q xs ≡ true → list_all r xs ≡ true
 each_by p q r h [] a b = refl
@@ -58,7 +58,7 @@ pub each_has : {A : Type 0} (p : A → Bool) (P : A → Type 0) → ((x : A) →
 each_has p P h [] e = All-nil P
 each_has p P h (x ∷ xs) e = let c = both_pass (p x) (list_all p xs) e in All-cons P x xs (h x c.0) (each_has p P h xs c.1)
 
--- what the items become passes
+-- The list of what the items become passes.
 pub each_becomes : {A B : Type 0} (p : A → Bool) (f : A → B) (q : B → Bool) → ((x : A) → p x ≡ true → q (f x) ≡ true)
     → (xs : List A) → list_all p xs ≡ true → list_all q (map f xs) ≡ true
 each_becomes p f q h [] e = refl

@@ -1,4 +1,4 @@
--- What types of tables, globals and imports the encoder takes: they become covered values.
+-- Types of tables, globals and imports that may be encoded become values that the binary format supports.
 use Rattle.std.proofs.Common.{◌≡◌, true, false, refl, sym, ◌∙◌}
 use Rattle.std.specs.Prelude.{not}
 use Rattle.wast_tree_nodes.specs.Resolved.{is_resolved_site}

@@ -1,4 +1,5 @@
--- Instructions that the encoder takes are spelled as rows of the table that it covers, and a constant expression closes its blocks.
+-- Instructions that may be encoded are written as supported entries of the opcode table, and a constant expression
+-- closes its blocks.
 use Rattle.std.proofs.Common.{◌≡◌, ℕ, true, ◌&&◌, List, [], ◌∷◌, ◌++◌, map, Result, subst, inl, inr, refl, sym, ap, ◌∙◌}
 use Rattle.std.specs.Prelude.{All}
 use Rattle.std.specs.List.{flat_map, list_all}
@@ -35,15 +36,15 @@ use Rattle.wast_core_conv.proofs.Rows.{instrs_rows}
 use Rattle.wast_core_conv.proofs.Standing.{asking_passes, cast_parts, try_table_parts, ready_instrs, ready_balanced}
 use Rattle.wast_core_conv.proofs.TypesReady.{heap_covered, select_covered, block_covered, fence_covered}
 
--- the type of a block
+-- The type of a block.
 opener_covered : (b : BlockType) → encodable (in_use OfBlock b.ty) ≡ true → ((block_type (meaning.as_block_type b)).is_covered && true) ≡ true
 opener_covered b e = both_true _ true (block_covered b e) refl
 
--- the memory argument of a load or a store
+-- The memory argument of a load or a store.
 mem_arg_covered : (m : MemArg) → encodable (check_sites (in_mem_arg m)) ≡ true → (memarg (meaning.as_mem_arg m)).is_covered ≡ true
 mem_arg_covered m e = (mem_arg_parts m (sym (asking_passes (in_mem_arg m)) ∙ e)).covered
 
--- the types of a cast
+-- The types of a cast.
 cast_covered : (op : CastOp) (ty : RefType) → encodable (check_sites (in_ref ty)) ≡ true → (instr (cast_instr op (meaning.as_ref_type ty))).is_covered ≡ true
 cast_covered op ty e = both_true _ true (heap_covered ty.heap (sym (asking_passes (in_ref ty)) ∙ e)) refl
 
@@ -53,7 +54,7 @@ br_cast_covered op l from to e =
     let parts = cast_parts l to from e in
     both_true _ _ (heap_covered from.heap parts.from) (both_true _ true (heap_covered to.heap parts.to) refl)
 
--- those that the encoder takes are covered
+-- Instructions that may be encoded become supported ones.
 instr_covered : (i : Instruction) → is_encodable_instr i ≡ true → (instr (meaning.as_instr i)).is_covered ≡ true
 instr_covered (instruction.Mem op m) e = both_true _ true (mem_arg_covered m e) refl
 instr_covered (instruction.MemLane op a) e = both_true _ true (mem_arg_covered a.memarg e) refl
@@ -77,11 +78,11 @@ instrs_covered is h = each_becomes is_encodable_instr meaning.as_instr (λ x. (i
 pub expression_covered : (e : Expression) → is_encodable_expression e ≡ true → (expression (meaning.as_expression e)).is_covered ≡ true
 expression_covered e h = instrs_covered e.instrs (ready_instrs e h)
 
--- each block in a constant expression is closed
+-- Each block in a constant expression is closed.
 pub expression_balanced : (e : Expression) → is_encodable_expression e ≡ true → are_balanced (meaning.as_expression e) ≡ true
 expression_balanced e h = balanced_as e.instrs (ready_balanced e h)
 
--- the bytes of a constant expression
+-- The bytes of a constant expression.
 pub spells_expression : (is : List Instruction) (bytes : List ℕ) → list_all is_encodable_instr is ≡ true → is_balanced (block_effects is) ≡ true → (bytes ≡ flat_map (λ i. (instr (meaning.as_instr i)).bytes) is) × All (λ i. (instr (meaning.as_instr i)).in_range) is → SpellsExpression bytes
 spells_expression is bytes h closes p = record {
   list = map meaning.as_instr is;
@@ -95,7 +96,7 @@ expression_made is bytes p = (p.0 ∙ sym (flat_map-map (λ x. (instr x).bytes) 
 pub expression_refused : (is : List Instruction) (e : Error) → IsRefused (All (λ i. (instr (meaning.as_instr i)).in_range) is) e → IsRefused (expression (map meaning.as_instr is)).in_range e
 expression_refused is e r = elim r [ inl m ↦ inl m | inr l ↦ inr (l.0, λ h. l.1 (all_unmap (λ x. (instr x).in_range) meaning.as_instr is h)) ]
 
--- an expression, of a list of its instructions
+-- An expression, by the list of its instructions.
 pub expression_written : {S A : Type 0} (rules : SinkRules S) (a b : S) (xs is : List Instruction) (r : Result A Refusal) → xs ≡ is
     → Writes rules (All (λ i. (instr (meaning.as_instr i)).in_range) xs × Unit {0}) a b (flat_map (λ i. (instr (meaning.as_instr i)).bytes) xs ++ 0x0b ∷ []) r
     → Writes rules (expression (map meaning.as_instr is)).in_range a b (expression (map meaning.as_instr is)).bytes r

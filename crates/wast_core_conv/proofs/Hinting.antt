@@ -1,4 +1,4 @@
--- The branch hints of a body: what stands before the instruction of each is counted, and each is written as it comes.
+-- The branch hints of a body: counting the bytes before each hint gives the offsets that the definition has.
 use Rattle.std.proofs.Common.{◌≡◌, ℕ, ◌+◌, ◌-◌, ◌≤◌, ◌<◌, ◌^◌, ◌⊎◌, true, ◌&&◌, List, [], ◌∷◌, ◌++◌, map, length, take, drop, get_or, slice_range, Result, Ok, Err, is_err, false, inl, inr, refl, sym, ap, ◌∙◌, subst, arith, length-append}
 use Rattle.std.specs.Prelude.{All, IfOk, nat_le, nat_lt}
 use Rattle.std.specs.List.{flat_map, list_all}
@@ -28,9 +28,9 @@ use Rattle.wast_core_conv.specs.Meaning as meaning
 use Rattle.wast_core_conv.proofs.EachPasses.{both_pass, both_true, both_lists}
 use Rattle.wast_core_conv.proofs.Standing.{body_parts}
 
--- ---- hints that stand on instructions
+-- ---- Hints that are on instructions.
 
--- the first of them, and those behind it
+-- The first hint, and those after it.
 pub record Stands (count first : ℕ) (h : BranchHint) (hs : List BranchHint) : Type 0 where
   pub behind : first ≤ h.instr_index
   pub inside : h.instr_index < count
@@ -49,11 +49,11 @@ first_stands count first h hs e =
       rest = whole.1;
     }
 
--- the one in a place
+-- The hint at an index.
 pub hint_stands : (count first : ℕ) (hs : List BranchHint) (k : ℕ) (d : BranchHint) → k < length hs → stand_from count first (drop k hs) ≡ true → Stands count first (get_or hs k d) (drop (k + 1) hs)
 hint_stands count first hs k d lt e = first_stands count first (get_or hs k d) (drop (k + 1) hs) (ap (stand_from count first) (sym (drop_more hs k d lt)) ∙ e)
 
--- from an instruction on they stand, too, from the one before it on
+-- Hints that are on instructions from one index on also are from the index before it on.
 pub stand_sooner : (count first : ℕ) (hs : List BranchHint) → stand_from count (first + 1) hs ≡ true → stand_from count first hs ≡ true
 stand_sooner count first [] e = refl
 stand_sooner count first (h ∷ hs) e =
@@ -63,7 +63,7 @@ stand_sooner count first (h ∷ hs) e =
     both_true (is_hint_in_order count first h) (stand_from count (h.instr_index + 1) hs)
     (both_true (nat_le first h.instr_index) (nat_lt h.instr_index count && nat_lt h.value 2) (le-leb first h.instr_index (omega (arith, it.behind))) more.1) it.rest
 
--- the body of a function whose hints the encoder takes
+-- The body of a function whose hints may be encoded.
 pub record Parts (ls : List Local) (e : Expression) : Type 0 where
   pub locals : list_all (λ l. are_encodable (in_local l)) ls ≡ true
   pub instrs : list_all is_encodable_instr e.instrs ≡ true
@@ -75,9 +75,9 @@ hinted_parts ls e h =
     let body = body_parts ls e both.0 in
     record { locals = body.0; instrs = body.1; hints = both.1 }
 
--- ---- what stands before an instruction
+-- ---- The bytes before an instruction.
 
--- up to a place: up to an earlier one, and between them
+-- The bytes before an index are those before an earlier one, and those between the two.
 up_to : {A : Type 0} (xs : List A) (n i : ℕ) → n ≤ i → take i xs ≡ take n xs ++ slice_range xs n i
 up_to xs n i le = let whole : n + (i - n) ≡ i = omega arith in ap (λ k. take k xs) (sym whole) ∙ take-add n (i - n) xs
 
@@ -117,15 +117,15 @@ in_range_joined is n i le h k =
     let all = subst InRangeSpelled (sym (up_to is n i le)) (All-append (λ j. (instr (meaning.as_instr j)).in_range) (take n is) (slice_range is n i) first k) in
     subst (All (λ x. (instr x).in_range)) (sym (take-map meaning.as_instr i is)) (All-map (λ x. (instr x).in_range) meaning.as_instr (take i is) all)
 
--- the encoder takes those between
+-- The instructions between them may be encoded.
 pub between_ready : (is : List Instruction) (n i : ℕ) → n ≤ i → list_all is_encodable_instr is ≡ true → list_all is_encodable_instr (slice_range is n i) ≡ true
 between_ready is n i le h =
     let later = (both_lists is_encodable_instr (take n is) (drop n is) (ap (list_all is_encodable_instr) (take-append-drop n is) ∙ h)).1 in
     (both_lists is_encodable_instr (slice_range is n i) (drop i is) (ap (list_all is_encodable_instr) (sym (drop_split is n i le)) ∙ later)).0
 
--- ---- a hint
+-- ---- One hint.
 
--- what was no error
+-- The result was no error.
 pub if_no_error : {A E : Type 0} (P : Type 0) (r : Result A E) → is_err r ≡ false → IfOk r (λ x. P) → P
 if_no_error P (Ok x) good h = h
 if_no_error P (Err e) good h = absurd cc
@@ -134,7 +134,7 @@ pub written_in_range : {S A : Type 0} (rules : SinkRules S) (in_range : Type 0) 
 written_in_range rules in_range a b x (Ok t) p good = p.1
 written_in_range rules in_range a b x (Err e) p good = absurd cc
 
--- what stands before it was not counted, since it is out of range
+-- The bytes before the hint were not counted, because they are out of range.
 pub uncounted : {S : Type 0} (rules : SinkRules S) (a : S) (n more value : ℕ) (InRange : Type 0) (e : Refusal) → AppendLaws rules
     → ((e ≡ refusal.TooLarge) × (n + more < 2 ^ 64 → ⊥)) ⊎ ((e ≡ refusal.TooLarge) × (InRange → ⊥))
     → Writes {A = Unit {0}} rules (InRange × (branch_hint (hint_at (n + more) value)).in_range) a a (branch_hint (hint_at (n + more) value)).bytes (Err e)
@@ -146,14 +146,14 @@ uncounted rules a n more value InRange e laws r = (
   ],
 )
 
--- it was counted, and is written
+-- The hint was counted and written.
 pub counted_hint : {S A : Type 0} (rules : SinkRules S) (a b : S) (m n value : ℕ) (InRange : Type 0) (r : Result A Refusal) → m ≡ n → InRange
     → Writes rules (branch_hint (hint_at m value)).in_range a b (branch_hint (hint_at m value)).bytes r → Writes rules (InRange × (branch_hint (hint_at n value)).in_range) a b (branch_hint (hint_at n value)).bytes r
 counted_hint rules a b m n value InRange r is counts p =
     puts_as rules (branch_hint (hint_at n value)).in_range (InRange × (branch_hint (hint_at n value)).in_range) a b (branch_hint (hint_at n value)).bytes r (λ h. (counts, h)) (λ h. h.1)
     (subst (λ k. Writes rules (branch_hint (hint_at k value)).in_range a b (branch_hint (hint_at k value)).bytes r) is p)
 
--- it is the hint of the body
+-- It is the hint of the body.
 pub hint_written : {S A : Type 0} (rules : SinkRules S) (a b : S) (ls : List Local) (is : List Instruction) (h : BranchHint) (n before : ℕ) (r : Result A Refusal)
     → n ≤ h.instr_index → before ≡ length (bytes_before (meaning.body_of ls is) n) → All (λ x. (instr x).in_range) (take n (map meaning.as_instr is))
     → Writes rules (InRangeSpelled (slice_range is n h.instr_index) × (branch_hint (hint_at (before + length (spelled (slice_range is n h.instr_index))) h.value)).in_range) a b (branch_hint (hint_at (before + length (spelled (slice_range is n h.instr_index))) h.value)).bytes r
@@ -166,7 +166,7 @@ hint_written rules a b ls is h n before r le counts first p =
     (λ q. (in_range_joined is n h.instr_index le first q.0, q.1)) (λ q. (in_range_between is n h.instr_index le q.0, q.1))
     (subst (λ k. Writes rules (InRangeSpelled between × (branch_hint (hint_at k h.value)).in_range) a b (branch_hint (hint_at k h.value)).bytes r) (counted_before ls is n h.instr_index before le counts) p)
 
--- ---- all hints of a body
+-- ---- All hints of a body.
 
 pub hints_written : {S A : Type 0} (rules : SinkRules S) (a b : S) (body : Body) (hs : List BranchHint) (count : ℕ) (r : Result A Refusal) → count ≡ length hs
     → Writes rules (InRangeU32 count × InRangeHintsOf body hs) a b (unsigned count ++ flat_map (λ h. (branch_hint (as_branch_hint body h)).bytes) hs) r

@@ -1,5 +1,5 @@
--- Fields that are well formed, resolved and written out are at rest, and may be handed to the encoder where each form is
--- covered; what may be is resolved; and where a field may be, so may what it puts into the sections.
+-- Fields that are well formed, resolved and desugared may be encoded, if each construct is supported. Fields that may
+-- be encoded are resolved, and so are the entries that they add to sections.
 use Rattle.std.proofs.Common.{◌≡◌, Bool, true, false, ◌&&◌, ◌||◌, List, [], ◌∷◌, refl, sym, ◌∙◌}
 use Rattle.std.specs.Prelude.{is_some, Option, Some, None}
 use Rattle.std.specs.List.{flat_map, list_all}
@@ -27,7 +27,7 @@ use Rattle.wast_core_conv.specs.Hints.{are_encodable_hints}
 use Rattle.wast_core_conv.proofs.EachPasses.{both_pass, both_true, both_lists, each_passes, each_by, each_then}
 use Rattle.wast_core_conv.proofs.Standing.{asking_passes, asked_then, encodable_at, code_ready, code_hinted, constant_ready, body_tells}
 
--- ---- well formed, resolved and written out
+-- ---- Well formed, resolved and desugared.
 
 ask_met : (k : IdContext) (a : Check) → is_kept k a ≡ true → is_met a ≡ true
 ask_met k (Clause n holds) kept = kept
@@ -39,7 +39,7 @@ fields_at_rest k fields kept resolved written =
     both_true (is_resolved fields) _ resolved
     (both_true (is_written_out fields) _ written (each_then (is_kept k) is_met (ask_met k) (checks_of (in_module fields)) kept))
 
--- ---- at rest and covered
+-- ---- Already resolved and supported.
 
 ask_ready : (a : Check) → (is_met a && is_covered_ask a) ≡ true → is_numbered a ≡ true → is_encodable_ask a ≡ true
 ask_ready (ItemIndex s i) kept numbered = numbered
@@ -48,7 +48,7 @@ ask_ready (PlainId m) kept numbered = refl
 ask_ready (Clause n holds) kept numbered = (both_pass holds true kept).0
 ask_ready (Covered form holds) kept numbered = kept
 
--- a clause holds, and a form is covered
+-- A clause holds, and a construct is supported.
 abbrev is_kept_here : Check → Bool
 is_kept_here a = is_met a && is_covered_ask a
 
@@ -69,7 +69,7 @@ sites_ready sites kept resolved =
     each_by (λ s. list_all is_kept_here (asked_in s)) is_resolved_site is_encodable_site site_ready sites
     (sym (each_passes is_kept_here asked_in sites) ∙ kept) resolved
 
--- no form is found that is not covered
+-- No unsupported construct is found.
 forms_covered : (asks : List Check) → head_of (flat_map uncovered_in asks) ≡ None → list_all is_covered_ask asks ≡ true
 forms_covered [] e = refl
 forms_covered (Covered form true ∷ asks) e = forms_covered asks e
@@ -85,7 +85,7 @@ fields_ready fields rest none =
     each_by (λ x. encodable (in_field x)) is_written_field is_encodable_field (λ x. both_true (encodable (in_field x)) (is_written_field x)) fields
     (sym (each_passes is_encodable_site in_field fields) ∙ sites_ready (in_module fields) kept resolved.0) written.0
 
--- ---- what the encoder takes is resolved
+-- ---- What may be encoded is resolved.
 
 ask_numbered : (a : Check) → is_encodable_ask a ≡ true → is_numbered a ≡ true
 ask_numbered (ItemIndex s i) h = h
@@ -111,14 +111,14 @@ site_resolved s h = refl
 pub sites_resolved : (sites : List Site) → encodable sites ≡ true → are_resolved sites ≡ true
 sites_resolved sites h = each_then is_encodable_site is_resolved_site site_resolved sites h
 
--- the table and the type use of an indirect call
+-- The table and the type use of an indirect call.
 pub indirect_ready : (c : CallIndirect) → encodable (in_indirect c) ≡ true → (is_number c.table ≡ true) × (are_resolved (in_use OfItem c.ty) ≡ true)
 indirect_ready c h =
     let parts = both_pass (is_number c.table) (encodable (in_use OfCall c.ty)) h in
     let used = (both_pass (is_encodable_site (Used OfCall c.ty)) true parts.1).0 in
     (parts.0, both_true (is_resolved_site (Used OfItem c.ty)) true (site_resolved (Used OfCall c.ty) used) refl)
 
--- ---- what a field that the encoder takes puts into the sections
+-- ---- What a field that may be encoded adds to the sections.
 
 site_entered : (s : Site) → is_encodable_site s ≡ true → is_entered_site s ≡ true
 site_entered (Asked a) h = h
@@ -131,7 +131,7 @@ site_entered s h = refl
 sites_entered : (sites : List Site) → encodable sites ≡ true → are_entered sites ≡ true
 sites_entered sites h = each_then is_encodable_site is_entered_site site_entered sites h
 
--- what goes into an entry is resolved
+-- What an entry contains is resolved.
 entry_resolved : (s : Site) → is_entered_site s ≡ true → is_resolved_site s ≡ true
 entry_resolved (Asked a) h = ask_numbered a h
 entry_resolved (Used w u) h = h
@@ -168,7 +168,7 @@ body_hinted u (func.Inline locals x) e written =
     let both = both_pass (are_encodable (flat_map in_local locals)) (encodable (in_expression constant_context x)) (sym (body_tells u locals x) ∙ e) in
     both_true (is_encodable_kind (func.Inline locals x)) (hints_stand x) (body_ready u (func.Inline locals x) e written) (code_hinted x both.1)
 
--- whether anything is exported in place is nothing to its section
+-- Inline exports do not affect the entry of the item.
 first_and_last : (a b c : Bool) → (a && (b && c)) ≡ true → (a ≡ true) × (c ≡ true)
 first_and_last a b c e = let outer = both_pass a (b && c) e in (outer.0, (both_pass b c outer.1).1)
 
@@ -209,7 +209,7 @@ global_ready g e =
     let parts = asked_then (in_global_type g.ty) (in_global_kind g.kind) both.0 in
     both_true (are_encodable (in_global_type g.ty)) (is_encodable_global_kind g.kind) parts.0 (global_kind_ready g.kind parts.1 both.1)
 
--- what a segment fills, and from where on
+-- The table or memory that a segment fills, and its offset.
 number_ready : (s : Space) (o : Option Index) → encodable (if_there (at_index s) o) ≡ true → is_number_if o ≡ true
 number_ready s None e = refl
 number_ready s (Some i) e = (both_pass (is_number i) true e).0

@@ -1,4 +1,4 @@
--- Each instruction that the encoder takes is a row of the table.
+-- Each instruction that may be encoded is an entry of the opcode table.
 use Rattle.std.proofs.Common.{◌≡◌, true, List, [], ◌++◌, map, refl, sym, ◌∙◌}
 use Rattle.std.specs.Prelude.{All, option_map}
 use Rattle.std.specs.List.{list_all}
@@ -16,7 +16,7 @@ use Rattle.wast_core_conv.specs.Meaning as meaning
 use Rattle.wast_core_conv.proofs.EachPasses.{both_lists, each_has}
 use Rattle.wast_core_conv.proofs.Standing.{asking_passes, handlers_tell, ready_instrs}
 
--- The encoder does not take what is not covered.
+-- An unsupported instruction may not be encoded.
 sites_fail : (ss : List Site) (f : Form) → encodable (ss ++ check_sites (uncovered_check f)) ≡ true → ⊥
 sites_fail ss f e = let no = (both_lists is_encodable_site ss (check_sites (uncovered_check f)) e).1 in cc
 

@@ -1,4 +1,4 @@
--- What segments hold, and where they stand, as sections take it.
+-- The items and the modes of segments, as the section builders take them.
 use native.Mathlib.Omega.{arith}
 use Rattle.std.proofs.Common.{◌≡◌, ℕ, Bool, true, false, List, length, map, Result, inl, inr, refl, sym, ap, ◌∙◌, subst}
 use Rattle.std.specs.Prelude.{All, Some, None, ◌&&◌}
@@ -36,7 +36,7 @@ use Rattle.wast_core_conv.specs.Meaning as meaning
 use Rattle.wast_core_conv.proofs.Spelled.{vec_mapped}
 use Rattle.wast_core_conv.proofs.TypesReady.{heap_covered}
 
--- ---- elements
+-- ---- Items.
 
 pub are_payload : (ty : types.RefType) (xs es : List Expression) (r : RefType) (v : Vec (List ℕ)) → are_encodable (in_ref ty) ≡ true → r ≡ meaning.as_ref_type ty → xs ≡ es → AreExpressions xs v.items → ArePayload (payload.Exprs ty es) (elements.Expressions r v)
 are_payload ty xs es r v covered is same made =
@@ -52,7 +52,7 @@ are_payload ty xs es r v covered is same made =
 pub payload_refused : (ty : types.RefType) (xs es : List Expression) (e : Error) → xs ≡ es → IsRefused (All (λ x. (expression (meaning.as_expression x)).in_range) xs) e → IsRefused (element_list (meaning.as_element_items (payload.Exprs ty es))).in_range e
 payload_refused ty xs es e same r = elim r [ inl m ↦ inl m | inr l ↦ inr (l.0, λ h. l.1 (subst (All (λ x. (expression (meaning.as_expression x)).in_range)) (sym same) (all_unmap (λ x. (expression x).in_range) meaning.as_expression es h.1))) ]
 
--- ---- where they stand
+-- ---- Modes.
 
 pub mode_bytes : {O : Type 0} (f : O → List Instr) (m : SegmentMode O) (k : ElementKind) (list : List ℕ) → segment_bytes (λ o. (expression (f o)).bytes) m k list ≡ element_bytes (seen_mode f m) k list
 mode_bytes f mode.Passive k list = refl
@@ -74,7 +74,7 @@ mode_form f mode.Passive k = refl
 mode_form f mode.Declared k = refl
 mode_form f (mode.Active table offset) k = refl
 
--- `funcref` becomes `funcref`
+-- `funcref` becomes `funcref`.
 heap_form : (h : HeapType) → tree.is_func_heap h ≡ true → is_func (meaning.as_heap_type h) ≡ true
 heap_form h e = grind (arith, common_steps)
 
@@ -89,7 +89,7 @@ suits_form (elem.Active (Some table) offset) p e = refl
 suits_form (elem.Active None offset) (payload.Indices is) e = refl
 suits_form (elem.Active None offset) (payload.Exprs ty es) e = funcref_form ty.nullable ty.heap e
 
--- a segment, of its mode, its kind and the bytes of its list
+-- A segment, by its mode, its kind and the bytes of its list.
 pub segment_written : {S A O : Type 0} (rules : SinkRules S) (a b : S) (f : O → List Instr) (m : SegmentMode O) (k : ElemKind) (p : ElemPayload) (kind : ElementKind) (InList : Type 0) (list : List ℕ) (r : Result A Refusal)
     → seen_mode f m ≡ meaning.as_element_mode k → kind ≡ kind_of (meaning.as_element_items p) → list ≡ (element_list (meaning.as_element_items p)).bytes → (InList → (element_list (meaning.as_element_items p)).in_range) → ((element_list (meaning.as_element_items p)).in_range → InList)
     → Writes rules (InRangeMode (λ o. (expression (f o)).in_range) m × ((element_type kind).in_range × InList)) a b (segment_bytes (λ o. (expression (f o)).bytes) m kind list) r
@@ -102,6 +102,6 @@ segment_written rules a b f m k p kind InList list r same is are into back h =
     (λ x. (range_of_mode f m (subst (λ x. (element_place x).in_range) (sym same) x.0), (subst (λ x. (element_type x).in_range) (sym is) x.1.0, back x.1.1)))
     (mode_bytes f m kind list ∙ ap (λ x. element_bytes x kind list) same ∙ ap (λ x. element_bytes stands x list) is ∙ ap (element_bytes stands (kind_of items)) are) h
 
--- the form of a segment of this kind
+-- The flags of a segment of this kind.
 pub has_its_form : {O : Type 0} (f : O → List Instr) (m : SegmentMode O) (k : ElemKind) (p : ElemPayload) (kind : ElementKind) → seen_mode f m ≡ meaning.as_element_mode k → kind ≡ kind_of (meaning.as_element_items p) → tree.is_segment_type_allowed k p ≡ true → is_form m kind ≡ true
 has_its_form f m k p kind same is e = mode_form f m kind ∙ ap (λ x. has_form x kind) same ∙ ap (has_form (meaning.as_element_mode k)) is ∙ suits_form k p e

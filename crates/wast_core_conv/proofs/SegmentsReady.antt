@@ -1,4 +1,4 @@
--- Segments that the encoder takes are covered, their instructions are rows of the table, and each block in their expressions is closed.
+-- Segments that may be encoded have supported instructions, and each block in their expressions is closed.
 use Rattle.std.proofs.Common.{◌≡◌, true, ◌&&◌, List, refl}
 use Rattle.std.specs.List.{list_all}
 use Rattle.std.proofs.lemmas.List.Elements.{All-nil, All-map, All-append}
@@ -25,7 +25,7 @@ use Rattle.wast_core_conv.proofs.Rows.{expression_rows}
 use Rattle.wast_core_conv.proofs.Segmented.{suits_form}
 use Rattle.wast_core_conv.proofs.TypesReady.{heap_covered}
 
--- the parts of a segment
+-- The parts of an element segment.
 pub exprs_parts : (ty : RefType) (es : List Expression)
     → is_encodable_payload (payload.Exprs ty es) ≡ true → (are_encodable (in_ref ty) ≡ true) × (list_all is_encodable_expression es ≡ true)
 exprs_parts ty es e = both_pass (are_encodable (in_ref ty)) (list_all is_encodable_expression es) e
@@ -92,7 +92,7 @@ elem_balanced x e =
     let parts = elem_parts x e in
     All-append IsBalancedExpression (place_expressions (as_element_mode x.kind)) (item_expressions (as_element_items x.payload)) (mode_balanced x.kind parts.stands) (items_balanced x.payload parts.holds)
 
--- the same of segments of data
+-- The same for data segments.
 pub place_covered : (k : DataKind) → is_encodable_data_kind k ≡ true → (data_place (as_data_mode k)).is_covered ≡ true
 place_covered data_kind.Passive e = refl
 place_covered (data_kind.Active memory offset) e = expression_covered offset (both_pass (is_number memory) (is_encodable_expression offset) e).1

@@ -1,4 +1,4 @@
--- What the encoder takes of lists of what stands in a part: of what is asked alone, of indices, of instructions and bodies.
+-- What "may be encoded" means for a list of sites: for checks alone, indices, instructions and bodies.
 use Rattle.std.proofs.Common.{◌≡◌, Bool, true, false, ◌&&◌, List, [], ◌∷◌, ◌++◌, refl, sym, ap, ◌∙◌}
 use Rattle.std.specs.Prelude.{Option, Some, None}
 use Rattle.std.specs.List.{flat_map, list_all}
@@ -25,13 +25,13 @@ pub asking_entered : (asks : List Check) → are_entered (check_sites asks) ≡ 
 asking_entered [] = refl
 asking_entered (a ∷ asks) = ap (λ b. is_encodable_ask a && b) (asking_entered asks)
 
--- what is asked, and then other sites
+-- Checks, and then other sites.
 pub asked_then : (asks : List Check) (ss : List Site) → encodable (check_sites asks ++ ss) ≡ true → (are_encodable asks ≡ true) × (encodable ss ≡ true)
 asked_then asks ss h =
     let both = both_lists is_encodable_site (check_sites asks) ss h in
     (sym (asking_passes asks) ∙ both.0, both.1)
 
--- indices
+-- Indices.
 pub numbers_in : (s : Space) (is : List Index) → are_numbered (flat_map (in_index s) is) ≡ list_all is_number is
 numbers_in s is = each_of_one is_numbered (ItemIndex s) is
 
@@ -41,12 +41,12 @@ encodable_in s is = each_of_one is_encodable_ask (ItemIndex s) is
 pub encodable_at : (s : Space) (is : List Index) → encodable (flat_map (at_index s) is) ≡ list_all is_number is
 encodable_at s is = each_of_one is_encodable_site (λ i. Asked (ItemIndex s i)) is
 
--- an id asks nothing
+-- An id has no checks.
 pub behind_id : (id : Option Id) (asks : List Check) → are_encodable (if_there in_id id ++ asks) ≡ are_encodable asks
 behind_id None asks = refl
 behind_id (Some id) asks = refl
 
--- a branch by a table: its labels, whichever blocks are open
+-- `br_table`: its labels, with any enclosing blocks.
 pub br_table_tells : (blocks : Blocks) (t : BrTableIndices) → encodable (in_br_table blocks t) ≡ (list_all is_number t.labels && (is_number t.default && true))
 br_table_tells blocks t =
     list_all-append is_encodable_site (flat_map (at_label blocks) t.labels) (at_label blocks t.default)
@@ -57,7 +57,7 @@ br_table_parts t e =
     let both = both_pass (list_all is_number t.labels) _ (sym (br_table_tells constant_context.blocks t) ∙ e) in
     (both.0, (both_pass (is_number t.default) true both.1).0)
 
--- a clause of `try_table`: its tag and its label
+-- A clause of `try_table`: its tag and its label.
 pub catch_tells : (blocks : Blocks) (c : TryTableCatch) → encodable (in_catch blocks c) ≡ (are_encodable (in_caught c.kind) && (is_number c.label && true))
 catch_tells blocks c =
     list_all-append is_encodable_site (check_sites (in_caught c.kind)) (at_label blocks c.label)
@@ -68,7 +68,7 @@ catches_tell blocks cs =
     each_passes is_encodable_site (in_catch blocks) cs
     ∙ each_same (λ c. encodable (in_catch blocks c)) is_encodable_catch (λ c. catch_tells blocks c ∙ sym (catch_tells constant_context.blocks c)) cs
 
--- a block that catches: its type and its clauses
+-- `try_table`: its type and its clauses.
 pub try_table_tells : (blocks : Blocks) (t : TryTable)
     → encodable (in_try_table blocks t) ≡ (is_encodable_site (Used OfBlock t.block.ty) && (list_all is_encodable_catch t.catches && true))
 try_table_tells blocks t =
@@ -81,11 +81,11 @@ try_table_parts t e =
     let both = both_pass (is_encodable_site (Used OfBlock t.block.ty)) _ (sym (try_table_tells constant_context.blocks t) ∙ e) in
     (both_true _ true both.0 refl, (both_pass (list_all is_encodable_catch t.catches) true both.1).0)
 
--- a field of a struct: the type of the struct, and the field
+-- A struct field access: the type of the struct, and the field.
 pub access_parts : (a : StructAccess) → encodable (in_access a) ≡ true → (is_number a.owner ≡ true) × (is_number a.field ≡ true)
 access_parts a e = both_pass (is_number a.owner) (is_number a.field) (both_pass _ true e).0
 
--- a branch on a cast: its label, and the types that are cast to and from
+-- A branch on a cast: its label and its two types.
 pub record CastParts (l : Index) (target source : RefType) : Type 0 where
   pub label : is_number l ≡ true
   pub to : are_encodable (in_ref target) ≡ true
@@ -97,7 +97,7 @@ cast_parts l to from e =
     let types = both_lists is_encodable_ask (in_ref to) (in_ref from) (sym (asking_passes (in_ref to ++ in_ref from)) ∙ both.1) in
     record { label = both.0; to = types.0; from = types.1 }
 
--- no handler is covered, whichever blocks are open
+-- No handler is supported, with any enclosing blocks.
 pub handlers_tell : (blocks : Blocks) (t : ResumeTable) → encodable (in_handlers blocks t) ≡ false
 handlers_tell blocks t =
     list_all-append is_encodable_site (flat_map (in_handle blocks) t.handlers) (check_sites (uncovered_check form.StackSwitching))
@@ -110,7 +110,7 @@ handlers_tell blocks t =
 handlers_anywhere : (h g : BodyContext) (t : ResumeTable) → encodable (in_handlers h.blocks t) ≡ encodable (in_handlers g.blocks t)
 handlers_anywhere h g t = handlers_tell h.blocks t ∙ sym (handlers_tell g.blocks t)
 
--- An instruction, wherever it stands.
+-- An instruction, in any context.
 pub anywhere : (h g : BodyContext) (i : Instruction) → encodable (in_instr h i) ≡ encodable (in_instr g i)
 anywhere h g (instruction.Plain op) = refl
 anywhere h g (instruction.br_table t) = br_table_tells h.blocks t ∙ sym (br_table_tells g.blocks t)
@@ -127,18 +127,18 @@ instrs_pass h (i ∷ is) =
     ∙ (ap (λ b. b && encodable (in_instrs (context_after h i) is)) (anywhere h constant_context i)
     ∙ ap (λ b. is_encodable_instr i && b) (instrs_pass (context_after h i) is))
 
--- The expression of a function: its instructions, and that its branch hints stand on them.
+-- The expression of a function: its instructions, and that its branch hints are on them.
 expression_tells : (h : BodyContext) (e : Expression)
     → encodable (in_expression h e) ≡ (list_all is_encodable_instr e.instrs && encodable (Asked (Clause 2 (hints_stand e)) ∷ []))
 expression_tells h e =
     let hints = Asked (Clause 2 (hints_stand e)) ∷ [] in
     list_all-append is_encodable_site (in_instrs h e.instrs) hints ∙ ap (λ b. b && encodable hints) (instrs_pass h e.instrs)
 
--- An expression as the encoder takes it: its instructions alone; of a constant expression, they are balanced.
+-- An expression: only its instructions are checked, and the blocks of a constant expression are balanced.
 pub code_ready : (e : Expression) → encodable (in_expression constant_context e) ≡ true → is_encodable_code e ≡ true
 code_ready e p = (both_lists is_encodable_site (in_instrs constant_context e.instrs) _ p).0
 
--- of the body of a function, its hints stand on its instructions
+-- The hints of a function body are on its instructions.
 pub code_hinted : (e : Expression) → encodable (in_expression constant_context e) ≡ true → hints_stand e ≡ true
 code_hinted e p = (both_pass (hints_stand e) true (both_lists is_encodable_site (in_instrs constant_context e.instrs) _ p).1).0
 
@@ -153,12 +153,12 @@ ready_instrs e p = sym (instrs_pass constant_context e.instrs) ∙ (both_pass (i
 pub ready_balanced : (e : Expression) → is_encodable_expression e ≡ true → is_balanced (block_effects e.instrs) ≡ true
 ready_balanced e p = (both_pass (is_encodable_code e) (is_balanced (block_effects e.instrs)) p).1
 
--- Nothing is asked where a parameter or a local is declared.
+-- The declaration of a parameter or a local has no checks.
 declared_passes : (before : List (Option Name)) (marks : List (Option Mark)) → encodable (declaration_sites before marks) ≡ true
 declared_passes before [] = refl
 declared_passes before (m ∷ ms) = declared_passes (before ++ name_if m ∷ []) ms
 
--- A body: its locals and its instructions, in whichever function it stands.
+-- A body: its locals and its instructions, in any function.
 pub body_tells : (u : TypeUse FunctionType) (locals : List Local) (e : Expression)
     → encodable (in_func_kind u (func.Inline locals e)) ≡ (are_encodable (flat_map in_local locals) && encodable (in_expression constant_context e))
 body_tells u locals e =

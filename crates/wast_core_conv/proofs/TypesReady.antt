@@ -1,4 +1,4 @@
--- What types the encoder takes: they become covered values; and the parts of what is resolved are.
+-- Types that may be encoded become supported values, and the parts of a resolved type are resolved.
 use native.Mathlib.Omega.{arith}
 use Rattle.std.proofs.Common.{◌≡◌, Bool, true, false, ◌&&◌, List, [], ◌∷◌, map, refl, sym, ◌∙◌}
 use Rattle.std.specs.Prelude.{not, is_none, Option, Some, None, option_map}
@@ -26,7 +26,7 @@ use Rattle.wast_core_conv.proofs.EachPasses.{both_pass, both_true, both_lists, e
 use Rattle.wasm_ops.specs.Spelling.{composite_inner_type, field_type, heap_type, is_covered_abstract_heap_type, storage_type, sub_type, val_type}
 use Rattle.wast_core_conv.proofs.Standing.{behind_id}
 
--- ---- the parts of what passes
+-- ---- The parts of what passes.
 
 pub signature_parts : (p : Check → Bool) (t : FunctionType)
     → list_all p (in_signature t) ≡ true → (list_all (λ q. list_all p (in_param q)) t.params ≡ true) × (list_all (λ v. list_all p (in_val v)) t.results ≡ true)
@@ -49,12 +49,12 @@ def_parts p d h =
     let kind = both_lists p (in_inner d.kind) _ describes.1 in
     record { parents = parents.0; descriptor = descriptor.0; describes = describes.0; kind = kind.0; shared = kind.1 }
 
--- the type that a type describes, or that describes it
+-- The type in a `descriptor` or `describes` clause.
 pub number_of : (o : Option Index) → are_numbered (if_there in_descriptor o) ≡ true → is_number_if o ≡ true
 number_of None h = refl
 number_of (Some i) h = (both_pass (is_number i) _ h).0
 
--- ---- what the encoder takes becomes a covered value
+-- ---- What may be encoded becomes a supported value.
 
 abstract_covered : (ty : AbstractHeapType) → not (is_continuation ty) ≡ true → is_covered_abstract_heap_type (meaning.as_abstract_type ty) ≡ true
 abstract_covered abstract.Cont e = e
@@ -71,7 +71,7 @@ heap_covered (heap.Exact i) e = (both_pass (is_number i) false e).1
 pub val_covered : (t : ValType) → are_encodable (in_val t) ≡ true → (val_type (meaning.as_val_type t)).is_covered ≡ true
 val_covered t e = grind (arith, common_steps, heap_covered)
 
--- the types of what `select` gives
+-- The types of `select`.
 select_all : (ts : List ValType) → are_encodable (flat_map in_val ts) ≡ true → list_all (λ x. (val_type x).is_covered) (map meaning.as_val_type ts) ≡ true
 select_all ts e = each_becomes (λ v. are_encodable (in_val v)) meaning.as_val_type (λ x. (val_type x).is_covered) val_covered ts (sym (each_passes is_encodable_ask in_val ts) ∙ e)
 
@@ -82,7 +82,7 @@ select_covered t e = of_types t.tys e
     of_types None e = refl
     of_types (Some ts) e = both_true _ true (select_all ts e) refl
 
--- the ordering of a fence
+-- The ordering of a fence.
 pub sequential_covered : (o : Option Ordering) → is_sequential o ≡ true → is_covered_ordering (meaning.fence_ordering o) ≡ true
 sequential_covered None e = refl
 sequential_covered (Some ordering.SeqCst) e = refl
@@ -91,7 +91,7 @@ sequential_covered (Some ordering.AcqRel) e = e
 pub fence_covered : (o : Option Ordering) → encodable (check_sites (Covered form.Ordering (is_sequential o) ∷ [])) ≡ true → (instr (fence_instr (meaning.fence_ordering o))).is_covered ≡ true
 fence_covered o e = both_true _ true (sequential_covered o (both_pass (is_sequential o) true e).0) refl
 
--- the type of a block: the index of a type, or at most one result
+-- The type of a block: a type index, or at most one result.
 given_covered : (ts : List ValType) → list_all (λ v. are_encodable (in_val v)) ts ≡ true → (block_type (short_block_type ts)).is_covered ≡ true
 given_covered [] e = refl
 given_covered (t ∷ ts) e = val_covered t (both_pass (are_encodable (in_val t)) _ e).0
@@ -146,7 +146,7 @@ def_covered d e =
     (both_true _ _ (no_descriptor d.descriptor parts.descriptor) (no_descriptor d.describes parts.describes)))
     (inner_covered d.kind parts.kind)
 
--- ---- what a function or a group becomes
+-- ---- What a function or a recursion group becomes.
 
 pub local_covered : (l : Local) → are_encodable (in_local l) ≡ true → (val_type (meaning.as_val_type l.ty)).is_covered ≡ true
 local_covered l e = val_covered l.ty (both_lists is_encodable_ask (in_val l.ty) _ e).0

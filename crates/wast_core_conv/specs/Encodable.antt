@@ -1,5 +1,12 @@
--- What the encoder may be handed: parts of the tree where each index is a number, each clause holds, each form is covered,
--- and each type use has an index, or is short in a block. Branch hints and inline types are not written, so fields alone ask for them.
+-- Parts of a module that may be encoded: each index is a number, each rule of well-formedness holds, each construct is
+-- supported, and each type use has an index (in a block, a short inline type is enough).
+--
+-- Branch hints and inline types beside an index are not encoded. So only the definitions of fields check them.
+--
+--   (func (type 0) (call 1))      may be encoded
+--   (func (type 0) (call $f))     may not: $f is not a number
+--   (func (call 1))               may not: the type use has no index
+--   block (result i32) .. end     may: the block type `i32` needs no index
 use Rattle.std.specs.Prelude.{Bool, true, false, ◌&&◌, ◌||◌, is_some, List, Option, Some, None}
 use Rattle.std.specs.List.{list_all, flat_map}
 use Rattle.wast_base.specs.Blocks.{is_balanced}

@@ -1,4 +1,12 @@
--- Parts of the tree as values of the binary format, with their numbers (binary format: types, instructions).
+-- Parts of a resolved module as values of the binary format: types, immediates, instructions and bodies (binary format:
+-- types, instructions).
+--
+-- An index becomes its number. Ids, labels and names of parameters have no value here. A definition is total: an id
+-- left in an index would become 0, but no such module may be encoded (`Encodable`).
+--
+--   (ref null 3)           nullable = true, heap_type = Concrete 3
+--   i32.load align=4       the memory argument has align = 2, because the binary format stores the logarithm
+--   call 5                 the entry of `call` in the opcode table, with the number 5
 use Rattle.std.specs.Int.{w8, w16, w32, w64, w128, cast_signed, cast_unsigned, from_le_bytes, to_le_bytes, trailing_zeros}
 use Rattle.std.specs.Prelude.{ℕ, ℤ, Bool, true, List, [], ◌∷◌, map, flat_map, Option, Some, None, unwrap_or, option_map}
 use Rattle.wast_core_conv.specs.Tree as tree
@@ -77,12 +85,12 @@ use Rattle.wasm_ops.specs.Table.{Instr}
 use Rattle.wasm_ops.specs.VectorInstrs.{lanes_instr, lane_instr, mem_lane_instr}
 use Rattle.wasm_out.specs.Bodies.{Body}
 
--- the number of an index; a resolved list has no ids left, and one would read 0
+-- The number of an index. A resolved module has no ids; an id would be 0.
 abbrev pub index_value : Index → ℕ
 index_value (index.Num n span) = n
 index_value (index.Id id) = 0
 
--- Each part of the tree with its numbers.
+-- An abstract heap type.
 abbrev pub as_abstract_type : tree.AbstractHeapType → AbstractHeapType
 as_abstract_type abstract.Func = heaps.Func
 as_abstract_type abstract.Extern = heaps.Extern
@@ -99,17 +107,17 @@ as_abstract_type abstract.I31 = heaps.I31
 as_abstract_type abstract.Cont = heaps.Cont
 as_abstract_type abstract.NoCont = heaps.NoCont
 
--- a heap type
+-- A heap type: an abstract one, or a type index.
 abbrev pub as_heap_type : tree.HeapType → HeapType
 as_heap_type (heap.Abstract shared ty) = out_heap.Abstract shared (as_abstract_type ty)
 as_heap_type (heap.Concrete i) = out_heap.Concrete (index_value i)
 as_heap_type (heap.Exact i) = out_heap.Exact (index_value i)
 
--- a reference type
+-- A reference type.
 abbrev pub as_ref_type : tree.RefType → RefType
 as_ref_type r = record { nullable = r.nullable; heap_type = as_heap_type r.heap }
 
--- a value type
+-- A value type.
 abbrev pub as_val_type : tree.ValType → ValType
 as_val_type val.I32 = out.I32
 as_val_type val.I64 = out.I64
@@ -118,45 +126,45 @@ as_val_type val.F64 = out.F64
 as_val_type val.V128 = out.V128
 as_val_type (val.Ref r) = out.Ref (as_ref_type r)
 
--- what a field of a struct or an element of an array is stored as
+-- The type that a struct field or an array element is stored as.
 abbrev pub as_storage_type : tree.StorageType → StorageType
 as_storage_type storage.I8 = out_storage.I8
 as_storage_type storage.I16 = out_storage.I16
 as_storage_type (storage.Val t) = out_storage.Val (as_val_type t)
 
--- a field of a struct
+-- A field of a struct type.
 abbrev pub as_field_type : StructField → FieldType
 as_field_type f = record { element_type = as_storage_type f.ty; mutable = f.mutable }
 
--- a struct type
+-- A struct type.
 abbrev pub as_struct_type : tree.StructType → StructType
 as_struct_type t = record { fields = map as_field_type t.fields }
 
--- an array type
+-- An array type.
 abbrev pub as_array_type : tree.ArrayType → ArrayType
 as_array_type t = record { 0 = record { element_type = as_storage_type t.ty; mutable = t.mutable } }
 
--- a function type: parameters without their names, and results
+-- A function type: the types of its parameters and results, without ids.
 abbrev pub as_func_type : FunctionType → FuncType
 as_func_type t = record { params = map (λ p. as_val_type p.2) t.params; results = map as_val_type t.results }
 
--- a continuation type, by the index of its function type
+-- A continuation type: the index of its function type.
 abbrev pub as_cont_type : tree.ContType → ContType
 as_cont_type t = record { 0 = index_value t.0 }
 
--- a composite type
+-- A composite type.
 abbrev pub as_inner_type : InnerTypeKind → CompositeInnerType
 as_inner_type (inner.Func t) = composite.Func (as_func_type t)
 as_inner_type (inner.Struct t) = composite.Struct (as_struct_type t)
 as_inner_type (inner.Array t) = composite.Array (as_array_type t)
 as_inner_type (inner.Cont t) = composite.Cont (as_cont_type t)
 
--- a type is final where it says nothing
+-- Whether a type definition is final. Without `sub` it is.
 abbrev pub is_final : Option Bool → Bool
 is_final None = true
 is_final (Some final) = final
 
--- what a type is defined as
+-- A type definition: its composite type, its supertypes, and whether it is final.
 abbrev pub as_sub_type : TypeDef → SubType
 as_sub_type d = record {
   composite_type = record { inner = as_inner_type d.kind; shared = d.shared; descriptor = option_map index_value d.descriptor; describes = option_map index_value d.describes };
@@ -164,27 +172,27 @@ as_sub_type d = record {
   supertype_idxs = map index_value d.parents;
 }
 
--- the type index of a type use
+-- The type index of a type use. Without an index it is 0, and then it is never encoded.
 abbrev pub type_index : TypeUse FunctionType → ℕ
 type_index u = unwrap_or (option_map index_value u.index) 0
 
--- a table type
+-- A table type.
 abbrev pub as_table_type : tree.TableType → TableType
 as_table_type t = record { element_type = as_ref_type t.elem; minimum = t.limits.min; maximum = t.limits.max; table64 = t.limits.is64; shared = t.shared }
 
--- a memory type
+-- A memory type.
 abbrev pub as_memory_type : tree.MemoryType → MemoryType
 as_memory_type t = record { minimum = t.limits.min; maximum = t.limits.max; memory64 = t.limits.is64; shared = t.shared; page_size_log2 = t.page_size_log2 }
 
--- a global type
+-- A global type.
 abbrev pub as_global_type : tree.GlobalType → GlobalType
 as_global_type t = record { val_type = as_val_type t.ty; mutable = t.mutable; shared = t.shared }
 
--- a tag type, which is the index of a function type
+-- A tag type: the index of its function type.
 abbrev pub as_tag_type : tree.TagType → TagType
 as_tag_type (tag.Exception u) = record { func_type_idx = type_index u }
 
--- the type of an imported item
+-- The type of an imported item.
 abbrev pub as_entity_type : ItemKind → EntityType
 as_entity_type (item.Func u) = entity.Function (type_index u)
 as_entity_type (item.FuncExact u) = entity.FunctionExact (type_index u)
@@ -193,90 +201,90 @@ as_entity_type (item.Memory t) = entity.Memory (as_memory_type t)
 as_entity_type (item.Global t) = entity.Global (as_global_type t)
 as_entity_type (item.Tag t) = entity.Tag (as_tag_type t)
 
--- an ordering
+-- A memory ordering.
 abbrev pub as_ordering : tree.Ordering → Ordering
 as_ordering ordering.SeqCst = out_ordering.SeqCst
 as_ordering ordering.AcqRel = out_ordering.AcqRel
 
--- one that is written on a memory argument
+-- The ordering of a memory argument.
 abbrev pub as_mem_arg_ordering : tree.MemArgOrdering → MemArgOrdering
 as_mem_arg_ordering (access.Op o) = out_access.Op (as_ordering o)
 as_mem_arg_ordering (access.Rmw o) = out_access.Rmw (as_ordering o)
 
--- a fence is sequentially consistent where no ordering is written
+-- The ordering of a fence. Without one in the source it is sequentially consistent.
 abbrev pub fence_ordering : Option tree.Ordering → Ordering
 fence_ordering None = out_ordering.SeqCst
 fence_ordering (Some o) = as_ordering o
 
--- a handler of a resumption
+-- A handler of a `resume` instruction.
 abbrev pub as_handle : tree.Handle → Handle
 as_handle (handle.OnLabel e l) = out_handle.OnLabel (index_value e) (index_value l)
 as_handle (handle.OnSwitch e) = out_handle.OnSwitch (index_value e)
 
--- the memory that a memory argument reads or writes, or the type of the array
+-- The target of a memory argument: a memory, or the type of an array.
 abbrev pub as_mem_arg_target : tree.MemArgTarget → MemArgTarget
 as_mem_arg_target (target.Memory i) = out_target.Memory (index_value i)
 as_mem_arg_target (target.Array i) = out_target.Array (index_value i)
 
--- a memory argument: its alignment is 2 to what is written
+-- A memory argument. Its alignment is the logarithm of the alignment in the AST.
 abbrev pub as_mem_arg : tree.MemArg → MemArg
 as_mem_arg m = record { align = trailing_zeros w64 m.align; target = as_mem_arg_target m.target; offset = m.offset; ordering = option_map as_mem_arg_ordering m.ordering }
 
--- what a short inline type gives: nothing, or one value
+-- The block type of a short inline type by its results: no result, or one.
 abbrev pub short_block_type : List tree.ValType → BlockType
 short_block_type [] = out_block.Empty
 short_block_type (t ∷ ts) = out_block.Result (as_val_type t)
 
--- the type of a block with a short inline type, which has no parameters and at most one result
+-- The block type of a short inline type, which has no parameters and at most one result.
 abbrev pub short_type : Option FunctionType → BlockType
 short_type None = out_block.Empty
 short_type (Some t) = short_block_type t.results
 
--- what a type use in a block says: an index says all, and without one the inline type is short
+-- The block type of a type use: its index, or else its short inline type.
 abbrev pub use_as_block : Option Index → Option FunctionType → BlockType
 use_as_block (Some i) inline = out_block.FunctionType (index_value i)
 use_as_block None inline = short_type inline
 
--- the type of a block
+-- The type of a block.
 abbrev pub as_block_type : tree.BlockType → BlockType
 as_block_type b = use_as_block b.ty.index b.ty.inline
 
--- what a clause of `try_table` catches, and the label of the block that is left
+-- What a catch clause of `try_table` catches, with the label that it branches to.
 abbrev pub as_caught : TryTableCatchKind → ℕ → Catch
 as_caught (caught.Catch e) label = out_catch.One (index_value e) label
 as_caught (caught.CatchRef e) label = out_catch.OneRef (index_value e) label
 as_caught caught.CatchAll label = out_catch.All label
 as_caught caught.CatchAllRef label = out_catch.AllRef label
 
--- a clause of `try_table`
+-- A catch clause of `try_table`.
 abbrev pub as_catch : TryTableCatch → Catch
 as_catch c = as_caught c.kind (index_value c.label)
 
--- the bytes of lanes, one lane after another, the lowest byte of each first
+-- The bytes of 8-bit lanes.
 abbrev pub i8_bytes : List ℤ → List ℕ
 i8_bytes lanes = map (cast_unsigned w8) lanes
 
--- of 16-bit integers
+-- The bytes of 16-bit lanes, each in little-endian order.
 abbrev pub i16_bytes : List ℤ → List ℕ
 i16_bytes lanes = flat_map (λ z. to_le_bytes w16 (cast_unsigned w16 z)) lanes
 
--- of 32-bit integers
+-- The bytes of 32-bit lanes, each in little-endian order.
 abbrev pub i32_bytes : List ℤ → List ℕ
 i32_bytes lanes = flat_map (λ z. to_le_bytes w32 (cast_unsigned w32 z)) lanes
 
--- of 64-bit integers
+-- The bytes of 64-bit lanes, each in little-endian order.
 abbrev pub i64_bytes : List ℤ → List ℕ
 i64_bytes lanes = flat_map (λ z. to_le_bytes w64 (cast_unsigned w64 z)) lanes
 
--- of 32-bit floating-point numbers, by their bits
+-- The bytes of 32-bit floats, by their bits.
 abbrev pub f32_bytes : List F32 → List ℕ
 f32_bytes lanes = flat_map (λ x. to_le_bytes w32 x.bits) lanes
 
--- of 64-bit floating-point numbers, by their bits
+-- The bytes of 64-bit floats, by their bits.
 abbrev pub f64_bytes : List F64 → List ℕ
 f64_bytes lanes = flat_map (λ x. to_le_bytes w64 x.bits) lanes
 
--- the bytes of a vector
+-- The 16 bytes of a vector.
 abbrev pub lane_bytes : tree.V128Const → List ℕ
 lane_bytes (v128.I8x16 lanes) = i8_bytes lanes
 lane_bytes (v128.I16x8 lanes) = i16_bytes lanes
@@ -285,15 +293,15 @@ lane_bytes (v128.I64x2 lanes) = i64_bytes lanes
 lane_bytes (v128.F32x4 lanes) = f32_bytes lanes
 lane_bytes (v128.F64x2 lanes) = f64_bytes lanes
 
--- a vector, as a number of 128 bits
+-- A vector as a 128-bit number.
 abbrev pub as_v128 : tree.V128Const → ℤ
 as_v128 c = cast_signed w128 (from_le_bytes w128 (lane_bytes c))
 
--- What no encoder covers is no row of the table: no row has this opcode.
+-- The value of an unsupported instruction. The opcode table has no entry with this opcode, so it is never encoded.
 abbrev pub no_row : Instr
 no_row = record { row = record { opcode = Byte 0xff; kinds = [] }; numbers = tt }
 
--- an instruction, as a row of the table with its numbers
+-- An instruction: its entry in the opcode table, with the numbers of its immediates.
 abbrev pub as_instr : Instruction → Instr
 as_instr (instruction.Plain o) = plain_instr o
 as_instr (instruction.Mem o m) = mem_instr o (as_mem_arg m)
@@ -395,20 +403,20 @@ as_instr (instruction.memory_discard a) = no_row
 -- To here.
 as_instr (instruction.Beyond name) = no_row
 
--- the instructions of a constant expression
+-- The instructions of a constant expression.
 abbrev pub as_expression : Expression → List Instr
 as_expression e = map as_instr e.instrs
 
--- the body of locals and instructions
+-- A body with these locals and instructions.
 abbrev pub body_of : List Local → List Instruction → Body
 body_of locals instrs = record { locals = map (λ l. as_val_type l.ty) locals; instrs = map as_instr instrs }
 
--- what stands in place is not encoded, here and of tables, memories and globals
+-- The body of a function. An inline import has none; it is desugared before encoding.
 abbrev pub as_body : FuncKind → Body
 as_body (func.Import import exact) = body_of [] []
 as_body (func.Inline locals e) = body_of locals e.instrs
 
--- the kind of what is exported
+-- The kind of an exported item.
 abbrev pub as_export_kind : tree.ExportKind → ExportKind
 as_export_kind export.Func = kind.Func
 as_export_kind export.Table = kind.Table

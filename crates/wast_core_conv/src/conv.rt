@@ -1,4 +1,12 @@
-//! Parts of a resolved tree as values of the binary format.
+//! Parts of a resolved module as values of the binary format.
+//!
+//! Each call requires a resolved part: every index in it is a number. The clause `at_rest` of
+//! `Module::resolve` of `wast_core` provides this, if the module has no unsupported construct.
+//!
+//! # Example
+//!
+//!     let given = FunctionType::empty(alloc);
+//!     let function = conv::func_type(alloc, &given).expect(&rt, "memory");
 
 ghost use Rattle.std.specs.Prelude.{◌≡◌, Bool, true, map, option_map, IfOk, IfErr, IsTrue};
 ghost use Rattle.std.specs.List.{All, flat_map, list_all};
@@ -29,14 +37,14 @@ use wasm_ops::{
 use wast_base::{Error, Id, Index, NameAnnotation, Seq};
 use wast_tree_nodes::{Expression, FunctionType, InnerTypeKind, Instruction, Type, TypeDef};
 
-/// A part of the tree that stands for a value of the binary format, and takes no memory for it.
+/// A part of the tree that converts to a value of the binary format without allocating.
 pub(crate) trait Convert {
-    /// The value.
+    /// The type of the value.
     type Out: Drop;
 
     ghost becomes: { Self → Self.Out };
 
-    /// Its indices are numbers.
+    /// Whether the indices in the part are numbers.
     ghost is_ready: { Self → Bool };
 
     fn convert(&self) -> Self::Out
@@ -44,7 +52,7 @@ pub(crate) trait Convert {
         ensures { result ≡ becomes self.now };
 }
 
-/// Each item of a list as its value. The only error is out of memory.
+/// Converts each item of a list. The only error is E12: allocation failed.
 pub(crate) fn converted<'e, T: Convert>(
     alloc: Global,
     items: &[T],
@@ -60,7 +68,13 @@ pub(crate) fn converted<'e, T: Convert>(
     Ok(made)
 }
 
-/// The number of an index. It needs a resolved one (text format, indices).
+/// Returns the number of a resolved index (text format: indices).
+///
+/// For example, the index `3` in `(start 3)` has the number 3.
+///
+/// # Requires
+///
+/// A resolved index: a number, not an id.
 pub fn index(index: &Index) -> u32
     requires { IsTrue (is_number index.now) }
     ensures { result ≡ meaning.index_value index.now }
@@ -104,7 +118,9 @@ fn abstract_type(ty: wast_tree_nodes::AbstractHeapType) -> wasm_ops::AbstractHea
     }
 }
 
-/// What a reference refers to (binary format, heap types). It needs a resolved index.
+/// Converts a heap type (binary format: heap types). For example, `func` becomes
+/// `HeapType::Abstract`, and the type index `3` becomes `HeapType::Concrete(3)`. Requires a
+/// resolved index.
 pub fn heap_type(ty: &wast_tree_nodes::HeapType) -> wasm_ops::HeapType
     requires { IsTrue (are_numbered (in_heap ty.now)) }
     ensures { result ≡ meaning.as_heap_type ty.now }
@@ -119,7 +135,8 @@ pub fn heap_type(ty: &wast_tree_nodes::HeapType) -> wasm_ops::HeapType
     }
 }
 
-/// A reference type (binary format, reference types). It needs a resolved index.
+/// Converts a reference type (binary format: reference types). For example, `externref` becomes a
+/// nullable reference to `extern`. Requires a resolved index.
 pub fn ref_type(ty: &wast_tree_nodes::RefType) -> wasm_ops::RefType
     requires { IsTrue (are_numbered (in_ref ty.now)) }
     ensures { result ≡ meaning.as_ref_type ty.now }
@@ -130,7 +147,8 @@ pub fn ref_type(ty: &wast_tree_nodes::RefType) -> wasm_ops::RefType
     }
 }
 
-/// A value type (binary format, value types). It needs a resolved index.
+/// Converts a value type (binary format: value types). For example, `i32` becomes `ValType::I32`.
+/// Requires a resolved index.
 pub fn val_type(ty: &wast_tree_nodes::ValType) -> wasm_ops::ValType
     requires { IsTrue (are_numbered (in_val ty.now)) }
     ensures { result ≡ meaning.as_val_type ty.now }
@@ -145,7 +163,8 @@ pub fn val_type(ty: &wast_tree_nodes::ValType) -> wasm_ops::ValType
     }
 }
 
-/// What a field of a struct or an element of an array holds (binary format, composite types). It needs a resolved index.
+/// Converts the type that a struct field or an array element is stored as (binary format: composite
+/// types). For example, `i8` becomes `StorageType::I8`. Requires a resolved index.
 pub fn storage_type(ty: &wast_tree_nodes::StorageType) -> wasm_ops::StorageType
     requires { IsTrue (are_numbered (in_storage ty.now)) }
     ensures { result ≡ meaning.as_storage_type ty.now }
@@ -157,7 +176,8 @@ pub fn storage_type(ty: &wast_tree_nodes::StorageType) -> wasm_ops::StorageType
     }
 }
 
-/// A field of a struct (binary format, composite types). It needs a resolved index.
+/// Converts a field of a struct type (binary format: composite types). For example, `(mut i16)`
+/// becomes a mutable field of `StorageType::I16`. Requires a resolved index.
 pub fn field_type(field: &wast_tree_nodes::StructField) -> wasm_ops::FieldType
     requires { IsTrue (are_numbered (in_struct_field field.now)) }
     ensures { result ≡ meaning.as_field_type field.now }
@@ -168,7 +188,15 @@ pub fn field_type(field: &wast_tree_nodes::StructField) -> wasm_ops::FieldType
     }
 }
 
-/// An array type (binary format, composite types). It needs a resolved index.
+/// Converts an array type (binary format: composite types). Requires a resolved index.
+///
+/// # Example
+///
+///     let array = conv::array_type(&ArrayType {
+///         mutable: true,
+///         ty: StorageType::I8,
+///     });
+///     assert!(rt; array.0.mutable && array.0.element_type == wasm_ops::StorageType::I8);
 pub fn array_type(ty: &wast_tree_nodes::ArrayType) -> wasm_ops::ArrayType
     requires { IsTrue (are_numbered (in_array ty.now)) }
     ensures { result ≡ meaning.as_array_type ty.now }
@@ -220,8 +248,22 @@ impl Convert for wast_tree_nodes::StructField<'_> {
     }
 }
 
-/// A function type: the types of its parameters and results (binary format, composite types). It needs resolved indices.
-/// The only error is out of memory.
+/// Converts a function type: the types of its parameters and results, without the parameters' ids
+/// (binary format: composite types).
+///
+/// # Example
+///
+///     let made = conv::func_type(alloc, &function).expect(&rt, "memory");
+///     assert!(rt; made.params.as_slice() == [wasm_ops::ValType::I32].as_slice());
+///     assert!(rt; made.results.as_slice() == [wasm_ops::ValType::F32].as_slice());
+///
+/// # Requires
+///
+/// Resolved indices.
+///
+/// # Errors
+///
+/// E12: allocation failed.
 pub fn func_type<'e>(alloc: Global, ty: &FunctionType) -> Result<FuncType, Error<'e>>
     requires { IsTrue (are_numbered (in_signature ty.now)) }
     ensures value { IfOk result (λ made. made ≡ meaning.as_func_type ty.now) }
@@ -232,7 +274,20 @@ pub fn func_type<'e>(alloc: Global, ty: &FunctionType) -> Result<FuncType, Error
     Ok(FuncType { params, results })
 }
 
-/// A struct type: its fields (binary format, composite types). It needs resolved indices. The only error is out of memory.
+/// Converts a struct type: its fields (binary format: composite types).
+///
+/// # Example
+///
+///     let structure = conv::struct_type(alloc, &given).expect(&rt, "memory");
+///     assert!(rt; structure.fields.as_slice() == [want].as_slice());
+///
+/// # Requires
+///
+/// Resolved indices.
+///
+/// # Errors
+///
+/// E12: allocation failed.
 pub fn struct_type<'e>(
     alloc: Global,
     ty: &wast_tree_nodes::StructType,
@@ -245,7 +300,13 @@ pub fn struct_type<'e>(
     Ok(StructType { fields })
 }
 
-/// A continuation type: the index of its function type (stack switching). It needs a resolved index.
+/// Converts a continuation type: the index of its function type (stack switching). Requires a
+/// resolved index.
+///
+/// # Example
+///
+///     let of = Index::Num(3, at(0));
+///     assert!(rt; conv::cont_type(&ContType(of)) == wasm_ops::ContType(3));
 pub fn cont_type(ty: &wast_tree_nodes::ContType) -> ContType
     requires { IsTrue (is_number ty.now.0) }
     ensures { result ≡ meaning.as_cont_type ty.now }
@@ -276,8 +337,24 @@ pub(crate) fn optional_index(optional: &Option<Index>) -> Option<u32>
     }
 }
 
-/// What a type is defined as: a composite type, and how it stands to other types (binary format, recursive types). It
-/// needs resolved indices. The only error is out of memory.
+/// Converts a type definition: its composite type, its supertypes, and whether it is final (binary
+/// format: recursive types).
+///
+/// A definition without `sub` is final, because `(type (func))` abbreviates `(type (sub final
+/// (func)))`.
+///
+/// # Example
+///
+///     let made = conv::sub_type(alloc, &ty.def).expect(&rt, "memory");
+///     assert!(rt; !made.is_final && made.supertype_idxs.as_slice() == [3].as_slice());
+///
+/// # Requires
+///
+/// Resolved indices.
+///
+/// # Errors
+///
+/// E12: allocation failed.
 pub fn sub_type<'e>(alloc: Global, ty: &TypeDef) -> Result<SubType, Error<'e>>
     requires { IsTrue (are_numbered (in_def ty.now)) }
     ensures value { IfOk result (λ made. made ≡ meaning.as_sub_type ty.now) }
@@ -297,7 +374,7 @@ pub fn sub_type<'e>(alloc: Global, ty: &TypeDef) -> Result<SubType, Error<'e>>
     })
 }
 
-/// Each type of a group. The only error is out of memory.
+/// Converts each type of a recursion group. The only error is E12: allocation failed.
 pub(crate) fn group<'e>(alloc: Global, types: &[Type]) -> Result<Seq<SubType>, Error<'e>>
     requires { IsTrue (list_all (λ t. are_numbered (in_type t)) types.now) }
     ensures value { IfOk result (λ made. made ≡ map (λ t. meaning.as_sub_type t.def) types.now) }
@@ -310,7 +387,8 @@ pub(crate) fn group<'e>(alloc: Global, types: &[Type]) -> Result<Seq<SubType>, E
     Ok(made)
 }
 
-/// The kind of what is exported (binary format, export section).
+/// Converts the kind of an exported item (binary format: export section). For example, the kind of
+/// `(export "a" (func 2))` becomes `ExportKind::Func`.
 pub fn export_kind(kind: wast_tree_nodes::ExportKind) -> wasm_ops::ExportKind
     ensures { result ≡ meaning.as_export_kind kind }
 {
@@ -323,7 +401,7 @@ pub fn export_kind(kind: wast_tree_nodes::ExportKind) -> wasm_ops::ExportKind
     }
 }
 
-/// The bytes of instructions.
+/// Returns the bytes of instructions.
 fn instrs_bytes<'e>(alloc: Global, instructions: &[Instruction]) -> Result<Vec<u8>, Error<'e>>
     requires { IsTrue (list_all is_encodable_instr instructions.now) }
     ensures value { IfOk result (λ made.
@@ -336,10 +414,26 @@ fn instrs_bytes<'e>(alloc: Global, instructions: &[Instruction]) -> Result<Vec<u
     Ok(bytes)
 }
 
-/// A constant expression: its instructions as bytes (binary format, expressions). It needs a covered one, with
-/// resolved indices. Sections take the expression that it gives.
+/// Converts a constant expression: its instructions as bytes (binary format: expressions).
 ///
-/// E12 comes where memory is refused. E10 comes only where a number of an instruction is out of range.
+/// The builders of sections take the expression that this returns. Encoding it appends the final
+/// `end`.
+///
+/// # Example
+///
+///     let expression = conv::const_expr(alloc, &given).expect(&rt, "memory");
+///     let mut bytes = Vec::new(alloc);
+///     assert!(rt; expression.encode(&mut bytes).is_ok());
+///     assert!(rt; bytes.as_slice() == [0x41, 8, 0x0b].as_slice());
+///
+/// # Requires
+///
+/// Resolved indices, supported constructs only, and balanced blocks (`is_encodable_expression`).
+///
+/// # Errors
+///
+/// - E10, only if a number in an instruction is out of range (`refusal`).
+/// - E12: allocation failed.
 pub fn const_expr<'e>(alloc: Global, expression: &Expression) -> Result<ConstExpr, Error<'e>>
     requires { IsTrue (is_encodable_expression expression.now) }
     ensures value { IfOk result (λ made.

@@ -10,7 +10,8 @@ use crate::conv::{index, ref_type, val_type};
 use wasm_ops::EntityType;
 use wast_tree_nodes::{FunctionType, ItemKind, TypeUse};
 
-/// A table type (binary format, table types). It needs a resolved index.
+/// Converts a table type (binary format: table types). For example, `1 2 externref` has a minimum
+/// of 1 and a maximum of 2. Requires a resolved index.
 pub fn table_type(ty: &wast_tree_nodes::TableType) -> wasm_ops::TableType
     requires { IsTrue (are_numbered (in_table_type ty.now)) }
     ensures { result ≡ meaning.as_table_type ty.now }
@@ -24,7 +25,8 @@ pub fn table_type(ty: &wast_tree_nodes::TableType) -> wasm_ops::TableType
     }
 }
 
-/// A memory type (binary format, memory types).
+/// Converts a memory type (binary format: memory types). For example, `1 2` has a minimum of 1 page
+/// and a maximum of 2.
 pub fn memory_type(ty: &wast_tree_nodes::MemoryType) -> wasm_ops::MemoryType
     ensures { result ≡ meaning.as_memory_type ty.now }
 {
@@ -37,7 +39,8 @@ pub fn memory_type(ty: &wast_tree_nodes::MemoryType) -> wasm_ops::MemoryType
     }
 }
 
-/// A global type (binary format, global types). It needs a resolved index.
+/// Converts a global type (binary format: global types). For example, `(mut i64)` is a mutable
+/// `i64`. Requires a resolved index.
 pub fn global_type(ty: &wast_tree_nodes::GlobalType) -> wasm_ops::GlobalType
     requires { IsTrue (are_numbered (in_global_type ty.now)) }
     ensures { result ≡ meaning.as_global_type ty.now }
@@ -49,7 +52,7 @@ pub fn global_type(ty: &wast_tree_nodes::GlobalType) -> wasm_ops::GlobalType
     }
 }
 
-/// The index of a type use.
+/// Returns the index of a type use.
 pub(crate) fn type_index(type_use: &TypeUse<FunctionType>) -> u32
     requires { IsTrue (are_resolved (in_use OfItem type_use.now)) }
     ensures { result ≡ meaning.type_index type_use.now }
@@ -60,7 +63,9 @@ pub(crate) fn type_index(type_use: &TypeUse<FunctionType>) -> u32
     }
 }
 
-/// A tag type (binary format, tag types). It needs a type use that has an index, and resolved indices.
+/// Converts a tag type (binary format: tag types). For example, `(tag (type 3))` has the function
+/// type
+/// 3. Requires an index in the type use, and resolved indices.
 pub fn tag_type(ty: &wast_tree_nodes::TagType) -> wasm_ops::TagType
     requires { IsTrue (are_resolved (in_tag_type ty.now)) }
     ensures { result ≡ meaning.as_tag_type ty.now }
@@ -72,7 +77,9 @@ pub fn tag_type(ty: &wast_tree_nodes::TagType) -> wasm_ops::TagType
     }
 }
 
-/// The type of an imported item (binary format, external types). It needs resolved indices, and one in each type use.
+/// Converts the type of an imported item (binary format: external types). For example, `(func (type
+/// 3))` becomes `EntityType::Function(3)`. Requires an index in each type use, and resolved
+/// indices.
 pub fn entity_type(kind: &ItemKind) -> EntityType
     requires { IsTrue (are_resolved (in_item_kind kind.now)) }
     ensures { result ≡ meaning.as_entity_type kind.now }

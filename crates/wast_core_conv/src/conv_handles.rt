@@ -1,4 +1,4 @@
-//! Handlers of a resumption as values of the binary format.
+//! Handlers of `resume` instructions as values of the binary format.
 
 ghost use Rattle.std.specs.Prelude.{◌≡◌, map, IsTrue};
 ghost use Rattle.std.specs.Iterator.{YieldsFirst, item_count};
@@ -11,15 +11,22 @@ use std::marker::Model;
 use std::slice;
 use wast_tree_nodes::{Handle, ResumeTable};
 
-/// The handlers of a resumption as values, in order, which contracts see as the list of those that are left. No call on
-/// it takes memory.
+/// An iterator over the handlers of a `resume` instruction, converted one by one.
+///
+/// Its model in contracts is the list of the handlers that are left. No call on it allocates.
+///
+/// # Example
+///
+///     let mut handles = conv::handles(&table);
+///     assert!(rt; handles.next() == Some(wasm_ops::Handle::OnSwitch { tag: 3 }));
+///     assert!(rt; handles.next() == None);
 #[derive(Drop)]
 pub struct Handles<'b, 'a> {
     rest: slice::Iter<'b, Handle<'a>>,
 }
 
 impl<'b, 'a> Handles<'b, 'a> {
-    /// Those of a table. It needs resolved indices.
+    /// Returns the handlers of a resume table. Requires resolved indices.
     pub(crate) fn of(table: &'b ResumeTable<'a>) -> Self
         requires { IsTrue (list_all is_resolved_handle table.now.handlers) }
         ensures { result ≡ map meaning.as_handle table.now.handlers }

@@ -16,7 +16,7 @@ use wast_tree_nodes::{
     FunctionType, MemoryArg, ResumeTable, TableArg, TryTableCatch, TryTableCatchKind, ValType,
 };
 
-/// What a block gives that has no index of a type: nothing, or one value.
+/// Returns the type of a block that has no type index and these results: none, or one.
 fn given(results: &[ValType]) -> wasm_ops::BlockType
     requires { IsTrue (list_all (λ t. are_numbered (in_val t)) results.now) }
     ensures { result ≡ meaning.short_block_type results.now }
@@ -27,7 +27,7 @@ fn given(results: &[ValType]) -> wasm_ops::BlockType
     }
 }
 
-/// The type of a block that has no index of a type.
+/// Returns the type of a block that has no type index.
 fn short_type(inline: &Option<FunctionType>) -> wasm_ops::BlockType
     requires { IsTrue (are_numbered (if_there in_signature inline.now)) }
     ensures { result ≡ meaning.short_type inline.now }
@@ -38,8 +38,19 @@ fn short_type(inline: &Option<FunctionType>) -> wasm_ops::BlockType
     }
 }
 
-/// The type of a block (binary format, control instructions). It needs a resolved index, and without one an inline type
-/// that has no parameters and at most one result. The inline type beside an index is not written.
+/// Converts the type of a block (binary format: control instructions).
+///
+/// If the block has a type index, that index is its type, and an inline type beside it is not
+/// written. For example, `block (result i32)` becomes `BlockType::Result` of `i32`.
+///
+/// # Example
+///
+///     assert!(rt; conv::block_type(&block) == wasm_ops::BlockType::FunctionType(3));
+///
+/// # Requires
+///
+/// Resolved indices, and a type index unless the inline type has no parameters and at most one
+/// result.
 pub fn block_type(block: &wast_tree_nodes::BlockType) -> wasm_ops::BlockType
     requires { IsTrue (are_resolved (in_use OfBlock block.now.ty)) }
     ensures { result ≡ meaning.as_block_type block.now }
@@ -50,8 +61,9 @@ pub fn block_type(block: &wast_tree_nodes::BlockType) -> wasm_ops::BlockType
     }
 }
 
-/// A clause of `try_table`, and the label of the block that is left (binary format, control instructions). It needs
-/// resolved indices.
+/// Converts a catch clause of `try_table`, with the label that it branches to (binary format:
+/// control instructions). For example, `(catch 1 0)` becomes `Catch::One` of tag 1 and label 0.
+/// Requires resolved indices.
 pub fn catch(clause: &TryTableCatch) -> wasm_ops::Catch
     requires { IsTrue (are_resolved (in_catch constant_context.blocks clause.now)) }
     ensures { result ≡ meaning.as_catch clause.now }
@@ -71,7 +83,8 @@ pub fn catch(clause: &TryTableCatch) -> wasm_ops::Catch
     }
 }
 
-/// The table of an instruction (binary format, table instructions). It needs a resolved index.
+/// Returns the table index of an instruction (binary format: table instructions). For example,
+/// `table.get 1` has the index 1. Requires a resolved index.
 pub fn table_arg(arg: &TableArg) -> u32
     requires { IsTrue (is_number arg.now.dst) }
     ensures { result ≡ meaning.index_value arg.now.dst }
@@ -79,7 +92,8 @@ pub fn table_arg(arg: &TableArg) -> u32
     index(&arg.dst)
 }
 
-/// The memory of an instruction (binary format, memory instructions). It needs a resolved index.
+/// Returns the memory index of an instruction (binary format: memory instructions). For example,
+/// `memory.size 1` has the index 1. Requires a resolved index.
 pub fn memory_arg(arg: &MemoryArg) -> u32
     requires { IsTrue (is_number arg.now.mem) }
     ensures { result ≡ meaning.index_value arg.now.mem }
@@ -87,7 +101,8 @@ pub fn memory_arg(arg: &MemoryArg) -> u32
     index(&arg.mem)
 }
 
-/// The memory that a memory argument reads or writes, or the type of the array (binary format, memory instructions). It needs a resolved index.
+/// Converts the target of a memory argument: a memory, or the type of an array (binary format:
+/// memory instructions). Requires a resolved index.
 fn mem_arg_target(target: &wast_tree_nodes::MemArgTarget) -> wasm_ops::MemArgTarget
     requires { IsTrue (are_numbered (in_target target.now)) }
     ensures { result ≡ meaning.as_mem_arg_target target.now }
@@ -100,7 +115,8 @@ fn mem_arg_target(target: &wast_tree_nodes::MemArgTarget) -> wasm_ops::MemArgTar
     }
 }
 
-/// The number of trailing zero bits of an alignment, which is its logarithm where it is a power of two.
+/// Returns the number of trailing zero bits of an alignment. For a power of two that is its
+/// logarithm.
 fn logarithm(align: u64) -> u32
     ensures zeros { result ≡ trailing_zeros w64 align }
     ensures below { IsTrue (is_power_of_two align) → result < 64 }
@@ -108,8 +124,19 @@ fn logarithm(align: u64) -> u32
     align.trailing_zeros()
 }
 
-/// A memory argument (binary format, memory instructions). It needs a resolved index. The alignment is written as the
-/// number of its trailing zero bits, which is its logarithm where it is a power of two, and then below 64.
+/// Converts a memory argument (binary format: memory instructions).
+///
+/// The binary format stores the logarithm of the alignment. This counts the trailing zero bits,
+/// which is the same for a power of two. For example, `align=8` becomes 3.
+///
+/// # Requires
+///
+/// A resolved index.
+///
+/// # Guarantees
+///
+/// `value`: the result is the value that `as_mem_arg` defines. `aligned`: the logarithm is below
+/// 64, if the alignment is a power of two.
 pub fn mem_arg(arg: &wast_tree_nodes::MemArg) -> wasm_ops::MemArg
     requires { IsTrue (are_numbered (in_target arg.now.target)) }
     ensures value { result ≡ meaning.as_mem_arg arg.now }
@@ -123,7 +150,8 @@ pub fn mem_arg(arg: &wast_tree_nodes::MemArg) -> wasm_ops::MemArg
     }
 }
 
-/// A handler of a resumption (stack switching). It needs resolved indices.
+/// Converts a handler of a `resume` instruction (stack switching). For example, `(on 3 switch)`
+/// becomes `Handle::OnSwitch` of tag 3. Requires resolved indices.
 pub fn handle(handle: &wast_tree_nodes::Handle) -> wasm_ops::Handle
     requires { IsTrue (is_resolved_handle handle.now) }
     ensures { result ≡ meaning.as_handle handle.now }
@@ -137,7 +165,8 @@ pub fn handle(handle: &wast_tree_nodes::Handle) -> wasm_ops::Handle
     }
 }
 
-/// The handlers of a resumption, in the order of the text (stack switching). It needs resolved indices.
+/// Returns an iterator over the handlers of a resume table, in source order (stack switching).
+/// [`Handles`] has an example. Requires resolved indices.
 pub fn handles<'b, 'a>(table: &'b ResumeTable<'a>) -> Handles<'b, 'a>
     requires { IsTrue (list_all is_resolved_handle table.now.handlers) }
     ensures { result ≡ map meaning.as_handle table.now.handlers }

@@ -1,4 +1,4 @@
-//! What segments of elements and data hold, as sections take it.
+//! Contents of element and data segments, as the section builders take them.
 
 ghost use Rattle.std.specs.Prelude.{◌≡◌, IfOk, IfErr, IsTrue};
 ghost use Rattle.std.specs.List.{All, list_all};
@@ -18,7 +18,7 @@ use wasm_out::Elements;
 use wast_base::{Error, Seq};
 use wast_tree_nodes::{DataVal, ElemPayload, Expression};
 
-/// Each expression of a list.
+/// Converts each expression of a list.
 fn const_exprs<'e>(alloc: Global, expressions: &[Expression]) -> Result<Seq<ConstExpr>, Error<'e>>
     requires { IsTrue (list_all is_encodable_expression expressions.now) }
     ensures value { IfOk result (AreExpressions expressions.now) }
@@ -31,9 +31,12 @@ fn const_exprs<'e>(alloc: Global, expressions: &[Expression]) -> Result<Seq<Cons
     Ok(made)
 }
 
-/// The elements of a segment. It needs covered forms, with resolved indices.
+/// Converts the elements of a segment. Requires supported constructs with resolved indices.
 ///
-/// E12 comes where memory is refused. E10 comes only where a number of an instruction is out of range.
+/// # Errors
+///
+/// - E10, only if a number in an instruction is out of range.
+/// - E12: allocation failed.
 pub(crate) fn elements<'e>(alloc: Global, payload: &ElemPayload) -> Result<Elements, Error<'e>>
     requires { IsTrue (is_encodable_payload payload.now) }
     ensures value { IfOk result (ArePayload payload.now) }
@@ -51,7 +54,7 @@ pub(crate) fn elements<'e>(alloc: Global, payload: &ElemPayload) -> Result<Eleme
     }
 }
 
-/// The bytes of a segment of data: its pieces, one after another. The only error is out of memory.
+/// Joins the pieces of a data segment. The only error is E12: allocation failed.
 pub(crate) fn data_bytes<'e>(alloc: Global, pieces: &[DataVal]) -> Result<Vec<u8>, Error<'e>>
     ensures value { IfOk result (λ made. made.items ≡ all_bytes pieces.now) }
     ensures refusal { IfErr result (λ e. e ≡ out_of_memory) }

@@ -1,4 +1,4 @@
-//! Vectors, lanes and orderings of a resolved tree, as values of the binary format.
+//! Vectors, lanes and memory orderings as values of the binary format.
 
 ghost use Rattle.std.specs.Int.{w8, w16, w32, w64, cast_unsigned, to_le_bytes};
 ghost use Rattle.std.specs.Prelude.{◌≡◌, ◌<◌, [], ◌∷◌, flat_map, slice_index_or, pos, IsTrue};
@@ -8,7 +8,7 @@ ghost use Rattle.wast_core_conv.specs.Meaning as meaning;
 use crate::conv::index;
 use wast_tree_nodes::{ArrayFill, F32, F64, I8x16Shuffle, LaneArg, V128Const};
 
-/// The bits of a lane.
+/// Returns the bits of a lane.
 fn byte_at(lanes: &[i8; 16], i: usize) -> u8
     requires { i < 16 }
     ensures { result ≡ cast_unsigned w8 (slice_index_or lanes.now i (pos 0)) }
@@ -16,7 +16,7 @@ fn byte_at(lanes: &[i8; 16], i: usize) -> u8
     lanes[i].cast_unsigned()
 }
 
-/// The bits of a lane.
+/// Returns the bits of a lane.
 fn half_at(lanes: &[i16; 8], i: usize) -> u16
     requires { i < 8 }
     ensures { result ≡ cast_unsigned w16 (slice_index_or lanes.now i (pos 0)) }
@@ -24,7 +24,7 @@ fn half_at(lanes: &[i16; 8], i: usize) -> u16
     lanes[i].cast_unsigned()
 }
 
-/// The bits of a lane.
+/// Returns the bits of a lane.
 fn word_at(lanes: &[i32; 4], i: usize) -> u32
     requires { i < 4 }
     ensures { result ≡ cast_unsigned w32 (slice_index_or lanes.now i (pos 0)) }
@@ -32,7 +32,7 @@ fn word_at(lanes: &[i32; 4], i: usize) -> u32
     lanes[i].cast_unsigned()
 }
 
-/// The bits of a lane.
+/// Returns the bits of a lane.
 fn long_at(lanes: &[i64; 2], i: usize) -> u64
     requires { i < 2 }
     ensures { result ≡ cast_unsigned w64 (slice_index_or lanes.now i (pos 0)) }
@@ -40,7 +40,7 @@ fn long_at(lanes: &[i64; 2], i: usize) -> u64
     lanes[i].cast_unsigned()
 }
 
-/// The bytes of numbers of 32 bits, one after another, the lowest byte of each first.
+/// Returns the bytes of four 32-bit numbers, each in little-endian order.
 fn of_words(a: u32, b: u32, c: u32, d: u32) -> [u8; 16]
     ensures { result ≡ flat_map (to_le_bytes w32) (a ∷ b ∷ c ∷ d ∷ []) }
 {
@@ -53,7 +53,7 @@ fn of_words(a: u32, b: u32, c: u32, d: u32) -> [u8; 16]
     ]
 }
 
-/// The bytes of two numbers of 64 bits, one after the other, the lowest byte of each first.
+/// Returns the bytes of two 64-bit numbers, each in little-endian order.
 fn of_longs(a: u64, b: u64) -> [u8; 16]
     ensures { result ≡ flat_map (to_le_bytes w64) (a ∷ b ∷ []) }
 {
@@ -64,7 +64,7 @@ fn of_longs(a: u64, b: u64) -> [u8; 16]
     ]
 }
 
-/// The bytes of lanes of 8 bits.
+/// Returns the bytes of 8-bit lanes.
 fn of_i8x16(lanes: &[i8; 16]) -> [u8; 16]
     ensures { result ≡ meaning.i8_bytes lanes.now }
 {
@@ -88,7 +88,7 @@ fn of_i8x16(lanes: &[i8; 16]) -> [u8; 16]
     ]
 }
 
-/// The bytes of lanes of 16 bits.
+/// Returns the bytes of 16-bit lanes.
 fn of_i16x8(lanes: &[i16; 8]) -> [u8; 16]
     ensures { result ≡ meaning.i16_bytes lanes.now }
 {
@@ -105,7 +105,7 @@ fn of_i16x8(lanes: &[i16; 8]) -> [u8; 16]
     ]
 }
 
-/// The bytes of lanes of 32 bits.
+/// Returns the bytes of 32-bit lanes.
 fn of_i32x4(lanes: &[i32; 4]) -> [u8; 16]
     ensures { result ≡ meaning.i32_bytes lanes.now }
 {
@@ -117,28 +117,28 @@ fn of_i32x4(lanes: &[i32; 4]) -> [u8; 16]
     )
 }
 
-/// The bytes of lanes of 64 bits.
+/// Returns the bytes of 64-bit lanes.
 fn of_i64x2(lanes: &[i64; 2]) -> [u8; 16]
     ensures { result ≡ meaning.i64_bytes lanes.now }
 {
     of_longs(long_at(lanes, 0), long_at(lanes, 1))
 }
 
-/// The bytes of four numbers with a fraction.
+/// Returns the bytes of four 32-bit floats.
 fn of_f32x4(lanes: &[F32; 4]) -> [u8; 16]
     ensures { result ≡ meaning.f32_bytes lanes.now }
 {
     of_words(lanes[0].bits, lanes[1].bits, lanes[2].bits, lanes[3].bits)
 }
 
-/// The bytes of two numbers with a fraction.
+/// Returns the bytes of two 64-bit floats.
 fn of_f64x2(lanes: &[F64; 2]) -> [u8; 16]
     ensures { result ≡ meaning.f64_bytes lanes.now }
 {
     of_longs(lanes[0].bits, lanes[1].bits)
 }
 
-/// The bytes of a vector, the lowest first (binary format, vector instructions).
+/// Returns the bytes of a vector, lowest first (binary format: vector instructions).
 pub(crate) fn lane_bytes(value: &V128Const) -> [u8; 16]
     ensures { result ≡ meaning.lane_bytes value.now }
 {
@@ -152,28 +152,31 @@ pub(crate) fn lane_bytes(value: &V128Const) -> [u8; 16]
     }
 }
 
-/// A vector, as the number of 128 bits that its bytes are (binary format, vector instructions).
+/// Converts a vector to the 128-bit number with the same bytes, lowest first (binary format: vector
+/// instructions). For example, `v128.const i64x2 1 0` becomes 1.
 pub fn v128_const(value: &V128Const) -> i128
     ensures { result ≡ meaning.as_v128 value.now }
 {
     i128::from_le_bytes(lane_bytes(value))
 }
 
-/// The number of a lane (binary format, vector instructions).
+/// Returns a lane number (binary format: vector instructions). For example, `i8x16.extract_lane_s
+/// 3` has the lane 3.
 pub fn lane_arg(arg: &LaneArg) -> u8
     ensures { result ≡ arg.now.lane }
 {
     arg.lane
 }
 
-/// The lanes that a shuffle chooses (binary format, vector instructions).
+/// Returns the lanes that a shuffle selects (binary format: vector instructions).
 pub fn shuffle(arg: &I8x16Shuffle) -> [u8; 16]
     ensures { result ≡ arg.now.lanes }
 {
     arg.lanes
 }
 
-/// The type of the array that is filled (binary format, aggregate instructions). It needs a resolved index.
+/// Returns the type index of `array.fill` (binary format: aggregate instructions). For example,
+/// `array.fill 3` has the index 3. Requires a resolved index.
 pub fn array_fill(arg: &ArrayFill) -> u32
     requires { IsTrue (is_number arg.now.array) }
     ensures { result ≡ meaning.index_value arg.now.array }
@@ -181,7 +184,7 @@ pub fn array_fill(arg: &ArrayFill) -> u32
     index(&arg.array)
 }
 
-/// An ordering (binary format, atomic memory instructions).
+/// Converts a memory ordering, such as `seq_cst` (binary format: atomic memory instructions).
 pub fn ordering(ordering: wast_tree_nodes::Ordering) -> wasm_ops::Ordering
     ensures { result ≡ meaning.as_ordering ordering }
 {
@@ -191,7 +194,7 @@ pub fn ordering(ordering: wast_tree_nodes::Ordering) -> wasm_ops::Ordering
     }
 }
 
-/// The ordering of a fence, which is sequentially consistent where none is written.
+/// Returns the ordering of a fence. Without one in the source it is sequentially consistent.
 pub(crate) fn fence_ordering(written: Option<wast_tree_nodes::Ordering>) -> wasm_ops::Ordering
     ensures { result ≡ meaning.fence_ordering written }
 {
@@ -201,7 +204,7 @@ pub(crate) fn fence_ordering(written: Option<wast_tree_nodes::Ordering>) -> wasm
     }
 }
 
-/// An ordering that is written on a memory argument (binary format, atomic memory instructions).
+/// Converts the ordering of a memory argument (binary format: atomic memory instructions).
 pub fn mem_arg_ordering(written: wast_tree_nodes::MemArgOrdering) -> wasm_ops::MemArgOrdering
     ensures { result ≡ meaning.as_mem_arg_ordering written }
 {

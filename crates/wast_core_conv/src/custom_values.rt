@@ -1,4 +1,4 @@
-//! Custom sections of a tree, as they are spelled.
+//! Custom sections of a module as bytes.
 
 ghost use Rattle.std.specs.Prelude.{true};
 ghost use Rattle.wasm_ops.specs.Spelling.{Any};
@@ -11,7 +11,7 @@ use wasm_ops::{Counted, Each, Encode, EncodeWith, Name, Raw, Refusal, Sink, With
 use wast_base::Seq;
 use wast_tree_nodes::{Custom, Dylink0Subsection};
 
-/// A name in a list (binary format, names).
+/// A name in a list (binary format: names).
 impl<'a> EncodeWith<&'a str> for Resolved {
     ghost spelling = { λ _ n. (listed_name n).bytes };
 
@@ -24,7 +24,7 @@ impl<'a> EncodeWith<&'a str> for Resolved {
     }
 }
 
-/// A piece of a custom section, as its bytes (binary format, custom section).
+/// A piece of a custom section, as its bytes (binary format: custom section).
 impl<'a> EncodeWith<&'a [u8]> for Resolved {
     ghost spelling = { λ _ p. p.now };
 
@@ -37,7 +37,7 @@ impl<'a> EncodeWith<&'a [u8]> for Resolved {
     }
 }
 
-/// A value of producers: its name and its version (tool conventions, producers section).
+/// A value in a producers section: its name and version (tool conventions: producers section).
 impl<'a> EncodeWith<(&'a str, &'a str)> for Resolved {
     ghost spelling = { λ _ v. (producer_value (as_producer_value v)).bytes };
 
@@ -50,7 +50,7 @@ impl<'a> EncodeWith<(&'a str, &'a str)> for Resolved {
     }
 }
 
-/// A field of producers: its name and its values (tool conventions, producers section).
+/// A field of a producers section: its name and values (tool conventions: producers section).
 impl<'a> EncodeWith<(&'a str, Seq<(&'a str, &'a str)>)> for Resolved {
     ghost spelling = { λ _ f. (producer_field (as_producer_field f)).bytes };
 
@@ -67,7 +67,7 @@ impl<'a> EncodeWith<(&'a str, Seq<(&'a str, &'a str)>)> for Resolved {
     }
 }
 
-/// An export with its flags (tool conventions, dynamic linking).
+/// An export with its flags (tool conventions: dynamic linking).
 impl<'a> EncodeWith<(&'a str, u32)> for Resolved {
     ghost spelling = { λ _ e. (export_flags e).bytes };
 
@@ -80,7 +80,7 @@ impl<'a> EncodeWith<(&'a str, u32)> for Resolved {
     }
 }
 
-/// An import with its flags (tool conventions, dynamic linking).
+/// An import with its flags (tool conventions: dynamic linking).
 impl<'a> EncodeWith<(&'a str, &'a str, u32)> for Resolved {
     ghost spelling = { λ _ i. (import_flags i).bytes };
 
@@ -93,7 +93,14 @@ impl<'a> EncodeWith<(&'a str, &'a str, u32)> for Resolved {
     }
 }
 
-/// What a subsection of `dylink.0` holds (tool conventions, dynamic linking). It needs another than that of an architecture.
+/// The content of a `dylink.0` subsection, without its number and length (tool conventions: dynamic
+/// linking).
+///
+/// For example, `(mem-info (memory 1 2))` has the content `01 02 00 00`.
+///
+/// # Requires
+///
+/// Encoding requires any subsection but `TargetArch`, which is an unsupported construct.
 #[derive(Clone, Copy)]
 pub struct SubsectionContent<'b, 'a>(pub &'b Dylink0Subsection<'a>);
 
@@ -123,7 +130,7 @@ impl Encode for SubsectionContent<'_, '_> {
     }
 }
 
-/// A subsection of `dylink.0`, behind its number and its length (tool conventions, dynamic linking).
+/// A subsection of `dylink.0`, with its number and length (tool conventions: dynamic linking).
 impl EncodeWith<Dylink0Subsection<'_>> for Resolved {
     ghost spelling = { λ _ s. (subsection s).bytes };
 
@@ -137,8 +144,8 @@ impl EncodeWith<Dylink0Subsection<'_>> for Resolved {
     }
 }
 
-/// What stands behind the length of a custom section: its name and its bytes (binary format, custom section). It needs one
-/// without an architecture.
+/// The payload of a custom section: its name and its bytes (binary format: custom section).
+/// Requires that no subsection is a `TargetArch`.
 #[derive(Clone, Copy)]
 pub(crate) struct CustomPayload<'b, 'a>(pub &'b Custom<'a>);
 
@@ -163,7 +170,7 @@ impl Encode for CustomPayload<'_, '_> {
     }
 }
 
-/// A custom section (binary format, custom section).
+/// A custom section (binary format: custom section).
 impl EncodeWith<Custom<'_>> for Resolved {
     ghost spelling = { λ _ c. part (custom_part c) };
 

@@ -47,7 +47,7 @@ impl SectionItem for Imports<'_> {
     }
 }
 
-/// Adds a table, with what each element is at first where that is written.
+/// Adds a table, with the initial value of its elements if the source has one.
 fn add_table<'e>(
     alloc: Global,
     section: &mut TableSection,
@@ -114,7 +114,7 @@ impl SectionItem for Memory<'_> {
     }
 }
 
-/// Adds a global, with its value at first.
+/// Adds a global, with its initial value.
 fn add_global<'e>(
     alloc: Global,
     section: &mut GlobalSection,

@@ -1,4 +1,4 @@
-//! Fields of a resolved tree as entries of sections, as they are spelled.
+//! Fields of a resolved module as bytes of section entries.
 
 ghost use Rattle.std.specs.Prelude.{option_map, IsTrue};
 ghost use Rattle.wasm_ops.specs.ConstExprs.{expression};
@@ -17,7 +17,7 @@ use wast_tree_nodes::{
     Table, TableKind, TableType, Tag,
 };
 
-/// A constant expression, with its end (binary format, expressions).
+/// A constant expression, with its final `end` (binary format: expressions).
 impl EncodeWith<Expression<'_>> for Resolved {
     ghost spelling = { λ _ e. (expression (meaning.as_expression e)).bytes };
 
@@ -30,7 +30,7 @@ impl EncodeWith<Expression<'_>> for Resolved {
     }
 }
 
-/// An import of one item.
+/// Writes an import of one item.
 #[tactic(auto, using(crate::proofs::Ready::entered_resolved))]
 fn put_import<S: Sink>(
     source: &str,
@@ -47,7 +47,7 @@ fn put_import<S: Sink>(
     (Name(source), (Name(name), conv::entity_type(kind))).encode(out)
 }
 
-/// An entry of the import section (binary format, import section).
+/// An entry of the import section (binary format: import section).
 impl EncodeWith<Imports<'_>> for Resolved {
     ghost spelling = { λ _ i. (import_entry (meaning.as_import i)).bytes };
 
@@ -63,7 +63,7 @@ impl EncodeWith<Imports<'_>> for Resolved {
     }
 }
 
-/// A table, with what each element is at first where that is written.
+/// Writes a table, with the initial value of its elements if the source has one.
 fn put_table<S: Sink>(ty: &TableType, init: &Option<Expression>, out: &mut S) -> Result<(), Refusal>
     requires ty { IsTrue (are_encodable (in_table_type ty.now)) }
     requires init { IsTrue (is_encodable_init init.now) }
@@ -79,7 +79,7 @@ fn put_table<S: Sink>(ty: &TableType, init: &Option<Expression>, out: &mut S) ->
     }
 }
 
-/// An entry of the table section (binary format, table section).
+/// An entry of the table section (binary format: table section).
 impl EncodeWith<Table<'_>> for Resolved {
     ghost spelling = { λ _ t. (table_entry (meaning.as_table t)).bytes };
 
@@ -95,7 +95,7 @@ impl EncodeWith<Table<'_>> for Resolved {
     }
 }
 
-/// An entry of the memory section (binary format, memory section).
+/// An entry of the memory section (binary format: memory section).
 impl EncodeWith<Memory<'_>> for Resolved {
     ghost spelling = { λ _ m. (entities.memory_type (meaning.as_memory m)).bytes };
 
@@ -111,7 +111,7 @@ impl EncodeWith<Memory<'_>> for Resolved {
     }
 }
 
-/// A global, with its value at first.
+/// Writes a global, with its initial value.
 fn put_global<S: Sink>(ty: &GlobalType, init: &Expression, out: &mut S) -> Result<(), Refusal>
     requires ty { IsTrue (are_encodable (in_global_type ty.now)) }
     requires init { IsTrue (is_encodable_expression init.now) }
@@ -123,7 +123,7 @@ fn put_global<S: Sink>(ty: &GlobalType, init: &Expression, out: &mut S) -> Resul
     (conv::global_type(ty), EncodedBy(init, Resolved)).encode(out)
 }
 
-/// An entry of the global section (binary format, global section).
+/// An entry of the global section (binary format: global section).
 impl EncodeWith<Global<'_>> for Resolved {
     ghost spelling = { λ _ g. (global_entry (meaning.as_global g)).bytes };
 
@@ -139,7 +139,7 @@ impl EncodeWith<Global<'_>> for Resolved {
     }
 }
 
-/// An entry of the tag section (binary format, tag section).
+/// An entry of the tag section (binary format: tag section).
 impl EncodeWith<Tag<'_>> for Resolved {
     ghost spelling = { λ _ t. (entities.tag_type (meaning.as_tag t)).bytes };
 

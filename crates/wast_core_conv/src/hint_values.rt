@@ -1,4 +1,4 @@
-//! Branch hints of a resolved tree, as they are spelled.
+//! Branch hints of a resolved function as bytes.
 
 ghost use Rattle.std.specs.Prelude.{◌≡◌, ◌≤◌, ◌+◌, ◌&&◌, [], length, map, All, IfOk, IfErr, IsTrue};
 ghost use Rattle.std.specs.List.{flat_map, list_all};
@@ -35,8 +35,10 @@ fn counted_locals(locals: &[Local]) -> Result<Length, Refusal>
     }
 }
 
-/// Appends a hint of a value. Counted were so many bytes as stand before these instructions, and they are counted now: the
-/// instruction of the hint is the one behind them.
+/// Appends a hint with this value, for the instruction that follows these instructions.
+///
+/// `before` counts the bytes of the body before them. The call adds the bytes of these
+/// instructions.
 fn put_hint<S: Sink>(
     instrs: &[Instruction],
     value: u32,
@@ -60,8 +62,10 @@ fn put_hint<S: Sink>(
     .encode(out)
 }
 
-/// The branch hints of a body one after another, without their number: each as it comes, with the instructions between it and the
-/// one before it counted. So they take no memory, and each instruction is counted once.
+/// The branch hints of a body without their count.
+///
+/// Between two hints only the instructions between them are counted. So each instruction is counted
+/// once, and nothing is allocated.
 #[derive(Clone, Copy)]
 struct Hints<'b, 'a> {
     locals: &'b [Local<'a>],
@@ -93,7 +97,7 @@ impl Encode for Hints<'_, '_> {
     }
 }
 
-/// Appends the number of hints, and each of them.
+/// Appends the number of hints, and each hint.
 fn put_hints<'b, 'a, S: Sink>(
     locals: &'b [Local<'a>],
     instrs: &'b [Instruction<'a>],
@@ -118,9 +122,21 @@ fn put_hints<'b, 'a, S: Sink>(
     (count, each).encode(out)
 }
 
-/// The branch hints of a function: their number, and each as the number of bytes before its instruction, which are counted from
-/// the locals on, and its value (branch hinting). It needs a body that the encoder takes, on whose instructions they stand. No
-/// memory is taken but what the sink takes.
+/// The branch hints of a function: their number, and each hint with its offset and value (branch
+/// hinting).
+///
+/// The offset is the number of bytes of the body before the instruction, counted from the locals
+/// on. For example, in `(func (param i32) local.get 0 (@metadata.code.branch_hint "\01") if end)`
+/// the `if` comes after the bytes `00 20 00` of the empty locals and of `local.get 0`. So the offset
+/// is 3.
+///
+/// # Requires
+///
+/// A body that can be encoded, and hints that are on its instructions (`are_encodable_hints`).
+///
+/// # Memory
+///
+/// Allocates nothing, except in the sink that it writes to.
 #[derive(Clone, Copy)]
 pub struct BodyHints<'b, 'a>(pub &'b FuncKind<'a>);
 

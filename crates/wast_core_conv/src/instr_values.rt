@@ -1,4 +1,4 @@
-//! Instructions of a resolved tree, as they are spelled.
+//! Instructions of a resolved module as bytes.
 
 ghost use Rattle.std.specs.Prelude.{map, option_map, IsTrue};
 ghost use Rattle.wast_base.specs.Ids.{is_number};
@@ -36,7 +36,7 @@ use wast_tree_nodes::{
     TryTable, TryTableCatch, V128Const,
 };
 
-/// An instruction whose one immediate is an index.
+/// Writes an instruction that has one index as its only immediate.
 #[inline(always)]
 fn put_index<S: Sink>(op: IndexOp, index: &Index, out: &mut S) -> Result<(), Refusal>
     requires { IsTrue (is_number index.now) }
@@ -50,7 +50,7 @@ fn put_index<S: Sink>(op: IndexOp, index: &Index, out: &mut S) -> Result<(), Ref
     .encode(out)
 }
 
-/// An instruction whose immediates are two indices.
+/// Writes an instruction that has two indices as its immediates.
 fn put_pair<S: Sink>(
     op: IndexPairOp,
     first: &Index,
@@ -70,7 +70,7 @@ fn put_pair<S: Sink>(
     .encode(out)
 }
 
-/// An indirect call: the index of its type, and then its table.
+/// Writes an indirect call: the type index, and then the table index.
 fn put_indirect<S: Sink>(op: IndexPairOp, call: &CallIndirect, out: &mut S) -> Result<(), Refusal>
     requires { IsTrue (encodable (in_indirect call.now)) }
     ensures { Writes S.rules (instr (index_pair_instr op (meaning.type_index call.now.ty) (meaning.index_value call.now.table))).in_range
@@ -84,7 +84,7 @@ fn put_indirect<S: Sink>(op: IndexPairOp, call: &CallIndirect, out: &mut S) -> R
     .encode(out)
 }
 
-/// An indirect call in memory of its own.
+/// Writes an indirect call that is stored in a box.
 fn put_boxed_call<S: Sink>(
     op: IndexPairOp,
     call: &Boxed<CallIndirect>,
@@ -97,7 +97,7 @@ fn put_boxed_call<S: Sink>(
     put_indirect(op, call.get(), out)
 }
 
-/// A load or a store.
+/// Writes a load or a store.
 fn put_mem<S: Sink>(op: MemOp, arg: &MemArg, out: &mut S) -> Result<(), Refusal>
     requires { IsTrue (are_encodable (in_mem_arg arg.now)) }
     ensures { Writes S.rules (instr (mem_instr op (meaning.as_mem_arg arg.now))).in_range
@@ -110,7 +110,7 @@ fn put_mem<S: Sink>(op: MemOp, arg: &MemArg, out: &mut S) -> Result<(), Refusal>
     .encode(out)
 }
 
-/// An instruction on a lane.
+/// Writes an instruction on a lane.
 fn put_lane<S: Sink>(op: LaneOp, arg: &LaneArg, out: &mut S) -> Result<(), Refusal>
     ensures { Writes S.rules (instr (lane_instr op arg.now.lane)).in_range
         out.old out.new (instr (lane_instr op arg.now.lane)).bytes result }
@@ -118,7 +118,7 @@ fn put_lane<S: Sink>(op: LaneOp, arg: &LaneArg, out: &mut S) -> Result<(), Refus
     LaneInstr { op, lane: arg.lane }.encode(out)
 }
 
-/// A load or a store of a lane.
+/// Writes a load or a store of a lane.
 fn put_mem_lane<S: Sink>(op: MemLaneOp, arg: &LoadOrStoreLane, out: &mut S) -> Result<(), Refusal>
     requires { IsTrue (are_encodable (in_mem_arg arg.now.memarg)) }
     ensures { Writes S.rules (instr (mem_lane_instr op (meaning.as_mem_arg arg.now.memarg) arg.now.lane.lane)).in_range
@@ -132,7 +132,7 @@ fn put_mem_lane<S: Sink>(op: MemLaneOp, arg: &LoadOrStoreLane, out: &mut S) -> R
     .encode(out)
 }
 
-/// A field of a struct: the type of the struct, and then the field.
+/// Writes an instruction on a struct field: the type index, and then the field index.
 fn put_access<S: Sink>(op: IndexPairOp, arg: &StructAccess, out: &mut S) -> Result<(), Refusal>
     requires { IsTrue (encodable (in_access arg.now)) }
     ensures { Writes S.rules (instr (index_pair_instr op (meaning.index_value arg.now.owner) (meaning.index_value arg.now.field))).in_range
@@ -146,7 +146,7 @@ fn put_access<S: Sink>(op: IndexPairOp, arg: &StructAccess, out: &mut S) -> Resu
     .encode(out)
 }
 
-/// An array of a type with so many elements.
+/// Writes `array.new_fixed`: the type index and the number of elements.
 fn put_new_fixed<S: Sink>(arg: &ArrayNewFixed, out: &mut S) -> Result<(), Refusal>
     requires { IsTrue (is_number arg.now.array) }
     ensures { Writes S.rules (instr (index_pair_instr pair.ArrayNewFixed (meaning.index_value arg.now.array) arg.now.length)).in_range
@@ -160,7 +160,7 @@ fn put_new_fixed<S: Sink>(arg: &ArrayNewFixed, out: &mut S) -> Result<(), Refusa
     .encode(out)
 }
 
-/// A test or a cast of a reference.
+/// Writes a test or a cast of a reference.
 fn put_cast<S: Sink>(op: CastOp, ty: &RefType, out: &mut S) -> Result<(), Refusal>
     requires { IsTrue (are_encodable (in_ref ty.now)) }
     ensures { Writes S.rules (instr (cast_instr op (meaning.as_ref_type ty.now))).in_range
@@ -173,7 +173,7 @@ fn put_cast<S: Sink>(op: CastOp, ty: &RefType, out: &mut S) -> Result<(), Refusa
     .encode(out)
 }
 
-/// A branch on a cast.
+/// Writes a branch on a cast.
 fn put_br_cast<S: Sink>(
     op: BrCastOp,
     label: &Index,
@@ -196,7 +196,7 @@ fn put_br_cast<S: Sink>(
     .encode(out)
 }
 
-/// `br_on_cast`.
+/// Writes `br_on_cast`.
 fn put_br_on_cast<S: Sink>(arg: &Boxed<BrOnCast>, out: &mut S) -> Result<(), Refusal>
     requires { IsTrue (encodable (in_cast constant_context.blocks arg.now.label arg.now.to_type arg.now.from_type)) }
     ensures { Writes S.rules
@@ -214,7 +214,7 @@ fn put_br_on_cast<S: Sink>(arg: &Boxed<BrOnCast>, out: &mut S) -> Result<(), Ref
     )
 }
 
-/// `br_on_cast_fail`.
+/// Writes `br_on_cast_fail`.
 fn put_br_on_cast_fail<S: Sink>(arg: &Boxed<BrOnCastFail>, out: &mut S) -> Result<(), Refusal>
     requires { IsTrue (encodable (in_cast constant_context.blocks arg.now.label arg.now.to_type arg.now.from_type)) }
     ensures { Writes S.rules
@@ -232,7 +232,7 @@ fn put_br_on_cast_fail<S: Sink>(arg: &Boxed<BrOnCastFail>, out: &mut S) -> Resul
     )
 }
 
-/// A vector.
+/// Writes `v128.const`.
 fn put_v128<S: Sink>(value: &V128Const, out: &mut S) -> Result<(), Refusal>
     ensures { Writes S.rules (instr (lanes_instr lanes.Const (meaning.lane_bytes value.now))).in_range
         out.old out.new (instr (lanes_instr lanes.Const (meaning.lane_bytes value.now))).bytes result }
@@ -244,7 +244,7 @@ fn put_v128<S: Sink>(value: &V128Const, out: &mut S) -> Result<(), Refusal>
     .encode(out)
 }
 
-/// A fence of an ordering.
+/// Writes a fence with an ordering.
 fn put_fence<S: Sink>(ordering: Option<Ordering>, out: &mut S) -> Result<(), Refusal>
     requires { IsTrue (is_sequential ordering) }
     ensures { Writes S.rules (instr (fence_instr (meaning.fence_ordering ordering))).in_range
@@ -253,7 +253,7 @@ fn put_fence<S: Sink>(ordering: Option<Ordering>, out: &mut S) -> Result<(), Ref
     Fence(fence_ordering(ordering)).encode(out)
 }
 
-/// An instruction that opens a block.
+/// Writes an instruction that opens a block.
 fn put_block<S: Sink>(op: BlockOp, block: &Boxed<BlockType>, out: &mut S) -> Result<(), Refusal>
     requires { IsTrue (encodable (in_use OfBlock block.now.ty)) }
     ensures { Writes S.rules (instr (block_instr op (meaning.as_block_type block.now))).in_range
@@ -266,7 +266,7 @@ fn put_block<S: Sink>(op: BlockOp, block: &Boxed<BlockType>, out: &mut S) -> Res
     .encode(out)
 }
 
-/// A clause of `try_table` (binary format, control instructions).
+/// A catch clause of `try_table` (binary format: control instructions).
 impl EncodeWith<TryTableCatch<'_>> for Resolved {
     ghost spelling = { λ _ c. (catch_clause (meaning.as_catch c)).bytes };
 
@@ -280,7 +280,7 @@ impl EncodeWith<TryTableCatch<'_>> for Resolved {
     }
 }
 
-/// A block that catches exceptions: its type, and its clauses.
+/// Writes `try_table`: its type, and its catch clauses.
 fn put_try_table<S: Sink>(table: &TryTable, out: &mut S) -> Result<(), Refusal>
     requires { IsTrue (encodable (in_try_table constant_context.blocks table.now)) }
     ensures { Writes S.rules
@@ -295,7 +295,7 @@ fn put_try_table<S: Sink>(table: &TryTable, out: &mut S) -> Result<(), Refusal>
     .encode(out)
 }
 
-/// A branch by a table: its labels, and then the one for all other numbers.
+/// Writes `br_table`: its labels, and then the default label.
 fn put_br_table<S: Sink>(table: &BrTableIndices, out: &mut S) -> Result<(), Refusal>
     requires { IsTrue (encodable (in_br_table constant_context.blocks table.now)) }
     ensures { Writes S.rules
@@ -310,7 +310,7 @@ fn put_br_table<S: Sink>(table: &BrTableIndices, out: &mut S) -> Result<(), Refu
     .encode(out)
 }
 
-/// The choice between two operands, with its types if they are written.
+/// Writes `select`, with its types if the source has them.
 fn put_select<S: Sink>(types: &SelectTypes, out: &mut S) -> Result<(), Refusal>
     requires { IsTrue (are_encodable (in_select types.now)) }
     ensures { Writes S.rules (instr (select_instr (option_map (map meaning.as_val_type) types.now.tys))).in_range
@@ -322,7 +322,7 @@ fn put_select<S: Sink>(types: &SelectTypes, out: &mut S) -> Result<(), Refusal>
     }
 }
 
-/// A null reference of a heap type.
+/// Writes `ref.null` of a heap type.
 fn put_null<S: Sink>(ty: &HeapType, out: &mut S) -> Result<(), Refusal>
     requires { IsTrue (are_encodable (in_heap ty.now)) }
     ensures { Writes S.rules (instr (ref_null_instr (meaning.as_heap_type ty.now))).in_range
@@ -331,7 +331,7 @@ fn put_null<S: Sink>(ty: &HeapType, out: &mut S) -> Result<(), Refusal>
     RefNull(conv::heap_type(ty)).encode(out)
 }
 
-/// An instruction (binary format, instructions).
+/// An instruction (binary format: instructions).
 impl EncodeWith<Instruction<'_>> for Resolved {
     ghost spelling = { λ _ i. (instr (meaning.as_instr i)).bytes };
 

@@ -1,4 +1,35 @@
-//! Parts of a resolved tree as values of the binary format, as items of sections, and as they are spelled.
+//! Turns parts of a resolved module into values of the binary format, into section items, and into
+//! bytes.
+//!
+//! `wast_core` uses this crate to encode a module. Callers use it through `wast_core`,
+//! which re-exports [`conv`], [`SectionItem`], [`RecOrType`] and [`FuncSectionTy`].
+//!
+//! # Example
+//!
+//! The type use `(type 3)` is an item of the function section. The payload of a section with this
+//! item alone is the count 1 and the index 3:
+//!
+//!     let item = FuncSectionTy(&used);
+//!     has_bytes(&rt, alloc, &item, &[1, 3]);
+//!
+//! # Modules
+//!
+//! - [`conv`] returns values of `wasm_ops`: types, immediates and constant expressions. Its parts
+//!   are `conv_entities`, `conv_handles`, `conv_immediates`, `conv_segments` and `conv_vectors`.
+//! - `values`, `instr_values`, `field_values`, `segment_values` and `custom_values` write bytes
+//!   directly, with [`Resolved`]. This is how `wast_core` encodes, because it allocates no values.
+//! - `hint_values` writes the branch hints of a function body.
+//! - `section_items`, `field_items` and `segment_items` implement [`SectionItem`] for the fields.
+//!
+//! The rules are in `specs/`: `Values` and `FieldEntries` define the value of each part, and
+//! `Encodable` defines which parts may be encoded.
+//!
+//! # Guarantees
+//!
+//! - A conversion returns the value that `specs/Meaning.antt` defines for the part.
+//! - Bytes that are written directly are the bytes of that value (`spelling` of each
+//!   `EncodeWith` of [`Resolved`]).
+//! - [`SectionItem::encode`] and [`SectionItem::put`] write the same bytes, `spelling`.
 #![tactic(auto)]
 
 pub mod conv;

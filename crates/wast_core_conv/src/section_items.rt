@@ -1,4 +1,4 @@
-//! Items of sections, as the encoder writes them.
+//! Items of sections: types, type uses of functions, and exports.
 
 ghost use Rattle.std.specs.Prelude.{◌+◌, ℕ, List, Bool, IsTrue};
 ghost use Rattle.wasm_ops.specs.Leb128.{unsigned};
@@ -19,41 +19,74 @@ use wasm_out::{Build, ExportSection, FunctionSection, TypeSection};
 use wast_base::Error;
 use wast_tree_nodes::{CustomPlaceAnchor, Export, FunctionType, Rec, Type, TypeUse};
 
-/// An item of a section.
+/// A field of a module that is an item of a section of the binary format.
 ///
-/// Each call needs a resolved item of a covered form, in what is written of it: branch hints and inline types are not
-/// written. All items are so in the fields that `Module::resolve` of `wast_core` leaves where it refuses nothing, as its clause
-/// `at_rest` tells, if no form in them is uncovered (`uncovered` of `wast_tree`).
+/// It is implemented for [`RecOrType`], [`FuncSectionTy`], exports, imports, tables, memories,
+/// globals, tags, and element and data segments.
+///
+/// # Example
+///
+///     let mut section = <I::Section as Build>::new(alloc);
+///     item.encode(alloc, &mut section).expect(rt, "memory");
+///
+/// # Requires
+///
+/// Each call requires a resolved item without unsupported constructs (`is_encodable`). Branch hints
+/// and inline types are not written, so they are not checked. Every item in the fields that
+/// `Module::resolve` of `wast_core` leaves on success qualifies (clause `at_rest`), if `uncovered`
+/// of `wast_tree` finds no unsupported construct in them.
 pub trait SectionItem {
     /// The section that holds such items.
     type Section: Build;
 
-    /// That section, as custom sections stand beside it (text format, custom annotations).
+    /// The anchor of that section, which custom sections use to be before or after it (text format:
+    /// custom annotations).
     const ANCHOR: CustomPlaceAnchor;
 
-    /// Its spelling.
+    /// The bytes of the item.
     ghost spelling: { Self → List ℕ };
 
-    /// The numbers, counts and lengths in its spelling are in range.
+    /// Whether the numbers, counts and lengths in its bytes are in range.
     ghost in_range: { Self → Type 0 };
 
-    /// It is resolved, and of a covered form.
+    /// Whether the item is resolved and has no unsupported construct.
     ghost is_encodable: { Self → Bool };
 
-    /// Appends the item's spelling to the section, and adds one to the count of its items. It needs a resolved item of
-    /// a covered form.
+    /// Appends the item to the section, and adds one to the section's item count.
     ///
-    /// E10 comes only where there would be 2^32 items, or where a count or length in the item is 2^32 or more; E12
-    /// where memory is refused. Then the section stays as it was.
+    /// # Requires
+    ///
+    /// A resolved item without unsupported constructs.
+    ///
+    /// # Errors
+    ///
+    /// After an error the section is as it was.
+    ///
+    /// - E10, only if there would be 2^32 items, or a number, count or length in the item is out of
+    ///   range.
+    /// - E12: allocation failed.
     fn encode<'e>(&self, alloc: Global, section: &mut Self::Section) -> Result<(), Error<'e>>
         requires { IsTrue (is_encodable self.now) }
         ensures { Adds (InRangeU32 ((Self.Section.built section.old).count + 1) × in_range self.now)
             (Self.Section.built section.old) (Self.Section.built section.new) (spelling self.now) result };
 
-    /// Appends the item's spelling to a sink. It needs a resolved item of a covered form.
+    /// Appends the bytes of the item to a sink.
     ///
-    /// The errors are the sink's refusal, where it has no room, and E10, where a count or length in the item is 2^32 or
-    /// more; then the sink stays as it was.
+    /// # Example
+    ///
+    ///     let mut out = Vec::new(alloc);
+    ///     item.put(&mut out).expect(rt, "memory");
+    ///
+    /// # Requires
+    ///
+    /// A resolved item without unsupported constructs.
+    ///
+    /// # Errors
+    ///
+    /// After an error the sink is as it was.
+    ///
+    /// - The error of the sink, only if the bytes do not fit in it. For a `Vec` that is E12.
+    /// - E10, only if a number, count or length in the item is out of range.
     fn put<'e, S: Sink>(&self, out: &mut S) -> Result<(), Error<'e>>
         requires { IsTrue (is_encodable self.now) }
         ensures { Puts S.rules (in_range self.now) out.old out.new (spelling self.now) result };
@@ -79,12 +112,16 @@ impl<T: SectionItem> SectionItem for &T {
     }
 }
 
-/// An entry of the type section (binary format, type section).
+/// An entry of the type section: a single type or a recursion group (binary format: type section).
+///
+/// # Example
+///
+///     has_bytes(&rt, alloc, &RecOrType::Ty(&ty), &[1, 0x60, 0, 0]);
 #[derive(Clone, Copy, Debug)]
 pub enum RecOrType<'b, 'a> {
-    /// A type on its own.
+    /// A single type, such as `(type (func))`.
     Ty(&'b Type<'a>),
-    /// A group of types.
+    /// A recursion group, such as `(rec (type (func)))`.
     Rec(&'b Rec<'a>),
 }
 
@@ -133,7 +170,12 @@ impl SectionItem for RecOrType<'_, '_> {
     }
 }
 
-/// An entry of the function section: the type use of a function (binary format, function section).
+/// An entry of the function section: the type use of a function (binary format: function section).
+///
+/// # Example
+///
+///     let item = FuncSectionTy(&used);
+///     has_bytes(&rt, alloc, &item, &[1, 3]);
 #[derive(Clone, Copy, Debug)]
 pub struct FuncSectionTy<'b, 'a>(pub &'b TypeUse<'a, FunctionType<'a>>);
 

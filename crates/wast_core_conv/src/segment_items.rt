@@ -1,4 +1,4 @@
-//! Segments of elements and data as items of sections.
+//! Element and data segments as items of sections.
 
 ghost use Rattle.std.specs.Prelude.{◌+◌, length, IsTrue};
 ghost use Rattle.wasm_ops.specs.Spelling.{InRangeU32};
@@ -20,7 +20,7 @@ use wasm_out::{DataSection, ElementSection, Elements};
 use wast_base::Error;
 use wast_tree_nodes::{CustomPlaceAnchor, Data, DataKind, Elem, ElemKind};
 
-/// Adds a segment of elements.
+/// Adds an element segment.
 fn add_elements<'e>(
     alloc: Global,
     section: &mut ElementSection,
@@ -66,7 +66,7 @@ impl SectionItem for Elem<'_> {
     }
 }
 
-/// Adds a segment of data.
+/// Adds a data segment.
 fn add_data<'e>(
     alloc: Global,
     section: &mut DataSection,

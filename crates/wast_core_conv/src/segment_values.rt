@@ -1,4 +1,4 @@
-//! Segments of a resolved tree as entries of sections, as they are spelled.
+//! Element and data segments of a resolved module as bytes.
 
 ghost use Rattle.std.specs.Prelude.{◌≡◌, true, IsTrue};
 ghost use Rattle.wast_tree_nodes.specs.DataBytes.{data_bytes};
@@ -17,7 +17,7 @@ use wasm_ops::{Counted, Each, Encode, EncodeWith, EncodedBy, Raw, Refusal, Sink}
 use wasm_out::{DataMode, DataSegment, ElementKind, ElementSegment, SegmentMode};
 use wast_tree_nodes::{Data, DataKind, DataVal, Elem, ElemKind, ElemPayload, Expression};
 
-/// Where a segment of elements stands.
+/// Returns the mode of an element segment: passive, declarative, or active.
 fn mode_of<'b, 'a>(kind: &'b ElemKind<'a>) -> SegmentMode<EncodedBy<'b, Expression<'a>, Resolved>>
     requires { IsTrue (is_encodable_elem_kind kind.now) }
     ensures same { seen_mode (λ b. meaning.as_expression b.0.now) result ≡ meaning.as_element_mode kind.now }
@@ -32,7 +32,7 @@ fn mode_of<'b, 'a>(kind: &'b ElemKind<'a>) -> SegmentMode<EncodedBy<'b, Expressi
     }
 }
 
-/// An entry of the element section (binary format, element section).
+/// An entry of the element section (binary format: element section).
 impl EncodeWith<Elem<'_>> for Resolved {
     ghost spelling = { λ _ e. (element_entry (meaning.as_element e)).bytes };
 
@@ -59,7 +59,7 @@ impl EncodeWith<Elem<'_>> for Resolved {
     }
 }
 
-/// A piece of data, as its bytes (binary format, data section).
+/// A piece of data, as its bytes (binary format: data section).
 impl EncodeWith<DataVal<'_>> for Resolved {
     ghost spelling = { λ _ v. data_bytes v };
 
@@ -75,7 +75,7 @@ impl EncodeWith<DataVal<'_>> for Resolved {
     }
 }
 
-/// Where a segment of data stands.
+/// Returns the mode of a data segment: passive or active.
 fn data_mode_of<'b, 'a>(kind: &'b DataKind<'a>) -> DataMode<EncodedBy<'b, Expression<'a>, Resolved>>
     requires { IsTrue (is_encodable_data_kind kind.now) }
     ensures same { seen_data (λ b. meaning.as_expression b.0.now) result ≡ meaning.as_data_mode kind.now }
@@ -89,7 +89,7 @@ fn data_mode_of<'b, 'a>(kind: &'b DataKind<'a>) -> DataMode<EncodedBy<'b, Expres
     }
 }
 
-/// An entry of the data section (binary format, data section).
+/// An entry of the data section (binary format: data section).
 impl EncodeWith<Data<'_>> for Resolved {
     ghost spelling = { λ _ d. (data_entry (meaning.as_data d)).bytes };
 

@@ -1,4 +1,4 @@
-//! Parts of a resolved tree, as they are spelled.
+//! Types, bodies and exports of a resolved module as bytes.
 
 ghost use Rattle.std.specs.Prelude.{IsTrue};
 ghost use Rattle.std.specs.List.{list_all};
@@ -23,12 +23,20 @@ use wast_tree_nodes::{
     StructType, Type, TypeDef, TypeUse, ValType,
 };
 
-/// The way to spell parts of a resolved tree: by the numbers of their indices (binary format). It needs covered
-/// parts, with resolved indices.
+/// Writes parts of a resolved module as bytes, with the number of each index (binary format).
+///
+/// It is an `EncodeWith` of `wasm_ops`: `Each(items, Resolved)` writes a list of items one after
+/// another, and `Counted(items, Resolved)` writes their number first. For example,
+/// `Counted(&exports, Resolved)` writes the content of an export section.
+///
+/// # Requires
+///
+/// Encoding requires resolved parts without unsupported constructs (`is_ready` of each
+/// implementation).
 #[derive(Clone, Copy)]
 pub struct Resolved;
 
-/// An index, by its number (binary format, indices).
+/// An index, by its number (binary format: indices).
 impl EncodeWith<Index<'_>> for Resolved {
     ghost spelling = { λ _ i. unsigned (meaning.index_value i) };
 
@@ -41,7 +49,7 @@ impl EncodeWith<Index<'_>> for Resolved {
     }
 }
 
-/// A value type (binary format, value types).
+/// A value type (binary format: value types).
 impl EncodeWith<ValType<'_>> for Resolved {
     ghost spelling = { λ _ t. (spelling.val_type (meaning.as_val_type t)).bytes };
 
@@ -54,7 +62,7 @@ impl EncodeWith<ValType<'_>> for Resolved {
     }
 }
 
-/// A parameter, by its type (binary format, composite types).
+/// A parameter, by its type (binary format: composite types).
 impl<'a> EncodeWith<(Option<Id<'a>>, Option<NameAnnotation<'a>>, ValType<'a>)> for Resolved {
     ghost spelling = { λ _ p. (spelling.val_type (meaning.as_val_type p.2)).bytes };
 
@@ -71,7 +79,7 @@ impl<'a> EncodeWith<(Option<Id<'a>>, Option<NameAnnotation<'a>>, ValType<'a>)> f
     }
 }
 
-/// A function type (binary format, composite types).
+/// A function type (binary format: composite types).
 impl EncodeWith<FunctionType<'_>> for Resolved {
     ghost spelling = { λ _ t. (spelling.func_type (meaning.as_func_type t)).bytes };
 
@@ -86,7 +94,7 @@ impl EncodeWith<FunctionType<'_>> for Resolved {
     }
 }
 
-/// A field of a struct (binary format, composite types).
+/// A field of a struct (binary format: composite types).
 impl EncodeWith<StructField<'_>> for Resolved {
     ghost spelling = { λ _ f. (spelling.field_type (meaning.as_field_type f)).bytes };
 
@@ -99,7 +107,7 @@ impl EncodeWith<StructField<'_>> for Resolved {
     }
 }
 
-/// A struct type (binary format, composite types).
+/// A struct type (binary format: composite types).
 impl EncodeWith<StructType<'_>> for Resolved {
     ghost spelling = { λ _ t. (spelling.struct_type (meaning.as_struct_type t)).bytes };
 
@@ -112,7 +120,7 @@ impl EncodeWith<StructType<'_>> for Resolved {
     }
 }
 
-/// An array type (binary format, composite types).
+/// An array type (binary format: composite types).
 impl EncodeWith<ArrayType<'_>> for Resolved {
     ghost spelling = { λ _ t. (spelling.array_type (meaning.as_array_type t)).bytes };
 
@@ -125,7 +133,7 @@ impl EncodeWith<ArrayType<'_>> for Resolved {
     }
 }
 
-/// A composite type (binary format, composite types).
+/// A composite type (binary format: composite types).
 impl EncodeWith<InnerTypeKind<'_>> for Resolved {
     ghost spelling = { λ _ k. (spelling.composite_inner_type (meaning.as_inner_type k)).bytes };
 
@@ -143,8 +151,8 @@ impl EncodeWith<InnerTypeKind<'_>> for Resolved {
     }
 }
 
-/// What a type is defined as (binary format, recursive types). A final type with no types above it is written as its
-/// composite type alone.
+/// A type definition (binary format: recursive types). A final type without supertypes is written
+/// as its composite type alone.
 impl EncodeWith<TypeDef<'_>> for Resolved {
     ghost spelling = { λ _ d. (spelling.sub_type (meaning.as_sub_type d)).bytes };
 
@@ -165,7 +173,7 @@ impl EncodeWith<TypeDef<'_>> for Resolved {
     }
 }
 
-/// A type, by what it is defined as (binary format, recursive types).
+/// A type, by its definition (binary format: recursive types).
 impl EncodeWith<Type<'_>> for Resolved {
     ghost spelling = { λ _ t. (spelling.sub_type (meaning.as_sub_type t.def)).bytes };
 
@@ -178,7 +186,7 @@ impl EncodeWith<Type<'_>> for Resolved {
     }
 }
 
-/// A type use, by the index of its type (binary format, function section).
+/// A type use, by the index of its type (binary format: function section).
 impl EncodeWith<TypeUse<'_, FunctionType<'_>>> for Resolved {
     ghost spelling = { λ _ u. unsigned (meaning.type_index u) };
 
@@ -191,7 +199,7 @@ impl EncodeWith<TypeUse<'_, FunctionType<'_>>> for Resolved {
     }
 }
 
-/// A local, by its type (binary format, code section).
+/// A local, by its type (binary format: code section).
 impl LocalType<Local<'_>> for Resolved {
     ghost ty = { λ _ l. meaning.as_val_type l.ty };
 
@@ -202,7 +210,7 @@ impl LocalType<Local<'_>> for Resolved {
     }
 }
 
-/// What stands behind the length of a body.
+/// Writes a function body without its length.
 fn put_content<S: Sink>(
     locals: &[Local],
     instructions: &[Instruction],
@@ -220,7 +228,7 @@ fn put_content<S: Sink>(
         .encode(out)
 }
 
-/// What stands behind the length of a body (binary format, code section).
+/// A function body without its length (binary format: code section).
 impl EncodeWith<FuncKind<'_>> for Resolved {
     ghost spelling = { λ _ k. (body_content (meaning.as_body k)).bytes };
 
@@ -238,7 +246,7 @@ impl EncodeWith<FuncKind<'_>> for Resolved {
     }
 }
 
-/// An entry of the export section (binary format, export section).
+/// An entry of the export section (binary format: export section).
 impl EncodeWith<Export<'_>> for Resolved {
     ghost spelling = { λ _ e. (export_entry (meaning.as_export e)).bytes };
 

@@ -1,4 +1,4 @@
-//! Conversions of parts of the tree, and their values.
+//! Conversions of parts of the tree to values of the binary format.
 
 ghost use Rattle.std.specs.Prelude.{◌≡◌, IsTrue, IfOk};
 ghost use Rattle.wast_core_conv.specs.Encodable.{is_encodable_expression};
@@ -12,7 +12,7 @@ use wast_tree::{
     StructType, Type, TypeDef, discard_expression, discard_type,
 };
 
-/// What a composite type defines: final, without parents.
+/// Returns the definition of a composite type: final, without supertypes.
 fn def_of<'a>(alloc: Global, kind: InnerTypeKind<'a>) -> TypeDef<'a>
     ensures { result.kind ≡ kind.entry }
 {

@@ -1,4 +1,4 @@
-//! Parts of the tree that take memory, with enough of it for what they are to hold: none of them is empty.
+//! Parts of the tree that allocate, not empty and with enough memory.
 
 ghost use Rattle.std.specs.Prelude.{◌≡◌, ◌∷◌, [], IsTrue};
 ghost use Rattle.wast_tree_nodes.specs.Sites.{in_def};
@@ -17,7 +17,7 @@ use wast_tree::{
     discard_field,
 };
 
-/// A list of one.
+/// Returns a list of one item.
 fn one<T: Drop>(rt: &impl Abort, alloc: Global, item: T) -> Seq<T>
     ensures { result ≡ item ∷ [] }
 {
@@ -51,7 +51,7 @@ fn function<'a>(rt: &impl Abort, alloc: Global) -> Type<'a>
 }
 
 #[test]
-fn types_of_functions_have_parts(rt: HostRuntime) {
+fn function_types_keep_params_and_results(rt: HostRuntime) {
     let alloc = rt.alloc();
     let ty = function(&rt, alloc);
     let made = conv::sub_type(alloc, &ty.def).expect(&rt, "memory");
@@ -80,7 +80,7 @@ fn types_of_functions_have_parts(rt: HostRuntime) {
 }
 
 #[test]
-fn values_that_take_no_memory_are_converted(rt: HostRuntime) {
+fn small_values_are_converted(rt: HostRuntime) {
     let array = conv::array_type(&ArrayType {
         mutable: true,
         ty: StorageType::I8,
@@ -167,7 +167,7 @@ fn data<'a>(rt: &impl Abort, alloc: Global) -> Data<'a>
 }
 
 #[test]
-fn items_have_expressions(rt: HostRuntime) {
+fn items_with_expressions_are_encoded(rt: HostRuntime) {
     let alloc = rt.alloc();
     let table = table(&rt, alloc);
     let bytes = [1, 0x40, 0, 0x6f, 1, 1, 2, 0x41, 8, 0x0b];

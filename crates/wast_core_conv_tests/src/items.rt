@@ -1,4 +1,4 @@
-//! Items of sections: the payload of a section that holds one item, and the item in a sink.
+//! Items of sections: the payload of a section with one item, and the item in a sink.
 
 ghost use Rattle.std.specs.Prelude.{IsTrue};
 ghost use Rattle.wast_core_conv.specs.Encodable.{is_encodable_type, is_encodable_type_use, is_encodable_import, is_encodable_table, is_encodable_memory, is_encodable_global, is_encodable_tag, is_encodable_elem, is_encodable_data};
@@ -19,7 +19,8 @@ pub(crate) fn at(offset: usize) -> Span {
     Span { offset }
 }
 
-/// The item has these bytes behind a count of 1 as the payload of a section, and alone in a vector.
+/// Checks the bytes of an item after a count of 1 as the payload of a section, and alone in a
+/// vector.
 pub(crate) fn has_bytes<I: SectionItem>(rt: &impl Abort, alloc: Global, item: &I, bytes: &[u8])
 where
     I::Section: Drop,

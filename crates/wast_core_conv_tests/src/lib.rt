@@ -1,4 +1,4 @@
-//! Tests of `wast_core_conv`, as its callers use it: parts of the tree as values, and as items of sections.
+//! Tests of `wast_core_conv`, as callers use it: conversions to values, and items of sections.
 #![tactic(auto)]
 
 #[cfg(test)]

@@ -1,4 +1,4 @@
-//! Custom sections at their places: the line that answers a module of them.
+//! Custom sections at their positions: the line of a module with them.
 
 ghost use Rattle.std.specs.Prelude.{IsTrue};
 ghost use Rattle.wast_core_conv.specs.Customs.{is_encodable_subsection};
@@ -20,7 +20,7 @@ pub(crate) fn at(offset: usize) -> Span {
     Span { offset }
 }
 
-/// The number 0 as an index.
+/// Returns the number 0 as an index.
 fn zero<'a>() -> Index<'a> {
     Index::Num(0, at(0))
 }
@@ -28,14 +28,14 @@ fn zero<'a>() -> Index<'a> {
 /// The first eight bytes of a module.
 pub(crate) const HEAD: &str = "0061736d01000000";
 
-/// What stands in a module, in the order of the text.
+/// A field of a module, in the order of the text.
 #[derive(Clone, Copy)]
 pub(crate) enum Word<'a> {
-    /// `(@custom ..)` of a name, a place and pieces.
+    /// `(@custom ..)` with a name, a position and pieces.
     Raw(&'a str, CustomPlace, &'a [&'a [u8]]),
     /// `(@producers ..)` without fields.
     NoProducers,
-    /// `(@producers (a ..))` of so many values `"b" "1"`.
+    /// `(@producers (a ..))` with values such as `"b" "1"`.
     Made(&'a str, &'a [(&'a str, &'a str)]),
     /// `(@dylink.0 ..)` without subsections.
     NoInfo,
@@ -153,7 +153,7 @@ fn global<'a>(alloc: Global, maker: &mut TreeBuilder) -> ModuleField<'a> {
     ModuleField::Global(wast_tree::Global::new(alloc, at(9), None, ty, value))
 }
 
-/// The field of a word.
+/// Returns the field of a word.
 fn field<'a>(alloc: Global, maker: &mut TreeBuilder, word: Word<'a>) -> ModuleField<'a> {
     match word {
         Word::Raw(name, place, pieces) => custom(Custom::Raw(RawCustomSection {
@@ -228,7 +228,7 @@ fn field<'a>(alloc: Global, maker: &mut TreeBuilder, word: Word<'a>) -> ModuleFi
     }
 }
 
-/// The module of some words.
+/// Returns the module of some words.
 fn made<'a>(alloc: Global, words: &[Word<'a>]) -> Result<Module<'a>, Error<'a>> {
     let mut maker = TreeBuilder::new(alloc);
     let mut fields = Seq::new(alloc);
@@ -245,7 +245,7 @@ fn made<'a>(alloc: Global, words: &[Word<'a>]) -> Result<Module<'a>, Error<'a>> 
     })
 }
 
-/// The line that answers the module of some words.
+/// Returns the line of the module of some words.
 pub(crate) fn line(rt: &impl Abort, alloc: Global, words: &[Word<'_>]) -> Vec<u8> {
     let mut input = &b"0"[..];
     let mut output = Vec::new(alloc);
@@ -255,7 +255,7 @@ pub(crate) fn line(rt: &impl Abort, alloc: Global, words: &[Word<'_>]) -> Vec<u8
     output
 }
 
-/// The module of some words has these bytes behind its header.
+/// Checks the bytes of the module of some words after its header.
 pub(crate) fn has_bytes(rt: &impl Abort, alloc: Global, words: &[Word<'_>], want: &str) {
     let line = line(rt, alloc, words);
     assert!(rt; line.as_slice().starts_with(HEAD.as_bytes()));
@@ -268,14 +268,14 @@ pub(crate) fn has_bytes(rt: &impl Abort, alloc: Global, words: &[Word<'_>], want
 pub(crate) const LAST: CustomPlace = CustomPlace::AfterLast;
 
 #[test]
-fn names_and_bytes_of_sections(rt: HostRuntime) {
+fn custom_sections_have_name_and_bytes(rt: HostRuntime) {
     let alloc = rt.alloc();
     for (word, want) in [
         (Word::Raw("", LAST, &[]), "000100"),
         (Word::Raw("", LAST, &[b"x"]), "00020078"),
         (Word::Raw("a", LAST, &[b"", b""]), "00020161"),
         (Word::Raw("a", LAST, &[b"x", b"", b"yz"]), "0005016178797a"),
-        // letters of two, three and four bytes
+        // Letters of two, three and four bytes.
         (
             Word::Raw("\u{e9}\u{20ac}\u{1f600}", LAST, &[]),
             "000a09c3a9e282acf09f9880",
@@ -286,7 +286,7 @@ fn names_and_bytes_of_sections(rt: HostRuntime) {
 }
 
 #[test]
-fn a_section_of_128_bytes_has_a_length_of_two(rt: HostRuntime) {
+fn section_of_128_bytes_has_two_byte_length(rt: HostRuntime) {
     let alloc = rt.alloc();
     let half = [0x61u8; 64];
     let words = [Word::Raw("a", LAST, &[&half, &half])];
@@ -299,12 +299,12 @@ fn a_section_of_128_bytes_has_a_length_of_two(rt: HostRuntime) {
 }
 
 #[test]
-fn a_long_section_has_a_length_of_three_bytes(rt: HostRuntime) {
+fn long_section_has_three_byte_length(rt: HostRuntime) {
     let alloc = rt.alloc();
     let piece = [0x7au8; 4096];
     let words = [Word::Raw("a", LAST, &[&piece, &piece, &piece, &piece])];
     let line = line(&rt, alloc, &words);
-    // 16,386 bytes behind the length
+    // 16,386 bytes after the length.
     assert!(rt;
         line.as_slice()
             .starts_with(b"0061736d01000000008280010161" as &[u8])
@@ -312,7 +312,8 @@ fn a_long_section_has_a_length_of_three_bytes(rt: HostRuntime) {
     assert!(rt; line.len() == 2 * (8 + 4 + 16_386));
 }
 
-/// Each section beside which custom sections stand, in their order, with its bytes in a module that has one of each.
+/// Each section that custom sections can anchor to, in order, with its bytes in a module that has
+/// one of each.
 const ANCHORS: [(CustomPlaceAnchor, &str); 12] = [
     (CustomPlaceAnchor::Ty, "010401600000"),
     (CustomPlaceAnchor::Import, "02050100000000"),
@@ -328,7 +329,7 @@ const ANCHORS: [(CustomPlaceAnchor, &str); 12] = [
     (CustomPlaceAnchor::Data, "0b03010100"),
 ];
 
-/// What stands behind this text, which the line begins with.
+/// Returns the rest of the line after this text at its start.
 pub(crate) fn behind<'b>(rt: &impl Abort, line: &'b [u8], text: &str) -> &'b [u8] {
     assert!(rt; line.len() >= text.len());
     assert!(rt; &line[..text.len()] == text.as_bytes(), "for {text}");
@@ -336,7 +337,7 @@ pub(crate) fn behind<'b>(rt: &impl Abort, line: &'b [u8], text: &str) -> &'b [u8
 }
 
 #[test]
-fn sections_stand_beside_those_that_are_not_written(rt: HostRuntime) {
+fn custom_sections_can_anchor_to_missing_sections(rt: HostRuntime) {
     let alloc = rt.alloc();
     for (anchor, _) in ANCHORS {
         let after = Word::Raw("b", CustomPlace::After(anchor), &[]);
@@ -346,7 +347,7 @@ fn sections_stand_beside_those_that_are_not_written(rt: HostRuntime) {
 }
 
 #[test]
-fn sections_stand_beside_those_that_are_written(rt: HostRuntime) {
+fn custom_sections_surround_their_anchor(rt: HostRuntime) {
     let alloc = rt.alloc();
     for (anchor, _) in ANCHORS {
         let words = [
@@ -380,7 +381,7 @@ fn sections_stand_beside_those_that_are_written(rt: HostRuntime) {
 }
 
 #[test]
-fn sections_of_one_place_keep_their_order(rt: HostRuntime) {
+fn custom_sections_of_one_position_keep_order(rt: HostRuntime) {
     let alloc = rt.alloc();
     let place = CustomPlace::After(CustomPlaceAnchor::Func);
     has_bytes(
@@ -399,7 +400,7 @@ fn sections_of_one_place_keep_their_order(rt: HostRuntime) {
 }
 
 #[test]
-fn first_and_last_sections(rt: HostRuntime) {
+fn custom_sections_can_be_first_and_last(rt: HostRuntime) {
     let alloc = rt.alloc();
     let words = [
         Word::Type,
@@ -418,7 +419,7 @@ fn first_and_last_sections(rt: HostRuntime) {
 }
 
 #[test]
-fn two_sections_before_the_first(rt: HostRuntime) {
+fn two_custom_sections_can_be_first(rt: HostRuntime) {
     let alloc = rt.alloc();
     let first = CustomPlace::BeforeFirst;
     let words = [Word::Raw("a", first, &[]), Word::NoInfo, Word::Type];
@@ -431,7 +432,7 @@ fn two_sections_before_the_first(rt: HostRuntime) {
 }
 
 #[test]
-fn a_section_called_name_leaves_out_the_names(rt: HostRuntime) {
+fn custom_name_section_replaces_names(rt: HostRuntime) {
     let alloc = rt.alloc();
     has_bytes(
         &rt,
@@ -447,7 +448,7 @@ fn a_section_called_name_leaves_out_the_names(rt: HostRuntime) {
 }
 
 #[test]
-fn sections_called_as_others(rt: HostRuntime) {
+fn custom_sections_can_share_names(rt: HostRuntime) {
     let alloc = rt.alloc();
     for (name, want) in [
         (
@@ -462,7 +463,7 @@ fn sections_called_as_others(rt: HostRuntime) {
 }
 
 #[test]
-fn producers_have_fields_and_values(rt: HostRuntime) {
+fn producers_section_has_fields_and_values(rt: HostRuntime) {
     let alloc = rt.alloc();
     for (word, want) in [
         (Word::NoProducers, "000b0970726f64756365727300"),
@@ -477,7 +478,7 @@ fn producers_have_fields_and_values(rt: HostRuntime) {
 }
 
 #[test]
-fn subsections_for_a_linker(rt: HostRuntime) {
+fn dylink_subsections_are_encoded(rt: HostRuntime) {
     let alloc = rt.alloc();
     for (word, want) in [
         (Word::NoInfo, "00090864796c696e6b2e30"),
@@ -502,7 +503,7 @@ fn subsections_for_a_linker(rt: HostRuntime) {
     }
 }
 
-/// What a subsection holds.
+/// Checks the content of a subsection.
 fn holds(rt: &impl Abort, alloc: Global, subsection: &Dylink0Subsection, want: &[u8])
     requires { IsTrue (is_encodable_subsection subsection.now) }
 {
@@ -512,7 +513,7 @@ fn holds(rt: &impl Abort, alloc: Global, subsection: &Dylink0Subsection, want: &
 }
 
 #[test]
-fn a_subsection_is_spelled_alone(rt: HostRuntime) {
+fn dylink_subsection_is_encoded_alone(rt: HostRuntime) {
     let alloc = rt.alloc();
     let info = Dylink0Subsection::MemInfo {
         memory_size: 128,
@@ -528,7 +529,7 @@ fn a_subsection_is_spelled_alone(rt: HostRuntime) {
 }
 
 #[test]
-fn items_tell_beside_which_sections_they_stand(rt: HostRuntime) {
+fn section_items_have_anchors(rt: HostRuntime) {
     assert!(rt; RecOrType::ANCHOR == CustomPlaceAnchor::Ty);
     assert!(rt; Imports::ANCHOR == CustomPlaceAnchor::Import);
     assert!(rt; FuncSectionTy::ANCHOR == CustomPlaceAnchor::Func);

@@ -1,4 +1,4 @@
-//! Branch hints: which stand on the instructions of their body, and the section that they are written into.
+//! Branch hints: which ones are on the instructions of their body, and the section of branch hints.
 
 use crate::customs::{HEAD, LAST, Word, at, behind, first_type, has_bytes, line};
 use std::alloc::Global;
@@ -11,13 +11,14 @@ use wast_tree::{
 /// A body with branch hints.
 #[derive(Clone, Copy)]
 pub(crate) struct Hinted<'a> {
-    /// So many locals of types that differ from those beside them, and so many of one type behind them.
+    /// The number of locals whose types differ from those beside them, and of locals of one type
+    /// after them.
     pub(crate) locals: (usize, usize),
-    /// So many times `i32.const 0`, of two bytes each.
+    /// The number of `i32.const 0`, of two bytes each.
     pub(crate) consts: usize,
-    /// So many times `nop` behind them, of one byte each.
+    /// The number of `nop` after them, of one byte each.
     pub(crate) nops: usize,
-    /// The hints: the number of an instruction and a value each.
+    /// The hints: the number of an instruction, and a value.
     pub(crate) hints: &'a [BranchHint],
 }
 
@@ -100,7 +101,7 @@ fn hint(instr_index: usize, value: u32) -> BranchHint {
     BranchHint { instr_index, value }
 }
 
-/// `(func nop nop nop)` with these hints.
+/// Returns `(func nop nop nop)` with these hints.
 fn three_nops<'a>(hints: &'a [BranchHint]) -> Word<'a> {
     Word::Hinted(Hinted {
         locals: (0, 0),
@@ -110,14 +111,14 @@ fn three_nops<'a>(hints: &'a [BranchHint]) -> Word<'a> {
     })
 }
 
-/// The name of the section behind its length, in hex.
+/// The name of the section after its length, in hex.
 const NAME: &str = "196d657461646174612e636f64652e6272616e63685f68696e74";
 
 /// The name as text.
 const TEXT: &str = "metadata.code.branch_hint";
 
 #[test]
-fn hints_stand_on_instructions_one_behind_another(rt: HostRuntime) {
+fn hints_must_increase(rt: HostRuntime) {
     let alloc = rt.alloc();
     let greatest = 18_446_744_073_709_551_615;
     for hints in [
@@ -145,7 +146,7 @@ fn hints_stand_on_instructions_one_behind_another(rt: HostRuntime) {
 }
 
 #[test]
-fn a_module_without_hints_has_no_section_of_them(rt: HostRuntime) {
+fn module_without_hints_has_no_hint_section(rt: HostRuntime) {
     has_bytes(
         &rt,
         rt.alloc(),
@@ -155,7 +156,7 @@ fn a_module_without_hints_has_no_section_of_them(rt: HostRuntime) {
 }
 
 #[test]
-fn hints_of_constant_expressions_are_not_written(rt: HostRuntime) {
+fn hints_in_constant_expressions_are_ignored(rt: HostRuntime) {
     let twice = [hint(5, 7), hint(5, 7)];
     has_bytes(
         &rt,
@@ -165,7 +166,8 @@ fn hints_of_constant_expressions_are_not_written(rt: HostRuntime) {
     );
 }
 
-/// The line that answers the module of some words begins with its header and then these texts; it is told whether that is all.
+/// Checks that the line of the module of some words begins with its header and these texts. Returns
+/// whether that is all.
 fn begins(rt: &impl Abort, alloc: Global, words: &[Word<'_>], texts: &[&str]) -> bool {
     let line = line(rt, alloc, words);
     let mut rest = behind(rt, line.as_slice(), HEAD);
@@ -187,7 +189,7 @@ fn each_instruction_can_have_a_hint(rt: HostRuntime) {
 }
 
 #[test]
-fn imported_functions_are_counted_and_other_imports_are_not(rt: HostRuntime) {
+fn hint_section_counts_only_imported_functions(rt: HostRuntime) {
     let hints = [hint(0, 0), hint(1, 1)];
     let first = Hinted {
         locals: (0, 0),
@@ -223,10 +225,10 @@ fn imported_functions_are_counted_and_other_imports_are_not(rt: HostRuntime) {
 }
 
 #[test]
-fn offsets_begin_at_the_locals(rt: HostRuntime) {
+fn hint_offsets_count_from_locals(rt: HostRuntime) {
     let alloc = rt.alloc();
     let hints = [hint(0, 1)];
-    // 63 runs of two bytes each, behind their number
+    // 63 runs of two bytes each, after their number.
     let short = Hinted {
         locals: (63, 0),
         consts: 0,
@@ -241,7 +243,7 @@ fn offsets_begin_at_the_locals(rt: HostRuntime) {
         "0a84010181013f017f017e",
     ];
     assert!(rt; !begins(&rt, alloc, &[Word::Type, Word::Hinted(short)], &texts));
-    // 62 of them, and a run of three bytes
+    // 62 of them, and a run of three bytes.
     let long = Hinted {
         locals: (62, 128),
         ..short
@@ -257,7 +259,7 @@ fn offsets_begin_at_the_locals(rt: HostRuntime) {
 }
 
 #[test]
-fn offsets_in_a_long_body(rt: HostRuntime) {
+fn hint_offsets_in_a_long_body(rt: HostRuntime) {
     let hints = [hint(8_191, 0), hint(8_192, 1), hint(8_200, 1)];
     let body = Hinted {
         locals: (0, 0),
@@ -280,7 +282,7 @@ fn offsets_in_a_long_body(rt: HostRuntime) {
 }
 
 #[test]
-fn custom_sections_beside_the_hints(rt: HostRuntime) {
+fn custom_sections_surround_hint_section(rt: HostRuntime) {
     let before = CustomPlace::Before(CustomPlaceAnchor::Code);
     let first = [hint(0, 0)];
     let words = [

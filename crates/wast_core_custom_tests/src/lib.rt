@@ -1,4 +1,4 @@
-//! Tests of `wast_core` on custom sections and branch hints: the lines that answer modules of them.
+//! Tests of `wast_core` on custom sections and branch hints.
 #![tactic(auto)]
 
 #[cfg(test)]

@@ -1,4 +1,7 @@
-//! A module that is made by hand: its bytes, the numbers of two of its ids, and the place of a fault in its text.
+//! Builds a module by hand, resolves it, looks up ids in it, and prints its bytes.
+//!
+//! It then builds the same module with an undefined id, and prints the error with its line and
+//! column.
 #![tactic(auto)]
 
 ghost use Rattle.std.specs.Prelude.{◌≡◌, IfErr};
@@ -19,7 +22,7 @@ use wast_tree::{
     line_and_column,
 };
 
-/// The module as a text, in which the places of the tree are offsets.
+/// The module as a text. The positions in the tree are offsets in it.
 const TEXT: &str = "(module
   (type $reader (func (param i32 i32) (result i32)))
   (import \"host\" \"ready\" (func $ready))
@@ -47,7 +50,7 @@ fn index(name: &str, offset: usize) -> Index<'_> {
     Index::Id(Id::new(name, at(offset)))
 }
 
-/// `(func $read ..)`
+/// Returns `(func $read ..)`.
 fn read<'a>(alloc: Global, make: &mut TreeBuilder) -> Func<'a> {
     let params = [(id("base", 288), None, I32), (id("index", 306), None, I32)];
     let ty = TypeUse::inline(make.function_type(&params, &[I32]));
@@ -68,7 +71,7 @@ fn read<'a>(alloc: Global, make: &mut TreeBuilder) -> Func<'a> {
     func.with_name("byte").with_exports(make.exports(&names))
 }
 
-/// The fields of the module, which starts with the function of this name.
+/// Returns the fields of the module, whose start function has this name.
 fn fields<'a>(alloc: Global, start: &'a str) -> Result<Seq<ModuleField<'a>>, Error<'a>>
     ensures { IfErr result (λ e. e ≡ out_of_memory) }
 {
@@ -96,7 +99,7 @@ fn fields<'a>(alloc: Global, start: &'a str) -> Result<Seq<ModuleField<'a>>, Err
     make.finish(fields)
 }
 
-/// What a module knows, by its names.
+/// Indices that the names of the module return.
 #[derive(Clone, Copy)]
 struct Numbers<'a> {
     read: Index<'a>,
@@ -105,7 +108,7 @@ struct Numbers<'a> {
     reader: Index<'a>,
 }
 
-/// The numbers of a function, a global, a tag and a type of a module, and its bytes. From then on the module is resolved.
+/// Resolves the module, looks up a function, a global, a tag and a type, and encodes it.
 fn encoded<'a>(
     alloc: Global,
     module: &mut Module<'a>,
@@ -133,7 +136,8 @@ fn encoded<'a>(
     Ok((numbers, bytes))
 }
 
-/// The same of the module that starts with this function; `None` where it is not ready for a counter at 1.
+/// Builds the module with this start function, and encodes it. Returns `None` if the module is not
+/// well formed, or a counter at 1 is not past its ids.
 fn made<'a>(alloc: Global, start: &'a str) -> Result<Option<(Numbers<'a>, Vec<u8>)>, Error<'a>> {
     let kind = ModuleKind::Text(fields(alloc, start)?);
     let mut module = Module {
@@ -152,7 +156,7 @@ fn made<'a>(alloc: Global, start: &'a str) -> Result<Option<(Numbers<'a>, Vec<u8
     answer
 }
 
-/// Prints these, or a fault with its line and its column in the text.
+/// Prints the result, or the error with its line and column in the text.
 fn print_module(rt: &impl Print, alloc: Global, start: &str) -> io::Result<()> {
     match made(alloc, start) {
         Ok(Some((numbers, bytes))) => {

@@ -1,4 +1,4 @@
--- What is told of how many types stand before some places of a list of fields.
+-- Lemmas about the numbers of types before checkpoints.
 use Rattle.std.proofs.Common.{◌≡◌, ◌<◌, ◌≤◌, ◌+◌, ◌-◌, ◌*◌, ℕ, List, [], ◌∷◌, ◌++◌, length, min, refl, sym, ap, ◌∙◌, arith, length-append, length-drop, length-set, take, drop, get_or, set, take-append-drop, Some, Bool, true, false, ltb, inl, inr}
 use Rattle.std.specs.Prelude.{slice_get}
 use Rattle.std.specs.List.{flat_map}
@@ -10,14 +10,14 @@ use Rattle.wast_core_name_section.specs.Checkpoints.{AreCheckpoints}
 use Rattle.wast_core_name_section.specs.declared.arities.Places.{Places}
 use Rattle.wast_core_name_section.proofs.Each.{each_more}
 
--- So many numbers at the front of a list tell how many types stand before places of a list of fields.
+-- The first numbers of a list are the numbers of types before checkpoints.
 pub record IsFilled {A B : Type 0} (types : A → List B) (fields : List A) (first every count : ℕ) (room : List ℕ) : Type 0 where
   pub some : 0 < count
   pub within : count ≤ length room
   pub zero_first : get_or room 0 0 ≡ 0
   pub told : (k : ℕ) → k < count → (first + k * every ≤ length fields) × (get_or room k 0 ≡ length (flat_map types (take (first + k * every) fields)))
 
--- of the first place, before which there are none
+-- For the first checkpoint, with no types before it.
 pub filled_first : {A B : Type 0} (types : A → List B) (fields : List A) (first every : ℕ) (room : List ℕ) → first ≤ length fields → flat_map types (take first fields) ≡ [] → 0 < length room → IsFilled types fields first every 1 (set room 0 0)
 filled_first types fields first every room inside none some = record {
   some = omega arith;
@@ -29,7 +29,7 @@ filled_first types fields first every room inside none some = record {
       (omega (arith, place, inside), ap (λ j. get_or (set room 0 0) j 0) here ∙ get_or-set_same room 0 0 0 some ∙ ap length (sym none) ∙ ap (λ n. length (flat_map types (take n fields))) place);
 }
 
--- of one place more
+-- For one checkpoint more.
 pub filled_more : {A B : Type 0} (types : A → List B) (fields : List A) (first every count : ℕ) (room : List ℕ) (place sum : ℕ) → count < length room → place ≡ first + count * every → place ≤ length fields
     → sum ≡ length (flat_map types (take place fields)) → IsFilled types fields first every count room → IsFilled types fields first every (count + 1) (set room count sum)
 filled_more types fields first every count room place sum small is inside right filled = record {
@@ -48,18 +48,18 @@ filled_more types fields first every count room place sum small is inside right 
   ];
 }
 
--- fields that give nothing count for nothing
+-- Fields without types add nothing to the count.
 pub counted_all : {A B : Type 0} (types : A → List B) (fields : List A) (end sum : ℕ) → flat_map types (drop end fields) ≡ [] → sum ≡ length (flat_map types (take end fields)) → sum ≡ length (flat_map types fields)
 counted_all types fields end sum none is =
     let whole = ap (flat_map types) (sym (take-append-drop end fields)) ∙ flat_map-append types (take end fields) (drop end fields) in
     omega (arith, is, ap length whole, length-append (flat_map types (take end fields)) (flat_map types (drop end fields)), ap length none)
 
--- what is told by the numbers at the front
+-- What the first numbers of the list say.
 pub tells_filled : {A B : Type 0} (types : A → List B) (fields : List A) (room : List ℕ) (p : Places) → IsFilled types fields p.first p.every p.count room
     → (p.total < 18446744073709551615 → p.total ≡ length (flat_map types fields)) → AreCheckpoints types fields p room
 tells_filled types fields room p filled all = record { some = filled.some; within = filled.within; first = filled.zero_first; told = filled.told; total = all }
 
--- where nothing is told but of the first field, all that is told is so
+-- If only the first checkpoint is counted, the numbers are right.
 pub tells_first : {A B : Type 0} (types : A → List B) (fields : List A) (p : Places) (room : List ℕ) → p.first ≡ 0 → p.count ≡ 1 → p.total ≡ 18446744073709551615 → 0 < length room → get_or room 0 0 ≡ 0 → AreCheckpoints types fields p room
 tells_first types fields p room first count total some before = record {
   some = omega (arith, count);
@@ -72,7 +72,7 @@ tells_first types fields p room first count total some before = record {
   total = λ h. absurd (omega (arith, total, h));
 }
 
--- and one field more
+-- The same with one field more.
 pub sum_more : {A B : Type 0} (types : A → List B) (fields : List A) (i sum count total : ℕ) (x : A) → i < length fields → x ≡ get_or fields i x
     → (sum < 18446744073709551615 → sum ≡ length (flat_map types (take i fields))) → (count < 18446744073709551615 → count ≡ length (types x)) → total ≡ min (sum + count) 18446744073709551615
     → total < 18446744073709551615 → total ≡ length (flat_map types (take (i + 1) fields))
@@ -82,7 +82,7 @@ sum_more types fields i sum count total x lt item so_far here is few =
     let own : count ≡ length (types x) = here (omega arith) in
     omega (arith, ap length more, length-append (flat_map types (take i fields)) (types x))
 
--- what stands at an index stands in the fields from a place on, behind as many types less
+-- A type at an index is in the fields from a checkpoint on, at the index minus the types before it.
 behind_front : {B : Type 0} (xs ys : List B) (n : ℕ) → slice_get (xs ++ ys) (length xs + n) ≡ slice_get ys n
 behind_front xs [] n = slice_get_past (xs ++ []) (length xs + n) (omega (arith, length-append xs [])) ∙ sym (slice_get_past [] n (omega arith))
 behind_front {B = B} xs (y ∷ ys) n = by_test (ltb n (length (y ∷ ys))) refl
@@ -101,6 +101,6 @@ behind types fields place before index is below =
     let whole = ap (flat_map types) (sym (take-append-drop place fields)) ∙ flat_map-append types (take place fields) (drop place fields) in
     sym (ap (λ ts. slice_get ts index) whole ∙ (ap (slice_get (flat_map types (take place fields) ++ flat_map types (drop place fields))) (omega arith) ∙ behind_front (flat_map types (take place fields)) (flat_map types (drop place fields)) (index - before)))
 
--- what is cut off a list behind a place
+-- What is cut off a list after a position.
 pub from_place : {A : Type 0} (fields : List A) (place : ℕ) → take (length fields - place) (drop place fields) ≡ drop place fields
 from_place fields place = take_all (length fields - place) (drop place fields) (omega (arith, length-drop place fields))

@@ -1,11 +1,11 @@
--- What the items of a list give, one item more.
+-- Lists of results, one element at a time.
 use Rattle.std.proofs.Common.{◌≡◌, ℕ, ◌+◌, ◌<◌, true, false, nat_lt, List, [], ◌∷◌, ◌++◌, length, map, refl, sym, ap, ◌∙◌, arith, append-nil, length-append, take, drop, get_or, take-append-drop}
 use Rattle.std.specs.List.{flat_map}
 use Rattle.std.proofs.lemmas.Grind.{flat_map-append}
 use Rattle.std.proofs.lemmas.Bool.{lt-ltb, ltb-true, ltb-false}
 use Rattle.std.proofs.lemmas.List.{take_more, get_or_default}
 
--- what one more element of a list gives, and what the elements after it give
+-- The results of one more element, and those of the elements after it.
 pub each_more : {A B : Type 0} (f : A → List B) (xs : List A) (i : ℕ) (d : A) (given : List B) → i < length xs → d ≡ get_or xs i d → given ≡ f d
     → flat_map f (take (i + 1) xs) ≡ flat_map f (take i xs) ++ given
 each_more f xs i d given lt item gives =
@@ -18,7 +18,7 @@ each_around f xs i d given lt item gives =
     ap (flat_map f) (sym (take-append-drop (i + 1) xs))
     ∙ (flat_map-append f (take (i + 1) xs) (drop (i + 1) xs) ∙ ap (λ z. z ++ flat_map f (drop (i + 1) xs)) (each_more f xs i d given lt item gives))
 
--- some give something where one gives some, and none where each gives none
+-- The list of results is not empty if one element has some, and empty if no element has any.
 pub some_of_each : {A B : Type 0} (f : A → List B) (xs : List A) (i : ℕ) (d : A) → i < length xs → nat_lt 0 (length (f (get_or xs i d))) ≡ true → true ≡ nat_lt 0 (length (flat_map f xs))
 some_of_each f xs i d lt some =
     let x = get_or xs i d in
@@ -41,7 +41,7 @@ none_of_each {B = B} f xs i d lt before none =
     empty [] h = refl
     empty (y ∷ ys) h = absurd (omega (arith, ltb-false 0 (length (y ∷ ys)) h))
 
--- what changed elements give, where each gives the same as before
+-- The results of changed elements, if each has the same results as before.
 pub each_like : {A B C : Type 0} (f : A → B) (g : B → List C) (h : A → List C) → ((x : A) → g (f x) ≡ h x) → (xs : List A) → flat_map g (map f xs) ≡ flat_map h xs
 each_like f g h same [] = refl
 each_like f g h same (x ∷ xs) = ap (λ ys. ys ++ flat_map g (map f xs)) (same x) ∙ ap (λ ys. h x ++ ys) (each_like f g h same xs)

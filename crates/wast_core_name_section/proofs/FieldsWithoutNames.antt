@@ -1,4 +1,4 @@
--- Fields of other kinds have no items of a space, no lists of names within their items, and no types.
+-- Fields of other kinds have no items of an index space, no lists of names inside their items, and no types.
 use Rattle.std.proofs.Common.{◌≡◌, true, false, List, [], ◌∷◌, map, refl, sym, arith}
 use Rattle.std.specs.List.{flat_map}
 use Rattle.wast_tree_nodes.specs.Imports.{item_sigs}
@@ -20,12 +20,12 @@ use Rattle.wast_core_name_section.specs.declared.within.Within.{Within}
 use Rattle.wast_core_name_section.specs.declared.within.Within.TheVariants as within
 use Rattle.wast_core_name_section.proofs.NameMaps.{other_space}
 
--- where no kind of imported items is of a space, no signature gives an item of it
+-- If no kind of imported items is in an index space, no signature has an item of it.
 none_imported : (s : Space) → ((k : ItemKind) → same_space s (space_of_kind k) ≡ false) → (sigs : List ItemSig) → flat_map (given_name_in s) (map sig_name sigs) ≡ []
 none_imported s other [] = refl
 none_imported s other (sig ∷ sigs) = rw (other sig.kind) (none_imported s other sigs)
 
--- segments and types are not imported
+-- Segments and types are not imported.
 no_elem : (k : ItemKind) → same_space space.Elem (space_of_kind k) ≡ false
 no_elem (kind.Func u) = refl
 no_elem k = refl
@@ -72,7 +72,7 @@ no_items_elsewhere space.Ty (field.Ty t) h = cc
 no_items_elsewhere space.Ty (field.Rec r) h = cc
 no_items_elsewhere space.Ty f h = refl
 
--- types have no locals, no labels, and no parameters of tags
+-- Types have no locals, no labels, and no parameters of tags.
 no_locals_in : (types : List ty.«Type») → flat_map (lists_in_type within.Locals) types ≡ []
 no_locals_in [] = refl
 no_locals_in (t ∷ types) = no_locals_in types
@@ -85,7 +85,7 @@ no_tag_params_in : (types : List ty.«Type») → flat_map (lists_in_type within
 no_tag_params_in [] = refl
 no_tag_params_in (t ∷ types) = no_tag_params_in types
 
--- imported items have no fields of structs, and no parameters of types
+-- Imported items have no fields of structs, and no parameters of types.
 no_fields_in : (k : ItemKind) → lists_in_kind within.Fields k ≡ []
 no_fields_in (kind.Func u) = refl
 no_fields_in k = refl
@@ -120,13 +120,13 @@ no_lists_elsewhere types within.TagParameters (field.Tag t) h = cc
 no_lists_elsewhere types within.TagParameters (field.Rec r) h = no_tag_params_in r.types
 no_lists_elsewhere types within.TagParameters f h = refl
 
--- fields of other kinds have no types
+-- Fields of other kinds have no types.
 no_types_elsewhere : (f : ModuleField) → is_either knd.Ty knd.Rec f ≡ false → types_within f ≡ []
 no_types_elsewhere (field.Ty t) h = cc
 no_types_elsewhere (field.Rec r) h = cc
 no_types_elsewhere f h = refl
 
--- a list of such fields has none
+-- A list of such fields has none.
 pub no_types : (fields : List ModuleField) → none_pass (is_either knd.Ty knd.Rec) fields ≡ true → flat_map types_within fields ≡ []
 no_types fields h =
     let none : FieldRange = record { first = 0; end = 0 } in

@@ -1,4 +1,4 @@
--- Lists of names within items, as they are found, counted and written.
+-- Lists of names inside items, as they are found, counted and written.
 use Rattle.std.proofs.Common.{◌≡◌, ◌<◌, ◌≤◌, ◌+◌, ℕ, zero, suc, List, [], ◌∷◌, ◌++◌, length, Option, Some, None, refl, sym, ap, ◌∙◌, subst, arith, length-append, map, take, get_or, inl, inr}
 use Rattle.std.specs.Prelude.{nat_lt, true, false, ◌||◌, slice_get, option_map}
 use Rattle.std.proofs.lemmas.Bool.{ltb-false, lt-ltb, le-ltb, cases_lt}
@@ -13,30 +13,30 @@ use Rattle.wast_core_name_section.specs.WithinItems.{where_named, unnamed_list, 
 use Rattle.wast_core_name_section.specs.Tree.{Id, NameAnnotation, ValType, Local}
 use Rattle.wast_core_name_section.proofs.NameEntries.{named_append, as_many, none_named}
 
--- names each on its own
+-- Names, each on its own.
 pub each_named : {A : Type 0} (n : ℕ) (f : A → Option (List ℕ)) (xs : List A) → named_from n (flat_map (λ x. f x ∷ []) xs) ≡ named_from n (map f xs)
 each_named n f xs = ap (named_from n) (flat_map_single f xs)
 
--- one list after another, as they are counted
+-- Two lists, as they are counted.
 pub both_counted : {A : Type 0} (xs ys : List (Option A)) (first m n : ℕ) → m ≡ saturated_count (length (named_from 0 xs)) → n ≡ saturated_count (length (named_from 0 ys)) → saturated_count (m + n) ≡ saturated_count (length (named_from 0 xs ++ named_from first ys))
 both_counted xs ys first m n is also = omega (arith, length-append (named_from 0 xs) (named_from first ys), as_many 0 first ys)
 
--- a list that has names
+-- A list that has names.
 pub is_named : (es : List (ℕ × List ℕ)) → nat_lt 0 (length es) ≡ true → where_named es ≡ Some es
 is_named [] some = absurd cc
 is_named (e ∷ es) some = refl
 
--- and one that has none
+-- A list that has none.
 pub not_named : (es : List (ℕ × List ℕ)) → nat_lt 0 (length es) ≡ false → where_named es ≡ None
 not_named [] none = refl
 not_named (e ∷ es) none = absurd (omega (arith, ltb-false 0 (length (e ∷ es)) none))
 
--- nameless ones have no entry
+-- Things without names have no entry.
 pub behind_nameless : (n k : ℕ) (names : List (Option (List ℕ))) → named_from k (unnamed_list n ++ names) ≡ named_from (k + n) names
 behind_nameless zero k names = ap (λ m. named_from m names) (omega arith)
 behind_nameless (suc n) k names = behind_nameless n (k + 1) names ∙ ap (λ m. named_from m names) (omega arith)
 
--- parameters and then locals
+-- Parameters and then locals.
 pub params_then : (params : List (Option Id × Option NameAnnotation × ValType)) (locals : List Local)
     → named_from 0 (flat_map (λ p. param_name p ∷ []) params) ++ named_from (length params) (flat_map (λ l. local_name l ∷ []) locals) ≡ named_from 0 (map param_name params ++ map local_name locals)
 params_then params locals =
@@ -46,7 +46,7 @@ params_then params locals =
     ∙ ap (λ n. named_from 0 (map param_name params) ++ named_from n (map local_name locals)) (omega arith)
     ∙ sym (named_append 0 (map param_name params) (map local_name locals))
 
--- locals behind as many nameless parameters as a type has, where there is one
+-- Locals after as many parameters without names as a type has, if there is one.
 pub nameless_then : (n : ℕ) (locals : List Local) → named_from n (flat_map (λ l. local_name l ∷ []) locals) ≡ named_from 0 (params_then_locals (Some (unnamed_list n)) (map local_name locals))
 nameless_then n locals = each_named n local_name locals ∙ sym (behind_nameless n 0 (map local_name locals) ∙ ap (λ k. named_from k (map local_name locals)) (omega arith))
 
@@ -56,7 +56,7 @@ nothing_named (Some n) locals never =
     let few = ltb-false 0 (length (named_from 0 (flat_map (λ l. local_name l ∷ []) locals))) (sym never) in
     sym (none_named 0 n (flat_map (λ l. local_name l ∷ []) locals) 0 (omega arith) refl) ∙ nameless_then n locals
 
--- whether a list has names, and then one more item has an entry
+-- Whether a list has names, and whether one more item has an entry.
 pub one_named : (es : List (ℕ × List ℕ)) → nat_lt 0 (length es) ≡ true → 1 ≡ saturated_count (length (named_from 0 (where_named es ∷ [])))
 one_named [] some = absurd cc
 one_named (e ∷ es) some = refl
@@ -71,7 +71,7 @@ either_named xs ys first =
       | inr none ↦ ap (λ t. t || nat_lt 0 b) (le-ltb 0 a none) ∙ ap (nat_lt 0) (omega (arith, length-append (named_from 0 xs) (named_from first ys), as_many 0 first ys))
     ]
 
--- what stands in the part of a list that is gone to, behind the parts before it
+-- A part of a list, after the parts before it.
 pub found_in : {A B : Type 0} (f : A → List B) (xs : List A) (i j : ℕ) (x : A) (part : List B) (d : B) → i < length xs → x ≡ get_or xs i x → part ≡ f x → j < length part
     → slice_get (flat_map f xs) (length (flat_map f (take i xs)) + j) ≡ Some (get_or part j d)
 found_in f xs i j x part d lt item is within =
@@ -80,7 +80,7 @@ found_in f xs i j x part d lt item is within =
     slice_get-get_or (flat_map f xs) (length (flat_map f (take i xs)) + j) d (omega (arith, length-flat_map-take f xs i x lt))
     ∙ ap Some (get_or-flat_map f xs i j x d lt inside ∙ ap (λ p. get_or p j d) here)
 
--- the same of what stands there, whatever element is read
+-- The same for any element that is read.
 pub found_at : {A B : Type 0} (f : A → List B) (xs : List A) (i j : ℕ) (x : A) → i < length xs → x ≡ get_or xs i x → j < length (f x)
     → slice_get (flat_map f xs) (length (flat_map f (take i xs)) + j) ≡ slice_get (f x) j
 found_at {B = B} f xs i j x lt item within = by_first (f x) refl within
@@ -89,6 +89,6 @@ found_at {B = B} f xs i j x lt item within = by_first (f x) refl within
     by_first [] is inside = absurd (omega arith)
     by_first (d ∷ ds) is inside = found_in f xs i j x (d ∷ ds) d lt item is inside ∙ sym (slice_get-get_or (d ∷ ds) j d inside)
 
--- nothing stands behind the last part
+-- Nothing comes after the last part.
 pub found_past : {A B : Type 0} (f : A → List B) (xs : List A) (i j k : ℕ) → length xs ≤ i → length (flat_map f (take i xs)) + j ≡ k → slice_get (flat_map f xs) k ≡ None
 found_past f xs i j k past is = slice_get_past (flat_map f xs) k (omega (arith, is, ap (λ ys. length (flat_map f ys)) (take_all i xs past)))

@@ -29,34 +29,34 @@ use Rattle.wast_core_name_section.specs.FoundNames.{saturated_count, InRangeMap,
 use Rattle.wast_core_name_section.specs.ModuleNames.{given_name_in, type_name, direct, indirect}
 use Rattle.wast_core_name_section.proofs.Each.{each_more, each_around}
 
--- the names of items, each of one thing in a list
+-- The names of items, each of one thing in a list.
 pub names_of_each : {X : Type 0} (s : Space) (name_of : X → Space × Option (List ℕ)) (xs : List X) (items : List (Space × Option (List ℕ))) → map name_of xs ≡ items → flat_map (given_name_in s) items ≡ flat_map (λ x. given_name_in s (name_of x)) xs
 names_of_each s name_of xs items is = ap (flat_map (given_name_in s)) (sym is) ∙ flat_map-map (given_name_in s) name_of xs
 
--- types are items of the type space alone
+-- Types are items of the type index space alone.
 pub other_space : (s : Space) (types : List ty.«Type») → same_space s space.Ty ≡ false → flat_map (given_name_in s) (map type_name types) ≡ []
 other_space s [] h = refl
 other_space s (t ∷ types) h = flat_map-cons (given_name_in s) (type_name t) (map type_name types) ∙ rw (h, other_space s types h) refl
 
--- a subsection, of its id and its content behind the length
+-- A subsection, by its id and its content after the length.
 pub subsection_written : {S R : Type 0} (rules : SinkRules S) (a b : S) (s : NameSubsection) (id : ℕ) (r : Result R Refusal)
     → id ≡ subsection_id s.of → Writes rules (name_subsection s).in_range a b (id ∷ length_prefixed (λ x. (name_content x).bytes) s.content) r
     → Writes rules (All (λ x. (name_subsection x).in_range) (s ∷ [])) a b (flat_map (λ x. (name_subsection x).bytes) (s ∷ [])) r
 subsection_written rules a b s id r id_is p =
     one_written rules (λ x. (name_subsection x).bytes) (λ x. (name_subsection x).in_range) a b s r (subst (λ n. Writes rules (name_subsection s).in_range a b (n ∷ length_prefixed (λ x. (name_content x).bytes) s.content) r) id_is p)
 
--- a map of names as a subsection
+-- A name map as a subsection.
 pub map_counted : {A : Type 0} (entry : ℕ × A → List ℕ) (InRange : ℕ × A → Type 0) (es : List (ℕ × A)) (count : ℕ) → count ≡ saturated_count (length es) → 0 < count → InRangeMap entry InRange es → InRangeU32 count
 map_counted entry InRange [] count is some h = absurd (omega arith)
 map_counted entry InRange (e ∷ es) count is some h = let few : InRangeU32 (length (e ∷ es)) = h.1.0 in omega arith
 
--- none where none is counted
+-- There is no subsection if no entry is counted.
 pub no_map : {S A : Type 0} (rules : SinkRules S) (entry : ℕ × A → List ℕ) (InRange : ℕ × A → Type 0) (a : S) (es : List (ℕ × A)) (id count : ℕ) → AppendLaws rules → count ≡ saturated_count (length es) → count ≡ 0
     → Writes {A = Unit {0}} rules (InRangeMap entry InRange es) a a (map_bytes id entry es) (Ok tt)
 no_map rules entry InRange a [] id count laws is none = (laws.none a, tt)
 no_map rules entry InRange a (e ∷ es) id count laws is none = absurd (omega arith)
 
--- and else its entries behind their number
+-- Otherwise it has its entries after their number.
 pub map_put : {S R A : Type 0} (rules : SinkRules S) (entry : ℕ × A → List ℕ) (InRange : ℕ × A → Type 0) (a b : S) (es : List (ℕ × A)) (id count : ℕ) (r : Result R Refusal) → count ≡ length es → 0 < count
     → Writes rules (Unit {0} × (InRangeU32 (length (unsigned count ++ flat_map entry es)) × (InRangeU32 count × All InRange es))) a b (id ∷ (unsigned (length (unsigned count ++ flat_map entry es)) ++ (unsigned count ++ flat_map entry es))) r
     → Writes rules (InRangeMap entry InRange es) a b (map_bytes id entry es) r
@@ -78,7 +78,7 @@ pub indirect_written : {S R : Type 0} (rules : SinkRules S) (a b : S) (of : Name
 indirect_written rules a b of [] id r id_is p = written_as rules (Unit {0}) (All (λ x. (name_subsection x).in_range) []) a b [] [] r (λ h. All-nil (λ x. (name_subsection x).in_range)) (λ h. tt) refl p
 indirect_written rules a b of (e ∷ es) id r id_is p = subsection_written rules a b (record { of = of; content = Indirect (e ∷ es) }) id r id_is p
 
--- whether a map has a subsection
+-- Whether a map has a subsection.
 pub direct_some : (of : Named) (es : List (ℕ × List ℕ)) → nat_lt 0 (length es) ≡ nat_lt 0 (length (direct of es))
 direct_some of [] = refl
 direct_some of (e ∷ es) = lt-ltb 0 (length (e ∷ es)) (omega arith)
@@ -87,11 +87,11 @@ pub indirect_some : (of : Named) (es : List (ℕ × List (ℕ × List ℕ))) →
 indirect_some of [] = refl
 indirect_some of (e ∷ es) = lt-ltb 0 (length (e ∷ es)) (omega arith)
 
--- what is read where no map stands
+-- What is read if there is no map.
 abbrev pub first_map : NameMap
 first_map = map_of.Items space.Func
 
--- some items, and those of each of a list
+-- Some items, and those of each element of a list.
 pub together : {X Y : Type 0} (spell : Y → List ℕ) (f : X → List Y) (ys : List Y) (xs : List X) → flat_map spell ys ++ flat_map (λ x. flat_map spell (f x)) xs ≡ flat_map spell (ys ++ flat_map f xs)
 together spell f ys xs = ap (λ z. flat_map spell ys ++ z) (flat_in_flat spell f xs) ∙ sym (flat_map-append spell ys (flat_map f xs))
 
@@ -101,7 +101,7 @@ all_together InRange f ys xs h k = All-append InRange ys (flat_map f xs) h (all_
 pub all_apart : {X Y : Type 0} (InRange : Y → Type 0) (f : X → List Y) (ys : List Y) (xs : List X) → All InRange (ys ++ flat_map f xs) → All InRange ys × All (λ x. All InRange (f x)) xs
 all_apart InRange f ys xs h = (all_left InRange ys (flat_map f xs) h, all_of_flat InRange f xs (all_right InRange ys (flat_map f xs) h))
 
--- what was refused where more was to come
+-- Writing failed before more was written.
 pub front_refused : {S : Type 0} (rules : SinkRules S) (all part : Type 0) (a b : S) (x whole : List ℕ) (e : Refusal)
     → AppendLaws rules → length x ≤ length whole → (all → part) → Writes {A = Unit {0}} rules part a b x (Err e) → Writes {A = Unit {0}} rules all a b whole (Err e)
 front_refused rules all part a b x whole e laws le has p = (
@@ -112,7 +112,7 @@ front_refused rules all part a b x whole e laws le has p = (
   ],
 )
 
--- the subsections behind the name of the section
+-- The subsections after the name of the section.
 module _ {X : Type 0} (f : X → List NameSubsection) (ys : List NameSubsection) (xs : List X) where
   abbrev whole : List NameSubsection
   whole = ys ++ flat_map f xs
@@ -140,7 +140,7 @@ module _ {X : Type 0} (f : X → List NameSubsection) (ys : List NameSubsection)
   pub payload_written : {S A : Type 0} (rules : SinkRules S) (a b : S) (r : Result A Refusal) → Writes rules Apart a b (first ++ rest) r → Writes rules (InRangePayload whole) a b (payload_of whole) r
   payload_written rules a b r p = written_as rules Apart (InRangePayload whole) a b (first ++ rest) (payload_of whole) r payload_fits parts_fit payload_bytes p
 
-  -- behind its length too
+  -- The same after its length.
   pub sized_written : {S A : Type 0} (rules : SinkRules S) (a b : S) (size : ℕ) (r : Result A Refusal) → size ≡ length (payload_of whole)
       → Writes rules ((InRangeU32 size × (InRangeName (codes "name") × All (λ x. (name_subsection x).in_range) ys)) × All (λ x. All (λ x. (name_subsection x).in_range) (f x)) xs) a b ((unsigned size ++ first) ++ rest) r
       → Writes rules (InRangeSized InRangePayload payload_of whole) a b (length_prefixed payload_of whole) r
@@ -152,19 +152,19 @@ module _ {X : Type 0} (f : X → List NameSubsection) (ys : List NameSubsection)
       (append_assoc (unsigned size) first rest ∙ ap (λ z. unsigned size ++ z) payload_bytes ∙ ap (λ n. unsigned n ++ payload_of whole) is)
       p
 
--- a byte 0 that keeps the place of a length, set anew
+-- A byte 0 that reserves room for a length, overwritten.
 pub byte_kept : {S : Type 0} (rules : SinkRules S) (a b c : S) (n : ℕ) (says : Bool)
     → AppendLaws rules → rules.appended a b (0 ∷ []) → n ≡ rules.size_of a → Sets rules b c n 0 says → says ≡ true → rules.appended a c (0 ∷ [])
 byte_kept rules a b c n says laws h at set says_yes =
     subst (rules.appended a c) (append-nil (unsigned 0) ∙ unsigned-small 0 (omega arith)) (number_set rules a b c 0 0 [] n says laws h at set says_yes)
 
--- a section is left out where it has no subsections
+-- A section is left out if it has no subsections.
 pub names_absent : {S : Type 0} (rules : SinkRules S) (a : S) (subsections : List NameSubsection) → AppendLaws rules → nat_lt 0 (length subsections) ≡ false
     → Writes {A = Unit {0}} rules (All InRangePart (names_part subsections) × All (λ x. (name_subsection x).in_range) subsections) a a (flat_map part (names_part subsections)) (Ok tt)
 names_absent rules a [] laws none = (laws.none a, (All-nil InRangePart, All-nil (λ x. (name_subsection x).in_range)))
 names_absent rules a (s ∷ ss) laws none = absurd (omega (arith, ltb-false 0 (length (s ∷ ss)) none))
 
--- and else its payload stands behind its id and its length
+-- Otherwise its payload comes after its id and its length.
 pub names_written : {S A : Type 0} (rules : SinkRules S) (a b : S) (subsections : List NameSubsection) (r : Result A Refusal) → nat_lt 0 (length subsections) ≡ true
     → Writes rules (InRangeSized InRangePayload payload_of subsections) a b (0 ∷ length_prefixed payload_of subsections) r
     → Writes rules (All InRangePart (names_part subsections) × All (λ x. (name_subsection x).in_range) subsections) a b (flat_map part (names_part subsections)) r

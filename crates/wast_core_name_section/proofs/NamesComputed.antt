@@ -1,4 +1,4 @@
--- The worked name sections, computed.
+-- Proves the example name sections by computing them.
 use Rattle.std.proofs.Common.{refl}
 use Rattle.wasm_ops.specs.Leb128.{unsigned, unsigned_in}
 use Rattle.wast_core_name_section.specs.WorkedNames.{Row34, Row35, InlineParameter, SecondOfGroup, NoFunctionType, GeneratedField, NamedGlobal, ImportedFunction, EachSpace, ImportedParameter, TagParameter, NamedLabels, GroupedImport, SharedSignature}

@@ -1,4 +1,5 @@
--- When two lists of fields have the same name section: their items have the same names, and the same lists stand within them.
+-- Two lists of fields have the same name section if their items have the same names, and the same lists of names
+-- inside.
 use Rattle.std.proofs.Common.{◌≡◌, ℕ, List, [], ◌∷◌, ◌++◌, map, Option, Some, None, option_map, refl, sym, ap, ◌∙◌}
 use Rattle.std.specs.Prelude.{slice_get}
 use Rattle.std.specs.List.{flat_map}
@@ -17,7 +18,7 @@ use Rattle.wast_core_name_section.specs.WithinItems.{arity, arity_of, types_with
 use Rattle.wast_core_name_section.specs.ModuleNames.{sig_name, import_names, item_names_in, given_name_in, names_given, named_items, direct, named_of, indirect, named_within, map_names, module_name, name_maps, name_subsections}
 use Rattle.wast_core_name_section.proofs.Each.{each_like}
 
--- the lists within a field are those within another, each field among the fields of its module
+-- The lists inside a field are those inside another, each field among the fields of its module.
 abbrev pub SameLists : List ModuleField → List ModuleField → ModuleField → ModuleField → Type 0
 SameLists xs ys x y = (w : Within) → lists_within (types_of xs) w x ≡ lists_within (types_of ys) w y
 
@@ -27,7 +28,7 @@ SameInKind k l = (w : Within) → lists_in_kind w k ≡ lists_in_kind w l
 abbrev pub SameInImport : ImportItems → ImportItems → Type 0
 SameInImport i j = (w : Within) → lists_in_import w i ≡ lists_in_import w j
 
--- a change of fields that the name section does not tell
+-- A change of fields that does not change the name section.
 pub record KeepsNames (f : ModuleField → ModuleField) : Type 0 where
   pub items : (x : ModuleField) → item_names_in (f x) ≡ item_names_in x
   pub lists : (xs : List ModuleField) (x : ModuleField) → SameLists (map f xs) xs (f x) x
@@ -44,7 +45,7 @@ module _ (f : ModuleField → ModuleField) (keeps : KeepsNames f) where
   pub same_subsections : (name : Option (List ℕ)) (xs : List ModuleField) → name_subsections name (map f xs) ≡ name_subsections name xs
   same_subsections name xs = ap (λ g. module_name name ++ flat_map g name_maps) (fun_ext (same_map xs))
 
--- Two lists whose items have the same names, and within which the same lists stand, have the same subsections.
+-- Two lists of fields whose items have the same names and lists have the same subsections.
 module _ (xs ys : List ModuleField) (items : (s : Space) → flat_map (names_given s) xs ≡ flat_map (names_given s) ys) (lists : (w : Within) → flat_map (lists_within (types_of xs) w) xs ≡ flat_map (lists_within (types_of ys) w) ys) where
   map_alike : (m : NameMap) → map_names xs m ≡ map_names ys m
   map_alike (map_of.Items s) = ap (λ names. direct (named_of s) (named_from 0 names)) (items s)
@@ -53,7 +54,7 @@ module _ (xs ys : List ModuleField) (items : (s : Space) → flat_map (names_giv
   pub subsections_alike : (name : Option (List ℕ)) → name_subsections name xs ≡ name_subsections name ys
   subsections_alike name = ap (λ g. module_name name ++ flat_map g name_maps) (fun_ext map_alike)
 
--- how many parameters the type at an index has
+-- How many parameters the type at an index has.
 abbrev pub arity_in : ty.«Type» → Option ℕ
 arity_in t = arity t.def.kind
 
@@ -82,7 +83,7 @@ module _ (f : ModuleField → ModuleField) (alike : (x : ModuleField) → map ar
   pub same_arity : (xs : List ModuleField) (n : ℕ) → arity_of (slice_get (types_of (map f xs)) n) ≡ arity_of (slice_get (types_of xs) n)
   same_arity xs n = arity_read (map f xs) n ∙ (ap (λ ns. found (slice_get ns n)) (same_arities xs) ∙ sym (arity_read xs n))
 
--- the lists within parts that are alike in what has names
+-- The lists inside parts that have the same names.
 pub in_type : (w : Within) (s t : ty.«Type») → s.def ≡ t.def → lists_in_type w s ≡ lists_in_type w t
 in_type within.Locals s t is = refl
 in_type within.Labels s t is = refl
@@ -111,7 +112,7 @@ in_imported_func within.Fields u v is = refl
 in_imported_func within.Parameters u v is = refl
 in_imported_func within.TagParameters u v is = refl
 
--- what an import gives, where each of its signatures is changed so that it gives the same
+-- What an import has, if each of its signatures is changed so that it has the same.
 module _ (f : ItemSig → ItemSig) (i j : ImportItems) (changed : item_sigs j ≡ map f (item_sigs i)) where
   pub names_imported : ((s : ItemSig) → sig_name (f s) ≡ sig_name s) → import_names j ≡ import_names i
   names_imported same = ap (map sig_name) changed ∙ map_like (item_sigs i)

@@ -1,9 +1,12 @@
--- How many types stand before some places of a list of fields, so that a type is found in few steps.
+-- Checkpoints in a list of fields: how many types are before some positions, so that a type is found in few steps.
+--
+--   types (type) (type) (func) (rec (type) (type)), a checkpoint at every second field: 0, 2 types before
 use Rattle.std.specs.Prelude.{ℕ, ◌≡◌, ◌<◌, ◌≤◌, ◌+◌, ◌*◌, ◌^◌, ◌-◌, List, length, take, slice_index}
 use Rattle.std.specs.List.{flat_map}
 use Rattle.wast_core_name_section.specs.declared.arities.Places.{Places}
 
--- there is a first place, before which no type stands; each place stands in the list, and before it so many types as are told; and so many there are in all, where that is told
+-- There is a first checkpoint, with no types before it. Each checkpoint is in the list, and its number is the number of
+-- types before it. The total, if known, is the number of types of all fields.
 pub record AreCheckpoints {A B : Type 0} (types : A → List B) (fields : List A) (p : Places) (before : List ℕ) : Type 0 where
   pub some : 0 < p.count
   pub within : p.count ≤ length before

@@ -1,4 +1,6 @@
--- Which fields can have items of a space, or lists of names within their items, by what kind of fields they are (text format, modules).
+-- Which kinds of fields can have items of an index space, or lists of names inside their items (text format: modules).
+--
+--   items of `func`: imports and functions          lists of labels: imports and functions
 use Rattle.std.specs.Prelude.{Bool, ◌||◌}
 use Rattle.wast_tree_nodes.specs.Kinds.{is_of}
 use Rattle.wast_tree_nodes.specs.declared.kinds.FieldKind.{FieldKind}
@@ -8,11 +10,11 @@ use Rattle.wast_core_name_section.specs.Tree.space
 use Rattle.wast_core_name_section.specs.declared.within.Within.{Within}
 use Rattle.wast_core_name_section.specs.declared.within.Within.TheVariants as within
 
--- whether a field is of either kind
+-- Whether a field is of either kind.
 abbrev pub is_either : FieldKind → FieldKind → ModuleField → Bool
 is_either k l f = is_of k f || is_of l f
 
--- whether a field can have items of a space
+-- Whether a field can have items of an index space.
 abbrev pub has_items : Space → ModuleField → Bool
 has_items space.Func f = is_either kind.Import kind.Func f
 has_items space.Table f = is_either kind.Import kind.Table f
@@ -23,7 +25,7 @@ has_items space.Elem f = is_of kind.Elem f
 has_items space.Data f = is_of kind.Data f
 has_items space.Ty f = is_either kind.Ty kind.Rec f
 
--- whether a field can have lists of names within its items
+-- Whether a field can have lists of names inside its items.
 abbrev pub has_lists : Within → ModuleField → Bool
 has_lists within.Locals f = is_either kind.Import kind.Func f
 has_lists within.Labels f = is_either kind.Import kind.Func f

@@ -1,4 +1,9 @@
--- The payload of the name section: the names of the module, of the items of each space, and of what stands within these (custom sections, name section).
+-- The subsections of the name section: the names of the module, of the items of each index space, and of things inside
+-- items (custom sections: name section).
+--
+-- A subsection without entries is left out, as the `wast` crate does.
+--
+--   (module $m (func $f (param $x i32)))     module "m"; functions: 0 "f"; locals: 0: 0 "x"
 use Rattle.std.specs.Prelude.{ℕ, List, [], ◌∷◌, ◌++◌, Option, Some, None, All, map, if◌then◌else◌}
 use Rattle.std.specs.List.{flat_map}
 use Rattle.wast_base.specs.Spaces.{same_space}
@@ -17,47 +22,47 @@ use Rattle.wast_core_name_section.specs.WithinItems.{types_of, lists_within}
 use Rattle.wasm_out.specs.NameSectionBytes.{Named, One, Direct, Indirect, NameSubsection, name_subsection}
 use Rattle.wasm_out.specs.NameSectionBytes as named
 
--- a type, with its name
+-- A type, with its name.
 abbrev pub type_name : ty.«Type» → Space × Option (List ℕ)
 type_name t = (space.Ty, given_name t.name t.id)
 
--- an imported item, with its space and its name
+-- An imported item, with its index space and its name.
 abbrev pub sig_name : ItemSig → Space × Option (List ℕ)
 sig_name sig = (space_of_kind sig.kind, given_name sig.name sig.id)
 
--- what is imported; items that share a signature have its name each
+-- The names of imported items. Items that share a signature all have its name.
 abbrev pub import_names : ImportItems → List (Space × Option (List ℕ))
 import_names i = map sig_name (item_sigs i)
 
--- the names of the items that a field defines, each with its space
+-- The names of the items that a field defines, each with its index space.
 abbrev pub names_defined : Defined → List (Space × Option (List ℕ))
 names_defined Nothing = []
 names_defined (Types ts) = map type_name ts
 names_defined (Imported i) = import_names i
 names_defined (Lone a) = (a.space, given_name a.name a.id) ∷ []
 
--- the same of the field
+-- The same for a field.
 abbrev pub item_names_in : ModuleField → List (Space × Option (List ℕ))
 item_names_in f = names_defined (profile_of f).items
 
--- the name of an item, where it is an item of the space
+-- The name of an item, if it is in the index space.
 abbrev pub given_name_in : Space → Space × Option (List ℕ) → List (Option (List ℕ))
 given_name_in s p = if same_space s p.0 then p.1 ∷ [] else []
 
--- the names of the items of a space in a field
+-- The names of the items of an index space in a field.
 abbrev pub names_given : Space → ModuleField → List (Option (List ℕ))
 names_given s f = flat_map (given_name_in s) (item_names_in f)
 
--- the items of a space that have a name, by their positions
+-- The items of an index space that have a name, by their indices.
 abbrev pub named_items : Space → List ModuleField → List (ℕ × List ℕ)
 named_items s fields = named_from 0 (flat_map (names_given s) fields)
 
--- a subsection of names stands only where there is one
+-- A subsection with one name map. Without entries there is no subsection.
 abbrev pub direct : Named → List (ℕ × List ℕ) → List NameSubsection
 direct of [] = []
 direct of (e ∷ es) = record { of = of; content = Direct (e ∷ es) } ∷ []
 
--- the subsection of the names of a space
+-- The kind of the subsection of an index space.
 abbrev pub named_of : Space → Named
 named_of space.Func = named.Functions
 named_of space.Table = named.Tables
@@ -68,12 +73,12 @@ named_of space.Elem = named.Elements
 named_of space.Data = named.DataSegments
 named_of space.Ty = named.Types
 
--- inner lists of names stand only where there is one
+-- A subsection with a name map for each item. Without entries there is no subsection.
 abbrev pub indirect : Named → List (ℕ × List (ℕ × List ℕ)) → List NameSubsection
 indirect of [] = []
 indirect of (e ∷ es) = record { of = of; content = Indirect (e ∷ es) } ∷ []
 
--- the subsection of the names of what stands within items
+-- The kind of the subsection of a kind of list inside items.
 abbrev pub named_within : Within → Named
 named_within within.Locals = named.Locals
 named_within within.Labels = named.Labels
@@ -81,21 +86,21 @@ named_within within.Fields = named.Fields
 named_within within.Parameters = named.Parameters
 named_within within.TagParameters = named.TagParameters
 
--- the items that have names within, by their positions
+-- The items that have names inside, by their indices.
 abbrev pub named_lists : Within → List ModuleField → List (ℕ × List (ℕ × List ℕ))
 named_lists w fields = named_from 0 (flat_map (lists_within (types_of fields) w) fields)
 
--- the names of the items of a space, or of what stands within items
+-- The subsection of one name map.
 abbrev pub map_names : List ModuleField → NameMap → List NameSubsection
 map_names fields (map_of.Items s) = direct (named_of s) (named_items s fields)
 map_names fields (map_of.Within w) = indirect (named_within w) (named_lists w fields)
 
--- the subsection of the name of the module, where it has one
+-- The subsection of the name of the module, if it has one.
 abbrev pub module_name : Option (List ℕ) → List NameSubsection
 module_name None = []
 module_name (Some text) = record { of = named.Whole; content = One text } ∷ []
 
--- the maps of names, in the order of their subsections
+-- The name maps, in the order of their subsections.
 abbrev pub name_maps : List NameMap
 name_maps =
     map_of.Items space.Func
@@ -113,10 +118,10 @@ name_maps =
     ∷ map_of.Within within.TagParameters
     ∷ []
 
--- the subsections of a module with this name, of these fields
+-- The subsections of a module with this name and these fields.
 abbrev pub name_subsections : Option (List ℕ) → List ModuleField → List NameSubsection
 name_subsections text fields = module_name text ++ flat_map (map_names fields) name_maps
 
--- their numbers, counts and lengths are in range
+-- Whether the numbers, counts and lengths of the subsections are in range.
 abbrev pub InRangeNames : Option (List ℕ) → List ModuleField → Type 0
 InRangeNames text fields = All (λ x. (name_subsection x).in_range) (name_subsections text fields)

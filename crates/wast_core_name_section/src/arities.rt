@@ -1,4 +1,4 @@
-//! How many parameters the types of a list of fields have, found in few steps.
+//! Looks up how many parameters the types of a list of fields have.
 
 ghost use Rattle.std.specs.Prelude.{◌≡◌, ◌<◌, ◌≤◌, ◌-◌, ◌^◌, List, [], length, take, drop, slice_get, slice_index, IfOk, IfErr};
 ghost use Rattle.std.specs.List.{flat_map};
@@ -10,7 +10,7 @@ use std::alloc::AllocError;
 use std::slice;
 use wast_tree_nodes::{InnerTypeKind, ModuleField, Type};
 
-/// How many parameters a function type has.
+/// Returns how many parameters a function type has.
 fn arity(kind: &InnerTypeKind) -> Option<u64>
     ensures { result ≡ arity kind.now }
 {
@@ -20,7 +20,7 @@ fn arity(kind: &InnerTypeKind) -> Option<u64>
     }
 }
 
-/// The types of a field, one by one.
+/// Returns the types of a field.
 fn types_within<'b, 'a>(field: &'b ModuleField<'a>) -> &'b [Type<'a>]
     ensures { result.now ≡ types_within field.now }
 {
@@ -31,25 +31,24 @@ fn types_within<'b, 'a>(field: &'b ModuleField<'a>) -> &'b [Type<'a>]
     }
 }
 
-/// A list of fields, as types are looked up in it. It is a type parameter of what looks them up: a proof would else compare
-/// the type of the whole list with itself at each call.
+/// A list of fields in which types are looked up. It is a trait, because a proof would otherwise
+/// compare the type of the whole list with itself at each call.
 pub(crate) trait Arities {
     /// The types of these fields.
     ghost types: { Self → List ty.«Type» };
 
-    /// How many parameters the function type at an index has, where one stands there.
+    /// Returns how many parameters the function type at an index has, if there is one.
     fn arity_of(&self, index: u32) -> Option<u64>
         ensures { result ≡ arity_of (slice_get (types self.now) index) };
 }
 
-/// A field, as its types are looked up. It is a type parameter of what walks over lists of fields, as [`Arities`] are of what
-/// looks types up.
+/// A field whose types are looked up. It is a trait for the same reason as [`Arities`].
 pub(crate) trait FieldTypes {
-    /// Its types.
+    /// The types of the field.
     ghost types: { Self → List ty.«Type» };
 
-    /// How many parameters the type at a place in it has, where that is a function type; how many types it has, where none
-    /// stands there.
+    /// Returns how many parameters the type at an index in the field has, if it is a function type.
+    /// If the index is too large, it returns the number of types.
     fn arity_in(&self, index: usize) -> Result<Option<u64>, usize>
         ensures found { IfOk result (λ n. (index < length (types self.now)) × (n ≡ arity_of (slice_get (types self.now) index))) }
         ensures past { IfErr result (λ n. (n ≡ length (types self.now)) × (n ≤ index)) };
@@ -68,7 +67,7 @@ impl FieldTypes for ModuleField<'_> {
     }
 }
 
-/// How many types a field has, up to the greatest `usize`.
+/// Returns how many types a field has, at most the largest `usize`.
 fn count_types<T: FieldTypes>(field: &T) -> usize
     ensures { result < 2 ^ 64 - 1 → result ≡ length (T.types field.now) }
 {
@@ -78,22 +77,25 @@ fn count_types<T: FieldTypes>(field: &T) -> usize
     }
 }
 
-/// Where in a list of fields checkpoints stand, each as many fields behind the one before it. How many types stand before each
-/// is told beside it. Before the first no type stands, and behind the last as few fields with types as between two of them.
+/// The positions of checkpoints in a list of fields, at equal distances.
+///
+/// For each checkpoint the number of types before it is stored elsewhere ([`Checkpoints`]). There
+/// are no types before the first.
 #[derive(Clone, Copy)]
 pub(crate) struct Places {
-    /// The first place.
+    /// The first position.
     first: usize,
-    /// How many fields stand from one place to the next.
+    /// The number of fields from one checkpoint to the next.
     every: usize,
-    /// How many places there are.
+    /// The number of checkpoints.
     count: usize,
-    /// How many types there are; the greatest `usize` where that is not told.
+    /// The number of types, or the largest `usize` if it is unknown.
     total: usize,
 }
 
 impl Places {
-    /// Those in any list of fields: the first field alone. It needs room for one number.
+    /// Returns a single checkpoint at the first field, which is right for any list. Requires room
+    /// for one number.
     pub(crate) fn none(room: &mut [u32]) -> Places
         requires { 0 < length room.old }
         ensures first { result.first ≡ 0 }
@@ -111,9 +113,10 @@ impl Places {
         }
     }
 
-    /// Those in these fields, which have types only from one place up to another; how many types stand before each is found in
-    /// one walk over the fields between these. It needs room for one number or more: the more, the nearer to each other the
-    /// checkpoints stand.
+    /// Returns the checkpoints of these fields, whose types are all between the two positions.
+    ///
+    /// One walk over these fields counts the types before each checkpoint. With more room the
+    /// checkpoints are closer to each other. Requires room for one number or more.
     pub(crate) fn of<'b, T: FieldTypes>(
         fields: &'b [T],
         first: usize,
@@ -148,16 +151,17 @@ impl Places {
     }
 }
 
-/// How many types stand before some places of a list of fields.
+/// Checkpoints, and how many types are before each of them.
 #[derive(Clone, Copy)]
 pub(crate) struct Checkpoints<'b> {
-    /// The places.
+    /// The positions of the checkpoints.
     pub(crate) places: Places,
-    /// How many types stand before each; what stands behind these numbers tells nothing.
+    /// The number of types before each checkpoint. Numbers after these have no meaning.
     pub(crate) before: &'b [u32],
 }
 
-/// The place of the last of so many rising counts that is no greater than this, found by halving, and that count.
+/// Returns the last of the ascending counts that is at most `most`, and its index, by binary
+/// search.
 fn last(counts: &[u32], among: usize, most: usize) -> (usize, usize)
     requires some { 0 < among }
     requires within { among ≤ length counts.now }
@@ -179,7 +183,7 @@ fn last(counts: &[u32], among: usize, most: usize) -> (usize, usize)
     (low, counts[low] as usize)
 }
 
-/// The types of these fields, as they are looked up from checkpoints.
+/// The types of some fields, which are looked up from checkpoints.
 pub(crate) struct TypesOf<'b, T: FieldTypes> {
     fields: &'b [T],
     checkpoints: Checkpoints<'b>,
@@ -195,7 +199,7 @@ impl<T: FieldTypes> Clone for TypesOf<'_, T> {
 impl<T: FieldTypes> Copy for TypesOf<'_, T> {}
 
 impl<'b, T: FieldTypes> TypesOf<'b, T> {
-    /// It needs the checkpoints of these fields.
+    /// Pairs fields with their checkpoints. Requires the checkpoints of these fields.
     pub(crate) fn new(fields: &'b [T], checkpoints: Checkpoints<'b>) -> TypesOf<'b, T>
         requires { AreCheckpoints T.types fields.now checkpoints.places checkpoints.before.now }
         ensures { result.fields.now ≡ fields.now }
@@ -207,7 +211,8 @@ impl<'b, T: FieldTypes> TypesOf<'b, T> {
     }
 }
 
-/// How many parameters the function type at an index has, where one stands there. It walks the fields up to that type.
+/// Returns how many parameters the function type at an index has, if there is one. Walks the fields
+/// up to that type.
 fn arity_from<T: FieldTypes>(fields: &[T], index: usize) -> Option<u64>
     ensures { result ≡ arity_of (slice_get (flat_map T.types fields.now) index) }
 {
@@ -221,8 +226,9 @@ fn arity_from<T: FieldTypes>(fields: &[T], index: usize) -> Option<u64>
     None
 }
 
-/// A type is found from the last checkpoint that is not behind it: in as many steps as halving among the checkpoints takes,
-/// and as many more as fields stand from one to the next. Within a group it is taken at once.
+/// Looks up a type from the last checkpoint before it. That takes a binary search among the
+/// checkpoints, and one step for each field up to the type. Within a recursion group it takes one
+/// step.
 impl<T: FieldTypes> Arities for TypesOf<'_, T> {
     ghost types = { λ t. flat_map T.types t.fields.now };
 

@@ -1,13 +1,21 @@
-//! Worked name sections, which the definitions compute.
+//! Example modules whose name sections the prover computes.
 
 ghost use Rattle.wast_core_name_section.specs.WorkedNames.{Row34, Row35, InlineParameter, SecondOfGroup, NoFunctionType, GeneratedField, NamedGlobal, ImportedFunction, EachSpace, ImportedParameter, TagParameter, NamedLabels, GroupedImport, SharedSignature};
 
-/// A field of a struct has a name in the subsection of fields. A local stands behind the parameters of the function
-/// type at the index, also where these have no names there, or behind those of the inline type, which have; without a
-/// function type no local has a name. Members of groups have indices of their own, and generated ids are no names. Items
-/// of each space have names, imports among them; an imported function has names of its parameters, and an imported tag
-/// has none, but a position. Labels are counted by what opens blocks, with a label or without one. Each item of an import
-/// has a position, and the names of its signature, also where items share one.
+/// Computes the name sections of example modules. Each clause is a module and its bytes:
+///
+/// - `row34`, `row35`: a struct field has a name in the subsection of fields. A local is numbered
+///   after the parameters of the function type.
+/// - `inline`: with an inline type, its parameters have names. `nothing`: without a function type,
+///   no local has a name.
+/// - `group`: members of a recursion group have indices of their own.
+/// - `generated`: a generated id is not a name.
+/// - `global`, `imported`, `spaces`: items of each index space have names, and so have imports.
+/// - `import_parameter`, `tag_parameter`: an imported function has names of parameters. An imported
+///   tag has none, but it is counted.
+/// - `labels`: each instruction that opens a block is counted, with or without a label.
+/// - `grouped_import`, `shared_signature`: each item of an import is counted, and has the names of
+///   its signature, even if several items share one.
 pub(crate) fn worked_names()
     ensures row34 { Row34 }
     ensures row35 { Row35 }

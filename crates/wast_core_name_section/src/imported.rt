@@ -11,7 +11,7 @@ use std::slice;
 use wasm_ops::{Refusal, Sink};
 use wast_tree_nodes::{ImportItems, ItemSig};
 
-/// The way to see the items of a signature in what holds one behind a name.
+/// Finds the items of a signature in a pair of a name and a signature.
 #[derive(Clone, Copy)]
 struct Named<W>(W);
 
@@ -40,7 +40,7 @@ impl<'a, W: CountItems<ItemSig<'a>>> CountItems<(&'a str, ItemSig<'a>)> for Name
     }
 }
 
-/// The way to see the items of one signature in each value.
+/// Finds the items of one shared signature in each value.
 #[derive(Clone, Copy)]
 struct Shared<'b, 'a, W> {
     way: W,
@@ -67,7 +67,7 @@ impl<'a, T, W: CountItems<ItemSig<'a>>> CountItems<T> for Shared<'_, 'a, W> {
     }
 }
 
-/// How many items of an import have an entry.
+/// Returns how many items of an import have an entry.
 pub(crate) fn count_imported<'a, W: CountItems<ItemSig<'a>> + Copy>(
     way: W,
     items: &ImportItems<'a>,
@@ -84,7 +84,7 @@ pub(crate) fn count_imported<'a, W: CountItems<ItemSig<'a>> + Copy>(
     }
 }
 
-/// Appends the entries of the items of an import, and answers the position behind the last.
+/// Appends the entries of the items of an import, and returns the position after the last.
 pub(crate) fn put_imported<'a, W: NameItems<ItemSig<'a>> + Copy, S: Sink>(
     way: W,
     items: &ImportItems<'a>,

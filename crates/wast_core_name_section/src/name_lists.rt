@@ -1,4 +1,4 @@
-//! Lists of what has names: fields of structs, parameters and locals, and labels.
+//! Lists of named things: fields of structs, parameters and locals, and labels.
 
 ghost use Rattle.std.specs.Prelude.{◌≡◌, ◌++◌, ◌+◌, ◌∷◌, nat_lt, [], length, true, All, IfOk};
 ghost use Rattle.std.specs.List.{flat_map};
@@ -42,7 +42,7 @@ impl MayHaveName for Local<'_> {
     }
 }
 
-/// An instruction that opens a block is an item with the name of its label; any other is none.
+/// An instruction that opens a block counts as an item with the name of its label. No other does.
 impl MayHaveName for Instruction<'_> {
     ghost names = { label_in };
 
@@ -55,18 +55,18 @@ impl MayHaveName for Instruction<'_> {
     }
 }
 
-/// A list of what has names.
+/// A list of named things.
 #[derive(Clone, Copy)]
 pub(crate) enum Listed<'b, 'a> {
     /// Fields of a struct.
     Fields(&'b [StructField<'a>]),
-    /// Parameters from 0 on, and locals from a position on.
+    /// Parameters numbered from 0 on, and locals from a position on.
     Locals(&'b [Param<'a>], u64, &'b [Local<'a>]),
-    /// Labels of the blocks that instructions open, from a position on.
+    /// Labels of the blocks that instructions open, numbered from a position on.
     Labels(u64, &'b [Instruction<'a>]),
 }
 
-/// Whether any in a list has a name.
+/// Returns whether anything in the list has a name.
 fn is_named(listed: Listed) -> bool
     ensures { result ≡ nat_lt 0 (length (names_listed listed.entry)) }
 {
@@ -77,7 +77,8 @@ fn is_named(listed: Listed) -> bool
     }
 }
 
-/// The same names; of labels those from the first on that has one, so that no instruction before it is gone through again.
+/// Returns the same names. Labels start at the first that has a name, so that the instructions
+/// before it are not walked again.
 fn from_first<'b, 'a>(listed: Listed<'b, 'a>) -> Listed<'b, 'a>
     ensures { names_listed result ≡ names_listed listed.entry }
 {
@@ -91,7 +92,8 @@ fn from_first<'b, 'a>(listed: Listed<'b, 'a>) -> Listed<'b, 'a>
     }
 }
 
-/// Appends the names of parameters, and then those of locals from a position on, and answers how many they are.
+/// Appends the names of parameters and then those of locals, numbered from a position on, and
+/// returns how many there are.
 fn put_both<S: Sink>(
     params: &[Param],
     first: u64,
@@ -114,7 +116,8 @@ fn put_both<S: Sink>(
     }
 }
 
-/// Appends the names of the labels of blocks that instructions open, from a position on, and answers how many they are.
+/// Appends the names of the labels of blocks that instructions open, numbered from a position on,
+/// and returns how many there are.
 fn put_labels<S: Sink>(first: u64, instrs: &[Instruction], out: &mut S) -> Result<u64, Refusal>
     ensures names { let es = named_from first (flat_map label_in instrs.now) in
         Writes S.rules (All (λ x. (name_entry x).in_range) es) out.old out.new (flat_map (λ x. (name_entry x).bytes) es) result }
@@ -123,8 +126,8 @@ fn put_labels<S: Sink>(first: u64, instrs: &[Instruction], out: &mut S) -> Resul
     put_named(instrs, first, out)
 }
 
-/// Appends the names in a list, by their positions, and answers how many they are. It refuses as [`Encode::encode`] does;
-/// then nothing was appended.
+/// Appends the names in a list, with their positions, and returns how many there are. It fails as
+/// [`Encode::encode`] does, and then nothing was appended.
 fn put_listed<S: Sink>(listed: Listed, out: &mut S) -> Result<u64, Refusal>
     ensures names { Writes S.rules (All (λ x. (name_entry x).in_range) (names_listed listed.entry)) out.old out.new (flat_map (λ x. (name_entry x).bytes) (names_listed listed.entry)) result }
     ensures count { IfOk result (λ n. n ≡ saturated_count (length (names_listed listed.entry))) }
@@ -136,7 +139,7 @@ fn put_listed<S: Sink>(listed: Listed, out: &mut S) -> Result<u64, Refusal>
     }
 }
 
-/// The names in a list, by their positions.
+/// The names in a list, with their positions.
 #[derive(Clone, Copy)]
 struct ListedNames<'b, 'a>(Listed<'b, 'a>);
 
@@ -165,7 +168,7 @@ impl Encode for CountedNames<'_, '_> {
     ghost is_ready = { λ _. true };
 
     fn encode<S: Sink>(&self, out: &mut S) -> Result<(), Refusal> {
-        // A byte keeps the place of the number, which is known once the names were put.
+        // A zero byte reserves room for the count, which is known once the names are written.
         let start = out.size();
         out.push_bytes(&[0])?;
         let count = match put_listed(self.0, out) {
@@ -187,7 +190,7 @@ impl Encode for CountedNames<'_, '_> {
     }
 }
 
-/// One, where a list is found that has names.
+/// Returns 1 if the list exists and has names, and 0 otherwise.
 pub(crate) fn count_found(found: Option<Listed>) -> u64
     ensures { result ≡ saturated_count (length (named_from 0 (lists_found found.entry))) }
 {
@@ -197,7 +200,7 @@ pub(crate) fn count_found(found: Option<Listed>) -> u64
     }
 }
 
-/// Appends a list that is found and has names, at its position, and answers the position behind it.
+/// Appends a list at its position if it exists and has names, and returns the next position.
 pub(crate) fn put_found<S: Sink>(
     position: u64,
     found: Option<Listed>,
@@ -216,14 +219,14 @@ pub(crate) fn put_found<S: Sink>(
     put_entry(position, Some(CountedNames(listed)), out)
 }
 
-/// An empty list.
+/// Returns an empty list.
 pub(crate) fn none<'b, T>() -> &'b [T]
     ensures { result.now ≡ [] }
 {
     &[]
 }
 
-/// A list without names.
+/// Returns a list without names.
 pub(crate) fn no_names<'b, 'a>() -> Listed<'b, 'a>
     ensures { names_listed result ≡ [] }
 {

@@ -1,4 +1,4 @@
-//! Maps of names: the entries of items, by their positions.
+//! Name maps: entries of items, by their positions.
 
 ghost use Rattle.std.specs.Prelude.{◌≡◌, ◌+◌, nat_lt, ℕ, List, [], ◌∷◌, Option, length, All, IfOk, IsTrue, true};
 ghost use Rattle.std.specs.List.{flat_map};
@@ -10,37 +10,38 @@ ghost use Rattle.wast_core_name_section.specs.FoundNames.{saturated_count, text_
 
 use wasm_ops::{Encode, Name, Refusal, Sink, WithLength};
 
-/// A way to see items in values of a type, each with an entry of a map of names, or without one. Positions and counts
-/// stay at the greatest `u64` where they would pass it: from 2^32 on, no entry stands at a position, and no count is in
-/// range.
+/// A way to find items in values of a type, each with or without an entry in a name map.
+///
+/// Positions and counts stop at the largest `u64`. From 2^32 on they are out of range anyway, so no
+/// entry is written with such a position.
 pub(crate) trait NameItems<T> {
-    /// What an entry holds behind its position.
+    /// The content of an entry, without its position.
     ghost Entry: { Type 0 };
 
-    /// The items of a value, those without an entry too.
+    /// The items of a value, with and without an entry.
     ghost items: { Self → T → List (Option Entry) };
 
     /// The bytes of an entry.
     ghost entry: { ℕ × Entry → List ℕ };
 
-    /// Its numbers, counts and lengths are in range.
+    /// Whether its numbers, counts and lengths are in range.
     ghost in_range: { ℕ × Entry → Type 0 };
 
-    /// Appends the entries of the items of a value, the first of which stands at a position, and answers the position
-    /// behind the last. It refuses as [`Encode::encode`] does; then nothing was appended.
+    /// Appends the entries of the items of a value, numbered from a position on, and returns the
+    /// next position. It fails as [`Encode::encode`] does, and then nothing was appended.
     fn put<S: Sink>(&self, part: &T, position: u64, out: &mut S) -> Result<u64, Refusal>
         ensures written { WritesItems S.rules entry in_range (items self.now part.now) position out.old out.new result }
         ensures next { IfOk result (λ p. p ≡ saturated_count (position + length (items self.now part.now))) };
 }
 
-/// The same, of items that are counted.
+/// Such a way that can also count.
 pub(crate) trait CountItems<T>: NameItems<T> {
-    /// How many items of a value have an entry.
+    /// Returns how many items of a value have an entry.
     fn count(&self, part: &T) -> u64
         ensures { result ≡ saturated_count (length (named_from 0 (Self.items self.now part.now))) };
 }
 
-/// How many items in a list have an entry.
+/// Returns how many items in a list have an entry.
 pub(crate) fn count_each<T, W: CountItems<T>>(way: &W, parts: &[T]) -> u64
     ensures { result ≡ saturated_count (length (named_from 0 (flat_map (W.items way.now) parts.now))) }
 {
@@ -51,7 +52,7 @@ pub(crate) fn count_each<T, W: CountItems<T>>(way: &W, parts: &[T]) -> u64
     sum
 }
 
-/// Whether any item in a list has an entry. It goes no further than the first value with one.
+/// Returns whether any item in a list has an entry. Stops at the first value with one.
 pub(crate) fn any_of<'b, T, W: CountItems<T> + Copy>(way: W, parts: &'b [T]) -> bool
     ensures { result ≡ nat_lt 0 (length (named_from 0 (flat_map (W.items way) parts.now))) }
 {
@@ -63,7 +64,7 @@ pub(crate) fn any_of<'b, T, W: CountItems<T> + Copy>(way: W, parts: &'b [T]) -> 
     false
 }
 
-/// Appends the entries of the items in a list, and answers the position behind the last.
+/// Appends the entries of the items in a list, and returns the next position.
 pub(crate) fn put_each<T, W: NameItems<T>, S: Sink>(
     way: &W,
     parts: &[T],
@@ -87,8 +88,8 @@ pub(crate) fn put_each<T, W: NameItems<T>, S: Sink>(
     Ok(position)
 }
 
-/// Appends the entry of an item at its position, where it has one, and answers the position behind it. From 2^32 on, a
-/// position is out of range.
+/// Appends the entry of an item at its position, if it has one, and returns the next position. From
+/// 2^32 on, a position is out of range.
 pub(crate) fn put_entry<T: Encode + Copy, S: Sink>(
     position: u64,
     given: Option<T>,
@@ -109,7 +110,7 @@ pub(crate) fn put_entry<T: Encode + Copy, S: Sink>(
     Ok(position.saturating_add(1))
 }
 
-/// The entries of the items in a list, by their positions from this one on.
+/// The entries of the items in a list, numbered from a position on.
 #[derive(Clone, Copy)]
 pub(crate) struct Entries<'b, T, W> {
     pub(crate) way: W,
@@ -130,7 +131,8 @@ impl<T, W: NameItems<T>> Encode for Entries<'_, T, W> {
     }
 }
 
-/// A map of the items in a list as a subsection of this id, where it has entries. It needs to know how many it has.
+/// Writes the map of the items in a list as a subsection with this id, if it has entries. Requires
+/// the number of entries.
 pub(crate) fn put_map<'b, T, W: NameItems<T> + Copy, S: Sink>(
     id: u8,
     count: u64,
@@ -156,7 +158,7 @@ pub(crate) fn put_map<'b, T, W: NameItems<T> + Copy, S: Sink>(
     (id, WithLength((count, entries))).encode(out)
 }
 
-/// The same of items that are counted.
+/// The same, for items that can be counted.
 pub(crate) fn put_counted<'b, T, W: CountItems<T> + Copy, S: Sink>(
     id: u8,
     way: W,
@@ -169,7 +171,7 @@ pub(crate) fn put_counted<'b, T, W: CountItems<T> + Copy, S: Sink>(
     put_map(id, count_each(&way, parts), way, parts, out)
 }
 
-/// Appends the name of an item at its position, where it has one, and answers the position behind it.
+/// Appends the name of an item at its position, if it has one, and returns the next position.
 pub(crate) fn put_name<S: Sink>(
     position: u64,
     given: Option<&str>,

@@ -1,4 +1,4 @@
-//! The fields that can have items of a space, or lists of names within their items.
+//! Finds the fields that can have items of an index space, or lists of names inside their items.
 
 ghost use Rattle.std.specs.Prelude.{◌≡◌, List, IsTrue};
 ghost use Rattle.std.specs.List.{flat_map};
@@ -15,7 +15,7 @@ use wast_base::Space;
 use wast_core_ranges::{FieldKind, FieldRange, FieldRanges};
 use wast_tree_nodes::ModuleField;
 
-/// Where the fields of either kind stand.
+/// Returns the range of the fields of either kind.
 fn either(reaches: &FieldRanges, one: FieldKind, other: FieldKind) -> FieldRange
     ensures { (fields : List ModuleField) → IsTrue (are_reaches fields reaches.now)
         → IsTrue (is_reach (is_either one other) fields result) }
@@ -23,7 +23,7 @@ fn either(reaches: &FieldRanges, one: FieldKind, other: FieldKind) -> FieldRange
     reaches.of_kind(one).union(reaches.of_kind(other))
 }
 
-/// Where the fields stand that can have items of a space.
+/// Returns the range of the fields that can have items of an index space.
 fn reach_of(space: Space, reaches: &FieldRanges) -> FieldRange
     ensures { (fields : List ModuleField) → IsTrue (are_reaches fields reaches.now)
         → IsTrue (is_reach (has_items space) fields result) }
@@ -40,7 +40,7 @@ fn reach_of(space: Space, reaches: &FieldRanges) -> FieldRange
     }
 }
 
-/// The fields from the first to the last that can have items of a space.
+/// Returns the fields from the first to the last that can have items of an index space.
 pub(crate) fn with_items<'b, 'a>(
     space: Space,
     fields: &'b [ModuleField<'a>],
@@ -52,7 +52,7 @@ pub(crate) fn with_items<'b, 'a>(
     reach_of(space, reaches).of(fields)
 }
 
-/// Where the fields stand that can have types.
+/// Returns the range of the fields that can have types.
 pub(crate) fn reach_of_types(reaches: &FieldRanges) -> FieldRange
     ensures { (fields : List ModuleField) → IsTrue (are_reaches fields reaches.now)
         → IsTrue (is_reach (is_either kind.Ty kind.Rec) fields result) }
@@ -60,7 +60,7 @@ pub(crate) fn reach_of_types(reaches: &FieldRanges) -> FieldRange
     either(reaches, FieldKind::Ty, FieldKind::Rec)
 }
 
-/// Where the fields stand within whose items such lists can stand.
+/// Returns the range of the fields whose items can have such lists.
 fn reach_within(within: Within, reaches: &FieldRanges) -> FieldRange
     ensures { (fields : List ModuleField) → IsTrue (are_reaches fields reaches.now)
         → IsTrue (is_reach (has_lists within) fields result) }
@@ -72,7 +72,7 @@ fn reach_within(within: Within, reaches: &FieldRanges) -> FieldRange
     }
 }
 
-/// The fields from the first to the last within whose items such lists can stand.
+/// Returns the fields from the first to the last whose items can have such lists.
 pub(crate) fn with_lists<'b, 'a>(
     within: Within,
     fields: &'b [ModuleField<'a>],

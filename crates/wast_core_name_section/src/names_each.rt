@@ -1,4 +1,4 @@
-//! The names in a list of what may have one each.
+//! The names in a list of things that may have one each.
 
 ghost use Rattle.std.specs.Prelude.{◌≡◌, ◌≤◌, ◌+◌, nat_lt, ℕ, List, Option, length, IfOk};
 ghost use Rattle.std.specs.List.{flat_map};
@@ -9,17 +9,17 @@ ghost use Rattle.wast_core_name_section.specs.FoundNames.{saturated_count, item_
 use crate::name_maps::put_name;
 use wasm_ops::{Refusal, Sink};
 
-/// What may be an item that may have a name.
+/// A part of the tree that may be an item with a name.
 pub(crate) trait MayHaveName {
-    /// The item that it is, with its name; nothing where it is none.
+    /// The item with its name, or nothing if the part is not an item.
     ghost names: { Self → List (Option (List ℕ)) };
 
-    /// The name of the item that it is, where it is one.
+    /// Returns the name of the item, if the part is an item.
     fn item(&self) -> Option<Option<&str>>
         ensures { item_seen result ≡ names self.now };
 }
 
-/// One, where there is an item.
+/// Returns 1 if there is an item, and 0 otherwise.
 #[inline(always)]
 fn items_in(item: Option<Option<&str>>) -> u64
     ensures count { result ≡ length (item_seen item.entry) }
@@ -31,7 +31,7 @@ fn items_in(item: Option<Option<&str>>) -> u64
     }
 }
 
-/// One, where an item has a name.
+/// Returns 1 if an item has a name, and 0 otherwise.
 #[inline(always)]
 fn names_in(item: Option<Option<&str>>) -> u64
     ensures { result ≡ saturated_count (length (named_from 0 (item_seen item.entry))) }
@@ -42,7 +42,7 @@ fn names_in(item: Option<Option<&str>>) -> u64
     }
 }
 
-/// Whether any in a list has a name. It goes no further than the first that has one.
+/// Returns whether anything in the list has a name. Stops at the first that has one.
 pub(crate) fn any_named<T: MayHaveName>(parts: &[T]) -> bool
     ensures { result ≡ nat_lt 0 (length (named_from 0 (flat_map T.names parts.now))) }
 {
@@ -54,7 +54,7 @@ pub(crate) fn any_named<T: MayHaveName>(parts: &[T]) -> bool
     false
 }
 
-/// Those in a list from the first on that has a name, and how many items stand before it.
+/// Returns the list from the first part that has a name on, and how many items are before it.
 pub(crate) fn from_named<'b, T: MayHaveName>(parts: &'b [T]) -> (u64, &'b [T])
     ensures { (n : ℕ) → named_from (n + result.0) (flat_map T.names result.1.now) ≡ named_from n (flat_map T.names parts.now) }
 {
@@ -69,8 +69,8 @@ pub(crate) fn from_named<'b, T: MayHaveName>(parts: &'b [T]) -> (u64, &'b [T])
     (before, &[])
 }
 
-/// Appends the names in a list, by their positions from this one on, and answers how many they are. It refuses as
-/// [`crate::name_maps::NameItems::put`] does; then nothing was appended.
+/// Appends the names in a list, numbered from a position on, and returns how many there are. It
+/// fails as [`crate::name_maps::NameItems::put`] does, and then nothing was appended.
 pub(crate) fn put_named<T: MayHaveName, S: Sink>(
     parts: &[T],
     first: u64,

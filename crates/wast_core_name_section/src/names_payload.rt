@@ -1,4 +1,4 @@
-//! The name section of a module.
+//! Writes the name section of a module.
 
 ghost use Rattle.std.specs.Prelude.{◌≡◌, ◌<◌, ◌++◌, nat_lt, length, true, All, IfOk, IfErr, IsTrue, ◌∷◌, ◌+◌, ℕ, List, Option, map};
 ghost use Rattle.std.specs.List.{flat_map};
@@ -36,8 +36,11 @@ fn id_text<'a>(id: &Option<Id<'a>>) -> Option<&'a str>
     }
 }
 
-/// The name of what the text numbers: its annotation, else its id where that is written (custom sections, name section). A
-/// generated id is no name.
+/// Returns the name of an item: its `@name` annotation, or else its id (custom sections: name
+/// section).
+///
+/// A generated id is not a name. For example, `(func $f (@name "g"))` has the name `g`, `(func $f)`
+/// has the name `f`, and `(func)` has none.
 pub fn given_name<'a>(
     annotation: &Option<NameAnnotation<'a>>,
     id: &Option<Id<'a>>,
@@ -58,7 +61,7 @@ fn items_of<'b, 'a>(field: &'b ModuleField<'a>) -> FieldItems<'b, 'a>
     profile_of(field).items
 }
 
-/// One, where an item is of the space and has a name.
+/// Returns 1 if the item is in the index space and has a name, and 0 otherwise.
 #[inline(always)]
 fn count_item(space: Space, own: Space, annotation: &Option<NameAnnotation>, id: &Option<Id>) -> u64
     ensures { result ≡ length (named_from 0 (given_name_in space (own, given_name annotation.now id.now))) }
@@ -69,7 +72,7 @@ fn count_item(space: Space, own: Space, annotation: &Option<NameAnnotation>, id:
     u64::from(given_name(annotation, id).is_some())
 }
 
-/// Appends the name of an item where it is one of the space, and answers the position behind it.
+/// Appends the name of an item if it is in the index space, and returns the next position.
 #[inline(always)]
 fn put_item<S: Sink>(
     space: Space,
@@ -175,7 +178,7 @@ impl<'a> CountItems<ModuleField<'a>> for Space {
     }
 }
 
-/// The id of the subsection of a space (custom sections, name section).
+/// Returns the subsection id of an index space (custom sections: name section).
 fn id_of(space: Space) -> u8
     ensures { result ≡ subsection_id (named_of space) }
 {
@@ -191,7 +194,7 @@ fn id_of(space: Space) -> u8
     }
 }
 
-/// The id of the subsection of what stands within items (custom sections, name section).
+/// Returns the subsection id of a kind of list inside items (custom sections: name section).
 fn id_within(within: Within) -> u8
     ensures { result ≡ subsection_id (named_within within) }
 {
@@ -204,21 +207,21 @@ fn id_within(within: Within) -> u8
     }
 }
 
-/// The number of fields up to which types are looked up from 64 checkpoints. Over more fields there are 1,024, which take
-/// 4 KiB of the stack, and no more, so that encoding fits on a stack of 16 KiB.
+/// The largest number of fields for which 64 checkpoints are used. For more fields there are 1,024.
+/// These take 4 KiB of the stack, so that encoding fits on a stack of 16 KiB.
 const FEW: usize = 64;
 
-/// A map of names by position.
+/// A name map of the name section.
 #[derive(Clone, Copy)]
 pub(crate) enum NameMap {
-    /// The names of the items of a space.
+    /// The names of the items of an index space.
     Items(Space),
-    /// The names of what stands within items, in a list for each.
+    /// The names of things inside items, in a list for each item.
     Within(Within),
 }
 
-/// Appends the subsection of the lists of names within items of some of these fields, where there are any. It needs to know
-/// how many items have one, and the checkpoints of these fields.
+/// Appends the subsection of the lists of names inside items of these fields, if there are any.
+/// Requires the number of items that have one, and the checkpoints of these fields.
 fn put_lists<'b, T: FieldTypes + PutLists, S: Sink>(
     fields: &'b [T],
     there: &'b [T],
@@ -238,8 +241,8 @@ fn put_lists<'b, T: FieldTypes + PutLists, S: Sink>(
     put_map(id, count, way, there, out)
 }
 
-/// Appends the subsection of a map of the names in these fields, where there are any. It goes through those fields that can
-/// have such names once for their number, and where there are any once more.
+/// Appends the subsection of a name map of these fields, if it has entries. Walks the fields that
+/// can have such names once to count them, and once more if there are any.
 fn put_subsection<S: Sink>(
     fields: &[ModuleField],
     map: &NameMap,
@@ -265,7 +268,7 @@ fn put_subsection<S: Sink>(
     }
 }
 
-/// Appends the subsections of maps of the names in these fields, one after another.
+/// Appends the subsections of several name maps of these fields.
 fn put_subsections<S: Sink>(
     fields: &[ModuleField],
     maps: &[NameMap],
@@ -289,7 +292,7 @@ fn put_subsections<S: Sink>(
     Ok(())
 }
 
-/// Whether there are names in these fields of which this is the map. It goes no further than the first field with one.
+/// Returns whether a name map of these fields has entries. Stops at the first field with one.
 fn any_in_map(
     fields: &[ModuleField],
     map: &NameMap,
@@ -312,7 +315,7 @@ fn any_in_map(
     }
 }
 
-/// Whether there are names in these fields for any of the maps.
+/// Returns whether any of several name maps of these fields has entries.
 fn any_in_maps(
     fields: &[ModuleField],
     maps: &[NameMap],
@@ -331,7 +334,7 @@ fn any_in_maps(
     false
 }
 
-/// The maps of names, in the order of their subsections.
+/// The name maps, in the order of their subsections.
 pub(crate) const NAME_MAPS: [NameMap; 13] = [
     NameMap::Items(Space::Func),
     NameMap::Within(Within::Locals),
@@ -348,7 +351,7 @@ pub(crate) const NAME_MAPS: [NameMap; 13] = [
     NameMap::Within(Within::TagParameters),
 ];
 
-/// The subsection of the name of the module, where it has one.
+/// The subsection of the name of the module, if it has one.
 #[derive(Clone, Copy)]
 struct ModuleName<'b>(Option<&'b str>);
 
@@ -367,7 +370,7 @@ impl Encode for ModuleName<'_> {
     }
 }
 
-/// Whether the name section of a module with this name and these fields has subsections.
+/// Returns whether the name section of a module with this name and these fields has subsections.
 fn has_names(
     fields: &[ModuleField],
     name: Option<&str>,
@@ -387,7 +390,7 @@ fn has_names(
     }
 }
 
-/// Appends what stands before the maps of names, and then those of these fields.
+/// Appends a first part, and then the name maps of these fields.
 fn put_behind<P: Encode, S: Sink>(
     fields: &[ModuleField],
     front: &P,
@@ -411,7 +414,7 @@ fn put_behind<P: Encode, S: Sink>(
     second
 }
 
-/// Appends what stands behind the length of the name section: that it is called `name`, and its subsections.
+/// Appends the payload of the name section: the section name `name`, and the subsections.
 fn put_payload<S: Sink>(
     fields: &[ModuleField],
     name: Option<&str>,
@@ -428,7 +431,7 @@ fn put_payload<S: Sink>(
     put_behind(fields, &front, reaches, checkpoints, out)
 }
 
-/// Appends that payload behind its length, which is told.
+/// Appends the payload after its length, which the caller knows.
 fn put_sized<S: Sink>(
     fields: &[ModuleField],
     name: Option<&str>,
@@ -447,8 +450,8 @@ fn put_sized<S: Sink>(
     put_behind(fields, &front, reaches, checkpoints, out)
 }
 
-/// How long that payload is, which is counted as it would be written. It refuses as too large, where a number, count or length
-/// in it is out of range, or its own.
+/// Returns the length of the payload, by counting the bytes that would be written. It fails as too
+/// large if a number, count or length in it is out of range, or its own length.
 fn payload_length(
     fields: &[ModuleField],
     name: Option<&str>,
@@ -469,7 +472,8 @@ fn payload_length(
     }
 }
 
-/// Appends that payload behind its length, which is counted first: for a sink that sets no number where one was put.
+/// Appends the payload after its length, which is counted first. For a sink that cannot overwrite a
+/// number.
 fn put_length_first<S: Sink>(
     fields: &[ModuleField],
     name: Option<&str>,
@@ -486,8 +490,8 @@ fn put_length_first<S: Sink>(
     put_sized(fields, name, reaches, checkpoints, size, out)
 }
 
-/// Appends that payload behind its length, as [`WithLength`] does with what is a value: so the names are gone through once,
-/// and their length is set where a byte kept its place.
+/// Appends the payload after its length. As in [`WithLength`], a byte reserves room for the length,
+/// so that the names are walked only once.
 fn put_with_length<S: Sink>(
     fields: &[ModuleField],
     name: Option<&str>,
@@ -523,7 +527,7 @@ fn put_with_length<S: Sink>(
     put_sized(fields, name, reaches, checkpoints, size, out)
 }
 
-/// Appends that payload behind the id of a custom section and its length.
+/// Appends the payload after the id of a custom section and the length.
 fn put_section<S: Sink>(
     fields: &[ModuleField],
     name: Option<&str>,
@@ -545,8 +549,8 @@ fn put_section<S: Sink>(
     second
 }
 
-/// The places of the checkpoints of these fields. Where no type can be looked up, they are not walked over; and else those
-/// alone that can have types.
+/// Returns the positions of the checkpoints of these fields. Walks only the fields that can have
+/// types, and none if no type can be looked up.
 fn places_of<'b>(fields: &'b [ModuleField], reaches: &'b FieldRanges, room: &'b mut [u32]) -> Places
     requires reaches { IsTrue (are_reaches fields.now reaches.now) }
     requires room { 0 < length room.old }
@@ -559,7 +563,7 @@ fn places_of<'b>(fields: &'b [ModuleField], reaches: &'b FieldRanges, room: &'b 
     Places::of(fields, reach.first, reach.end, room)
 }
 
-/// Over how many fields types may be looked up: none where no function stands in the list.
+/// Returns over how many fields types may be looked up: none if the list has no function.
 fn asked_fields(reaches: &FieldRanges) -> usize {
     if reaches.of_kind(FieldKind::Func).end == 0 {
         return 0;
@@ -568,7 +572,7 @@ fn asked_fields(reaches: &FieldRanges) -> usize {
     reach.end.saturating_sub(reach.first)
 }
 
-/// Appends the name section, where there are names, with room for so many checkpoints.
+/// Appends the name section if there are names, with room for as many checkpoints as `room` holds.
 fn put_within<S: Sink>(
     fields: &[ModuleField],
     name: Option<&str>,
@@ -593,12 +597,28 @@ fn put_within<S: Sink>(
     put_section(fields, name, reaches, checkpoints, out)
 }
 
-/// Appends the name section of a module with this name and these resolved fields, where there are names (custom sections,
-/// name section). It needs where in these fields those of each kind stand, as [`FieldRanges::of`] tells it, and goes through
-/// those alone that can have names: for each map once for the number of its entries, and where it has some once more to
-/// write them. Whether there are names is seen before, up to the first. Where the sink sets a number behind, as
-/// [`Sink::set_number`] does it, nothing is measured before it is written. It takes no memory of its own. It refuses as
-/// [`Encode::encode`] does, as too large where a number, count or length is out of range; then nothing was appended.
+/// Appends the name section of a resolved module, if it has any names (custom sections: name
+/// section).
+///
+/// For `(module (func $f))` the bytes are `00 0b 04 6e 61 6d 65 01 04 01 00 01 66`. For `(module
+/// (func))` nothing is appended, because there is no name.
+///
+/// Only fields that can have names are walked: for each name map once to count its entries, and
+/// once more if it has any. Nothing is measured in advance, if the sink can overwrite a number
+/// ([`Sink::set_number`]).
+///
+/// # Requires
+///
+/// The ranges of these fields, as [`FieldRanges::of`] returns them.
+///
+/// # Errors
+///
+/// As [`Encode::encode`]: too large, only if a number, count or length is out of range, or the
+/// error of the sink. After an error nothing was appended.
+///
+/// # Memory
+///
+/// Allocates nothing, except in the sink. Takes up to 4 KiB of the stack for a list of checkpoints.
 pub fn put_names<S: Sink>(
     fields: &[ModuleField],
     name: Option<&str>,

@@ -1,4 +1,4 @@
-//! What stands within items and has names of its own: locals and labels of functions, fields of structs, parameters of
+//! Lists of names inside items: locals and labels of functions, fields of structs, parameters of
 //! types and of tags.
 
 ghost use Rattle.std.specs.Prelude.{◌≡◌, ◌+◌, nat_lt, ℕ, List, Option, length, map, IfOk};
@@ -23,7 +23,7 @@ use wast_tree_nodes::{
     Local, ModuleField, TagType, Type, TypeUse,
 };
 
-/// What stands within items and has names.
+/// A kind of list inside items.
 #[derive(Clone, Copy)]
 pub(crate) enum Within {
     /// The parameters and locals of functions.
@@ -38,7 +38,7 @@ pub(crate) enum Within {
     TagParameters,
 }
 
-/// The list that stands within a type.
+/// Returns the list inside a type.
 fn listed_in_type<'b, 'a>(within: Within, ty: &'b Type<'a>) -> Option<Listed<'b, 'a>>
     ensures { lists_found result ≡ lists_in_type within ty.now }
 {
@@ -49,7 +49,7 @@ fn listed_in_type<'b, 'a>(within: Within, ty: &'b Type<'a>) -> Option<Listed<'b,
     }
 }
 
-/// The fields of a struct type.
+/// Returns the fields of a struct type.
 fn field_names_of<'b, 'a>(kind: &'b InnerTypeKind<'a>) -> Listed<'b, 'a>
     ensures { names_listed result ≡ named_from 0 (field_names_of kind.now) }
 {
@@ -61,14 +61,14 @@ fn field_names_of<'b, 'a>(kind: &'b InnerTypeKind<'a>) -> Listed<'b, 'a>
     }
 }
 
-/// The parameters of a signature.
+/// Returns the parameters of a signature.
 fn params_in<'b, 'a>(ty: &'b FunctionType<'a>) -> Listed<'b, 'a>
     ensures { names_listed result ≡ named_from 0 (map param_name ty.now.params) }
 {
     Listed::Locals(ty.params.as_slice(), 0, none())
 }
 
-/// The parameters of a function type.
+/// Returns the parameters of a function type.
 fn param_names_of<'b, 'a>(kind: &'b InnerTypeKind<'a>) -> Listed<'b, 'a>
     ensures { names_listed result ≡ named_from 0 (param_names_of kind.now) }
 {
@@ -80,7 +80,7 @@ fn param_names_of<'b, 'a>(kind: &'b InnerTypeKind<'a>) -> Listed<'b, 'a>
     }
 }
 
-/// The same of the index of a type use.
+/// Returns how many parameters the function type at the index of a type use has.
 fn arity_at<A: Arities>(arities: &A, index: &Option<Index>) -> Option<u64>
     ensures { result ≡ arity_at (A.types arities.now) index.now }
 {
@@ -90,7 +90,8 @@ fn arity_at<A: Arities>(arities: &A, index: &Option<Index>) -> Option<u64>
     }
 }
 
-/// The locals behind the parameters of a type use. The type is looked up where a local has a name and no inline type stands.
+/// Returns the locals, numbered after the parameters of a type use. The type is looked up only if a
+/// local has a name and there is no inline type.
 fn locals_behind<'b, 'a, A: Arities>(
     arities: &A,
     ty: &'b TypeUse<'a, FunctionType<'a>>,
@@ -111,7 +112,7 @@ fn locals_behind<'b, 'a, A: Arities>(
     }
 }
 
-/// The locals of a function.
+/// Returns the locals of a function.
 fn locals_in<'b, 'a>(kind: &'b FuncKind<'a>) -> &'b [Local<'a>]
     ensures { map local_name result.now ≡ locals_in kind.now }
 {
@@ -121,14 +122,14 @@ fn locals_in<'b, 'a>(kind: &'b FuncKind<'a>) -> &'b [Local<'a>]
     }
 }
 
-/// The parameters and locals of a function.
+/// Returns the parameters and locals of a function.
 fn locals_of<'b, 'a, A: Arities>(arities: &A, func: &'b Func<'a>) -> Listed<'b, 'a>
     ensures { names_listed result ≡ named_from 0 (locals_of (A.types arities.now) func.now) }
 {
     locals_behind(arities, &func.ty, locals_in(&func.kind))
 }
 
-/// The instructions of a function; none where it is imported.
+/// Returns the instructions of a function, none if it is imported.
 fn instrs_in<'b, 'a>(kind: &'b FuncKind<'a>) -> &'b [Instruction<'a>]
     ensures { flat_map label_in result.now ≡ labels_in kind.now }
 {
@@ -138,14 +139,14 @@ fn instrs_in<'b, 'a>(kind: &'b FuncKind<'a>) -> &'b [Instruction<'a>]
     }
 }
 
-/// The labels of a function.
+/// Returns the labels of a function.
 fn labels_of<'b, 'a>(func: &'b Func<'a>) -> Listed<'b, 'a>
     ensures { names_listed result ≡ named_from 0 (labels_in func.now.kind) }
 {
     Listed::Labels(0, instrs_in(&func.kind))
 }
 
-/// The list that stands within a function.
+/// Returns the list inside a function.
 fn listed_in_func<'b, 'a, A: Arities>(
     within: Within,
     arities: &A,
@@ -160,7 +161,7 @@ fn listed_in_func<'b, 'a, A: Arities>(
     }
 }
 
-/// The parameters of the inline type of a type use.
+/// Returns the parameters of the inline type of a type use.
 fn inline_params<'b, 'a>(ty: &'b TypeUse<'a, FunctionType<'a>>) -> Listed<'b, 'a>
     ensures { names_listed result ≡ named_from 0 (inline_params ty.now) }
 {
@@ -170,7 +171,7 @@ fn inline_params<'b, 'a>(ty: &'b TypeUse<'a, FunctionType<'a>>) -> Listed<'b, 'a
     }
 }
 
-/// The parameters of a tag.
+/// Returns the parameters of a tag.
 fn tag_params<'b, 'a>(ty: &'b TagType<'a>) -> Listed<'b, 'a>
     ensures { names_listed result ≡ named_from 0 (tag_params ty.now) }
 {
@@ -179,7 +180,7 @@ fn tag_params<'b, 'a>(ty: &'b TagType<'a>) -> Listed<'b, 'a>
     }
 }
 
-/// The list that stands within a tag.
+/// Returns the list inside a tag.
 fn listed_in_tag<'b, 'a>(within: Within, ty: &'b TagType<'a>) -> Option<Listed<'b, 'a>>
     ensures { lists_found result ≡ lists_in_tag within ty.now }
 {
@@ -189,7 +190,7 @@ fn listed_in_tag<'b, 'a>(within: Within, ty: &'b TagType<'a>) -> Option<Listed<'
     }
 }
 
-/// The list that stands within an imported function, which has a position among functions, and no labels.
+/// Returns the list inside an imported function. The function is counted, and has no labels.
 fn listed_in_imported_func<'b, 'a>(
     within: Within,
     ty: &'b TypeUse<'a, FunctionType<'a>>,
@@ -203,7 +204,7 @@ fn listed_in_imported_func<'b, 'a>(
     }
 }
 
-/// An imported tag has a position, and a list without names.
+/// Returns the list inside an imported tag. The tag is counted, and its list has no names.
 fn listed_in_imported_tag<'b, 'a>(within: Within) -> Option<Listed<'b, 'a>>
     ensures { lists_found result ≡ lists_in_imported_tag within }
 {
@@ -213,7 +214,7 @@ fn listed_in_imported_tag<'b, 'a>(within: Within) -> Option<Listed<'b, 'a>>
     }
 }
 
-/// The list that stands within an imported item of a kind.
+/// Returns the list inside an imported item of a kind.
 fn listed_in_kind<'b, 'a>(within: Within, kind: &'b ItemKind<'a>) -> Option<Listed<'b, 'a>>
     ensures { lists_found result ≡ lists_in_kind within kind.now }
 {
@@ -224,18 +225,18 @@ fn listed_in_kind<'b, 'a>(within: Within, kind: &'b ItemKind<'a>) -> Option<List
     }
 }
 
-/// The lists that stand within a field.
+/// The lists inside a field.
 #[derive(Clone, Copy)]
 enum Lists<'b, 'a> {
-    /// That of its item, where it has one there.
+    /// The list of its item, if it has one.
     One(Option<Listed<'b, 'a>>),
-    /// Those of the types of a group.
+    /// The lists of the types of a recursion group.
     Types(&'b [Type<'a>]),
-    /// Those of the items of an import.
+    /// The lists of the items of an import.
     Imported(&'b ImportItems<'a>),
 }
 
-/// Finds the lists that stand within a field of this list of fields.
+/// Finds the lists inside a field of this list of fields.
 #[inline(always)]
 fn lists_in<'b, 'a, A: Arities>(
     within: Within,
@@ -254,7 +255,7 @@ fn lists_in<'b, 'a, A: Arities>(
     }
 }
 
-/// The way to see what stands within types.
+/// Finds the lists inside types.
 impl<'a> NameItems<Type<'a>> for Within {
     ghost Entry = { List (ℕ × List ℕ) };
 
@@ -275,7 +276,7 @@ impl<'a> CountItems<Type<'a>> for Within {
     }
 }
 
-/// The way to see what stands within imported items.
+/// Finds the lists inside imported items.
 impl<'a> NameItems<ItemSig<'a>> for Within {
     ghost Entry = { List (ℕ × List ℕ) };
 
@@ -296,22 +297,22 @@ impl<'a> CountItems<ItemSig<'a>> for Within {
     }
 }
 
-/// A field, as the lists of names within its items are counted.
+/// A field whose lists are counted.
 pub(crate) trait CountLists {
-    /// These lists, where these are the types of the module.
+    /// The lists of the field, given the types of the module.
     ghost lists: { List ty.«Type» → Within → Self → List (Option (List (ℕ × List ℕ))) };
 
-    /// How many of its items have such a list.
+    /// Returns how many items of the field have such a list.
     fn count_lists<A: Arities>(&self, within: Within, arities: &A) -> u64
         ensures { result ≡ saturated_count (length (named_from 0 (lists (A.types arities.now) within self.now))) };
 }
 
-/// A field, as they are written.
+/// A field whose lists are written.
 pub(crate) trait PutLists {
-    /// These lists, where these are the types of the module.
+    /// The lists of the field, given the types of the module.
     ghost lists: { List ty.«Type» → Within → Self → List (Option (List (ℕ × List ℕ))) };
 
-    /// Appends them, as [`NameItems::put`] does.
+    /// Appends the lists, as [`NameItems::put`] does.
     fn put_lists<A: Arities, S: Sink>(
         &self,
         within: Within,
@@ -353,7 +354,7 @@ impl PutLists for ModuleField<'_> {
     }
 }
 
-/// The way to see what stands within the items of fields, whose types are looked up so.
+/// Finds the lists inside the items of fields, and looks up types with `A`.
 #[derive(Clone, Copy)]
 pub(crate) struct WithinItems<A> {
     pub(crate) arities: A,
@@ -374,7 +375,8 @@ impl<T: PutLists, A: Arities> NameItems<T> for WithinItems<A> {
     }
 }
 
-/// How many items of some of these fields have a list of names. It needs the checkpoints of these fields.
+/// Returns how many items of some fields have a list of names. Requires the checkpoints of these
+/// fields.
 pub(crate) fn count_lists<'b, T: FieldTypes + CountLists>(
     fields: &'b [T],
     there: &'b [T],
@@ -392,8 +394,8 @@ pub(crate) fn count_lists<'b, T: FieldTypes + CountLists>(
     sum
 }
 
-/// Whether any item of some of these fields has a list of names. It goes no further than the first field with one, and needs
-/// the checkpoints of these fields.
+/// Returns whether any item of some fields has a list of names. Stops at the first field with one.
+/// Requires the checkpoints of these fields.
 pub(crate) fn any_lists<'b, T: FieldTypes + CountLists>(
     fields: &'b [T],
     there: &'b [T],

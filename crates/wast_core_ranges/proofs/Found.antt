@@ -1,4 +1,4 @@
--- How the reaches of all kinds grow by one field.
+-- The ranges of all kinds, extended by one field.
 use Rattle.std.proofs.Common.{◌≡◌, ℕ, ◌+◌, ◌<◌, ◌≤◌, Bool, true, false, ◌&&◌, List, [], ◌∷◌, ◌++◌, length, get_or, set, replicate, take, drop, refl, sym, ap, ◌∙◌, subst, arith}
 use Rattle.std.specs.List.{list_all}
 use Rattle.std.proofs.lemmas.Bool.{eqb-true, eqb-false, and_parts}
@@ -21,7 +21,7 @@ use Rattle.wast_core_ranges.proofs.Reaching.{passed_over}
 abbrev nowhere : FieldRange
 nowhere = record { first = 0; end = 0 }
 
--- of the kind of the field the reach is the new one, and of each other kind it stays
+-- The range of the kind of the field is the new one, and those of other kinds do not change.
 pub one_more : (rs : List FieldRange) (i : ℕ) (new : FieldRange) (k : FieldKind) (before : List ModuleField) (field : ModuleField) → i ≡ kind_rank (kind_in field) → i < length rs
     → (is_reach (is_of k) before (get_or rs i nowhere) ≡ true → is_reach (is_of k) (before ++ field ∷ []) new ≡ true)
     → is_reach (is_of k) before (get_or rs (kind_rank k) nowhere) ≡ true → is_reach (is_of k) (before ++ field ∷ []) (get_or (set rs i new) (kind_rank k) nowhere) ≡ true
@@ -40,7 +40,7 @@ each_is : (p : FieldKind → Bool) (ks : List FieldKind) → ((k : FieldKind) �
 each_is p [] h = refl
 each_is p (k ∷ ks) h = ap (λ b. b && list_all p ks) (h k) ∙ each_is p ks h
 
--- the reaches of all kinds, from that of each kind
+-- The ranges of all kinds, from the range of each kind.
 pub all_found : (fields : List ModuleField) (rs : FieldRanges) → ((k : FieldKind) → is_reach (is_of k) fields (reach_of rs k) ≡ true) → are_reaches fields rs ≡ true
 unfolding are_reaches
 all_found fields rs h = each_is (λ k. is_reach (is_of k) fields (reach_of rs k)) kinds h
@@ -52,7 +52,7 @@ each_passes p ks i d lt h = by_test (p (get_or ks i d)) (λ e. list_all_at p ks 
     by_test true f h = refl
     by_test false f h = let e = f refl in cc
 
--- each kind stands at its rank
+-- The range of each kind is at the rank of the kind.
 before_at_rank : (a : CustomPlaceAnchor) → get_or kinds (kind_rank (kind.Custom (at.Before a))) kind.Ty ≡ kind.Custom (at.Before a)
 before_at_rank anchor.Ty = refl
 before_at_rank a = refl
@@ -85,24 +85,24 @@ rank_below : (k : FieldKind) → kind_rank k < 38
 rank_below (kind.Custom p) = omega (arith, place_below p)
 rank_below k = omega arith
 
--- before any field the reach of each kind is empty
+-- Without fields the range of each kind is empty.
 pub none_found : (k : FieldKind) → is_reach (is_of k) [] (get_or (replicate 38 nowhere) (kind_rank k) nowhere) ≡ true
 none_found k = ap (is_reach (is_of k) []) (get_or-replicate 38 (kind_rank k) nowhere nowhere (rank_below k))
 
--- and back
+-- The range of one kind, from the ranges of all kinds.
 pub found_for : (fields : List ModuleField) (rs : FieldRanges) (k : FieldKind) → are_reaches fields rs ≡ true → is_reach (is_of k) fields (reach_of rs k) ≡ true
 unfolding are_reaches
 found_for fields rs k h =
     let p = λ (l : FieldKind). is_reach (is_of l) fields (reach_of rs l) in
     ap p (sym (at_rank k)) ∙ each_passes p kinds (kind_rank k) kind.Ty (rank_below k) h
 
--- in a list outside of whose empty stretch none passes, none passes
+-- If no field passes outside of an empty range, no field passes.
 empty_reach : (p : ModuleField → Bool) (fields : List ModuleField) (r : FieldRange) → r.end ≡ 0 → is_reach p fields r ≡ true → none_pass p fields ≡ true
 empty_reach p fields r none h =
     let outside = (and_parts (is_inside fields r) (none_pass p (take r.first fields) && none_pass p (drop r.end fields)) h).1 in
     subst (λ n. none_pass p (drop n fields) ≡ true) none (and_parts (none_pass p (take r.first fields)) (none_pass p (drop r.end fields)) outside).1
 
--- where the stretches of all custom sections are empty, there are none
+-- If the ranges of all custom sections are empty, there are none.
 pub no_customs : (rs : FieldRanges) → ((k : ℕ) → 12 ≤ k → k < 38 → (get_or rs.by_rank k nowhere).end ≡ 0) → (fields : List ModuleField) (place : CustomPlace) → are_reaches fields rs ≡ true → none_pass (is_of (kind.Custom place)) fields ≡ true
 no_customs rs empty fields place h =
     empty_reach (is_of (kind.Custom place)) fields (reach_of rs (kind.Custom place)) (empty (12 + place_rank place) (omega arith) (omega (arith, place_below place))) (found_for fields rs (kind.Custom place) h)

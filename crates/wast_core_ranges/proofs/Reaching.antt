@@ -1,4 +1,4 @@
--- What holds of the fields in a reach, and how a reach grows.
+-- Properties of the fields in a range, and of ranges that are extended or united.
 use Rattle.std.proofs.Common.{◌≡◌, ℕ, ◌≤◌, ◌+◌, ◌-◌, Bool, true, false, ◌&&◌, ◌||◌, not, List, [], ◌∷◌, ◌++◌, length, length-append, take, drop, take-append-drop, append-nil, refl, sym, ap, ◌∙◌, arith}
 use Rattle.std.specs.Prelude.{nat_le}
 use Rattle.std.specs.List.{list_all, flat_map}
@@ -18,7 +18,7 @@ both_true : (a b : Bool) → a ≡ true → b ≡ true → (a && b) ≡ true
 both_true true b h k = k
 both_true false b h k = cc
 
--- what a reach is, part by part
+-- The parts of a range.
 pub record IsReach (p : ModuleField → Bool) (fields : List ModuleField) (r : FieldRange) : Type 0 where
   pub ordered : r.first ≤ r.end
   pub inside : r.end ≤ length fields
@@ -41,7 +41,7 @@ reach_whole p fields r h =
 pub is_inside_of : (p : ModuleField → Bool) (fields : List ModuleField) (r : FieldRange) → is_reach p fields r ≡ true → is_inside fields r ≡ true
 is_inside_of p fields r h = (both_pass (is_inside fields r) (none_pass p (take r.first fields) && none_pass p (drop r.end fields)) h).0
 
--- ---- lists that no field passes
+-- ---- lists without a field that passes
 
 none_both : (p : ModuleField → Bool) (xs ys : List ModuleField) → none_pass p (xs ++ ys) ≡ true → (none_pass p xs ≡ true) × (none_pass p ys ≡ true)
 none_both p xs ys h = both_pass (none_pass p xs) (none_pass p ys) (sym (list_all-append (λ f. not (p f)) xs ys) ∙ h)
@@ -74,9 +74,9 @@ none_either p q (x ∷ xs) h k =
     by_test true b h k = h
     by_test false b h k = k
 
--- ---- one field more
+-- ---- one more field
 
--- of another kind: the reach stays
+-- A field of another kind does not change the range.
 pub passed_over : (p : ModuleField → Bool) (xs : List ModuleField) (x : ModuleField) (r : FieldRange) → p x ≡ false → is_reach p xs r ≡ true → is_reach p (xs ++ x ∷ []) r ≡ true
 passed_over p xs x r other h =
     let it = reach_parts p xs r h in
@@ -88,9 +88,9 @@ passed_over p xs x r other h =
       behind = ap (none_pass p) (drop-append-le r.end xs (x ∷ []) it.inside) ∙ none_joined p (drop r.end xs) (x ∷ []) it.behind (ap (λ b. not b && true) other);
     }
 
--- ---- two reaches
+-- ---- two ranges
 
--- where the end is 0, nothing passes
+-- If the end is 0, no field passes.
 none_at_all : (p : ModuleField → Bool) (fields : List ModuleField) (r : FieldRange) → IsReach p fields r → r.end ≡ 0 → none_pass p fields ≡ true
 none_at_all p fields r h zero = ap (λ i. none_pass p (drop i fields)) (sym zero) ∙ h.behind
 
@@ -128,7 +128,7 @@ both_within p q fields r o first end a b c d e h k =
       behind = none_either p q (drop end fields) (none_later p fields r.end end c it.behind) (none_later q fields o.end end d other.behind);
     }
 
--- ---- what fields give
+-- ---- the items of fields in a range
 
 none_give : {A : Type 0} (g : ModuleField → List A) (p : ModuleField → Bool) (xs : List ModuleField) → ((f : ModuleField) → p f ≡ false → g f ≡ []) → none_pass p xs ≡ true → flat_map g xs ≡ []
 none_give g p [] elsewhere h = refl
@@ -140,11 +140,11 @@ none_give g p (x ∷ xs) elsewhere h =
     is_false true h = cc
     is_false false h = refl
 
--- the list, in three pieces
+-- The list in three parts.
 in_three : (fields : List ModuleField) (r : FieldRange) → r.first ≤ r.end → fields ≡ take r.first fields ++ (fields_in r fields ++ drop r.end fields)
 in_three fields r le = sym (take-append-drop r.first fields) ∙ ap (λ xs. take r.first fields ++ xs) (drop_split fields r.first r.end le)
 
--- What only fields give that pass a test, the fields in a reach of these give.
+-- If only fields that pass a test have items, the fields in their range have all items.
 pub all_there : {A : Type 0} (g : ModuleField → List A) (p : ModuleField → Bool) (fields : List ModuleField) (r : FieldRange) → ((f : ModuleField) → p f ≡ false → g f ≡ []) → is_reach p fields r ≡ true → flat_map g (fields_in r fields) ≡ flat_map g fields
 all_there g p fields r elsewhere h =
     let it = reach_parts p fields r h in
@@ -159,7 +159,7 @@ all_there g p fields r elsewhere h =
     ∙ (ap (λ ys. flat_map g middle ++ ys) (none_give g p last elsewhere it.behind) ∙ append-nil (flat_map g middle)))))
     )
 
--- A test that each field passes, each in a reach passes.
+-- A test that each field passes is passed by each field in the range.
 pub all_pass_there : (t : ModuleField → Bool) (fields : List ModuleField) (r : FieldRange) → is_inside fields r ≡ true → list_all t fields ≡ true → list_all t (fields_in r fields) ≡ true
 all_pass_there t fields r h all =
     let within = both_pass (nat_le r.first r.end) (nat_le r.end (length fields)) h in

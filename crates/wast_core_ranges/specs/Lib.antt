@@ -1,1 +1,2 @@
+-- The definitions of ranges of fields: FieldRanges.
 pub mod FieldRanges

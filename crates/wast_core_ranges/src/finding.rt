@@ -1,4 +1,4 @@
-//! The stretches of all kinds of fields, found in one walk.
+//! The ranges of all kinds of fields, found in one walk.
 
 ghost use Rattle.std.specs.Prelude.{◌≡◌, ◌<◌, false, [], ◌∷◌, ◌++◌, length, List, IsTrue};
 ghost use Rattle.wast_tree_nodes.specs.declared.fields.ModuleField.{ModuleField};
@@ -11,7 +11,15 @@ ghost use Rattle.wast_tree_nodes.specs.declared.customs.CustomPlace.{CustomPlace
 use crate::stretches::FieldRange;
 use wast_tree_nodes::{FieldKind, ModuleField};
 
-/// Where in a list the fields of each kind stand.
+/// For each kind of field, a range of the list that contains all fields of that kind.
+///
+/// # Example
+///
+///     let reaches = found(&mut fields);
+///     discard_fields(fields);
+///     let starts = reaches.of_kind(FieldKind::Start);
+///     let exports = reaches.of_kind(FieldKind::Export);
+///     let tags = reaches.of_kind(FieldKind::Tag);
 #[derive(Clone, Copy)]
 pub struct FieldRanges {
     /// By the ranks of the kinds.
@@ -19,7 +27,11 @@ pub struct FieldRanges {
 }
 
 impl FieldRanges {
-    /// Where in these fields those of each kind stand: one walk over them, which takes no memory.
+    /// Finds the ranges of all kinds in one walk over the fields. Does not allocate.
+    ///
+    /// # Guarantees
+    ///
+    /// No field of a kind is outside of its range (`are_reaches`).
     pub fn of(fields: &[ModuleField]) -> FieldRanges
         ensures { IsTrue (are_reaches fields.now result) }
     {
@@ -32,7 +44,7 @@ impl FieldRanges {
         reaches
     }
 
-    /// One field more, at this place.
+    /// Extends the range of the field's kind to include the field at `place`.
     fn add(&mut self, place: usize, field: &ModuleField)
         requires { place < 18446744073709551615 }
         ensures { (k : FieldKind) (before : List ModuleField) → length before ≡ place → IsTrue (is_reach (is_of k) before (reach_of self.old k)) → IsTrue (is_reach (is_of k) (before ++ field.now ∷ []) (reach_of self.new k)) }
@@ -41,7 +53,11 @@ impl FieldRanges {
         self.by_rank[rank] = self.by_rank[rank].with(place);
     }
 
-    /// Whether a custom section stands in the list in which these were found. Where it says no, none does. It takes no memory.
+    /// Returns whether the list may contain a custom section. Does not allocate.
+    ///
+    /// # Guarantees
+    ///
+    /// If the result is `false`, the list of these ranges contains no custom section.
     pub fn has_customs(&self) -> bool
         ensures { result ≡ false → (fields : List ModuleField) (place : CustomPlace) → IsTrue (are_reaches fields self.now) → IsTrue (none_pass (is_of (kind.Custom place)) fields) }
     {
@@ -53,7 +69,11 @@ impl FieldRanges {
         false
     }
 
-    /// Where the fields of a kind stand, in the list in which they were found. It takes no memory.
+    /// Returns the range of a kind. Does not allocate.
+    ///
+    /// # Guarantees
+    ///
+    /// No field of that kind is outside of the range, in the list of these ranges.
     pub fn of_kind(&self, kind: FieldKind) -> FieldRange
         ensures { (fields : List ModuleField) → IsTrue (are_reaches fields self.now) → IsTrue (is_reach (is_of kind) fields result) }
     {

@@ -1,4 +1,21 @@
-//! Where in a list the fields of each kind stand: from the first of them to the end of the last, found in one walk.
+//! Finds the ranges of a list of module fields that contain each kind of field, in one walk.
+//!
+//! `wast_core` uses it to visit, for each section, only the fields from the first to the last of
+//! that kind. Without it each section would walk over all fields.
+//!
+//! # Example
+//!
+//! In `(func) (export "a" (func 0)) (start 0) (export "b" (func 0))`, the range of exports is from
+//! field 1 to before field 4, and the range of tags is empty.
+//!
+//! # Modules
+//!
+//! - `stretches`: a range of fields. `finding`: the ranges of all kinds, found in one walk.
+//!
+//! # Guarantees
+//!
+//! - `FieldRanges::of`, `FieldRanges::of_kind`: no field of a kind is outside of its range. That a
+//!   range is no larger than needed is tested, not proved.
 #![tactic(auto)]
 
 mod finding;

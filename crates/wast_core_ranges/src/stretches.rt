@@ -1,4 +1,4 @@
-//! A stretch of a list of fields, outside of which no field of some kinds stands.
+//! A range of a list of fields.
 
 ghost use Rattle.std.specs.Prelude.{◌≡◌, ◌<◌, ◌||◌, [], ◌∷◌, ◌++◌, length, Bool, List, IsTrue};
 ghost use Rattle.wast_tree_nodes.specs.declared.fields.ModuleField.{ModuleField};
@@ -6,17 +6,22 @@ ghost use Rattle.wast_core_ranges.specs.FieldRanges.{is_inside, is_reach, fields
 
 use wast_tree_nodes::ModuleField;
 
-/// A stretch of a list of fields: from a place on, up to an end. Both are 0 where no field is meant.
+/// A range of a list of fields, from `first` to before `end`. Both are 0 if the range is empty.
+///
+/// # Example
+///
+///     let later = FieldRange { first: 4, end: 5 };
+///     assert!(rt; is(starts.union(later), 1, 5) && is(later.union(starts), 1, 5));
 #[derive(Clone, Copy)]
 pub struct FieldRange {
-    /// The place of the first field.
+    /// The position of the first field.
     pub first: usize,
-    /// The place behind the last field.
+    /// The position after the last field.
     pub end: usize,
 }
 
 impl FieldRange {
-    /// The stretch with one field more, which stands behind it at this place.
+    /// Extends the range to include the field at `place`, which comes after it.
     pub(crate) fn with(self, place: usize) -> FieldRange
         requires { place < 18446744073709551615 }
         ensures { (p : ModuleField → Bool) (before : List ModuleField) (field : ModuleField) → length before ≡ place → IsTrue (is_reach p before self) → IsTrue (is_reach p (before ++ field ∷ []) result) }
@@ -28,8 +33,16 @@ impl FieldRange {
         }
     }
 
-    /// The least stretch that has both in it. Where no field of some kinds stands outside of the one, and none of some others
-    /// outside of the other, none of either stands outside of it.
+    /// Returns the smallest range that contains both.
+    ///
+    /// # Example
+    ///
+    ///     assert!(rt; is(starts.union(exports), 0, 6));
+    ///
+    /// # Guarantees
+    ///
+    /// No field of some kinds is outside of the result, if none is outside of `self`. The same
+    /// holds of `other`, for other kinds.
     pub fn union(self, other: FieldRange) -> FieldRange
         ensures { (p q : ModuleField → Bool) (fields : List ModuleField) → IsTrue (is_reach p fields self) → IsTrue (is_reach q fields other) → IsTrue (is_reach (λ f. p f || q f) fields result) }
     {
@@ -45,7 +58,11 @@ impl FieldRange {
         }
     }
 
-    /// The fields in it. It needs a stretch of that list.
+    /// Returns the fields in the range.
+    ///
+    /// # Requires
+    ///
+    /// The range is inside this list (`is_inside`).
     pub fn of<'b, 'a>(self, fields: &'b [ModuleField<'a>]) -> &'b [ModuleField<'a>]
         requires { IsTrue (is_inside fields.now self) }
         ensures { result.now ≡ fields_in self fields.now }

@@ -1,4 +1,4 @@
-//! That a stretch is no longer than its fields ask, which no contract says.
+//! Tests that a range is no larger than its fields need, which no contract states.
 
 use crate::{FieldKind, FieldRange, FieldRanges};
 use wast_base::{Index, Seq, Span};
@@ -18,13 +18,13 @@ fn export<'a>() -> ModuleField<'a> {
     })
 }
 
-/// Whether a field was put at the end of a list.
+/// Appends a field to a list, and returns whether it succeeded.
 fn put<'a>(fields: &mut Seq<ModuleField<'a>>, field: ModuleField<'a>) -> bool {
     push_field(fields, field).is_ok()
 }
 
-/// Where the fields of each kind stand. The list is lent as one that may be changed: the prover would compare the whole tree
-/// where a list of one's own is shared.
+/// Finds the ranges of a list. It is borrowed mutably, because the prover would compare the whole
+/// tree for a shared borrow of a local list.
 fn found(fields: &mut Seq<ModuleField>) -> FieldRanges {
     FieldRanges::of(fields.as_slice())
 }

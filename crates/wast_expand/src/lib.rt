@@ -1,8 +1,33 @@
-//! What the text format lets a module leave out, filled in: abbreviations are written out as fields of their own
-//! ([`deinline`]), and each type use that needs a type and has no index is bound to one ([`types`]), of which those
-//! that no text defines are appended.
+//! Desugars module fields: expands inline exports, imports, elements and data, and resolves type
+//! uses that have no index (text format: abbreviations, type uses).
 //!
-//! A call takes memory only where its text says so. A call that can fail says when, and with what.
+//! For callers who need these two steps without resolving ids. `wast_resolve` includes both.
+//!
+//! # Example
+//!
+//!     let expanded = types::expand(alloc, fields, &mut Gensym::new(1)).expect(rt, "memory");
+//!     let count = expanded.len();
+//!     discard_fields(expanded);
+//!
+//! For example, `deinline::run` turns `(func (export "a"))` into
+//! `(export "a" (func [1])) (func [1])`. Then `types::expand` turns that into
+//! `(export "a" (func [1])) (func [1] (type [2])) (type [2] (func))`.
+//!
+//! # Modules
+//!
+//! - [`deinline`]: expands inline parts. The rule is `WriteOut` of `wast_expand_inline`.
+//! - [`types`]: resolves type uses and appends types. The rules are `EligibleTypes` and
+//!   `ImpliedTypes` of `wast_expand_types`.
+//! - [`Expander`], [`FuncKey`], [`TypeKey`], [`TypeReference`]: the map from signatures to types,
+//!   for callers with type uses of their own.
+//!
+//! # Guarantees
+//!
+//! - `deinline::run` and `types::expand`, clause `list`: the result is exactly the list that its
+//!   definition states.
+//! - `deinline::run` and `types::expand`, clauses `refusal` and `stays`: the only errors are E10
+//!   and E12, and they restore the counter.
+//! - [`expanded_laws`]: theorems about the result of `types::expand`.
 #![tactic(auto)]
 
 pub use wast_expand_inline::deinline;

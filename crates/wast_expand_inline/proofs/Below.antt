@@ -1,4 +1,4 @@
--- No generation of a list that is written out is that of the next id.
+-- Proves StaysBelow: the counter is past every generated id of the result.
 use Rattle.std.proofs.Common.{◌≡◌, ℕ, ◌+◌, ◌<◌, Bool, true, ◌&&◌, List, [], ◌∷◌, map, Option, Some, None, refl, ap, ◌∙◌, arith}
 use Rattle.std.specs.Prelude.{nat_lt}
 use Rattle.std.specs.List.{list_all}
@@ -14,7 +14,7 @@ use Rattle.wast_expand_inline.specs.Laws.{StaysBelow}
 use Rattle.wast_expand_inline.proofs.WrittenItems.{same_of_items, all_referable}
 use Rattle.wast_expand_inline.proofs.WrittenAsks.{written_pass, written_out_pass}
 
--- The greatest of some numbers is below a bound where each is.
+-- The greatest of some numbers is below a bound if each number is.
 module _ {A : Type 0} (m : ℕ) (g : A → ℕ) where
   pub each_below : (xs : List A) → max_of (map g xs) < m → list_all (λ x. nat_lt (g x) m) xs ≡ true
   each_below [] lt = refl
@@ -56,7 +56,7 @@ written_below n fields above =
     (written_pass (is_ask_below m) (λ c. lt-ltb 0 m some) (is_item_below m) (own_below m) n fields given (each_below m generation_in (checks_of (in_module fields)) (omega (arith, above)))) in
     omega (arith, of_items, of_asks)
 
--- By positions no other id is asked.
+-- The result by positions looks up no further id.
 pub written_out_below : (n : ℕ) (fields : List ModuleField) → greatest_asked (checks_of (in_module fields)) < n → greatest_asked (checks_of (in_module (desugared_by_position fields))) < n
 written_out_below n fields above =
     let some : 0 < n = omega (arith, above) in

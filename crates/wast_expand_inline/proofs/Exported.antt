@@ -1,4 +1,4 @@
--- A test of fields, over exports of one item and what stands behind them.
+-- Tests of fields on the exports of one item and the fields after them.
 use Rattle.std.proofs.Common.{◌≡◌, ℕ, Bool, true, List, [], ◌∷◌, ◌++◌, map, ◌∙◌}
 use Rattle.std.specs.List.{list_all}
 use Rattle.std.specs.Borrow.{Bor}

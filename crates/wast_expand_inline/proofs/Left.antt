@@ -1,4 +1,4 @@
--- No abbreviation is left in a list that is written out.
+-- Proves NothingIsLeft: the result has no inline parts.
 use Rattle.std.proofs.Common.{◌≡◌, true, List, [], ◌∷◌, ◌++◌, refl}
 use Rattle.std.specs.List.{flat_map}
 use Rattle.wast_tree_nodes.specs.Items.{Item, items_in}

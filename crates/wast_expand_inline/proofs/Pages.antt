@@ -1,4 +1,4 @@
--- How many bytes and pages there are.
+-- The number of bytes and pages.
 use Rattle.std.proofs.Common.{◌≡◌, ℕ, ◌+◌, ◌*◌, ◌/◌, ◌%◌, ◌<◌, ◌≤◌, ◌^◌, min, List, [], ◌∷◌, ◌++◌, length, length-append, append-nil, get_or, take, drop, IsTrue, not, sym, ap, ◌∙◌, subst, arith}
 use Rattle.std.specs.Int.{div_ceil}
 use Rattle.std.proofs.lemmas.Bool.{le-ltb}
@@ -9,7 +9,7 @@ use Rattle.wast_tree_nodes.specs.DataBytes.{data_bytes, all_bytes}
 use Rattle.wast_expand_inline.specs.Tree.{DataVal}
 use Rattle.wast_expand_inline.specs.Segments.{are_too_many}
 
--- a page of 2^64 bytes or more holds less than 2^32
+-- a page of 2^64 bytes or more holds fewer than 2^32 bytes
 pub one_page : (n e : ℕ) → n < 2 ^ 32 → 64 ≤ e → min n 1 ≡ div_ceil n (2 ^ e)
 one_page n e few large =
     let big : 2 ^ 32 < 2 ^ e = pow_below 32 e (omega arith) in
@@ -27,7 +27,7 @@ module _ (pieces : List DataVal) (i : ℕ) (piece : DataVal) (below : i < length
   bytes_all : all_bytes pieces ≡ all_bytes (take (i + 1) pieces) ++ all_bytes (drop (i + 1) pieces)
   bytes_all = sym (ap all_bytes (take-append-drop (i + 1) pieces)) ∙ flat_map-append data_bytes (take (i + 1) pieces) (drop (i + 1) pieces)
 
-  -- those up to here are too many
+  -- if the bytes of the first pieces are too many, all are
   pub too_many : 2 ^ 32 ≤ length (all_bytes (take i pieces)) + length (data_bytes piece) → IsTrue (are_too_many pieces)
   too_many here =
       let more : length (all_bytes (take (i + 1) pieces)) ≡ length (all_bytes (take i pieces)) + length (data_bytes piece) = ap length bytes_more ∙ length-append (all_bytes (take i pieces)) (data_bytes piece) in

@@ -1,4 +1,4 @@
--- Ids that are given change nothing but ids.
+-- Generated ids change nothing but ids.
 use Rattle.std.proofs.Common.{◌≡◌, ℕ, ◌+◌, Bool, true, false, ◌||◌, List, [], ◌∷◌, Result, Ok, Err, IfErr, refl, ap, ◌∙◌, inr, subst}
 use Rattle.std.specs.List.{list_any}
 use Rattle.wast_base.specs.declared.faults.Error.{Error}
@@ -20,7 +20,7 @@ overflows_referable n (x ∷ xs) =
     ap (λ b. b || list_any has_oversized_data (with_referred_ids (n + one_if (wants_id x)) xs)) (overflows_given (wants_id x) n x)
     ∙ ap (λ b. has_oversized_data x || b) (overflows_referable (n + one_if (wants_id x)) xs)
 
--- what is refused once ids are given
+-- the errors, once ids are generated
 pub refused : (n : ℕ) (xs ys : List ModuleField) (r : Result (List ModuleField) Error) → ys ≡ with_referred_ids n xs → IfErr r (IsRefusedWhere (list_any has_oversized_data ys)) → IfErr r (CannotBeWritten n xs)
 refused n xs ys (Ok out) is h = h
 refused n xs ys (Err e) is h = inr (subst (λ b. IsRefusedWhere b e) (ap (list_any has_oversized_data) is ∙ overflows_referable n xs) h)

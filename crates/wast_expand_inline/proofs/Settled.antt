@@ -1,4 +1,4 @@
--- Well formed fields stay so where they are written out.
+-- Proves StaysWellFormed: well-formed fields stay well formed.
 use Rattle.std.proofs.Common.{◌≡◌, ℕ, Bool, true, not, ◌&&◌, ◌||◌, List, [], ◌∷◌, Option, Some, None, is_some, refl, ap, sym, ◌∙◌}
 use Rattle.std.specs.List.{list_all, list_any}
 use Rattle.std.specs.Cmp.Derive.{both_true}
@@ -20,12 +20,12 @@ use Rattle.wast_expand_inline.proofs.BothPass.{either_stays}
 use Rattle.wast_expand_inline.proofs.WrittenItems.{same_of_items, any_referable}
 use Rattle.wast_expand_inline.proofs.WrittenAsks.{written_pass}
 
--- What is borne by these items is known.
+-- Every id of these items is in the identifier context.
 abbrev Knows : IdContext → List Item → Type 0
 Knows k xs = (s : Space) (q : Name) → is_borne q (names_in s xs) ≡ true → is_some (k.number s q) ≡ true
 
 module _ (k : IdContext) where
-  -- an id that is generated is known in the space of its item
+  -- a generated id is in the index space of its item
   abbrev is_settled_id : (Name → Option ℕ) → Option Mark → Bool
   is_settled_id number None = true
   is_settled_id number (Some m) = not (is_generated m.0) || is_some (number m.0)
@@ -37,7 +37,7 @@ module _ (k : IdContext) where
   own_settled s span None h = refl
   own_settled s span (Some id) h = h
 
-  -- each item bears its own
+  -- each item has its own id
   one_settled : (s : Space) (id : Option Mark) (fields : List (Option Mark)) (xs : List Item) → Knows k (record { space = s; id = id; fields = fields } ∷ xs) → is_settled_id (k.number s) id ≡ true
   one_settled s None fields xs knows = refl
   one_settled s (Some (Written text, p)) fields xs knows = refl
@@ -51,7 +51,7 @@ module _ (k : IdContext) where
       both_true (one_settled x.space x.id x.fields xs knows)
       (all_settled xs (λ s q h. knows s q (borne_by_both s q (x ∷ []) xs ∙ (ap (λ b. is_borne q (names_in s (x ∷ [])) || b) h ∙ or-true (is_borne q (names_in s (x ∷ [])))))))
 
-  -- what was kept among items that are known
+  -- what was in the context of the known items still is
   still_kept : (xs : List Item) → Knows k xs → (asks : List Check) → are_kept (id_context xs) asks ≡ true → are_kept k asks ≡ true
   still_kept xs knows [] h = refl
   still_kept xs knows (a ∷ asks) h =
@@ -72,7 +72,7 @@ module _ (n : ℕ) (fields : List ModuleField) where
   abbrev new : IdContext
   new = id_context (items (desugared_from n fields))
 
-  -- What is borne stays so.
+  -- An id of an item is still an id of one.
   abbrev bears : Space → Name → Item → Bool
   bears s q x = same_space s x.space && is_called q (name_if x.id)
 

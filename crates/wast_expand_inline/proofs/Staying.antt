@@ -1,4 +1,4 @@
--- A list without abbreviations stays as it is.
+-- Proves StaysWritten and StaysByPosition: fields without inline parts are unchanged.
 use Rattle.std.proofs.Common.{◌≡◌, ℕ, ◌+◌, Bool, true, false, not, ◌&&◌, ◌||◌, is_none, ◌==◌, List, [], ◌∷◌, ◌++◌, length, refl, sym, ap, ◌∙◌, arith}
 use Rattle.std.specs.List.{flat_map}
 use Rattle.std.specs.Borrow.{Bor}
@@ -20,7 +20,7 @@ use Rattle.wast_expand_inline.specs.Written.{with_referred_ids, written_after}
 use Rattle.wast_expand_inline.specs.Laws.{StaysWritten, StaysByPosition, WantsNoReference}
 use Rattle.wast_expand_inline.proofs.BothPass.{first_is, second_is}
 
--- nothing to export under
+-- no name to export under
 pub no_names : (names : List (Bor (List ℕ))) → (length names == 0) ≡ true → names ≡ []
 no_names [] h = refl
 no_names (name ∷ names) h = let e : length (name ∷ names) ≡ 0 = (Decides-eqb (length (name ∷ names)) 0).0 h in absurd (omega arith)
@@ -28,7 +28,7 @@ no_names (name ∷ names) h = let e : length (name ∷ names) ≡ 0 = (Decides-e
 none_exported : (e : InlineExport) → exports_nothing e ≡ true → e ≡ no_exports
 none_exported e h = ap (λ (names : List (Bor (List ℕ))). record { names = names }) (no_names e.names h)
 
--- The field alone is the field, where nothing but exports stands in place.
+-- The function without inline parts is the function itself, if only exports are inline.
 func_stays : (f : Func) (k : FuncKind) → f.kind ≡ k → is_written_func k ≡ true → func_alone f f.kind ≡ field.Func (record f { exports = no_exports })
 func_stays f (func.Import source exact) e h = absurd cc
 func_stays f (func.Inline locals x) e h = ap (func_alone f) e ∙ sym (ap (λ (k : FuncKind). field.Func (record f { exports = no_exports; kind = k })) e)
@@ -53,7 +53,7 @@ tag_stays : (t : Tag) (k : TagKind) → t.kind ≡ k → is_written_tag k ≡ tr
 tag_stays t (tag_kind.Import source) e h = absurd cc
 tag_stays t tag_kind.Inline e h = ap (tag_alone t) e ∙ sym (ap (λ (k : TagKind). field.Tag (record t { exports = no_exports; kind = k })) e)
 
--- no exports, the field alone, and then the field with the exports that it has
+-- without exports, the expansion is the field itself
 nothing_before : (span : Span) (k : ExportKind) (item : Index) (exports : InlineExport) (alone : List ModuleField) (whole : InlineExport → ModuleField)
     → exports_nothing exports ≡ true → alone ≡ whole no_exports ∷ [] → exports_of span k item exports ++ alone ≡ whole exports ∷ []
 nothing_before span k item exports alone whole none is =
@@ -78,7 +78,7 @@ field_stays r (field.Tag t) h =
     (ap (λ x. x ∷ []) (tag_stays t t.kind refl (second_is (exports_nothing t.exports) _ h)))
 field_stays r x h = refl
 
--- An item that nothing refers to wants no id.
+-- An item that is not referred to needs no id.
 no_elements : (k : TableKind) → is_written_table k ≡ true → has_elements k ≡ false
 no_elements (table.Import source ty) h = refl
 no_elements (table.Normal ty init) h = refl

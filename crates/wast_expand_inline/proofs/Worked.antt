@@ -1,4 +1,4 @@
--- What the definitions say of worked modules, computed.
+-- Computes the example modules.
 use Rattle.std.proofs.Common.{refl}
 use Rattle.wast_expand_inline.specs.WorkedFields.{EmptyMemory, LongMemory, ImportedFuncs, ExactImport, TableOfTwo, GlobalAndTag}
 

@@ -1,4 +1,4 @@
--- What is asked in a list that is written out is what the fields ask, and the ids of their items.
+-- The checks of the result are those of the fields, and those of references to their items.
 use Rattle.std.proofs.Common.{◌≡◌, ℕ, ◌+◌, Bool, true, false, not, ◌&&◌, List, [], ◌∷◌, ◌++◌, length, append-nil, Option, refl, sym, ap, ◌∙◌}
 use Rattle.std.specs.List.{flat_map, list_all}
 use Rattle.std.specs.Cmp.Derive.{both_true}
@@ -28,7 +28,7 @@ use Rattle.wast_expand_inline.specs.Written.{with_referred_ids, desugared_from, 
 use Rattle.wast_expand_inline.specs.Laws.{is_sound, StaysSoundByPosition}
 use Rattle.wast_expand_inline.proofs.Exported.{both_pass, behind_exports}
 
--- ids that are given change nothing of it
+-- generated ids change no check
 asked_given : (b : Bool) (n : ℕ) (x : ModuleField) → in_field (given_if b with_item_id n x) ≡ in_field x
 asked_given false n x = refl
 asked_given true n (field.Func f) = refl
@@ -47,7 +47,7 @@ all_true : {A : Type 0} (xs : List A) → list_all (λ (x : A). true) xs ≡ tru
 all_true [] = refl
 all_true (x ∷ xs) = all_true xs
 
--- Where all that is asked in some fields passes a test, which clauses that hold pass.
+-- If the checks of the fields pass a test, and clauses that hold pass it, then so do the checks of the result.
 module _ (ok : Check → Bool) (clause : (n : ℕ) → ok (Clause n true) ≡ true) where
   abbrev pass : List Site → Bool
   pass os = list_all ok (checks_of os)
@@ -68,7 +68,7 @@ module _ (ok : Check → Bool) (clause : (n : ℕ) → ok (Clause n true) ≡ tr
   all_fields [] = refl
   all_fields (x ∷ xs) = both_parts (in_field x) (in_module xs) ∙ ap (λ b. passes x && b) (all_fields xs)
 
-  -- a segment begins at a number, without blocks
+  -- the offset of a segment is a constant without blocks
   offset_passes : (is64 : Bool) → pass (in_constant (at_zero is64)) ≡ true
   unfolding stays_open
   offset_passes false = both_true (clause 5) refl
@@ -103,9 +103,9 @@ module _ (ok : Check → Bool) (clause : (n : ℕ) → ok (Clause n true) ≡ tr
   tag_passes t (tag_kind.Import source) h = both_true h refl
   tag_passes t tag_kind.Inline h = both_true h refl
 
-  -- What a field asks passes, and each item with its id passes a test by which the reference to it passes the first.
+  -- The test for the fields, the items with their ids, and the references to them.
   module _ (r : Reference) (good : Item → Bool) (own : (s : Space) (span : Span) (id : Option Id) → good (item s id []) ≡ true → ok (ItemIndex s (r s span id)) ≡ true) where
-    -- its one item
+    -- the one item of a field
     own_passes : (s : Space) (span : Span) (id : Option Id) → list_all good (item s id [] ∷ []) ≡ true → ok (ItemIndex s (r s span id)) ≡ true
     own_passes s span id h = own s span id (and_parts (good (item s id [])) true h).0
 
@@ -128,13 +128,13 @@ module _ (ok : Check → Bool) (clause : (n : ℕ) → ok (Clause n true) ≡ tr
         let of_asks = and_parts (passes x) (list_all passes xs) h in
         both_pass passes (desugar_field r x) (flat_map (desugar_field r) xs) (field_passes x of_items.0 of_asks.0) (all_pass xs of_items.1 of_asks.1)
 
-  -- so by ids,
+  -- so for references by id,
   pub written_pass : (good : Item → Bool) → ((s : Space) (span : Span) (id : Option Id) → good (item s id []) ≡ true → ok (ItemIndex s (by_id s span id)) ≡ true)
       → (n : ℕ) (fields : List ModuleField) → list_all good (items (with_referred_ids n fields)) ≡ true → list_all ok (checks_of (in_module fields)) ≡ true → list_all ok (checks_of (in_module (desugared_from n fields))) ≡ true
   written_pass good own n fields its h =
       all_fields (desugared_from n fields) ∙ all_pass by_id good own (with_referred_ids n fields) its (sym (all_fields (with_referred_ids n fields)) ∙ (ap pass (asked_referable n fields) ∙ h))
 
-  -- and by positions, where each number passes.
+  -- and for references by position, if each number passes.
   module _ (numbers : (s : Space) (m : ℕ) (span : Span) → ok (ItemIndex s (index.Num m span)) ≡ true) where
     after_pass : (before : List Item) (xs : List ModuleField) → list_all passes xs ≡ true → list_all passes (written_after before xs) ≡ true
     after_pass before [] h = refl

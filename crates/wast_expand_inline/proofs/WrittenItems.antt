@@ -1,4 +1,4 @@
--- The items of a list that is written out are those of the fields, of which some are given ids, and segments without ids.
+-- The items of the result are those of the fields, some with a generated id, and segments without ids.
 use Rattle.std.proofs.Common.{◌≡◌, ℕ, ◌+◌, ◌<◌, ◌≤◌, Bool, true, false, ◌||◌, is_none, List, [], ◌∷◌, ◌++◌, map, append_assoc, append-nil, Option, Some, None, refl, sym, ap, ◌∙◌, arith}
 use Rattle.std.specs.List.{flat_map, list_all, list_any}
 use Rattle.std.specs.Borrow.{Bor}
@@ -23,7 +23,7 @@ use Rattle.wast_expand_inline.specs.Referring.{by_id, by_position, exports_some,
 use Rattle.wast_expand_inline.specs.Written.{with_referred_ids, written_after}
 use Rattle.wast_expand_inline.proofs.BothPass.{second_is, either_stays}
 
--- exports are no items
+-- exports are not items
 exported : (span : Span) (k : ExportKind) (i : Index) (names : List (Bor (List ℕ))) (ys : List ModuleField) → items (map (export_of span k i) names ++ ys) ≡ items ys
 exported span k i [] ys = refl
 exported span k i (name ∷ names) ys = exported span k i names ys
@@ -41,13 +41,13 @@ tag_items : (t : Tag) (k : TagKind) → items (tag_alone t k ∷ []) ≡ item sp
 tag_items t (tag_kind.Import source) = refl
 tag_items t tag_kind.Inline = refl
 
--- the spaces of segments
+-- the index spaces of segments
 abbrev pub is_of_segments : Space → Bool
 is_of_segments space.Elem = true
 is_of_segments space.Data = true
 is_of_segments s = false
 
--- The segment of what stands in place is an item without an id.
+-- The segment of inline data or elements is an item without an id.
 abbrev pub segment_if : Space → Bool → List Item
 segment_if s true = item s None [] ∷ []
 segment_if s false = []
@@ -75,7 +75,7 @@ field_items r (field.Global g) = exported _ _ _ g.exports.names _ ∙ global_ite
 field_items r (field.Tag t) = exported _ _ _ t.exports.names _ ∙ tag_items t t.kind
 field_items r x = append-nil (items_in x)
 
--- What takes no note of segments without ids is the same of the list with its abbreviations written out, by ids and by positions.
+-- A function of items that ignores segments without ids has the same value on the expansion, by id and by position.
 module _ {T : Type 0} (f : List Item → T) (skips : (s : Space) (xs : List Item) → is_of_segments s ≡ true → f (item s None [] ∷ xs) ≡ f xs) (more : (x : Item) (xs ys : List Item) → f xs ≡ f ys → f (x ∷ xs) ≡ f (x ∷ ys)) where
   more_each : (xs ys zs : List Item) → f ys ≡ f zs → f (xs ++ ys) ≡ f (xs ++ zs)
   more_each [] ys zs h = h
@@ -106,7 +106,7 @@ module _ {T : Type 0} (f : List Item → T) (skips : (s : Space) (xs : List Item
   same_after before [] = refl
   same_after before (x ∷ xs) = same_behind (by_position before) x (written_after (before ++ items_in x) xs) xs (same_after (before ++ items_in x) xs)
 
--- A field that is given an id has one item, which had none.
+-- A field that gets a generated id has one item, which had no id.
 pub record IsGiven (n : ℕ) (xs ys : List Item) : Type 0 where
   pub s : Space
   pub p : Span
@@ -125,7 +125,7 @@ given n (field.Global g) h = one_item n space.Global g.span g.id (second_is (exp
 given n (field.Tag t) h = one_item n space.Tag t.span t.id (second_is (exports_some t.exports) (is_none t.id) h)
 given n x h = absurd cc
 
--- Where an item passes a test that none without an id passes, one still does once ids are given.
+-- If an item passes a test that no item without an id passes, one still does once ids are generated.
 module _ (p : Item → Bool) (none : (s : Space) → p (item s None []) ≡ false) where
   any_given : (b : Bool) (n : ℕ) (x : ModuleField) → wants_id x ≡ b → list_any p (items_in x) ≡ true → list_any p (items_in (given_if b with_item_id n x)) ≡ true
   any_given false n x e h = h
@@ -139,7 +139,7 @@ module _ (p : Item → Bool) (none : (s : Space) → p (item s None []) ≡ fals
       ∙ either_stays (list_any p (items_in x)) (list_any p (items xs)) (list_any p (items_in (given_if (wants_id x) with_item_id n x))) (list_any p (items (with_referred_ids next xs)))
       (any_given (wants_id x) n x refl) (any_referable next xs) (sym (list_any-append p (items_in x) (items xs)) ∙ h)
 
--- Where each item passes a test, each still does once ids are given, if those with the ids of the next generations pass it.
+-- If each item passes a test, each still does once ids are generated, provided that items with the new ids pass it.
 module _ (p : Item → Bool) (m : ℕ) (made : (k : ℕ) (s : Space) (at : Span) → k < m → p (item s (Some (gensym_id k at)) []) ≡ true) where
   all_given : (b : Bool) (n : ℕ) (x : ModuleField) → wants_id x ≡ b → n + one_if b ≤ m → list_all p (items_in x) ≡ true → list_all p (items_in (given_if b with_item_id n x)) ≡ true
   all_given false n x e le h = h

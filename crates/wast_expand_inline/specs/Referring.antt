@@ -1,4 +1,11 @@
--- Which items are referred to once abbreviations are written out, and how (text format: abbreviations).
+-- Which items the expansion of inline parts refers to, and how it refers to them (text format: abbreviations).
+--
+-- Exports and segments refer to an item by its id, as in the `wast` crate. A second form refers to it by its position,
+-- so that theorems can compare the result with one that has no generated ids.
+--
+--   (func (export "a"))       needs an id: its export refers to the function
+--   (func $f (export "a"))    has the id $f already
+--   (memory (data "abc"))     needs an id: the data segment refers to the memory
 use Rattle.std.specs.Prelude.{ℕ, ◌&&◌, ◌||◌, not, is_none, length, Bool, false, List, Option, Some, None}
 use Rattle.wast_base.specs.Ids.{gensym_id, place_of}
 use Rattle.wast_tree_nodes.specs.Items.{Item}
@@ -10,25 +17,25 @@ use Rattle.wast_expand_inline.specs.Tree.field
 use Rattle.wast_expand_inline.specs.Segments.{has_bytes, has_elements}
 use Rattle.wast_expand_inline.specs.WriteOut.{Reference}
 
--- By its id. One that has none is not referred to.
+-- The reference by id. The number 0 is a filler, because an item without an id is never referred to.
 abbrev pub by_id : Reference
 by_id s span None = index.Num 0 span
 by_id s span (Some id) = index.Id id
 
--- By its position, after these items; in the place of its id, or of the field where it has none.
+-- The span of the id, or of the field if there is no id.
 abbrev pub place_or : Span → Option Id → Span
 place_or span None = span
 place_or span (Some id) = place_of id
 
--- the number of items of its space that stand before it
+-- The reference by position: the number of items of its index space among the items before it.
 abbrev pub by_position : List Item → Reference
 by_position before s span id = index.Num (length (names_in s before)) (place_or span id)
 
--- whether there are names to export under
+-- whether there is an inline export
 abbrev pub exports_some : InlineExport → Bool
 exports_some exports = not (exports_nothing exports)
 
--- An item that is referred to and has no id wants one.
+-- Whether an item needs a generated id: it is referred to and has none.
 abbrev pub wants_id : ModuleField → Bool
 wants_id (field.Ty t) = false
 wants_id (field.Rec r) = false
@@ -44,7 +51,7 @@ wants_id (field.Data d) = false
 wants_id (field.Custom c) = false
 wants_id (field.Tag t) = exports_some t.exports && is_none t.id
 
--- with the id of a generation, at the place of the field
+-- the field with a generated id at its span
 abbrev pub with_item_id : ℕ → ModuleField → ModuleField
 with_item_id n (field.Ty t) = field.Ty t
 with_item_id n (field.Rec r) = field.Rec r

@@ -1,4 +1,5 @@
--- What the definitions say of worked modules (text format: abbreviations). Texts of names may lie anywhere.
+-- Example modules with their expansions, which the definitions compute (text format: abbreviations). Names may be at
+-- any address, because the result does not depend on it.
 use Rattle.std.specs.Prelude.{◌≡◌, ℕ, pos, Bool, true, false, List, [], ◌∷◌, Option, Some, None, codes}
 use Rattle.std.specs.Borrow.{Bor}
 use Rattle.wast_base.specs.Ids.{gensym_id}
@@ -24,14 +25,14 @@ use Rattle.wast_expand_inline.specs.Tree.export
 use Rattle.wast_expand_inline.specs.Tree.field
 use Rattle.wast_expand_inline.specs.Written.{desugared_from, reference_id_count, desugared_by_position}
 
--- the id of a generation for the field at n, and as an index
+-- a generated id for the field at position n, and the same as an index
 abbrev pub made : ℕ → ℕ → Id
 made g n = gensym_id g (place n)
 
 abbrev pub by_made : ℕ → ℕ → Index
 by_made g n = index.Id (made g n)
 
--- an export, and one import, at n
+-- an export and an import of one item at position n
 abbrev pub export_at : ℕ → Address → List ℕ → ExportKind → Index → ModuleField
 export_at n a name kind item = field.Export (record { span = place n; name = text a name; kind = kind; item = item })
 
@@ -41,7 +42,7 @@ import_at n a b id k = field.Import (record {
   items = import_items.Single (text a (codes "m")) (text b (codes "n")) (record { span = place n; id = id; name = None; kind = k });
 })
 
--- `(module (memory (export "a") (export "b") (data)))`: two exports, an empty segment, and a memory of no page.
+-- `(module (memory (export "a") (export "b") (data)))`: two exports, an empty segment, and a memory without pages.
 abbrev pub memory_at : ℕ → Option Id → MemoryKind → ModuleField
 memory_at n id k = field.Memory (record { span = place n; id = id; name = None; exports = record { names = [] }; kind = k })
 
@@ -63,8 +64,8 @@ EmptyMemory = (a b : Address) →
     × (desugared_from 5 (empty_memory a b) ≡ empty_memory_with a b (by_made 5 9) (Some (made 5 9)))
     × (desugared_by_position (empty_memory a b) ≡ empty_memory_with a b (by_number 0 9) None)
 
--- `(module (import "m" "n" (memory 1)) (memory $m i64 (pagesize 2) (data "ab" "c")))`: an id that is there stays; three
--- bytes are two pages of two bytes; the offset has 64 bits; and the memory is the second one.
+-- `(module (import "m" "n" (memory 1)) (memory $m i64 (pagesize 2) (data "ab" "c")))`: the source id stays. Three bytes
+-- take two pages of two bytes. The offset has 64 bits. By position the memory is number 1.
 abbrev pub long_memory : (a b c d e : Address) → List ModuleField
 long_memory a b c d e =
     import_at 9 a b None (kind.Memory plain_memory_type)
@@ -88,7 +89,7 @@ LongMemory = (a b c d e : Address) →
     × (desugared_from 5 (long_memory a b c d e) ≡ long_memory_with a b c d e (by_id c (codes "m") 44))
     × (desugared_by_position (long_memory a b c d e) ≡ long_memory_with a b c d e (by_number 1 44))
 
--- `(module (func (export "f") (import "m" "n")) (func $g (import "m" "n")))`: imports, of which the first is exported.
+-- `(module (func (export "f") (import "m" "n")) (func $g (import "m" "n")))`: two imports, the first of them exported.
 abbrev pub no_type : TypeUse FunctionType
 no_type = record { index = None; inline = None }
 
@@ -115,7 +116,7 @@ ImportedFuncs = (a b c d e f : Address) →
     × (desugared_from 5 (imported_funcs a b c d e f) ≡ imported_funcs_with a b c d e f (by_made 5 9) (Some (made 5 9)))
     × (desugared_by_position (imported_funcs a b c d e f) ≡ imported_funcs_with a b c d e f (by_number 0 9) None)
 
--- `(func (import "m" "n") exact)`: an exact import stands for it.
+-- `(func (import "m" "n") exact)`: an exact import replaces it.
 abbrev pub exact_func : (a b : Address) → ModuleField
 exact_func a b = field.Func (record {
   span = place 33;
@@ -135,7 +136,7 @@ exact_import_of a b = field.Import (record {
 abbrev pub ExactImport : Type 0
 ExactImport = (a b : Address) → desugared_from 1 (exact_func a b ∷ []) ≡ exact_import_of a b ∷ []
 
--- `(module (table funcref (elem $f $f)))`: two elements, and a table that holds two.
+-- `(module (table funcref (elem $f $f)))`: a segment of two elements, and a table of two.
 abbrev pub funcref : RefType
 funcref = record { nullable = true; heap = heap.Abstract false abstract.Func }
 
@@ -159,7 +160,7 @@ TableOfTwo = (a b : Address) →
     × (desugared_from 5 (table_of_two a b) ≡ table_of_two_with a b (by_made 5 9) (Some (made 5 9)))
     × (desugared_by_position (table_of_two a b) ≡ table_of_two_with a b (by_number 0 9) None)
 
--- `(module (global (export "g") (import "m" "n") i32) (start 0) (tag $t (export "t")))`: an id for the global alone.
+-- `(module (global (export "g") (import "m" "n") i32) (start 0) (tag $t (export "t")))`: only the global needs an id.
 abbrev pub global_and_tag : (a b c d e : Address) → List ModuleField
 global_and_tag a b c d e =
     field.Global (record {

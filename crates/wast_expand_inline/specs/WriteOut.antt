@@ -1,5 +1,14 @@
--- The fields that stand for a field once its abbreviations are written out (text format: functions, tables, memories,
+-- The fields that replace a field when its inline parts are expanded (text format: functions, tables, memories,
 -- globals, tags; abbreviations).
+--
+-- The exports come first, then the segment of inline data or elements, then the field without inline parts or its
+-- import. This is the order of the `wast` crate. The order changes no index of the item, because exports and segments
+-- are not in its index space.
+--
+--   (func (export "a") (import "m" "n"))      (export "a" (func [1])) (import "m" "n" (func [1]))
+--   (memory $m (export "b") (data "abc"))     (export "b" (memory $m)) (data (memory $m) (i32.const 0) "abc") (memory $m 1 1)
+--
+-- Here [1] is a generated id. The definitions of WorkedFields compute such examples.
 use Rattle.std.specs.Prelude.{ℕ, Bool, true, false, List, [], ◌∷◌, ◌++◌, map, Option, None}
 use Rattle.std.specs.Borrow.{Bor}
 use Rattle.wast_expand_inline.specs.Tree.{Span, Id, Index, NameAnnotation, Space, FunctionType, TypeUse, ItemKind, InlineExport, InlineImport, FuncKind, Func, Table, TableKind, Memory, MemoryKind, Global, GlobalKind, Tag, TagKind, ExportKind, ModuleField}
@@ -15,74 +24,74 @@ use Rattle.wast_expand_inline.specs.Tree.export
 use Rattle.wast_expand_inline.specs.Tree.field
 use Rattle.wast_expand_inline.specs.Segments.{filled_memory_type, filled_table_type, data_into, elem_into}
 
--- How the item of a field is referred to: by its space, the place of the field, and its id.
+-- How to refer to an item: from its index space, the span of its field, and its id.
 abbrev pub Reference : Type 0
 Reference = Space → Span → Option Id → Index
 
--- nothing is exported in place
+-- no inline exports
 abbrev pub no_exports : InlineExport
 no_exports = record { names = [] }
 
--- an export at the place of the field
+-- an export at the span of the field
 abbrev pub export_of : Span → ExportKind → Index → Bor (List ℕ) → ModuleField
 export_of span kind item name = field.Export (record { span = span; name = name; kind = kind; item = item })
 
--- one for each name, in order
+-- one export for each inline name, in order
 abbrev pub exports_of : Span → ExportKind → Index → InlineExport → List ModuleField
 exports_of span kind item exports = map (export_of span kind item) exports.names
 
--- an import of one item, at the place of the field and with its id
+-- an import of one item, at the span of the field and with its id
 abbrev pub import_of : Span → Option Id → Option NameAnnotation → InlineImport → ItemKind → ModuleField
 import_of span id name source k = field.Import (record {
   span = span;
   items = import_items.Single source.«module» source.field (record { span = span; id = id; name = name; kind = k });
 })
 
--- The segment of what stands in place.
+-- The data segment of inline data, if there is any.
 abbrev pub data_in : MemoryKind → Span → Index → List ModuleField
 data_in (memory.Import source ty) span item = []
 data_in (memory.Normal ty) span item = []
 data_in (memory.Inline is64 pieces exponent) span item = data_into span item is64 pieces ∷ []
 
--- the segment of the elements in place, if there are any
+-- the element segment of inline elements, if there are any
 abbrev pub elem_in : TableKind → Span → Index → List ModuleField
 elem_in (table.Import source ty) span item = []
 elem_in (table.Normal ty init) span item = []
 elem_in (table.Inline ty is64 shared p) span item = elem_into span item is64 p ∷ []
 
--- an imported function of this type use, which is exact or not
+-- the kind of an imported function, exact or not
 abbrev pub imported_func : Bool → TypeUse FunctionType → ItemKind
 imported_func true u = kind.FuncExact u
 imported_func false u = kind.Func u
 
--- The field without what stands in place. Of the imported ones a function alone keeps its name annotation.
+-- The function without inline parts, or its import. The import keeps the name annotation, unlike those of other items.
 abbrev pub func_alone : Func → FuncKind → ModuleField
 func_alone f (func.Import source exact) = import_of f.span f.id f.name source (imported_func exact f.ty)
 func_alone f (func.Inline locals e) = field.Func (record f { exports = no_exports; kind = func.Inline locals e })
 
--- a table, or the import that stands for it
+-- the table without inline parts, or its import
 abbrev pub table_alone : Table → TableKind → ModuleField
 table_alone t (table.Import source ty) = import_of t.span t.id None source (kind.Table ty)
 table_alone t (table.Normal ty init) = field.Table (record t { exports = no_exports; kind = table.Normal ty init })
 table_alone t (table.Inline ty is64 shared p) = field.Table (record t { exports = no_exports; kind = table.Normal (filled_table_type ty is64 shared p) None })
 
--- a memory, or the import that stands for it
+-- the memory without inline parts, or its import
 abbrev pub memory_alone : Memory → MemoryKind → ModuleField
 memory_alone m (memory.Import source ty) = import_of m.span m.id None source (kind.Memory ty)
 memory_alone m (memory.Normal ty) = field.Memory (record m { exports = no_exports; kind = memory.Normal ty })
 memory_alone m (memory.Inline is64 pieces exponent) = field.Memory (record m { exports = no_exports; kind = memory.Normal (filled_memory_type is64 pieces exponent) })
 
--- a global, or the import that stands for it
+-- the global without inline parts, or its import
 abbrev pub global_alone : Global → GlobalKind → ModuleField
 global_alone g (global.Import source) = import_of g.span g.id None source (kind.Global g.ty)
 global_alone g (global.Inline e) = field.Global (record g { exports = no_exports; kind = global.Inline e })
 
--- a tag, or the import that stands for it
+-- the tag without inline parts, or its import
 abbrev pub tag_alone : Tag → TagKind → ModuleField
 tag_alone t (tag_kind.Import source) = import_of t.span t.id None source (kind.Tag t.ty)
 tag_alone t tag_kind.Inline = field.Tag (record t { exports = no_exports; kind = tag_kind.Inline })
 
--- Its exports, its segment, and the field alone.
+-- The fields that replace a field, in order. Other fields are unchanged.
 abbrev pub desugar_field : Reference → ModuleField → List ModuleField
 desugar_field r (field.Ty t) = field.Ty t ∷ []
 desugar_field r (field.Rec g) = field.Rec g ∷ []

@@ -1,38 +1,39 @@
-//! Worked modules, of which the definitions compute what they say.
+//! Example modules whose expansion the definitions compute.
 
 ghost use Rattle.wast_expand_inline.specs.WorkedFields.{EmptyMemory, LongMemory, ImportedFuncs, ExactImport, TableOfTwo, GlobalAndTag};
 
-/// A memory with two exports and no bytes in place: no page.
+/// A memory with two inline exports and empty inline data: it has no page.
 #[tactic(auto, using(crate::proofs::Worked::empty_memory))]
 pub(crate) fn empty_memory()
     ensures { EmptyMemory }
 {}
 
-/// A memory of 64 bits and its own page size, behind an imported one: pages are rounded up, and its id stays.
+/// A memory with 64-bit indices and pages of two bytes, after an imported memory. Three bytes take
+/// two pages, and the id stays.
 #[tactic(auto, using(crate::proofs::Worked::long_memory))]
 pub(crate) fn long_memory()
     ensures { LongMemory }
 {}
 
-/// Functions that are imported in place, one of them exported.
+/// Two functions with inline imports, one of them exported.
 #[tactic(auto, using(crate::proofs::Worked::imported_funcs))]
 pub(crate) fn imported_funcs()
     ensures { ImportedFuncs }
 {}
 
-/// A function that is imported in place and exact.
+/// A function with an inline import that is exact.
 #[tactic(auto, using(crate::proofs::Worked::exact_import))]
 pub(crate) fn exact_import()
     ensures { ExactImport }
 {}
 
-/// A table with two elements in place.
+/// A table with two inline elements.
 #[tactic(auto, using(crate::proofs::Worked::table_of_two))]
 pub(crate) fn table_of_two()
     ensures { TableOfTwo }
 {}
 
-/// An imported global and a tag that are exported, and a field between them that stays.
+/// An imported global and a tag with inline exports, and a start field between them that stays.
 #[tactic(auto, using(crate::proofs::Worked::global_and_tag))]
 pub(crate) fn global_and_tag()
     ensures { GlobalAndTag }

@@ -1,7 +1,32 @@
-//! Abbreviations of fields of a WebAssembly module in the text format: exports, imports, elements and data that stand in
-//! place in a field are written out as fields of their own.
+//! Expands the inline exports, imports, elements and data of module fields into fields of their own
+//! (text format: abbreviations).
 //!
-//! A call takes memory only where its text says so. A call that can fail says when, and with what.
+//! This is the first step of resolving: `wast_resolve` calls it before it gives type uses their
+//! types. Callers who need the step alone meet it through `wast_expand`.
+//!
+//! # Example
+//!
+//! For example, `(func $f (export "a"))` becomes `(export "a" (func $f)) (func $f)`. The field
+//! `(memory (data "abc"))` becomes a data segment `(data (memory [1]) (i32.const 0) "abc")` and the
+//! memory `(memory [1] 1 1)`. Here `[1]` is a generated id, because the source has no id for the
+//! memory.
+//!
+//! # Modules
+//!
+//! - `deinline`: the public name of the pass, `run`.
+//! - `writing`: the fields that replace a field. The rule is `desugar_field` of
+//!   `specs/WriteOut.antt`.
+//! - `references`: which items need an id. The rule is `wants_id` of `specs/Referring.antt`.
+//! - `segments`: segments of inline data and elements, and the size of their memory or table. The
+//!   rule is in `specs/Segments.antt`.
+//! - `laws`: theorems about the result. `examples`: example modules that the definitions compute.
+//!
+//! # Guarantees
+//!
+//! - `deinline::run`, clause `list`: the result is exactly the list that `desugared_from` defines.
+//! - `deinline::run`, clauses `refusal` and `stays`: the only errors are E10 and E12, and they
+//!   restore the counter.
+//! - [`written_laws`]: the result has no inline part left, and expanding it again changes nothing.
 #![tactic(auto)]
 
 mod examples;

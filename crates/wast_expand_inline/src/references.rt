@@ -1,4 +1,4 @@
-//! Items that are referred to, and their ids.
+//! The items that an export or a segment of the expansion refers to, and their ids.
 
 ghost use Rattle.std.specs.Prelude.{◌≡◌, ◌≤◌, ◌+◌, ◌||◌, IfErr, OnOk};
 ghost use Rattle.wast_base.specs.Filling.{one_if, given_if, RunsOut};
@@ -10,7 +10,7 @@ ghost use Rattle.wast_expand_inline.specs.Written.{with_referred_ids, reference_
 use wast_base::{Error, Gensym, Id, Index, Seq, Span};
 use wast_tree_nodes::{InlineExport, MemoryKind, ModuleField, TableKind};
 
-/// Gives each item that is referred to an id.
+/// Generates an id for each item that is referred to and has none.
 pub(crate) fn name_items<'a>(
     fields: &mut Seq<ModuleField<'a>>,
     gensym: &mut Gensym,
@@ -26,7 +26,7 @@ pub(crate) fn name_items<'a>(
     Ok(())
 }
 
-/// Gives the item of a field an id, where it is referred to.
+/// Generates an id for the item of a field, if it is referred to and has none.
 fn name_item<'a>(field: &mut ModuleField<'a>, gensym: &mut Gensym) -> Result<(), Error<'a>>
     ensures field { OnOk result (field.new ≡ given_if (wants_id field.old) with_item_id gensym.old field.old) }
     ensures counted { OnOk result (gensym.new ≡ gensym.old + one_if (wants_id field.old)) }
@@ -75,14 +75,14 @@ fn name_item<'a>(field: &mut ModuleField<'a>, gensym: &mut Gensym) -> Result<(),
     }
 }
 
-/// Whether there are names to export under.
+/// Returns whether an inline export has a name.
 fn exports_some(exports: &InlineExport<'_>) -> bool
     ensures { result ≡ exports_some exports.now }
 {
     !exports.names.is_empty()
 }
 
-/// Whether elements stand in place.
+/// Returns whether a table has inline elements.
 pub(crate) fn has_elements(kind: &TableKind<'_>) -> bool
     ensures { result ≡ has_elements kind.now }
 {
@@ -93,7 +93,7 @@ pub(crate) fn has_elements(kind: &TableKind<'_>) -> bool
     }
 }
 
-/// Whether bytes stand in place.
+/// Returns whether a memory has inline data.
 pub(crate) fn has_bytes(kind: &MemoryKind<'_>) -> bool
     ensures { result ≡ has_bytes kind.now }
 {
@@ -104,7 +104,8 @@ pub(crate) fn has_bytes(kind: &MemoryKind<'_>) -> bool
     }
 }
 
-/// The id of an item as an index. Nothing refers to an item that has none.
+/// Returns the id of an item as an index. The number 0 is a filler: an item without an id is never
+/// referred to.
 pub(crate) fn by_id<'a>(span: Span, id: Option<Id<'a>>) -> Index<'a>
     ensures { result ≡ by_id space.Func span id.entry }
 {

@@ -1,4 +1,5 @@
-//! Segments of what stands in place in a memory or a table, and how large that makes it.
+//! The segments of inline data and elements, and the types of the memories and tables that hold
+//! them.
 
 ghost use Rattle.std.specs.Prelude.{◌≡◌, ◌<◌, ◌^◌, length, Some, None, IsTrue, IfOk, IfErr};
 ghost use Rattle.std.specs.Int.{div_ceil};
@@ -17,7 +18,7 @@ use wast_tree_nodes::{
     MemoryType, ModuleField, RefType, TableType,
 };
 
-/// How many bytes there are in all; too many where they are 2^32 or more.
+/// Returns the number of bytes in all pieces. Fails with E10 if they are 2^32 or more.
 fn byte_count<'e>(pieces: &[DataVal<'_>]) -> Result<u64, Error<'e>>
     ensures ok { IfOk result (λ n. n ≡ length (all_bytes pieces.now)) }
     ensures few { IfOk result (λ n. n < 2 ^ 32) }
@@ -34,7 +35,7 @@ fn byte_count<'e>(pieces: &[DataVal<'_>]) -> Result<u64, Error<'e>>
     Ok(count)
 }
 
-/// As many pages of a size as hold so many bytes. It needs less than 2^32 bytes.
+/// Returns how many pages of 2^`exponent` bytes hold `count` bytes, which are fewer than 2^32.
 fn pages_of(count: u64, exponent: u32) -> u64
     requires { count < 2 ^ 32 }
     ensures { result ≡ div_ceil count (2 ^ exponent) }
@@ -46,7 +47,7 @@ fn pages_of(count: u64, exponent: u32) -> u64
     }
 }
 
-/// As many pages as hold the bytes.
+/// Returns how many pages hold the bytes. A page has 65,536 bytes if there is no exponent.
 fn page_count<'e>(pieces: &[DataVal<'_>], exponent: Option<u32>) -> Result<u64, Error<'e>>
     ensures ok { IfOk result (λ n. n ≡ page_count pieces.now exponent) }
     ensures refusal { IfErr result (λ e. (e ≡ too_large) × IsTrue (are_too_many pieces.now)) }
@@ -58,7 +59,7 @@ fn page_count<'e>(pieces: &[DataVal<'_>], exponent: Option<u32>) -> Result<u64, 
     }
 }
 
-/// The type of a memory that holds these bytes at first, and has no page more.
+/// Returns the type of a memory that is exactly large enough for the bytes.
 pub(crate) fn filled_memory_type<'e>(
     is64: bool,
     pieces: &[DataVal<'_>],
@@ -79,7 +80,7 @@ pub(crate) fn filled_memory_type<'e>(
     })
 }
 
-/// How many elements there are.
+/// Returns the number of elements.
 fn element_count(payload: &ElemPayload<'_>) -> u64
     ensures { result ≡ element_count payload.now }
 {
@@ -89,7 +90,7 @@ fn element_count(payload: &ElemPayload<'_>) -> u64
     }
 }
 
-/// The type of a table that holds these elements at first, and no more.
+/// Returns the type of a table that is exactly large enough for the elements.
 pub(crate) fn filled_table_type<'a>(
     elem: RefType<'a>,
     is64: bool,
@@ -110,7 +111,7 @@ pub(crate) fn filled_table_type<'a>(
     }
 }
 
-/// The offset 0, which is as wide as an index.
+/// Returns the offset 0 of a segment: `i64.const 0` if indices have 64 bits, else `i32.const 0`.
 pub(crate) fn at_zero<'a>(alloc: Global, is64: bool) -> Result<Expression<'a>, Error<'a>>
     ensures ok { IfOk result (λ e. e ≡ at_zero is64) }
     ensures refusal { IfErr result (λ e. e ≡ out_of_memory) }
@@ -122,7 +123,7 @@ pub(crate) fn at_zero<'a>(alloc: Global, is64: bool) -> Result<Expression<'a>, E
     }
 }
 
-/// The type of a memory that holds these bytes at first, and the offset of their segment.
+/// Returns the type of the memory that holds the bytes, and the offset of their segment.
 pub(crate) fn filling<'a>(
     alloc: Global,
     is64: bool,
@@ -139,7 +140,7 @@ pub(crate) fn filling<'a>(
     }
 }
 
-/// The segment of the bytes of a memory.
+/// Returns the data segment that fills a memory.
 pub(crate) fn data_into<'a>(
     span: Span,
     memory: Index<'a>,
@@ -157,7 +158,7 @@ pub(crate) fn data_into<'a>(
     })
 }
 
-/// The segment of the elements of a table.
+/// Returns the element segment that fills a table.
 pub(crate) fn elem_into<'a>(
     span: Span,
     table: Index<'a>,

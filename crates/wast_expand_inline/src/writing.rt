@@ -1,4 +1,4 @@
-//! Fields are written out: the exports, the segment and the rest of each.
+//! The expansion of each field: its exports, its segment, and the field without inline parts.
 
 ghost use Rattle.std.specs.Prelude.{◌≡◌, ◌≤◌, ◌+◌, ◌++◌, ◌∷◌, [], flat_map, IsTrue, IsOk, IfOk, IfErr, OnOk, ◌-◌, ◌^◌, min, length};
 ghost use Rattle.std.specs.List.{list_any};
@@ -24,19 +24,49 @@ use wast_tree_nodes::{
     push_field, take_field,
 };
 
-/// Writes the abbreviations of fields out (text format: functions, tables, memories, globals, tags; abbreviations).
+/// Expands the inline exports, imports, elements and data of fields (text format: functions,
+/// tables, memories, globals, tags; abbreviations).
 ///
-/// In the place of a function, table, memory, global or tag it gives an export for each name that stands in place, in
-/// order; then the segment of the bytes or elements that stand in place, which begins at 0; and then the field alone, or
-/// its import where that stands in place. A memory with bytes in place has as many pages as hold them, and no more; a
-/// table as many elements. An item that is exported or filled so is referred to by its id, and given a generated one at
-/// the place of its field where it has none. All other fields stay. A function that is imported in place and
-/// exact becomes an exact import. The ids that it makes are new where the counter stands above `gensym_bound` of `wast_tree`.
+/// A function, table, memory, global or tag is replaced by these fields, in this order:
 ///
-/// Where nothing stands in place, it gives the fields back as they are, and never an error. Else it takes memory for the
-/// new list and for the offsets of segments. The error is E12 where memory was refused, and E10 only where the counter
-/// would pass the greatest `u64` or the bytes in place of a memory are 2^32 or more. On an error the fields are dropped,
-/// and the counter stays: no id of this call is left.
+/// - an export for each inline name;
+/// - the segment of its inline data or elements, at offset 0;
+/// - the field without inline parts, or its import if the import was inline.
+///
+/// All other fields are unchanged. A memory with inline data gets as many pages as the bytes take,
+/// and that is also its maximum. A table with inline elements gets their number. An inline import
+/// with `exact` becomes an exact import. Exports and segments refer to the item by its id. An item
+/// without an id gets a generated one, at the position of its field. Generated ids are new if the
+/// counter is past `gensym_bound` of `wast_tree`.
+///
+/// # Example
+///
+///     fields = deinline::run(alloc, fields, gensym).expect(rt, "memory");
+///
+/// For example, `(func (export "a") (import "m" "n"))` becomes
+/// `(export "a" (func [1])) (import "m" "n" (func [1]))`. Here `[1]` is the generated id.
+///
+/// # Errors
+///
+/// - E10: the counter would overflow a `u64`, or the inline data of a memory has 2^32 bytes or
+///   more.
+/// - E12: allocation failed.
+///
+/// After an error the fields are dropped. The counter has its old value, because no id of this call
+/// is left.
+///
+/// # Guarantees
+///
+/// - `list`: the result is `desugared_from`. `counted`: the counter rises by the number of ids
+///   generated.
+/// - `refusal`: the errors are those above. `stays`: after an error the counter has its old value.
+/// - `at_rest`: fields without inline parts return no error. `counter_grows`: the counter never
+///   falls.
+///
+/// # Memory
+///
+/// Allocates the new list and the offsets of segments. Fields without inline parts are returned as
+/// they are, without allocation.
 pub fn run<'a>(
     alloc: Global,
     fields: Seq<ModuleField<'a>>,
@@ -56,8 +86,10 @@ pub fn run<'a>(
     replaced(alloc, fields, gensym)
 }
 
-/// Whether nothing stands in place. It is lent the fields to change, and leaves them: where they were lent to be read, the
-/// prover would compare the type of the whole tree with itself.
+/// Returns whether no field has an inline part, and leaves the fields unchanged.
+///
+/// It borrows them mutably. With a shared borrow the prover would compare the type of the whole
+/// tree with itself.
 fn is_at_rest<'a>(fields: &mut Seq<ModuleField<'a>>) -> bool
     ensures rest { result ≡ is_written_out fields.old }
     ensures stays { fields.new ≡ fields.old }
@@ -65,7 +97,8 @@ fn is_at_rest<'a>(fields: &mut Seq<ModuleField<'a>>) -> bool
     is_written_out(fields.as_slice())
 }
 
-/// The fields that stand for these, which are let go.
+/// Returns the expansion of the fields, which are dropped. After an error the counter has its old
+/// value.
 fn replaced<'a>(
     alloc: Global,
     fields: Seq<ModuleField<'a>>,
@@ -87,7 +120,7 @@ fn replaced<'a>(
     written
 }
 
-/// The fields that stand for these. It takes these out of their places.
+/// Returns the expansion of the fields, which are moved out of the list.
 fn written_fields<'a>(
     alloc: Global,
     fields: &mut Seq<ModuleField<'a>>,
@@ -102,7 +135,8 @@ fn written_fields<'a>(
     write_fields(alloc, fields)
 }
 
-/// The fields that stand for these, once each item that is referred to has an id. It takes these out of their places.
+/// Returns the expansion of fields in which each item that is referred to has an id. They are moved
+/// out of the list.
 fn write_fields<'a>(
     alloc: Global,
     fields: &mut Seq<ModuleField<'a>>,
@@ -121,7 +155,7 @@ fn write_fields<'a>(
     }
 }
 
-/// Writes fields out, one after the other. It takes them out of their places.
+/// Appends the expansion of each field. The fields are moved out of the list.
 fn write_each<'a>(
     alloc: Global,
     fields: &mut Seq<ModuleField<'a>>,
@@ -136,7 +170,7 @@ fn write_each<'a>(
     Ok(())
 }
 
-/// How many fields there are once these are written out, or the greatest `usize`.
+/// Returns the number of fields after expansion, or the greatest `usize` if there are more.
 fn written_count(fields: &[ModuleField<'_>]) -> usize
     ensures { result ≡ min (length (flat_map (desugar_field by_id) fields.now)) (2 ^ 64 - 1) }
 {
@@ -147,7 +181,7 @@ fn written_count(fields: &[ModuleField<'_>]) -> usize
     count
 }
 
-/// How many fields stand for a field, or the greatest `usize`.
+/// Returns the number of fields that replace a field, or the greatest `usize` if there are more.
 fn count_for(field: &ModuleField<'_>) -> usize
     ensures { result ≡ min (length (desugar_field by_id field.now)) (2 ^ 64 - 1) }
 {
@@ -167,7 +201,7 @@ fn count_for(field: &ModuleField<'_>) -> usize
     }
 }
 
-/// Writes a field out.
+/// Appends the expansion of a field.
 fn write_field<'a>(
     alloc: Global,
     field: ModuleField<'a>,
@@ -186,7 +220,7 @@ fn write_field<'a>(
     }
 }
 
-/// Puts two fields, one behind the other.
+/// Appends two fields.
 fn push_both<'a>(
     out: &mut Seq<ModuleField<'a>>,
     first: ModuleField<'a>,
@@ -204,7 +238,7 @@ fn push_both<'a>(
     }
 }
 
-/// Writes an export for each name that stands in place.
+/// Appends an export for each inline name.
 fn write_exports<'a>(
     exports: &InlineExport<'a>,
     span: Span,
@@ -229,7 +263,7 @@ fn write_exports<'a>(
     Ok(())
 }
 
-/// The import of an item that stands in place.
+/// Returns the import field of an item whose import was inline.
 fn import_of<'a>(
     span: Span,
     id: Option<Id<'a>>,
@@ -248,7 +282,7 @@ fn import_of<'a>(
     ModuleField::Import(Imports::single(span, source.module, source.field, sig))
 }
 
-/// What an imported function of this type use is, exact or not.
+/// Returns the kind of an imported function, exact or not.
 fn imported_func<'a>(exact: bool, ty: TypeUse<'a, FunctionType<'a>>) -> ItemKind<'a>
     ensures { result ≡ imported_func exact ty.entry }
 {
@@ -259,7 +293,7 @@ fn imported_func<'a>(exact: bool, ty: TypeUse<'a, FunctionType<'a>>) -> ItemKind
     }
 }
 
-/// A function without what stands in place, or its import.
+/// Returns a function without inline parts, or its import.
 fn func_alone<'a>(alloc: Global, func: Func<'a>) -> ModuleField<'a>
     ensures { result ≡ func_alone func.entry func.entry.kind }
 {
@@ -287,7 +321,7 @@ fn func_alone<'a>(alloc: Global, func: Func<'a>) -> ModuleField<'a>
     }
 }
 
-/// Writes a function out.
+/// Appends the expansion of a function.
 fn write_func<'a>(
     alloc: Global,
     func: Func<'a>,
@@ -306,7 +340,7 @@ fn write_func<'a>(
     }
 }
 
-/// A table that holds what its type says, without anything in place.
+/// Returns a table of this type, without inline parts.
 fn table_of<'a>(
     alloc: Global,
     span: Span,
@@ -326,7 +360,7 @@ fn table_of<'a>(
     })
 }
 
-/// Writes the segment of a table, and the table without what stands in place, or its import.
+/// Appends the segment of a table, and then the table without inline parts, or its import.
 fn write_table_alone<'a>(
     alloc: Global,
     table: Table<'a>,
@@ -370,7 +404,7 @@ fn write_table_alone<'a>(
     }
 }
 
-/// Writes a table out.
+/// Appends the expansion of a table.
 fn write_table<'a>(
     alloc: Global,
     table: Table<'a>,
@@ -389,7 +423,7 @@ fn write_table<'a>(
     }
 }
 
-/// A memory of a type, without anything in place.
+/// Returns a memory of this type, without inline parts.
 fn memory_of<'a>(
     alloc: Global,
     span: Span,
@@ -408,7 +442,7 @@ fn memory_of<'a>(
     })
 }
 
-/// Writes the segment of a memory, and the memory without what stands in place, or its import.
+/// Appends the segment of a memory, and then the memory without inline parts, or its import.
 fn write_memory_alone<'a>(
     alloc: Global,
     memory: Memory<'a>,
@@ -448,7 +482,7 @@ fn write_memory_alone<'a>(
     }
 }
 
-/// Writes a memory out.
+/// Appends the expansion of a memory.
 fn write_memory<'a>(
     alloc: Global,
     memory: Memory<'a>,
@@ -467,7 +501,7 @@ fn write_memory<'a>(
     }
 }
 
-/// A global without what stands in place, or its import.
+/// Returns a global without inline parts, or its import.
 fn global_alone<'a>(alloc: Global, global: wast_tree_nodes::Global<'a>) -> ModuleField<'a>
     ensures { result ≡ global_alone global.entry global.entry.kind }
 {
@@ -493,7 +527,7 @@ fn global_alone<'a>(alloc: Global, global: wast_tree_nodes::Global<'a>) -> Modul
     }
 }
 
-/// Writes a global out.
+/// Appends the expansion of a global.
 fn write_global<'a>(
     alloc: Global,
     global: wast_tree_nodes::Global<'a>,
@@ -512,7 +546,7 @@ fn write_global<'a>(
     }
 }
 
-/// A tag without what stands in place, or its import.
+/// Returns a tag without inline parts, or its import.
 fn tag_alone<'a>(alloc: Global, tag: Tag<'a>) -> ModuleField<'a>
     ensures { result ≡ tag_alone tag.entry tag.entry.kind }
 {
@@ -538,7 +572,7 @@ fn tag_alone<'a>(alloc: Global, tag: Tag<'a>) -> ModuleField<'a>
     }
 }
 
-/// Writes a tag out.
+/// Appends the expansion of a tag.
 fn write_tag<'a>(
     alloc: Global,
     tag: Tag<'a>,

@@ -1,4 +1,4 @@
--- Types that are added for one list of uses after another.
+-- Types that are appended for one list of type uses after another.
 use Rattle.std.proofs.Common.{◌≡◌, ℕ, suc, ◌+◌, ◌≤◌, Bool, true, false, cond, ◌||◌, List, [], ◌∷◌, ◌++◌, map, length, length-append, append_assoc, append-nil, Option, Some, None, is_some, inl, inr, refl, sym, ap, ◌∙◌, subst, arith}
 use mathlib.Core.Path.{fun_ext}
 use Rattle.std.proofs.Math.Bool.{or_assoc}
@@ -24,7 +24,7 @@ pub less_runs_out : (m n : ℕ) (e : Error) → m ≤ n → RunsOut m e → Runs
 less_runs_out m n e le (inl x) = inl x
 less_runs_out m n e le (inr r) = inr (r.0, omega (arith, r.1))
 
--- more bindings after more bindings
+-- additions after additions
 pub lookup-append : (test : Signature → Bool) (a b : BoundSignatures) → lookup test (a ++ b) ≡ option_or (lookup test a) (lookup test b)
 lookup-append test [] b = refl
 lookup-append test (e ∷ a) b = head_case (test e.0) e.1 (lookup test a) (lookup test b) (lookup test (a ++ b)) (lookup-append test a b)
@@ -40,7 +40,7 @@ or_or (Some i) p q = refl
 pub with_more_twice : (find : LookUp) (a b : BoundSignatures) (s : Signature) → with_more (with_more find a) b s ≡ with_more find (a ++ b) s
 with_more_twice find a b s = or_or (find s) (index_of a s) (index_of b s) ∙ ap (option_or (find s)) (sym (lookup-append (same_signature s) a b))
 
--- the signature of an implied type is the one it was made for
+-- an appended type has the signature it was made for
 pub types_again : (vs : List ValType) → map type_of_param (map unnamed_param vs) ≡ vs
 types_again [] = refl
 types_again (v ∷ vs) = ap (λ ws. v ∷ ws) (types_again vs)
@@ -50,7 +50,7 @@ keys_of_implied k n [] = refl
 keys_of_implied k n (s ∷ ss) =
     ap (λ (vs : List ValType). numbered_signature k (vs, s.1) ∷ keys_of (bindings k (implied_types (n + 1) ss))) (types_again s.0) ∙ ap (λ ts. numbered_signature k s ∷ ts) (keys_of_implied k (n + 1) ss)
 
--- what is bound once types are implied, whose signatures are in numbers
+-- the indices of signatures once types with numbers are appended
 pub known_after : (find : LookUp) (k : TypeNames) (n : ℕ) (ss : List Signature) → map (numbered_signature k) ss ≡ ss → (t : Signature)
     → is_some (with_more find (bindings k (implied_types n ss)) t) ≡ (is_some (find t) || is_among ss t)
 known_after find k n ss same t =
@@ -64,7 +64,7 @@ or_false : (b : Bool) → b ≡ (b || false)
 or_false true = refl
 or_false false = refl
 
--- what is new in two lists, one after the other
+-- the new signatures of two lists, one after another
 first_new-append : (known : Signature → Bool) (ss ts : List Signature) → first_new known (ss ++ ts) ≡ first_new known ss ++ first_new (λ t. known t || is_among (first_new known ss) t) ts
 first_new-append known [] ts = ap (λ (k : Signature → Bool). first_new k ts) (fun_ext (λ (t : Signature). or_false (known t)))
 first_new-append known (s ∷ ss) ts =
@@ -92,7 +92,7 @@ implied_types-append : (n : ℕ) (ss ts : List Signature) → implied_types n (s
 implied_types-append n [] ts = ap (λ m. implied_types m ts) (add_zero n)
 implied_types-append n (s ∷ ss) ts = ap (λ ws. implied_type n s ∷ ws) (implied_types-append (n + 1) ss ts ∙ ap (λ m. implied_types (n + 1) ss ++ implied_types m ts) (one_more n (length ss)))
 
--- uses that need nothing
+-- type uses that need nothing
 pub adds_none : (a : Binder) → AddsTypes a a []
 adds_none a = record { names = refl; types = λ s. or_none (index_of a.cx.bound s); fields = sym (append-nil a.implied); counter = add_zero a.gensym }
   where
@@ -100,7 +100,7 @@ adds_none a = record { names = refl; types = λ s. or_none (index_of a.cx.bound 
     or_none None = refl
     or_none (Some i) = refl
 
--- the same uses, said in another way
+-- the same type uses in another form
 pub adds_as : {a b : Binder} {ss ts : List Signature} → ss ≡ ts → AddsTypes a b ss → AddsTypes a b ts
 adds_as {a} {b} e h = subst (λ us. AddsTypes a b us) e h
 
@@ -108,11 +108,11 @@ pub adds_nothing : (a : Binder) {ss : List Signature} → ss ≡ [] → AddsType
 adds_nothing a e = adds_as (sym e) (adds_none a)
 
 module _ {a b : Binder} {ss : List Signature} (h : AddsTypes a b ss) where
-  -- the names of types stay
+  -- the ids of types are unchanged
   names_then : numbers_in b.cx ≡ numbers_in a.cx
   names_then i name = position_of name (h.names i)
 
-  -- what is bound once the first are
+  -- the indices of signatures once the first types are appended
   bound_then : index_of b.cx.bound ≡ with_more (index_of a.cx.bound) (new_bindings a ss)
   bound_then = fun_ext h.types
 
@@ -142,7 +142,7 @@ module _ {a b : Binder} {ss : List Signature} (h : AddsTypes a b ss) where
       let l : length (new_signatures a.cx (ss ++ ts)) ≡ length (new_signatures a.cx ss) + length (new_signatures b.cx ts) = ap length (new_then ts) ∙ length-append (new_signatures a.cx ss) (new_signatures b.cx ts) in
       omega (arith, h.counter)
 
-  -- uses after uses
+  -- type uses after type uses
   pub adds_both : {c : Binder} {ts : List Signature} → AddsTypes b c ts → AddsTypes a c (ss ++ ts)
   adds_both {c} {ts} k = record {
     names = k.names ∙ h.names;
@@ -153,13 +153,13 @@ module _ {a b : Binder} {ss : List Signature} (h : AddsTypes a b ss) where
     counter = k.counter ∙ sym (count_then ts);
   }
 
-  -- What was bound by more stays bound by more after it.
+  -- An index from additions stays after more additions.
   pub more_then : (more : BoundSignatures) → found_in b.cx more ≡ found_in a.cx (new_bindings a ss ++ more)
   more_then more = fun_ext (λ (s : Signature).
       ap (λ (k : TypeNames). with_more (index_of b.cx.bound) more (numbered_signature k s)) names_then
       ∙ (ap (λ (find : LookUp). with_more find more (numbered_signature (numbers_in a.cx) s)) bound_then ∙ with_more_twice (index_of a.cx.bound) (new_bindings a ss) more (numbered_signature (numbers_in a.cx) s)))
 
--- fewer uses do not run out first
+-- fewer type uses do not overflow the counter earlier
 pub first_after : (a : Binder) (ss ts : List Signature) → next_after a ss ≤ next_after a (ss ++ ts)
 first_after a ss ts =
     let known : Signature → Bool = λ t. is_some (index_of a.cx.bound t) in

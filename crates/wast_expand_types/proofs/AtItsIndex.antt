@@ -1,4 +1,4 @@
--- A signature is bound to the id of the type at its index.
+-- Proves TakesTheTypeAtItsIndex: a signature is resolved to the id of the type at its index.
 use Rattle.std.proofs.Common.{◌≡◌, ℕ, ◌+◌, Bool, true, false, cond, List, [], ◌∷◌, ◌++◌, map, length, length-append, append_assoc, Option, Some, None, is_none, refl, sym, ap, ◌∙◌, arith}
 use Rattle.std.specs.List.{flat_map, position, position_from, slice_get}
 use Rattle.std.proofs.lemmas.Iterator.Adapters.{position_from-zero}
@@ -21,7 +21,7 @@ stands_next : (before : List (Option Id)) (id : Option Id) (rest : List (Option 
 stands_next [] id rest = refl
 stands_next (b ∷ before) id rest = stands_next before id rest
 
--- an id more stands before
+-- one more id before
 one_further : (before : List (Option Id)) (id : Option Id) (ids : List (Option Id)) (types : List (Option Signature)) (s : Signature)
     → index_by_id_at (position_from (has_signature s) (length (before ++ id ∷ [])) types) ((before ++ id ∷ []) ++ ids) ≡ index_by_id_at (position_from (has_signature s) (length before + 1) types) (before ++ id ∷ ids)
 one_further before id ids types s = λ i. index_by_id_at (position_from (has_signature s) (length-append before (id ∷ []) i) types) (append_assoc before (id ∷ []) ids i)

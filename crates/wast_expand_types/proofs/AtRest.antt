@@ -1,4 +1,4 @@
--- What is expanded stays as it is, and its types are the type space.
+-- Proves TypesAreTheSpace and WantsNoMore: a second pass changes nothing.
 use Rattle.std.proofs.Common.{◌≡◌, ℕ, ◌+◌, Bool, true, false, List, [], ◌∷◌, ◌++◌, map, length, append-nil, Some, refl, sym, ap, ◌∙◌, arith}
 use Rattle.std.specs.List.{flat_map}
 use Rattle.std.proofs.lemmas.List.Concat.{flat_map-append}
@@ -17,7 +17,7 @@ use Rattle.wast_expand_types.proofs.Staying.{fields_stay, fields_say, ty_stays, 
 use Rattle.wast_expand_types.proofs.HavingTypes.{uses_are_bound}
 use Rattle.wast_expand_types.proofs.NumberedTypes.{implied_are_numbered}
 
--- Ids and bound uses change no type.
+-- Ids and resolved type uses change no type.
 module _ (k : TypeNames) where
   types_given : (b : Bool) (n : ℕ) (x : ModuleField) → types_in k (given_if b with_type_id n x) ≡ types_in k x
   types_given false n x = refl
@@ -84,7 +84,7 @@ filled_none {A} wants give m (x ∷ xs) h = none_case (wants x) x xs h (λ k. fi
     none_case true x xs h f = absurd (omega (arith, h))
     none_case false x xs h f = ap (λ ys. x ∷ ys) (f (omega (arith, h)))
 
--- Nothing is implied.
+-- No type is appended.
 implied_none : (n : ℕ) (fields : List ModuleField) → implied_signatures (expanded_fields n fields) ≡ []
 implied_none n fields = ap (λ ss. first_new (is_among (eligible_signatures (expanded_fields n fields))) (map (numbered_signature (type_names (expanded_fields n fields))) ss)) (uses_are_bound n fields)
 

@@ -1,4 +1,4 @@
--- What a signature is bound to, as an ordered map finds it, and after one more is bound.
+-- Look-ups in an ordered map, before and after a signature is added.
 use Rattle.std.proofs.Common.{◌≡◌, Bool, true, false, cond, [], ◌∷◌, Option, Some, None, refl, sym, ap, ◌∙◌}
 use mathlib.Core.Path.{fun_ext}
 use Rattle.std.specs.BTreeMap.{is_at}
@@ -10,22 +10,22 @@ use Rattle.wast_expand_types.specs.SignatureLaws.{signatures_equiv}
 use Rattle.wast_expand_types.specs.SignatureOrder.{signature_cmp, signatures_tied}
 use Rattle.wast_expand_types.specs.Expanders.{BoundSignatures, index_of, with_more}
 
--- what the order finds is what equality finds
+-- the order finds what equality finds
 pub found_in_order : (es : BoundSignatures) (s : Signature) → lookup (is_at (signature_cmp s)) es ≡ index_of es s
 found_in_order es s = ap (λ (test : Signature → Bool). lookup test es) (fun_ext (λ (z : Signature). sym (signatures_tied s z)))
 
--- equal signatures are bound to the same
+-- equal signatures have the same index
 pub same_index_of : (es : BoundSignatures) (s k : Signature) → same_signature s k ≡ true → index_of es s ≡ index_of es k
 same_index_of es s k h = ap (λ (test : Signature → Bool). lookup test es) (fun_ext (λ (z : Signature). signatures_equiv.congr s k z h))
 
--- what is written at a key is what the key is bound to, if it is bound
+-- the entry at a key is the index of the key, if it has one
 kept_or_new : (b : Bool) (o p : Option Index) (i w : Index) → (b ≡ true → o ≡ p) → w ≡ unwrap_or p i → cond b (Some w) o ≡ option_or o (cond b (Some i) None)
 kept_or_new true None p i w h e = ap (λ (j : Index). Some j) (e ∙ ap (λ q. unwrap_or q i) (sym (h refl)))
 kept_or_new true (Some j) p i w h e = ap (λ (k : Index). Some k) (e ∙ ap (λ q. unwrap_or q i) (sym (h refl)))
 kept_or_new false None p i w h e = refl
 kept_or_new false (Some j) p i w h e = refl
 
--- so a key that is bound stays so, and another is bound to the index
+-- so a key keeps its index, and a new key gets the index
 pub put_once : (es fs : BoundSignatures) (k s : Signature) (i w : Index) → w ≡ unwrap_or (lookup (is_at (signature_cmp k)) es) i
     → lookup (is_at (signature_cmp s)) fs ≡ cond (is_at (signature_cmp k) s) (Some w) (lookup (is_at (signature_cmp s)) es) → index_of fs s ≡ with_more (index_of es) ((k, i) ∷ []) s
 put_once es fs k s i w is h =

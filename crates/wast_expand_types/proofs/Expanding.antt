@@ -1,4 +1,4 @@
--- The steps of expansion, one after the other.
+-- The steps of the pass, one after another.
 use Rattle.std.proofs.Common.{◌≡◌, ℕ, ◌+◌, ◌<◌, Bool, true, false, List, [], ◌∷◌, ◌++◌, length, get_or, take, map, append-nil, Option, Some, None, is_none, is_some, refl, sym, ap, ◌∙◌, subst, arith}
 use mathlib.Core.Path.{fun_ext}
 use Rattle.std.specs.List.{flat_map}
@@ -25,7 +25,7 @@ use Rattle.wast_expand_types.proofs.Adding.{lookup-append, with_more_twice, adds
 use Rattle.wast_expand_types.proofs.Needing.{needed_both, needed_each, ty_none, made_type}
 use Rattle.wast_expand_types.proofs.Staying.{ty_stays}
 
--- the types of one field more are bound
+-- the types of one more field are added
 pub extends_more : (k : TypeNames) (old new later : BoundSignatures) (xs : List ModuleField) (i : ℕ) (x : ModuleField) → i < length xs → x ≡ get_or xs i x
     → Extends old new (bindings k (take i xs)) → Extends new later (bindings_in k x) → Extends old later (bindings k (take (i + 1) xs))
 extends_more k old new later xs i x lt is h g =
@@ -38,7 +38,7 @@ needed_given false n x = refl
 needed_given true n (field.Ty t) = ty_none (record t { id = Some (gensym_id n t.span) }) ∙ sym (ty_none t)
 needed_given true n x = refl
 
--- ids of types change no use
+-- ids of types change no type use
 pub needed_filled : (n : ℕ) (xs : List ModuleField) → needed_signatures (with_ids_from lacks_id with_type_id n xs) ≡ needed_signatures xs
 needed_filled n [] = refl
 needed_filled n (x ∷ xs) =
@@ -65,7 +65,7 @@ module _ (k : TypeNames) where
   keys_of_type n x true h = refl
   keys_of_type n x false h = refl
 
-  -- Once each type has an id, all that uses may take is bound.
+  -- Once each type has an id, all eligible types are added.
   keys_of_filled : (n : ℕ) (xs : List ModuleField) → keys_of (bindings k (with_ids_from lacks_id with_type_id n xs)) ≡ flat_map (eligible_in k) xs
   keys_of_filled n [] = refl
   keys_of_filled n (x ∷ xs) =
@@ -73,7 +73,7 @@ module _ (k : TypeNames) where
       keys-append (bindings_in k (given_if (lacks_id x) with_type_id n x)) (bindings k rest)
       ∙ (ap (λ ks. ks ++ keys_of (bindings k rest)) (keys_of_type n x (lacks_id x) refl) ∙ ap (λ ks. eligible_in k x ++ ks) (keys_of_filled (n + one_if (lacks_id x)) xs))
 
-  -- a signature that some eligible type has
+  -- a signature that an eligible type has
   pub eligible_known : (n : ℕ) (xs : List ModuleField) (s : Signature) → is_some (index_of (bindings k (with_ids_from lacks_id with_type_id n xs)) s) ≡ is_among (flat_map (eligible_in k) xs) s
   eligible_known n xs s = is_some-lookup (same_signature s) (bindings k (with_ids_from lacks_id with_type_id n xs)) ∙ ap (λ ks. is_among ks s) (keys_of_filled n xs)
 
@@ -81,8 +81,8 @@ bound_implied : (find : LookUp) (n : ℕ) (ss : List Signature) → map (bound_f
 bound_implied find n [] = refl
 bound_implied find n (s ∷ ss) = λ i. ty_stays find (made_type n s) i ∷ bound_implied find (n + 1) ss i
 
--- The types of fs get their ids, and are then bound; seen is what is read of the list, old knows the names of the types of fs
--- and binds nothing, and so far no type is implied.
+-- The types of fs get their ids and are added. seen is what is read of the list, old has the ids of the types of fs and
+-- no signatures, and no type is appended yet.
 module _ (n : ℕ) (fs named seen : List ModuleField) (old : Bound) (a : Binder) (named_is : named ≡ with_ids_from lacks_id with_type_id n fs) (next_is : a.gensym ≡ n + missing_id_count lacks_id fs)
     (seen_is : seen ≡ named) (knows : (q : Name) → numbers_in old q ≡ type_names fs q) (old_is : old.bound ≡ []) (none_is : a.implied ≡ []) (same : a.cx.names ≡ old.names)
     (types : Extends old.bound a.cx.bound (bindings (numbers_in old) seen)) where
@@ -102,7 +102,7 @@ module _ (n : ℕ) (fs named seen : List ModuleField) (old : Bound) (a : Binder)
   finds : index_of a.cx.bound ≡ index_of (bindings k named)
   finds = fun_ext cx_is
 
-  -- what the uses need and no eligible type has
+  -- the signatures that type uses need and no eligible type has
   new_is_implied : new_signatures a.cx (needed_signatures named) ≡ implied_signatures fs
   new_is_implied =
       let known : (s : Signature) → is_some (index_of a.cx.bound s) ≡ is_among (eligible_signatures fs) s =
@@ -111,7 +111,7 @@ module _ (n : ℕ) (fs named seen : List ModuleField) (old : Bound) (a : Binder)
       ∙ (ap (λ (f : Signature → Bool). first_new f (map (numbered_signature k) (needed_signatures named))) (fun_ext known)
       ∙ ap (λ ss. first_new (is_among (eligible_signatures fs)) (map (numbered_signature k) ss)) (ap needed_signatures named_is ∙ needed_filled n fs))
 
-  -- the uses of each field after those of the one before it
+  -- the type uses of each field after those of the one before it
   in_each : needed_signatures named ≡ flat_map (λ x. needed_in (in_field x)) named
   in_each = needed_each in_field named
 

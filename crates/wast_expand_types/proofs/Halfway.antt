@@ -1,4 +1,4 @@
--- Uses are bound in each part of a list, in its place.
+-- The loop invariant for resolving the parts of a list one after another.
 use Rattle.std.proofs.Common.{◌≡◌, ℕ, suc, ◌+◌, ◌<◌, ◌≤◌, List, [], ◌∷◌, ◌++◌, sym, ◌∙◌, ap, length, map, get_or, drop, take, arith, add-one, subst, append_assoc, refl}
 use Rattle.std.proofs.Math.ListN.{set, length-set}
 use Rattle.std.proofs.Math.Seq.{drop-cons, take-suc}
@@ -13,7 +13,7 @@ use Rattle.wast_expand_types.specs.Binding.{new_bindings, next_after, AddsTypes}
 use Rattle.wast_expand_types.specs.declared.binder.Binder.{Binder}
 use Rattle.wast_expand_types.proofs.Adding.{less_runs_out, adds_none, adds_both, count_then, more_then, first_after}
 
--- the uses in the first i items of olds are bound, and nows is what there is then
+-- The type uses in the first i items of olds are resolved, and nows is the list after that.
 pub record IsHalfway {X : Type 0} (needed : X → List Signature) (bound : LookUp → X → X) (olds nows : List X) (i : ℕ) (a b : Binder) : Type 0 where
   pub len : length nows ≡ length olds
   pub left : drop i nows ≡ drop i olds
@@ -46,7 +46,7 @@ module _ {X : Type 0} {needed : X → List Signature} {bound : LookUp → X → 
         ap (flat_map needed) (sym (take-append-drop i olds)) ∙ (flat_map-append needed (take i olds) (drop i olds)
         ∙ (ap (λ zs. flat_map needed (take i olds) ++ flat_map needed zs) rest ∙ sym (append_assoc (flat_map needed (take i olds)) (needed x) (flat_map needed (drop (suc i) olds)))))
 
-    -- one part more
+    -- one more part
     pub goes_on : {y : X} {c : Binder} → AddsTypes b c (needed x) → ((more : BoundSignatures) → y ≡ bound (found_in c.cx more) x) → IsHalfway needed bound olds (set nows i y) (i + 1) a c
     goes_on {y} {c} k new =
         let lt2 : i < length nows = omega (arith, h.len) in
@@ -60,24 +60,24 @@ module _ {X : Type 0} {needed : X → List Signature} {bound : LookUp → X → 
               take_more_set nows i y lt2 ∙ (ap (λ zs. zs ++ y ∷ []) before ∙ (ap (λ z. map (bound find) (take i olds) ++ z ∷ []) (new more) ∙ (sym (map-append (bound find) (take i olds) (x ∷ [])) ∙ ap (map (bound find)) (sym more_taken))));
         }
 
-    -- one part in which nothing is bound
+    -- a part with nothing to resolve
     pub passes_by : needed x ≡ [] → ((find : LookUp) → bound find x ≡ x) → IsHalfway needed bound olds nows (i + 1) a b
     passes_by none stays =
         let back : set nows i x ≡ nows = ap (set nows i) is ∙ set-get_or nows i x in
         subst (λ ys. IsHalfway needed bound olds ys (i + 1) a b) back (goes_on (subst (λ ss. AddsTypes b b ss) (sym none) (adds_none b)) (λ more. sym (stays (found_in b.cx more))))
 
-    -- the ids run out in a part
+    -- the counter overflows in a part
     pub stops : (e : Error) → RunsOut (next_after b (needed x)) e → RunsOut (next_after a (flat_map needed olds)) e
     stops e out =
         let here : next_after a (flat_map needed (take i olds) ++ needed x) ≡ next_after b (needed x) = count_then h.adds (needed x) in
         let all : next_after a (flat_map needed olds) ≡ next_after a ((flat_map needed (take i olds) ++ needed x) ++ flat_map needed (drop (suc i) olds)) = ap (next_after a) needed_all in
         less_runs_out _ _ e (omega (arith, here, all, first_after a (flat_map needed (take i olds) ++ needed x) (flat_map needed (drop (suc i) olds)))) out
 
--- all of them are bound
+-- all parts are resolved
 pub all_bound : {X : Type 0} {needed : X → List Signature} {bound : LookUp → X → X} {olds nows : List X} {i : ℕ} {a b : Binder} → IsHalfway needed bound olds nows i a b → length olds ≤ i → (more : BoundSignatures) → nows ≡ map (bound (found_in b.cx more)) olds
 all_bound {X} {needed} {bound} {olds} {nows} {i} {a} {b} h le more =
     sym (take_all i nows (omega (arith, h.len, le))) ∙ (h.become more ∙ ap (map (bound (found_in b.cx more))) (take_all i olds le))
 
--- none yet
+-- no part is resolved yet
 pub starts : {X : Type 0} (needed : X → List Signature) (bound : LookUp → X → X) (olds : List X) (a : Binder) → IsHalfway needed bound olds olds 0 a a
 starts needed bound olds a = record { len = refl; left = refl; adds = adds_none a; become = λ more. refl }

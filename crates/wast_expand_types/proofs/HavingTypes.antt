@@ -1,4 +1,4 @@
--- Each signature that is needed has its type.
+-- Proves UsesAreBound, ImpliedAreNew and ImpliedAreDistinct: each signature that is needed has its type.
 use Rattle.std.proofs.Common.{◌≡◌, ℕ, ◌+◌, Bool, true, false, not, cond, ◌||◌, ◌&&◌, List, [], ◌∷◌, ◌++◌, append-nil, is_some, refl, sym, ap, ◌∙◌}
 use mathlib.Core.Path.{fun_ext}
 use Rattle.std.proofs.Math.Bool.{or_assoc}
@@ -38,7 +38,7 @@ known_or_new known (s ∷ ss) = new_case (known s) known s ss refl (known_or_new
         ∙ (ap (λ b. (b || is_among new s) && list_all (λ t. known t || is_among (s ∷ new) t) ss) (signatures_equiv.refl s)
         ∙ (ap (λ (f : Signature → Bool). list_all f ss) (fun_ext (λ (t : Signature). sym (or_assoc (known t) (same_signature t s) (is_among new t)))) ∙ q))
 
--- what is known is not new
+-- a known signature is not new
 any_less : (p q : Signature → Bool) (ss : List Signature) → list_any (λ t. p t || q t) ss ≡ false → list_any p ss ≡ false
 any_less p q [] h = refl
 any_less p q (s ∷ ss) h = less_case (p s) (q s) (list_any (λ t. p t || q t) ss) (list_any p ss) (any_less p q ss) h
@@ -60,7 +60,7 @@ none_known known (s ∷ ss) = new_case (known s) known s ss refl (none_known kno
 pub implied_are_new : ImpliedAreNew
 implied_are_new fields = none_known (is_among (eligible_signatures fields)) (needed_numbers fields)
 
--- each is new once
+-- each new signature occurs once
 any_second : (p q : Signature → Bool) (ss : List Signature) → list_any (λ t. p t || q t) ss ≡ false → list_any q ss ≡ false
 any_second p q [] h = refl
 any_second p q (s ∷ ss) h = second_case (p s) (q s) (list_any (λ t. p t || q t) ss) (list_any q ss) (any_second p q ss) h
@@ -85,7 +85,7 @@ all_distinct known (s ∷ ss) =
 pub implied_are_distinct : ImpliedAreDistinct
 implied_are_distinct fields = all_distinct (is_among (eligible_signatures fields)) (needed_numbers fields)
 
--- what is found among all types
+-- look-ups among all types
 known_typed : (n : ℕ) (fields : List ModuleField) (s : Signature) → is_some (index_of (bindings (type_names fields) (fields_with_types n fields)) s) ≡ (is_among (eligible_signatures fields) s || is_among (implied_signatures fields) s)
 known_typed n fields s =
     let k : TypeNames = type_names fields in

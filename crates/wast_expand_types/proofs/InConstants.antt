@@ -1,4 +1,4 @@
--- In tables, globals and segments constant expressions alone need types, and nothing else is bound.
+-- Tables, globals and segments need types only in their constant expressions, and nothing else is resolved.
 use Rattle.std.specs.Prelude.{option_map}
 use Rattle.std.proofs.Common.{◌≡◌, Bool, List, [], ◌∷◌, ◌++◌, map, append-nil, Option, Some, None, refl, ap, ◌∙◌}
 use Rattle.std.specs.List.{flat_map}
@@ -21,7 +21,7 @@ use Rattle.wast_expand_types.proofs.Needing.{needed_both, needed_each, each_none
 abbrev needed_by : Expression → List Signature
 needed_by e = needed_in (in_constant e)
 
--- What is asked before a part, and behind it, needs nothing.
+-- The checks before and after a part need no type.
 behind_asks : (asks : List Check) (ss : List Site) → needed_in (check_sites asks ++ ss) ≡ needed_in ss
 behind_asks asks ss = needed_both (check_sites asks) ss ∙ ap (λ ts. ts ++ needed_in ss) (needed_asking asks)
 
@@ -60,7 +60,7 @@ active_needs (Some i) offset = refl
 pub elem_needs : (e : Elem) → needed_in (in_elem e) ≡ needed_in (in_elem_kind e.kind) ++ needed_in (in_payload e.payload)
 elem_needs e = needed_both (in_elem_kind e.kind) _ ∙ ap (λ ts. needed_in (in_elem_kind e.kind) ++ ts) (before_ask (in_payload e.payload) _)
 
--- What stands beside constant expressions stays.
+-- The parts beside constant expressions are unchanged.
 module _ (find : LookUp) where
   pub import_bound : (import : InlineImport) (ty : TableType) → mapped_table_kind (binding_change find) (table.Import import ty) ≡ table.Import import ty
   import_bound import ty = ap (λ (t : TableType). table.Import import t) (table_type_at ty).still

@@ -1,4 +1,4 @@
--- Expansion puts nothing in place.
+-- Proves StaysWrittenOut: the pass adds no inline part.
 use Rattle.std.proofs.Common.{◌≡◌, ℕ, ◌+◌, Bool, true, false, ◌&&◌, List, [], ◌∷◌, refl, ap, ◌∙◌}
 use Rattle.std.proofs.lemmas.List.Folds.{list_all-append}
 use Rattle.wast_tree_nodes.specs.WrittenOut.{is_written_field, is_written_out}

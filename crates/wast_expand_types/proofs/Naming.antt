@@ -1,4 +1,4 @@
--- Types are given ids while the names that they have without are gathered.
+-- Types get ids while the ids that the source has are collected.
 use Rattle.std.proofs.Common.{◌≡◌, ℕ, ◌+◌, ◌<◌, ◌≤◌, List, [], ◌∷◌, ◌++◌, length, get_or, set, take, drop, append_assoc, length-append, Option, inl, inr, refl, sym, ap, ◌∙◌, arith}
 use Rattle.std.proofs.lemmas.Grind.{take-set_at}
 use Rattle.std.proofs.lemmas.List.{drop_more, drop-set-lt}
@@ -22,12 +22,12 @@ later : (m n : ℕ) (names more : List (Option Name)) (e : Error) → m ≤ n �
 later m n names more e le long (inl out) = inl (less_runs_out m n e le out)
 later m n names more e le long (inr many) = inr (many.0, omega (arith, many.1, long))
 
--- expansion stops where naming does
+-- the pass fails if this step fails
 pub stops_expanding : (n : ℕ) (fields : List ModuleField) (e : Error) → StopsNaming (n + missing_id_count lacks_id fields) (in_fields fields) e → StopsExpanding n fields e
 stops_expanding n fields e (inl out) = inl (less_runs_out (n + missing_id_count lacks_id fields) (n + type_id_count fields) e (omega arith) out)
 stops_expanding n fields e (inr many) = inr many
 
--- The field x stands at i among ys, those before it are named, and xs are all as they were.
+-- The field x is at i in ys, the fields before it have ids, and xs are the fields as they were.
 module _ (old new : List (Option Name)) (xs ys : List ModuleField) (m n i : ℕ) (x : ModuleField) (lt : i < length ys) (is : x ≡ get_or ys i x)
     (counted : m + missing_id_count lacks_id (drop i ys) ≡ n + missing_id_count lacks_id xs) (gathered : new ++ in_fields (drop i ys) ≡ old ++ in_fields xs) where
   abbrev rest : List ModuleField
@@ -50,7 +50,7 @@ module _ (old new : List (Option Name)) (xs ys : List ModuleField) (m n i : ℕ)
       sym (length-append (new ++ names_in space.Ty (items_in x)) (in_fields rest)) ∙ ap length one_gathered in
       later (m + one_if (lacks_id x)) (n + missing_id_count lacks_id xs) (new ++ names_in space.Ty (items_in x)) (old ++ in_fields xs) e (omega (arith, ids)) (omega (arith, names)) h
 
-  -- The field is v once it is named, k the counter then, and with its names all are got.
+  -- The field is v once it has its id, k is the counter then, and got are all ids up to it.
   module _ (v : ModuleField) (k : ℕ) (got : List (Option Name)) where
     left : drop (i + 1) (set ys i v) ≡ rest
     left = drop-set-lt (i + 1) ys i v (omega arith)

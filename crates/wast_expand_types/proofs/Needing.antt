@@ -1,4 +1,4 @@
--- What is needed at sites; and the type uses of a body are the same wherever it stands.
+-- The signatures that sites need, and that the type uses of a body do not depend on the context.
 use Rattle.std.specs.Prelude.{true, false}
 use Rattle.std.proofs.Common.{◌≡◌, ℕ, List, map, [], ◌∷◌, ◌++◌, append-nil, Option, Some, None, refl, sym, ap, ◌∙◌}
 use Rattle.std.specs.List.{flat_map}
@@ -26,7 +26,7 @@ use Rattle.wast_expand_types.specs.Expanders.{LookUp}
 use Rattle.wast_expand_types.specs.Expanded.{def_of, start_of_text, bound_if, bound_use, binding_change}
 use Rattle.wast_expand_types.specs.Binding.{no_use, wants_type}
 
--- What is needed in parts that stand one after the other, and in each of a list.
+-- The signatures that consecutive parts need, and those of a list.
 pub needed_both : (xs ys : List Site) → needed_in (xs ++ ys) ≡ needed_in xs ++ needed_in ys
 needed_both xs ys = flat_map-append needed_at xs ys
 
@@ -38,7 +38,7 @@ pub each_none : {X A : Type 0} {f : X → List A} → ((x : X) → f x ≡ []) �
 each_none one [] = refl
 each_none {f = f} one (x ∷ xs) = ap (λ ys. ys ++ flat_map f xs) (one x) ∙ each_none one xs
 
--- What is asked of names needs no type, and no more does what is declared.
+-- Checks of ids need no type, and neither do declarations.
 pub needed_asking : (asks : List Check) → needed_in (check_sites asks) ≡ []
 needed_asking [] = refl
 needed_asking (a ∷ asks) = needed_asking asks
@@ -54,7 +54,7 @@ needed_besides xs asks = needed_both xs (check_sites asks) ∙ (ap (λ ss. neede
 pub needed_group : {A : Type 0} (items : List (A × ItemSig)) → needed_in (flat_map (λ p. in_sig p.1) items ++ check_sites (uncovered_check form.CompactImports)) ≡ flat_map (λ p. needed_in (in_sig p.1)) items
 needed_group items = needed_besides (flat_map (λ p. in_sig p.1) items) (uncovered_check form.CompactImports) ∙ needed_each (λ p. in_sig p.1) items
 
--- No more do labels.
+-- Labels need no type.
 needed_label : (blocks : Blocks) (l : Index) → needed_in (at_label blocks l) ≡ []
 needed_label blocks l = refl
 
@@ -81,7 +81,7 @@ needed_resume blocks asks t = needed_both (check_sites asks) (in_handlers blocks
 pub needed_cast : (blocks : Blocks) (l : Index) (to from : RefType) → needed_in (in_cast blocks l to from) ≡ []
 needed_cast blocks l to from = needed_asking (in_ref to ++ in_ref from)
 
--- A block needs the type that its type use needs, and one that catches no more.
+-- A block needs the type of its type use, and catch clauses need no more.
 pub needed_block : (blocks : Blocks) (b : BlockType) → needed_in (in_block blocks b) ≡ needed_in (in_use OfBlock b.ty)
 needed_block blocks b = needed_both (in_use OfBlock b.ty) (Begins blocks (mark_of_option b.label) ∷ []) ∙ append-nil (needed_in (in_use OfBlock b.ty))
 
@@ -94,7 +94,7 @@ needed_try_table blocks t =
     (needed_both catches begins ∙ (append-nil (needed_in catches) ∙ (needed_each (in_catch blocks) t.catches ∙ each_none (needed_catch blocks) t.catches)))
     ∙ append-nil (needed_in (in_use OfBlock t.block.ty)))
 
--- An instruction has the same type uses wherever it stands, and so has a body.
+-- An instruction has the same type uses in any context, and so has a body.
 instr_anywhere : (h : BodyContext) (i : Instruction) → needed_in (in_instr h i) ≡ needed_in (in_instr constant_context i)
 instr_anywhere h (instr.try_table t) = needed_try_table h.blocks t ∙ sym (needed_try_table [] t)
 instr_anywhere h (instr.br_table t) = needed_br_table h.blocks t ∙ sym (needed_br_table [] t)
@@ -115,7 +115,7 @@ needed_body h e = needed_both (in_instrs h e.instrs) _ ∙ (append-nil (needed_i
 pub needed_constant : (e : Expression) → needed_in (in_constant e) ≡ flat_map (λ i. needed_in (in_instr constant_context i)) e.instrs
 needed_constant e = needed_both (in_instrs constant_context e.instrs) (Asked (Clause 5 (is_balanced (block_effects e.instrs))) ∷ []) ∙ (append-nil (needed_in (in_instrs constant_context e.instrs)) ∙ instrs_anywhere constant_context e.instrs)
 
--- a body alone needs types
+-- only a body needs types
 pub needed_inline : (u : TypeUse FunctionType) (locals : List Local) (e : Expression) → needed_in (in_func_kind u (func.Inline locals e)) ≡ needed_in (in_constant e)
 needed_inline u locals e =
     let marks = param_marks u.inline ++ local_marks locals in
@@ -135,13 +135,13 @@ kind_anywhere u (func.Inline locals e) = needed_inline u locals e ∙ sym (neede
 pub needed_func : (f : Func) → needed_in (in_func f) ≡ needed_in (in_use OfItem f.ty) ++ needed_in (in_func_kind no_use f.kind)
 needed_func f = needed_both (in_use OfItem f.ty) (in_func_kind f.ty f.kind) ∙ ap (λ ss. needed_in (in_use OfItem f.ty) ++ ss) (kind_anywhere f.ty f.kind)
 
--- no type stands in place in the types of what `select` gives
+-- the types of `select` have no type use
 pub select_stays : (t : SelectTypes) → mapped_select (λ s i. i) t ≡ t
 select_stays t = (select_at t).still
 
--- And it is bound in the same way wherever it stands.
+-- An instruction is resolved in the same way in any context.
 module _ (find : LookUp) where
-  -- of a block that catches the type alone
+  -- of a block with catch clauses only the type
   catch_stays : (blocks : Blocks) (c : TryTableCatch) → mapped_catch (binding_change find) blocks c ≡ c
   catch_stays blocks c = λ t. record { kind = (caught_at c.kind).still t; label = c.label }
 
@@ -175,7 +175,7 @@ module _ (find : LookUp) where
   bound_kind_anywhere u (func.Import import exact) = refl
   bound_kind_anywhere u (func.Inline locals e) = inline_bound u locals e ∙ sym (inline_bound no_use locals e)
 
--- The type use of a block that wants a type is bound as another, and else its inline type is all that is said.
+-- The type use of a block is resolved like another if it needs a type. Otherwise only its inline type is set.
 module _ (find : LookUp) where
   pub block_wants : (i : Option Index) (inline : Option FunctionType) → wants_type i inline ≡ true
       → bound_use find OfBlock (record { index = i; inline = inline }) ≡ bound_use find OfItem (record { index = i; inline = inline })
@@ -183,7 +183,7 @@ module _ (find : LookUp) where
   block_wants None None h = absurd cc
   block_wants None (Some t) h = ap (λ b. record { index = bound_if b (find (signature_of t)); inline = Some t }) h
 
--- No type needs another.
+-- A type definition needs no type.
 pub ty_none : (t : ty.«Type») → needed_in (in_field (field.Ty t)) ≡ []
 ty_none t = needed_asking (in_type t)
 
@@ -194,11 +194,11 @@ pub custom_none : (c : Custom) → needed_in (in_field (field.Custom c)) ≡ []
 custom_none (custom.Dylink0 info) = needed_asking (flat_map in_subsection info.subsections)
 custom_none c = refl
 
--- the type that is made for a signature, with its id
+-- the type that is appended for a signature, with its id
 abbrev pub made_type : ℕ → Signature → ty.«Type»
 made_type n s = record { span = start_of_text; id = Some (gensym_id n start_of_text); name = None; def = def_of s false }
 
--- The handlers of a resumption stay.
+-- The handlers of a resumption are unchanged.
 handle_stays : (find : LookUp) (blocks : Blocks) (x : Handle) → mapped_handle (binding_change find) blocks x ≡ x
 handle_stays find blocks (handle.OnLabel e l) = refl
 handle_stays find blocks (handle.OnSwitch e) = refl

@@ -1,4 +1,4 @@
--- What is in the numbers of the written types stays so, and implied types are; without names a signature stays as it is written.
+-- Proves ImpliedAreNumbered: replacing ids by numbers twice is the same as once, so it leaves appended types unchanged.
 use Rattle.std.proofs.Common.{◌≡◌, ℕ, Bool, true, false, cond, ◌||◌, List, [], ◌∷◌, map, Option, Some, None, refl, ap}
 use Rattle.wast_base.specs.Ids.{Name, name_of}
 use Rattle.wast_base.specs.Denoted.{numbered_by, resolved_index}
@@ -51,7 +51,7 @@ module _ (k : TypeNames) where
       by true p q = p
       by false p q = λ i. twice s i ∷ q i
 
--- Where no type has a name, a signature stays as it is written.
+-- If no type has an id, signatures are unchanged.
 module _ (k : TypeNames) (none : (q : Name) → k q ≡ None) where
   index_stays : (i : Index) → resolved_index k i ≡ i
   index_stays (index.Num n p) = refl

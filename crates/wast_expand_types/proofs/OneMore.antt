@@ -1,4 +1,4 @@
--- A type of its own for a signature that has none.
+-- Appending a type for a signature that has none.
 use Rattle.std.proofs.Common.{◌≡◌, ℕ, ◌+◌, cond, List, [], ◌∷◌, ◌++◌, length, Some, None, is_some, sym, ap, ◌∙◌}
 use Rattle.std.specs.Option.{option_or}
 use Rattle.wast_base.specs.Ids.{gensym_id}

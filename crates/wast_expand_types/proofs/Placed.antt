@@ -1,4 +1,4 @@
--- What is found among signatures that are kept by their hashes, and what one more changes.
+-- Look-ups in the two maps of an `Expander`, before and after a signature is added.
 use Rattle.std.proofs.Common.{◌≡◌, ℕ, Bool, true, false, cond, [], ◌∷◌, Option, Some, None, is_some, refl, sym, ap, subst, ◌∙◌}
 use mathlib.Core.Bool.{true≢false}
 use Rattle.std.specs.Cmp.{unsigned_tied, unsigned_Decides, nat_eq_equiv}
@@ -19,7 +19,7 @@ use Rattle.wast_expand_types.specs.Hashed.{hash_of, Firsts, with_hash, bindings_
 use Rattle.wast_expand_types.proofs.Bound.{same_index_of, put_once}
 use Rattle.wast_expand_types.proofs.Adding.{lookup-append, or_or}
 
--- equal signatures have one hash
+-- equal signatures have the same hash
 same_hash : (s k : Signature) → same_signature s k ≡ true → hash_of s ≡ hash_of k
 same_hash s k h = ap (λ writes. folding.finish (fold folding.write folding.initial writes)) (signatures_alike.fed s k h)
 
@@ -29,7 +29,7 @@ same_number m n h = (unsigned_Decides m n).0 (sym (unsigned_tied m n) ∙ h)
 at_itself : (n : ℕ) → is_at (nat_cmp n) n ≡ true
 at_itself n = unsigned_tied n n ∙ nat_eq_equiv.refl n
 
--- In ascending hashes no hash comes again.
+-- In ascending hashes no hash occurs twice.
 none_behind : (es : Firsts) (h : ℕ) → AllByRecursion (λ k. nat_cmp h k ≡ Less) (keys_of es) → with_hash es h ≡ None
 none_behind [] h all = refl
 none_behind (e ∷ es) h all = ap (λ o. cond (is_eq o) (Some e.1) (with_hash es h)) all.0 ∙ none_behind es h all.1
@@ -39,7 +39,7 @@ kept_case : (t : Bool) (e : ℕ × (Signature × Index)) (es : Firsts) (h : ℕ)
 kept_case true e es h b is all found = absurd (true≢false (sym (ap is_some (sym (none_behind es e.0 all) ∙ (ap (with_hash es) (sym (same_number h e.0 is)) ∙ found)))))
 kept_case false e es h b is all found = found
 
--- What a signature is bound to among the first ones: the one at its hash, if it is equal.
+-- The index of a signature in the first map: that of the entry with its hash, if the signatures are equal.
 abbrev matching : Signature → Option (Signature × Index) → Option Index
 matching s None = None
 matching s (Some b) = cond (same_signature s b.0) (Some b.1) None
@@ -66,7 +66,7 @@ found_first (e ∷ es) s sorted hashed =
 found_in : {es : Firsts} {others : BoundSignatures} (s : Signature) → ArePlaced es others → index_of (bindings_of es others) s ≡ option_or (matching s (with_hash es (hash_of s))) (index_of others s)
 found_in {es} {others} s placed = lookup-append (same_signature s) (values_of es) others ∙ ap (λ o. option_or o (index_of others s)) (found_first es s placed.ascending placed.hashed)
 
--- the answers of a look-up
+-- the cases of a look-up
 pub found_at_hash : {es : Firsts} {others : BoundSignatures} (s : Signature) (b : Signature × Index) → ArePlaced es others → with_hash es (hash_of s) ≡ Some b → same_signature b.0 s ≡ true
     → Some b.1 ≡ index_of (bindings_of es others) s
 found_at_hash {es} {others} s b placed found same =
@@ -82,7 +82,7 @@ found_beside {es} {others} s b placed found same =
 pub found_else : {es : Firsts} {others : BoundSignatures} (s : Signature) → ArePlaced es others → with_hash es (hash_of s) ≡ None → index_of others s ≡ index_of (bindings_of es others) s
 found_else {es} {others} s placed found = sym (found_in s placed ∙ ap (λ o. option_or (matching s o) (index_of others s)) found)
 
--- nothing is bound at first
+-- an empty map has no entries
 pub none_placed : ArePlaced [] []
 unfolding IsStrictlySortedBy
 none_placed = record { ascending = tt; hashed = λ h b found. absurd (true≢false (sym (ap is_some found))); shared = λ s found. refl }
@@ -95,7 +95,7 @@ not_true : (t : Bool) → (t ≡ true → false ≡ true) → t ≡ false
 not_true true h = absurd (true≢false (sym (h refl)))
 not_true false h = refl
 
--- One more, whose hash none has.
+-- Adding a signature whose hash is new.
 first_case : (q : Bool) (s k : Signature) (i : Index) (at : Option (Signature × Index)) (o : Option Index) → (q ≡ true → at ≡ None) → (q ≡ true → o ≡ None) → (same_signature s k ≡ true → q ≡ true)
     → option_or (matching s (cond q (Some (k, i)) at)) o ≡ option_or (option_or (matching s at) o) (cond (same_signature s k) (Some i) None)
 first_case true s k i at o none_at none_o h =
@@ -131,7 +131,7 @@ module _ {es : Firsts} (fs : Firsts) {others : BoundSignatures} (k : Signature) 
       ∙ (first_case (is_at (nat_cmp (hash_of k)) (hash_of s)) s k i at (index_of others s) gone (λ e. placed.shared s (gone e)) (λ e. ap (is_at (nat_cmp (hash_of k))) (same_hash s k e) ∙ at_itself (hash_of k))
       ∙ ap (λ o. option_or o (cond (same_signature s k) (Some i) None)) (sym (found_in s placed))))
 
--- One more, whose hash another one has.
+-- Adding a signature whose hash is taken.
 module _ {es : Firsts} {others : BoundSignatures} (more : BoundSignatures) (k : Signature) (i : Index) (placed : ArePlaced es others) (taken : is_some (with_hash es (hash_of k)) ≡ true)
     (extends : Extends others more ((k, i) ∷ [])) where
   other_placed : ArePlaced es more
@@ -148,7 +148,7 @@ module _ {es : Firsts} {others : BoundSignatures} (more : BoundSignatures) (k : 
       ∙ (sym (or_or (matching s (with_hash es (hash_of s))) (index_of others s) (cond (same_signature s k) (Some i) None))
       ∙ ap (λ o. option_or o (cond (same_signature s k) (Some i) None)) (sym (found_in s placed))))
 
--- a key that is bound stays so
+-- a key that has an index keeps it
 kept_bound : (t : Bool) (o : Option Index) (i : Index) → (t ≡ true → is_some o ≡ true) → o ≡ option_or o (cond t (Some i) None)
 kept_bound t (Some j) i h = refl
 kept_bound false None i h = refl
@@ -159,7 +159,7 @@ first_kept : {es : Firsts} {others : BoundSignatures} (k : Signature) (i : Index
 first_kept {es} {others} k i b placed found same s =
     kept_bound (same_signature s k) (index_of (bindings_of es others) s) i (λ e. ap is_some (same_index_of (bindings_of es others) s k e ∙ sym (found_at_hash k b placed found same)))
 
--- what the number n is, that the program computed
+-- n is the hash that the program computed
 pub binds_new : {es fs : Firsts} (k : Signature) (i : Index) (n : ℕ) (w : Signature × Index) → n ≡ hash_of k → w ≡ (k, i) → with_hash es n ≡ None
     → ((h : ℕ) → with_hash fs h ≡ cond (is_at (nat_cmp n) h) (Some w) (with_hash es h)) → IsStrictlySortedBy nat_cmp (keys_of fs) → BindsFirst es fs k i
 binds_new {es} {fs} k i n w is w_is none more ascending others placed =
@@ -170,7 +170,7 @@ binds_new {es} {fs} k i n w is w_is none more ascending others placed =
 pub binds_bound : {es : Firsts} (k : Signature) (i : Index) (n : ℕ) (b : Signature × Index) → n ≡ hash_of k → with_hash es n ≡ Some b → same_signature b.0 k ≡ true → BindsFirst es es k i
 binds_bound {es} k i n b is found same others placed = (placed, first_kept k i b placed (ap (with_hash es) (sym is) ∙ found) same)
 
--- one more among the others, where j is the key that was handed back, and w what stands at it now
+-- adding to the second map: j is the key that was returned, and w the entry at it afterwards
 module _ {es fs : Firsts} {others : BoundSignatures} (more : BoundSignatures) (k j : Signature) (i w : Index) (placed : ArePlaced es others) (is : j ≡ k) (taken : is_some (with_hash es (hash_of k)) ≡ true)
     (stays : fs ≡ es) (w_is : w ≡ unwrap_or (lookup (is_at (signature_cmp j)) others) i)
     (found : (s : Signature) → lookup (is_at (signature_cmp s)) more ≡ cond (is_at (signature_cmp j) s) (Some w) (lookup (is_at (signature_cmp s)) others)) where

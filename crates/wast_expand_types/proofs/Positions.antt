@@ -1,4 +1,4 @@
--- A signature is bound exactly where it has a position in the type space.
+-- A signature has an index exactly if it has a position in the type space.
 use Rattle.std.proofs.Common.{◌≡◌, ℕ, ◌+◌, Bool, true, false, cond, ◌||◌, List, [], ◌∷◌, ◌++◌, map, Option, Some, None, is_none, is_some, refl, sym, ap, ◌∙◌, arith}
 use Rattle.std.specs.List.{flat_map, position, position_from, list_any}
 use Rattle.std.proofs.lemmas.Iterator.Adapters.{position_from-zero}
@@ -16,7 +16,7 @@ use Rattle.wast_expand_types.specs.Expanders.{BoundSignatures, index_of}
 use Rattle.wast_expand_types.specs.Expanded.{lacks_id, fields_with_types, binding_of, bindings, found_for}
 use Rattle.wast_expand_types.proofs.AtRest.{types_typed, none_lacks_after}
 
--- a position is found where one passes
+-- a position is found exactly if an element passes
 found_from : {A : Type 0} (p : A → Bool) (i : ℕ) (xs : List A) → is_some (position_from p i xs) ≡ list_any p xs
 found_from p i [] = refl
 found_from p i (x ∷ xs) = by_test (p x) (position_from p (i + 1) xs) (list_any p xs) (found_from p (i + 1) xs)
@@ -43,7 +43,7 @@ module _ (s : Signature) where
       by_test true r = refl
       by_test false r = r
 
-  -- no member of a group is taken
+  -- a member of a group is not matched
   members_there : (ms : List ty.«Type») (types : List (Option Signature)) → is_there (map (λ t. None) ms ++ types) ≡ is_there types
   members_there [] types = refl
   members_there (m ∷ ms) types = members_there ms types

@@ -1,4 +1,4 @@
--- Binding changes nothing where nothing is needed, and nothing is needed where each signature is found.
+-- Resolving changes nothing if no type is needed, and no type is needed if each signature is found.
 use Rattle.std.specs.Prelude.{Option, Some, None, is_some, Bool, true, false, not, ◌&&◌, ◌||◌}
 use Rattle.std.proofs.Common.{◌≡◌, List, [], ◌∷◌, ◌++◌, map, refl, sym, ap, ◌∙◌}
 use Rattle.std.specs.List.{list_all}
@@ -27,7 +27,7 @@ pub right_none : {A : Type 0} (xs ys : List A) → xs ++ ys ≡ [] → ys ≡ []
 right_none [] ys h = h
 right_none (x ∷ xs) ys h = absurd cc
 
--- A type use of a block has an index or an inline type.
+-- The type use of a block has an index or an inline type.
 abbrev is_said : Where → Option Index → Option FunctionType → Bool
 is_said OfItem i inline = true
 is_said OfCall i inline = true
@@ -48,12 +48,12 @@ pub asking_says : (asks : List Check) → list_all says (check_sites asks) ≡ t
 asking_says [] = refl
 asking_says (a ∷ asks) = asking_says asks
 
--- Binding keeps ids.
+-- Resolving keeps ids.
 pub binding_keeps : (find : LookUp) → KeepsMarks (binding_change find)
 binding_keeps find = record { params = λ u. refl; owns = λ o. refl }
 
 module _ (find : LookUp) where
-  -- a use with an index stays, and so does that of a block that has a short inline type
+  -- a type use with an index is unchanged, and so is that of a block with a short inline type
   index_stays : (w : Where) (i : Option Index) (inline : Option FunctionType) → needed_without w i inline ≡ [] → bound_index find w i inline ≡ i
   index_stays w (Some j) inline h = refl
   index_stays w None inline h = unneeded (needs_type w inline) (inline_signature inline) h
@@ -91,7 +91,7 @@ module _ (find : LookUp) where
     sites_stay ss (right_none (needed_at s) (needed_in ss) h) (second_so (says s) (list_all says ss) e),
   )
 
-  -- What needs nothing stays, where each type use of a block says what it is.
+  -- Fields that need nothing are unchanged, if each type use of a block has an index or an inline type.
   pub fields_stay : (xs : List ModuleField) → needed_signatures xs ≡ [] → list_all says (in_module xs) ≡ true → map (bound_field find) xs ≡ xs
   fields_stay xs h e = alike (binding_change find) no_change (λ o. refl) (λ o. refl) xs (sites_stay (in_module xs) h e) ∙ still xs
 
@@ -106,11 +106,11 @@ module _ (find : LookUp) where
   pub rec_stays : (r : Rec) → bound_field find (field.Rec r) ≡ field.Rec r
   rec_stays r = field_stays (field.Rec r) (rec_none r) (asking_says (in_rec r))
 
-  -- a field that is one that needs nothing
+  -- a field that equals one that needs nothing
   pub stays_as : {x y : ModuleField} → x ≡ y → needed_in (in_field y) ≡ [] → list_all says (in_field y) ≡ true → x ≡ bound_field find x
   stays_as {x} {y} e h k = e ∙ (sym (field_stays y h k) ∙ ap (bound_field find) (sym e))
 
--- Where each signature is found, nothing is needed any more.
+-- If each signature is found, nothing is needed afterwards.
 module _ (find : LookUp) where
   abbrev pub found : List Signature → Bool
   found ss = list_all (λ s. is_some (find s)) ss
@@ -152,7 +152,7 @@ module _ (find : LookUp) where
   pub fields_bound : (xs : List ModuleField) → found (needed_signatures xs) ≡ true → needed_signatures (map (bound_field find) xs) ≡ []
   fields_bound xs h = ap needed_in (stands (binding_change find) (binding_keeps find) xs) ∙ sites_bound (in_module xs) h
 
--- Once type uses are bound, each of a block says what it is.
+-- Once type uses are resolved, each type use of a block has an index or an inline type.
 module _ (find : LookUp) where
   use_says : (w : Where) (i : Option Index) (inline : Option FunctionType) → is_said w (bound_index find w i inline) (bound_inline w i inline) ≡ true
   use_says OfItem i inline = refl

@@ -1,4 +1,4 @@
--- The names of the types among the items of a list, and how they are gathered.
+-- The ids of types among the items of a list, and how they are collected.
 use Rattle.std.proofs.Common.{◌≡◌, ℕ, ◌+◌, ◌<◌, ◌≤◌, List, [], ◌∷◌, ◌++◌, length, get_or, take, drop, map, append_assoc, length-append, Option, inl, inr, refl, sym, ap, ◌∙◌, arith}
 use Rattle.std.specs.List.{flat_map}
 use Rattle.std.proofs.lemmas.List.{take_more, take-append-drop, map-append}
@@ -47,7 +47,7 @@ field_names (field.Rec r) = member_names r.types
 field_names (field.Import i) = import_names i.items
 field_names x = refl
 
--- another field has none
+-- other fields have none
 pub other_names : (x : ModuleField) → ((t : ty.«Type») → x ≡ field.Ty t → ⊥) → ((r : Rec) → x ≡ field.Rec r → ⊥) → names_in space.Ty (items_in x) ≡ []
 other_names (field.Ty t) none lone = absurd (none t refl)
 other_names (field.Rec r) none lone = absurd (lone r refl)
@@ -77,7 +77,7 @@ stops_later : (names more : List (Option Name)) (e : Error) → length names ≤
 stops_later names more e le (inl m) = inl m
 stops_later names more e le (inr r) = inr (r.0, omega (arith, r.1, le))
 
--- what is gathered of a list, one part after the other
+-- what is collected from a list, one part after another
 module _ {A : Type 0} (F : List A → List (Option Name)) (joins : (xs ys : List A) → F (xs ++ ys) ≡ F xs ++ F ys) (old new : List (Option Name)) (xs : List A) (i : ℕ) (x : A) (lt : i < length xs) (is : x ≡ get_or xs i x)
     (so_far : new ≡ old ++ F (take i xs)) where
   one_taken : F (take (i + 1) xs) ≡ F (take i xs) ++ F (x ∷ [])

@@ -1,4 +1,4 @@
--- What the definitions say of worked modules, computed.
+-- Computes the example modules.
 use Rattle.std.proofs.Common.{refl}
 use Rattle.wast_expand_types.specs.WorkedExpansions.{SameSignatures, OrderedSignatures, DistinctSignatures, SameReferences, Row2, Row7, Row8, Row23, Row37, EligibleTypes, Several, AfterStruct, ByIdAndNumber, Row65, UnknownIds, FirstOfTwo, UsesInOrder, IndirectCalls}
 

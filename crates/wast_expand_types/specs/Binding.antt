@@ -1,4 +1,7 @@
--- How the uses of a list are bound one after the other. Private functions alone use this.
+-- How type uses are resolved one after another. Only contracts of private functions use this.
+--
+-- For example, in `(func) (func) (func (param i32))` the first use appends `(type (func))`, the second appends nothing,
+-- and the third appends `(type (func (param i32)))`.
 use Rattle.std.specs.Prelude.{◌≡◌, ℕ, ◌+◌, is_some, Bool, false, List, [], ◌++◌, map, length, Option, Some, None}
 use Rattle.wast_expand_types.specs.Tree.{Index, FunctionType, TypeUse, Instruction, ModuleField}
 use Rattle.wast_expand_types.specs.declared.binder.Binder.{Binder}
@@ -11,39 +14,39 @@ use Rattle.wast_expand_types.specs.Expanders.{BoundSignatures, Bound, LookUp, nu
 use Rattle.wast_expand_types.specs.Expanded.{binding_change, implied_types, bindings}
 use Rattle.wast_tree_map.specs.Mapped.{mapped_instr}
 
--- a type use that says nothing
+-- a type use without index and inline type
 abbrev pub no_use : TypeUse FunctionType
 no_use = record { index = None; inline = None }
 
--- The type use of a block needs a type.
+-- whether the type use of a block needs a type
 abbrev pub wants_type : Option Index → Option FunctionType → Bool
 wants_type (Some i) inline = false
 wants_type None inline = needs_type OfBlock inline
 
--- those that are not bound, each once, in the numbers of the written types
+-- the signatures that are not resolved yet, each once, with ids of source types replaced by numbers
 abbrev pub new_signatures : Bound → List Signature → List Signature
 new_signatures cx ss = first_new (λ s. is_some (index_of cx.bound s)) (map (numbered_signature (numbers_in cx)) ss)
 
--- the types for those that are not bound
+-- the types to append for them
 abbrev pub new_types : Binder → List Signature → List ModuleField
 new_types a ss = implied_types a.gensym (new_signatures a.cx ss)
 
--- what these bind
+-- those signatures with the ids of their types
 abbrev pub new_bindings : Binder → List Signature → BoundSignatures
 new_bindings a ss = bindings (numbers_in a.cx) (new_types a ss)
 
--- the generation of the next id when each of these has its type
+-- the counter after these types are appended
 abbrev pub next_after : Binder → List Signature → ℕ
 next_after a ss = a.gensym + length (new_signatures a.cx ss)
 
--- What stands before and after these have their types: no other type is new.
+-- The state after a list of signatures is resolved: exactly the missing types are appended.
 pub record AddsTypes (a b : Binder) (ss : List Signature) : Type 0 where
   pub names : b.cx.names ≡ a.cx.names
   pub types : Extends a.cx.bound b.cx.bound (new_bindings a ss)
   pub fields : b.implied ≡ a.implied ++ new_types a ss
   pub counter : b.gensym ≡ next_after a ss
 
--- Nothing is bound in an instruction.
+-- There is nothing to resolve in an instruction.
 pub record IsPassed (i : Instruction) : Type 0 where
   pub needs : needed_in (in_instr constant_context i) ≡ []
   pub stays : (find : LookUp) → mapped_instr (binding_change find) constant_context i ≡ i

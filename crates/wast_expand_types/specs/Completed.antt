@@ -1,9 +1,12 @@
--- The list in which each type stands, and no id is made (text format, type uses: abbreviations).
+-- The fields with all types, without generated ids (text format, type uses: abbreviations).
+--
+--   (func)                      (func) (type (func))
+--   (func) (type $t (func))     (func) (type $t (func))
 use Rattle.std.specs.Prelude.{List, ◌++◌, map}
 use Rattle.wast_expand_types.specs.Tree.{ModuleField}
 use Rattle.wast_expand_types.specs.ImpliedTypes.{implied_signatures}
 use Rattle.wast_expand_types.specs.Expanded.{unnamed_type}
 
--- the fields, and after them the implied types, without ids
+-- the fields, and after them the missing types, without ids
 abbrev pub fields_with_implied_types : List ModuleField → List ModuleField
 fields_with_implied_types fields = fields ++ map unnamed_type (implied_signatures fields)

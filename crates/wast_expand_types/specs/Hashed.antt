@@ -1,4 +1,10 @@
--- How an `Expander` keeps what signatures are bound to: one for each hash, and those that share a hash with it.
+-- How an `Expander` stores signatures: one map by hash, and a second map for signatures whose hash is taken.
+--
+-- A look-up compares hashes, and then usually one signature. The second map is ordered by signature, because crafted
+-- signatures with equal hashes would make a list of them slow.
+--
+-- For example, after `(func)` and `(func (param i32))` are added, both are in the first map, unless their hashes are
+-- equal. Then the second is in the other map.
 use Rattle.std.specs.Prelude.{◌≡◌, ℕ, List, [], ◌∷◌, ◌++◌, Option, Some, None}
 use Rattle.std.specs.List.{fold}
 use Rattle.std.specs.List.Sorted.{IsStrictlySortedBy}
@@ -20,20 +26,20 @@ hash_of s = folding.finish (fold folding.write folding.initial (signature_fed ha
 abbrev pub Firsts : Type 0
 Firsts = List (ℕ × (Signature × Index))
 
--- the first one of a hash
+-- the entry of a hash
 abbrev pub with_hash : Firsts → ℕ → Option (Signature × Index)
 with_hash firsts h = lookup (is_at (nat_cmp h)) firsts
 
--- all that is bound
+-- all signatures with their indices
 abbrev pub bindings_of : Firsts → BoundSignatures → BoundSignatures
 bindings_of firsts others = values_of firsts ++ others
 
--- each stands at its hash, and is among the others only where another one does
+-- Each entry has the hash of its signature, and the second map has only signatures whose hash is taken.
 pub record ArePlaced (firsts : Firsts) (others : BoundSignatures) : Type 0 where
   pub ascending : IsStrictlySortedBy nat_cmp (keys_of firsts)
   pub hashed : (h : ℕ) (b : Signature × Index) → with_hash firsts h ≡ Some b → hash_of b.0 ≡ h
   pub shared : (s : Signature) → with_hash firsts (hash_of s) ≡ None → index_of others s ≡ None
 
--- one more is bound among the first ones, unless it is bound
+-- a signature is added to the first map, unless it has an index
 abbrev pub BindsFirst : Firsts → Firsts → Signature → Index → Type 0
 BindsFirst old new k i = (others : BoundSignatures) → ArePlaced old others → ArePlaced new others × Extends (bindings_of old others) (bindings_of new others) ((k, i) ∷ [])

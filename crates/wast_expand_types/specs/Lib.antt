@@ -1,4 +1,22 @@
--- What the contracts cite.
+-- The definitions that the contracts of this crate use:
+--   Tree              the AST types under short names
+--   Signatures        signatures of function types, and when two are equal
+--   SignatureLaws     equality of signatures is an equivalence; equal signatures have equal hashes
+--   SignatureOrder    the order of signatures in maps
+--   NeedingUses       the type uses that need a type
+--   Numbers           signatures with ids of source types replaced by numbers
+--   EligibleTypes     the types that a type use can resolve to
+--   ImpliedTypes      the types that are appended
+--   TypeSpace         the index of each type
+--   TypeItems         errors while ids of types are collected
+--   Expanders         the model of `Expander`: signatures with indices
+--   Hashed            how `Expander` stores them
+--   Expanded          the whole list of fields after the pass
+--   Completed         the fields with the appended types, without generated ids
+--   Positioned        the same, with type uses resolved to positions
+--   Binding           how type uses are resolved one after another
+--   Laws              theorems about the result
+--   WorkedExpansions  example modules with their results
 pub mod Tree
 pub mod Signatures
 pub mod SignatureLaws

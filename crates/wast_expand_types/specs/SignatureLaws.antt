@@ -1,4 +1,7 @@
--- Equality of signatures is an equivalence, and equal signatures are hashed alike.
+-- Equality of signatures is an equivalence, and equal signatures have equal hash input.
+--
+-- Maps need both, because a key must be found by any equal key. For example, `(func (param $p i32))` and
+-- `(func (param $q i32))` have one signature and one hash.
 use Rattle.std.specs.Prelude.{◌≡◌, ◌==◌, Bool, ◌&&◌, List, ◌++◌}
 use Rattle.std.proofs.Common.{refl, sym, ap, subst, ◌∙◌}
 use mathlib.Core.Path.{fun_ext}
@@ -28,7 +31,7 @@ use Rattle.wast_expand_types.specs.Tree.heap
 use Rattle.wast_expand_types.specs.Tree.value
 use Rattle.wast_expand_types.specs.Signatures.{Signature, heap_rank, same_heap, same_ref, same_value, same_values, same_signature}
 
--- `==` of the tree answers what is the same as it is written
+-- `==` of the AST types is the equality of this crate
 name_is : (a b : code.Name) → same_name (named_by a) (named_by b) ≡ names.ghosts.eq a b
 name_is (name.Written a) (name.Written b) = refl
 name_is (name.Generated a) (name.Generated b) = refl
@@ -68,11 +71,11 @@ value_is value.F64 value.F64 = refl
 value_is value.V128 value.V128 = refl
 value_is v w = refl
 
--- so the tests of the tree have its laws
+-- so the tests of the AST types have its properties
 same_value_is : same_value ≡ values.ghosts.eq
 same_value_is = fun_ext (λ v. fun_ext (value_is v))
 
--- the same of lists of value types
+-- the same for lists of value types
 pub same_values_are : (vs ws : List ValType) → same_values vs ws ≡ pointwise values.ghosts.eq vs ws
 same_values_are vs ws = ap (λ (same : ValType → ValType → Bool). pointwise same vs ws) same_value_is
 
@@ -84,13 +87,13 @@ values_equiv = lists_equiv (subst IsEquivalence (sym same_value_is) equal.laws-l
 pub signatures_equiv : IsEquivalence same_signature
 signatures_equiv = and_equiv (on_equiv (λ (s : Signature). s.0) values_equiv) (on_equiv (λ (s : Signature). s.1) values_equiv)
 
--- what is hashed of a signature, where F says it of a value type
+-- the hash input of a signature, from that of value types
 abbrev pub signature_fed : (ValType → HashWrites) → Signature → HashWrites
 signature_fed F s = fed.slice F s.0 ++ fed.slice F s.1
 
 values_alike : Alike same_values (fed.slice hashed.ghosts.hash_input)
 values_alike = items_Alike (record { fed = λ v w h. alike.respects_eq-law v w (sym (value_is v w) ∙ h) })
 
--- equal signatures are hashed alike
+-- equal signatures have equal hash input
 pub signatures_alike : Alike same_signature (signature_fed hashed.ghosts.hash_input)
 signatures_alike = and-Alike (on_Alike (λ (s : Signature). s.0) values_alike) (on_Alike (λ (s : Signature). s.1) values_alike)

@@ -1,4 +1,5 @@
--- What the definitions say of worked modules (text format, type uses: abbreviations). Texts of names may lie anywhere.
+-- Example modules with their results, which the definitions compute (text format, type uses: abbreviations). Names may
+-- be at any address, because the result does not depend on it.
 use Rattle.std.specs.Prelude.{◌≡◌, ℕ, ◌+◌, true, false, List, [], ◌∷◌, ◌++◌, map, Bool, Option, Some, None, codes}
 use Rattle.std.specs.declared.cmp.Ordering.TheVariants.{Less, Equal, Greater}
 use Rattle.wast_expand_types.specs.Tree.{Id, Index, AbstractHeapType, ValType, FunctionType, TypeDef, Expression, ModuleField}
@@ -26,14 +27,14 @@ use Rattle.wast_expand_types.specs.Expanded.{unnamed_type, implied_type, implied
 use Rattle.wast_expand_types.specs.Completed.{fields_with_implied_types}
 use Rattle.wast_expand_types.specs.Positioned.{fields_with_type_positions}
 
--- the id of a generation for a type that no text defines, and as an index
+-- a generated id of an appended type, and the same as an index
 abbrev pub made : ℕ → Id
 made n = gensym_id n (place 0)
 
 abbrev pub by_made : ℕ → Index
 by_made n = index.Id (made n)
 
--- `(func ..)` without an id and with an empty body, which begins at n
+-- `(func ..)` at position n, without an id and with an empty body
 abbrev pub func_at : ℕ → Option Index → Option FunctionType → ModuleField
 func_at n type inline = field.Func (record {
   span = place (n + 1);
@@ -44,26 +45,26 @@ func_at n type inline = field.Func (record {
   ty = record { index = type; inline = inline };
 })
 
--- a function type that is written with nameless parameters
+-- a function type with unnamed parameters
 abbrev pub function_type : List ValType → List ValType → FunctionType
 function_type params results = record { params = map (λ v. (None, None, v)) params; results = results }
 
--- `(type .. (func ..))`, which begins at n
+-- `(type .. (func ..))` at position n
 abbrev pub type_at : Option Id → ℕ → FunctionType → ModuleField
 type_at id n t = field.Ty (record (plain_type id n) { def = record plain_def { kind = inner.Func t } })
 
--- `(type .. (struct))`, which begins at n
+-- `(type .. (struct))` at position n
 abbrev pub struct_at : Option Id → ℕ → ModuleField
 struct_at id n = field.Ty (record (plain_type id n) { def = record plain_def { kind = inner.Struct (record { fields = [] }) } })
 
--- `(ref ..)`, `(ref null func)` and the like
+-- `(ref ..)`, `(ref null func)` and similar types
 abbrev pub ref_to : Index → ValType
 ref_to i = value.Ref (record { nullable = false; heap = heap.Concrete i })
 
 abbrev pub abstract_ref : Bool → Bool → AbstractHeapType → ValType
 abstract_ref is_nullable is_shared a = value.Ref (record { nullable = is_nullable; heap = heap.Abstract is_shared a })
 
--- Parameters and results count, each in its place and order; the one is not the other.
+-- Parameters and results both count, in order. A parameter is not a result.
 abbrev pub SameSignatures : Type 0
 SameSignatures =
     (same_signature (value.I32 ∷ [], value.F64 ∷ value.V128 ∷ []) (value.I32 ∷ [], value.F64 ∷ value.V128 ∷ []) ≡ true)
@@ -72,7 +73,8 @@ SameSignatures =
     × (same_signature (value.F32 ∷ value.F64 ∷ [], []) (value.F64 ∷ value.F32 ∷ [], []) ≡ false)
     × (same_signature ([], value.I32 ∷ []) ([], []) ≡ false)
 
--- Fewer parameters come first, then fewer results; of as many, the types of the parameters decide, then those of the results.
+-- Fewer parameters come first, then fewer results. With equal numbers, the types of parameters decide, then those of
+-- results.
 abbrev pub OrderedSignatures : Type 0
 OrderedSignatures =
     (signature_cmp (value.I32 ∷ [], value.F64 ∷ []) (value.I32 ∷ [], value.F64 ∷ []) ≡ Equal)
@@ -81,13 +83,14 @@ OrderedSignatures =
     × (signature_cmp (value.F64 ∷ [], value.I32 ∷ []) (value.I32 ∷ [], value.F64 ∷ []) ≡ Greater)
     × (signature_cmp (value.I32 ∷ [], value.I32 ∷ []) (value.I32 ∷ [], value.F64 ∷ []) ≡ Less)
 
--- Signatures are distinct where none comes again.
+-- Signatures are distinct if none occurs twice.
 abbrev pub DistinctSignatures : Type 0
 DistinctSignatures =
     (are_distinct (empty_signature ∷ (value.I32 ∷ [], []) ∷ ([], value.I32 ∷ []) ∷ []) ≡ true)
     × (are_distinct (empty_signature ∷ (value.I32 ∷ [], []) ∷ empty_signature ∷ []) ≡ false)
 
--- Equal ids are equal wherever they stand, and a number is no id. Whether it is nullable or shared counts, and what it is.
+-- Ids are equal if their names are, at any position. An id and a number differ. Nullable, shared and the heap type
+-- count.
 abbrev pub SameReferences : Type 0
 SameReferences = (a b : Address) →
     (same_value (ref_to (by_id a (codes "t") 5)) (ref_to (by_id b (codes "t") 9)) ≡ true)
@@ -102,7 +105,7 @@ SameReferences = (a b : Address) →
     × (same_value (abstract_ref false false abstract.Func) (ref_to (by_number 0 5)) ≡ false)
     × (same_value (ref_to (by_number 0 5)) value.I32 ≡ false)
 
--- `(module (func))`: the type `(func)` is implied, and is type 0.
+-- `(module (func))`: the type `(func)` is appended, as type 0.
 abbrev pub row2 : List ModuleField
 row2 = func_at 8 None None ∷ []
 
@@ -116,7 +119,7 @@ Row2 =
     × (fields_with_type_positions row2 ≡ func_at 8 (Some (by_number 0 0)) None ∷ unnamed_type empty_signature ∷ [])
     × (expanded_fields 5 row2 ≡ func_at 8 (Some (by_made 5)) None ∷ implied_type 5 empty_signature ∷ [])
 
--- `(module (func (result i32 i64)) (type $t (func (result i32 i64))))`: a use takes a type that is written later.
+-- `(module (func (result i32 i64)) (type $t (func (result i32 i64))))`: a type use matches a later type.
 abbrev pub results7 : List ValType
 results7 = value.I32 ∷ value.I64 ∷ []
 
@@ -136,7 +139,7 @@ Row7 = (a : Address) →
     × (fields_with_type_positions (row7 a) ≡ row7_with a (Some (by_number 0 0)))
     × (expanded_fields 5 (row7 a) ≡ row7_with a (Some (index.Id (id_at a (codes "t") 38))))
 
--- `(module (rec (type (func))) (func))`: no member of a group is taken, nor given an id, but it has a place.
+-- `(module (rec (type (func))) (func))`: a member of a group is not matched and gets no id, but it has index 0.
 abbrev pub row8_with : Option Index → List ModuleField
 row8_with type = field.Rec (record { span = place 9; types = plain_type None 13 ∷ [] }) ∷ func_at 28 type None ∷ []
 
@@ -149,7 +152,8 @@ Row8 =
     × (fields_with_type_positions (row8_with None) ≡ row8_with (Some (by_number 1 0)) ++ unnamed_type empty_signature ∷ [])
     × (expanded_fields 5 (row8_with None) ≡ row8_with (Some (by_made 5)) ++ implied_type 5 empty_signature ∷ [])
 
--- `(module (type (struct)) (func (type 0) (param i32)))`: a use with an index needs no type, and the type has an id.
+-- `(module (type (struct)) (func (type 0) (param i32)))`: a type use with an index needs no type. The struct gets an
+-- id.
 abbrev pub row23_with : Option Id → List ModuleField
 row23_with id = struct_at id 8 ∷ func_at 24 (Some (by_number 0 36)) (Some (function_type (value.I32 ∷ []) [])) ∷ []
 
@@ -162,7 +166,7 @@ Row23 =
     × (type_id_count (row23_with None) ≡ 1)
     × (expanded_fields 5 (row23_with None) ≡ row23_with (Some (gensym_id 5 (place 9))))
 
--- `(module (type (sub (func))) (func))`: an open type is not taken.
+-- `(module (type (sub (func))) (func))`: an open type is not matched.
 abbrev pub lone_with : TypeDef → Option Id → Option Index → List ModuleField
 lone_with def id type = field.Ty (record (plain_type id 8) { def = def }) ∷ func_at 28 type None ∷ []
 
@@ -175,7 +179,8 @@ Row37 =
     × (index_for (row37_with None None) empty_signature ≡ Some 1)
     × (expanded_fields 5 (row37_with None None) ≡ row37_with (Some (gensym_id 5 (place 9))) (Some (by_made 6)) ++ implied_type 6 empty_signature ∷ [])
 
--- A type that says that it is final is taken; none with parents is, nor a shared one, nor one with a descriptor or describes.
+-- A type that is marked as final is eligible. A type with supertypes, a shared one, or one with descriptor or describes
+-- is not.
 abbrev pub IsTaken : TypeDef → Type 0
 IsTaken def = (implied_signatures (lone_with def None None) ≡ []) × (index_for (lone_with def None None) empty_signature ≡ Some 0)
 
@@ -191,8 +196,8 @@ EligibleTypes =
     × IsLeft (record plain_def { descriptor = Some (by_number 1 20) })
     × IsLeft (record plain_def { describes = Some (by_number 1 20) })
 
--- `(module (func (param $p i32)) (func (result i32)) (type (func)) (func (param i32)))`: a type for each signature, in the
--- order of first use and behind those that are written; names of parameters do not count.
+-- `(module (func (param $p i32)) (func (result i32)) (type (func)) (func (param i32)))`: one type for each signature,
+-- in the order of first use and after the source's types. Ids of parameters do not count.
 abbrev pub named_param : Address → FunctionType
 named_param a = record { params = (Some (id_at a (codes "p") 21), None, value.I32) ∷ []; results = [] }
 
@@ -217,7 +222,7 @@ Several = (a : Address) →
     ≡ several_with a (Some (gensym_id 5 (place 51))) (Some (by_made 6)) (Some (by_made 7))
     ++ (implied_type 6 (value.I32 ∷ [], []) ∷ implied_type 7 ([], value.I32 ∷ []) ∷ []))
 
--- `(module (type (struct)) (type (func)) (func))`: a struct is not taken, and the type after it is type 1.
+-- `(module (type (struct)) (type (func)) (func))`: a struct is not matched, and the type after it is type 1.
 abbrev pub after_struct_with : Option Id → Option Id → Option Index → List ModuleField
 after_struct_with first second type = struct_at first 8 ∷ type_at second 24 (function_type [] []) ∷ func_at 38 type None ∷ []
 
@@ -229,8 +234,8 @@ AfterStruct =
     × (expanded_fields 5 (after_struct_with None None None)
     ≡ after_struct_with (Some (gensym_id 5 (place 9))) (Some (gensym_id 6 (place 25))) (Some (index.Id (gensym_id 6 (place 25)))))
 
--- `(module (type $t (func)) (func (param (ref $t))) (func (param (ref 0))))`: the id and the number of one type are one, and
--- one type is implied for both, with the number at the place of the id.
+-- `(module (type $t (func)) (func (param (ref $t))) (func (param (ref 0))))`: the id and the number are the same type.
+-- One type is appended for both functions, with the number.
 abbrev pub takes_ref : Index → FunctionType
 takes_ref i = function_type (ref_to i ∷ []) []
 
@@ -251,7 +256,8 @@ ByIdAndNumber = (a b c : Address) →
     × (type_id_count (by_id_and_number_with a b None) ≡ 1)
     × (expanded_fields 5 (by_id_and_number_with a b None) ≡ by_id_and_number_with a b (Some (by_made 5)) ++ implied_type 5 (by_ref (by_number 0 43)) ∷ [])
 
--- `(module (type $a (func)) (type (func (param (ref $a)))) (func (param (ref 0))))`: a type with the id is taken for the number.
+-- `(module (type $a (func)) (type (func (param (ref $a)))) (func (param (ref 0))))`: the number matches the type with
+-- the id.
 abbrev pub row65_with : (a b : Address) → Option Id → Option Index → List ModuleField
 row65_with a b id type =
     type_at (Some (id_at a (codes "a") 14)) 8 (function_type [] [])
@@ -263,8 +269,8 @@ Row65 = (a b : Address) →
     × (index_for (row65_with a b None None) (by_ref (by_number 0 74)) ≡ Some 1)
     × (expanded_fields 5 (row65_with a b None None) ≡ row65_with a b (Some (gensym_id 5 (place 26))) (Some (index.Id (gensym_id 5 (place 26)))))
 
--- `(module (func (param (ref $u))) (func (param (ref $u))) (func (param (ref $v))))`: ids that denote nothing stay, and each is
--- equal to itself alone.
+-- `(module (func (param (ref $u))) (func (param (ref $u))) (func (param (ref $v))))`: undefined ids are unchanged, and
+-- each equals only itself.
 abbrev pub unknown_with : (a b c : Address) → Option Index → Option Index → List ModuleField
 unknown_with a b c first second =
     func_at 8 first (Some (takes_ref (by_id a (codes "u") 26)))
@@ -278,7 +284,7 @@ UnknownIds = (a b c : Address) →
     × (expanded_fields 5 (unknown_with a b c None None)
     ≡ unknown_with a b c (Some (by_made 5)) (Some (by_made 6)) ++ (implied_type 5 (by_ref (by_id a (codes "u") 26)) ∷ implied_type 6 (by_ref (by_id c (codes "v") 74)) ∷ []))
 
--- `(module (type $a (func)) (type $b (func)) (func))`: the first type of the signature is taken.
+-- `(module (type $a (func)) (type $b (func)) (func))`: the first type with the signature is matched.
 abbrev pub twice_with : Address → Address → Option Index → List ModuleField
 twice_with a b type = type_at (Some (id_at a (codes "a") 14)) 8 (function_type [] []) ∷ type_at (Some (id_at b (codes "b") 31)) 25 (function_type [] []) ∷ func_at 42 type None ∷ []
 
@@ -310,8 +316,8 @@ UsesInOrder = (a : Address) →
     × (expanded_fields 5 (uses_with a None None None)
     ≡ uses_with a (Some (by_made 5)) (Some (by_made 5)) (Some (by_made 6)) ++ (implied_type 5 (value.I32 ∷ [], []) ∷ implied_type 6 empty_signature ∷ []))
 
--- `(module (func call_indirect (param i32)) (global i32 call_indirect (result i32)))`: indirect calls need types where they
--- stand, in a body behind the type of its function, and in constant expressions too.
+-- `(module (func call_indirect (param i32)) (global i32 call_indirect (result i32)))`: an indirect call in a body needs
+-- a type after the function's, and one in a constant expression needs a type too.
 abbrev pub indirect_at : ℕ → Option Index → Option FunctionType → Expression
 indirect_at n type inline = record {
   instrs = instr.call_indirect (record { table = by_number 0 n; ty = record { index = type; inline = inline } }) ∷ [];

@@ -1,4 +1,4 @@
-//! What is handed down while type uses are bound: types are made for the signatures that none has.
+//! The state that is passed along while type uses are resolved.
 
 ghost use Rattle.std.specs.Prelude.{◌≡◌, ◌≤◌, ◌+◌, ◌++◌, ◌∷◌, [], Some, IfOk, IfErr, OnOk};
 ghost use Rattle.wast_base.specs.Faults.{out_of_memory};
@@ -17,18 +17,19 @@ use std::alloc::Global;
 use wast_base::{Error, Gensym, Index, Seq, Span};
 use wast_tree_nodes::{FunctionType, ModuleField, Type, push_field};
 
-/// What binding changes beside the tree.
+/// The state of the pass, apart from the tree.
 pub(crate) struct Binder<'a> {
     pub(crate) alloc: Global,
-    /// What signatures are bound to.
+    /// The type of each signature.
     pub(crate) cx: Expander<'a>,
-    /// The types that are implied so far.
+    /// The types appended so far.
     pub(crate) implied: Seq<ModuleField<'a>>,
     pub(crate) gensym: Gensym,
 }
 
 impl<'a> Binder<'a> {
-    /// The index of the first type that a use with this inline type takes: a new one where it takes none.
+    /// Returns the index of the first type that matches this inline type. If none does, appends
+    /// one.
     pub(crate) fn inline_to_idx(
         &mut self,
         inline: &Option<FunctionType<'a>>,
@@ -49,7 +50,7 @@ impl<'a> Binder<'a> {
         }
     }
 
-    /// A type of its own for a key.
+    /// Appends a type with the signature of this key, and returns its id.
     fn add_type(&mut self, key: FuncKey<'a>) -> Result<Index<'a>, Error<'a>>
         ensures index { IfOk result (λ i. i ≡ index.Id (gensym_id self.old.gensym start_of_text)) }
         ensures names { self.new.cx.names ≡ self.old.cx.names }
@@ -72,7 +73,7 @@ impl<'a> Binder<'a> {
     }
 }
 
-/// The key of an inline type; that of `(func)` where there is none.
+/// Returns the key of an inline type. Without one it is the key of `(func)`.
 fn inline_key<'a>(
     alloc: Global,
     inline: &Option<FunctionType<'a>>,

@@ -1,4 +1,4 @@
-//! Type uses are bound in their place.
+//! Resolves the type uses in each part of the tree.
 
 ghost use Rattle.std.specs.Prelude.{◌≡◌, ◌≤◌, [], Some, List, map, flat_map, IfOk, IfErr, IsTrue, OnOk};
 ghost use Rattle.wast_expand_types.specs.Tree.index;
@@ -21,16 +21,18 @@ use wast_tree_nodes::{
     Instruction, ItemKind, ItemSig, ModuleField, Tag, TagType, TryTable, TypeUse,
 };
 
-/// A part of the tree in which type uses may stand. They are the same wherever it stands, so a part of a body is seen as if
-/// it stood first.
+/// A part of the tree that can contain type uses.
+///
+/// Type uses do not depend on the blocks around them, so contracts treat a part of a body as if it
+/// came first.
 pub(crate) trait Bind<'a> {
-    /// The signatures of the uses in it that have no index.
+    /// The signatures of the type uses in it that need a type and have no index.
     ghost needed: { Self → List Signature };
 
-    /// What it becomes, where signatures are bound so.
+    /// The part after its type uses are resolved by a look-up.
     ghost bound: { LookUp → Self → Self };
 
-    /// Binds each use in it that has no index.
+    /// Resolves each type use in it that needs a type and has no index.
     fn bind(&mut self, binder: &mut Binder<'a>) -> Result<(), Error<'a>>
         ensures bound { OnOk result ((more : BoundSignatures) →
             self.new ≡ bound (found_in binder.new.cx more) self.old) }
@@ -39,7 +41,7 @@ pub(crate) trait Bind<'a> {
         ensures counter_grows { binder.old.gensym ≤ binder.new.gensym };
 }
 
-/// Binds in each part of a list, in order.
+/// Resolves type uses in each part of a list, in order.
 pub(crate) fn bind_each<'a, T: Bind<'a>>(
     parts: &mut Seq<T>,
     binder: &mut Binder<'a>,
@@ -135,7 +137,7 @@ impl<'a> Bind<'a> for ImportItems<'a> {
     }
 }
 
-/// An item of a group, behind its name.
+/// An item of an import group, with its name.
 impl<'a> Bind<'a> for (&'a str, ItemSig<'a>) {
     ghost needed = { λ p. needed_in (in_sig p.1) };
 
@@ -238,7 +240,7 @@ impl<'a> Bind<'a> for FuncKind<'a> {
     }
 }
 
-/// A constant expression, or a body.
+/// A constant expression or a body.
 impl<'a> Bind<'a> for Expression<'a> {
     ghost needed = { λ e. needed_in (in_constant e) };
 
@@ -250,7 +252,8 @@ impl<'a> Bind<'a> for Expression<'a> {
     }
 }
 
-/// Whether nothing stands in an instruction that is bound, so that it may be passed by. It may say no of such a one too.
+/// Returns whether an instruction can be skipped, because it has nothing to resolve. May return
+/// `false` for such an instruction too.
 fn is_passed(instr: &Instruction) -> bool
     ensures { IsTrue result → IsPassed instr.now }
 {
@@ -274,7 +277,7 @@ fn is_passed(instr: &Instruction) -> bool
     }
 }
 
-/// Binds in each instruction, in order.
+/// Resolves type uses in each instruction, in order.
 fn bind_instrs<'a>(
     instrs: &mut Seq<Instruction<'a>>,
     binder: &mut Binder<'a>,
@@ -425,8 +428,8 @@ impl<'a> Bind<'a> for Instruction<'a> {
     }
 }
 
-/// The type of a block needs one of its own only where it has a parameter or two results; without an index it has an inline
-/// type from then on.
+/// The type of a block. It needs a type only if it has a parameter or two results. Without an index
+/// and an inline type it gets the empty inline type.
 impl<'a> Bind<'a> for BlockType<'a> {
     ghost needed = { λ b. needed_in (in_block [] b) };
 
@@ -453,7 +456,8 @@ impl<'a> Bind<'a> for TryTable<'a> {
     }
 }
 
-/// Whether the type use of a block needs a type: it has no index, and an inline type with a parameter or two results.
+/// Returns whether the type use of a block needs a type: it has no index, and a parameter or two
+/// results.
 fn wants_type<'a>(ty: &TypeUse<'a, FunctionType<'a>>) -> bool
     ensures { result ≡ wants_type ty.now.index ty.now.inline }
 {
@@ -464,14 +468,15 @@ fn wants_type<'a>(ty: &TypeUse<'a, FunctionType<'a>>) -> bool
     }
 }
 
-/// Whether a function type has no parameters and at most one result, so that a block may have it without an index.
+/// Returns whether a function type has no parameter and at most one result. A block with such a
+/// type needs no index.
 fn is_short(ty: &FunctionType<'_>) -> bool
     ensures { result ≡ is_short ty.now }
 {
     ty.params.is_empty() && ty.results.len() < 2
 }
 
-/// Gives the type use of a block that says nothing the empty inline type.
+/// Adds the empty inline type to the type use of a block, if it has neither index nor inline type.
 fn say_inline<'a>(alloc: Global, ty: &mut TypeUse<'a, FunctionType<'a>>)
     ensures { ty.new ≡ record ty.old { inline = bound_inline OfBlock ty.old.index ty.old.inline } }
 {
@@ -491,7 +496,7 @@ impl<'a> Bind<'a> for CallIndirect<'a> {
     }
 }
 
-/// A type use needs the same wherever it stands, but in a block.
+/// A type use that is not that of a block.
 impl<'a> Bind<'a> for TypeUse<'a, FunctionType<'a>> {
     ghost needed = { λ u. needed_in (in_use OfItem u) };
 

@@ -1,4 +1,4 @@
-//! Type uses are bound in the constant expressions of tables, globals and segments.
+//! Resolves type uses in the constant expressions of tables, globals and segments.
 
 ghost use Rattle.std.specs.Prelude.{option_map};
 ghost use Rattle.wast_tree_nodes.specs.Sites.{if_there, in_constant, in_table_kind, in_global, in_global_kind, in_elem, in_elem_kind, in_payload, in_data_kind};

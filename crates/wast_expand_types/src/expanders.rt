@@ -1,4 +1,4 @@
-//! What signatures are bound to.
+//! The map from signatures to types.
 
 ghost use Rattle.std.specs.Prelude.{◌≡◌, [], ◌∷◌, OnOk, OnErr, IfOk, IfErr, IfSome, IfNone, IsSome};
 ghost use Rattle.wast_base.specs.Faults.{out_of_memory};
@@ -16,18 +16,26 @@ use wast_base::{Error, Index, try_number};
 use wast_resolve_namespace::{Namespace, NamespaceBuilder};
 use wast_tree_nodes::FunctionType;
 
-/// The types that signatures are bound to, and the names of the written types. Contracts see signatures with indices, no two
-/// signatures equal, in any order, beside the list of names.
+/// A map from signatures to the indices of their types, with the ids of the source's types.
+///
+/// Its model in contracts is a list of signatures with indices and a list of ids. No two signatures
+/// are equal, and their order is not specified.
+///
+/// # Example
+///
+///     let mut cx = Expander::new(alloc);
+///     ty.expand(&mut cx).expect(rt, "memory");
+///     let empty = T::empty(alloc).key(&cx).expect(rt, "memory");
 #[derive(Drop)]
 pub struct Expander<'a> {
     alloc: Global,
-    // of the written types, in their order
+    // ids of the source's types, in their order
     names: NamespaceBuilder<'a>,
-    // what these denote, once a key has asked for a name
+    // the same ids for binary search, once a key refers to a type by id
     sorted: Option<Namespace<'a>>,
-    // by each hash, the first key that has it
+    // for each hash, the first key that has it
     firsts: BTreeMap<u64, (FuncKey<'a>, Index<'a>)>,
-    // the keys whose hash the first one has
+    // keys whose hash another key has in `firsts`
     others: BTreeMap<FuncKey<'a>, Index<'a>>,
 }
 
@@ -45,15 +53,18 @@ impl<'a> Model for Expander<'a> {
 }
 
 impl<'a> Expander<'a> {
-    /// Binds nothing, and knows no names of types. It takes no memory; `alloc` is what
-    /// [`TypeReference::key`](crate::TypeReference::key) and [`TypeKey::insert`](crate::TypeKey::insert) will ask.
+    /// Returns a map without signatures and without ids of types. Does not allocate.
+    ///
+    /// For example, [`TypeKey::lookup`](crate::TypeKey::lookup) of any key in it returns `None`.
+    /// [`TypeReference::key`](crate::TypeReference::key) and
+    /// [`TypeKey::insert`](crate::TypeKey::insert) allocate from `alloc` later.
     pub fn new(alloc: Global) -> Self
         ensures { result ≡ nothing_bound }
     {
         Expander::with_names(alloc, NamespaceBuilder::none(alloc))
     }
 
-    /// Binds nothing, and knows these names of types.
+    /// Returns a map without signatures, with these ids of types.
     #[tactic(auto, using(crate::proofs::Placed::none_placed))]
     pub(crate) fn with_names(alloc: Global, names: NamespaceBuilder<'a>) -> Self
         ensures { result ≡ record { names = names.entry; bound = [] } }
@@ -67,12 +78,13 @@ impl<'a> Expander<'a> {
         }
     }
 
-    /// What it asks for memory.
+    /// Returns the allocator of the map.
     pub(crate) fn alloc(&self) -> Global {
         self.alloc
     }
 
-    /// An index with the number of the written type that it denotes; another id stays.
+    /// Returns the number of the source type with this id, as an index. Other ids and numbers are
+    /// unchanged.
     pub(crate) fn number(&self, index: Index<'a>) -> Index<'a>
         ensures { result ≡ resolved_index (numbers_in self.now) index.entry }
     {
@@ -84,8 +96,10 @@ impl<'a> Expander<'a> {
         index
     }
 
-    /// Sorts the names where a type names one and they are not sorted, so that [`number`](Expander::number) does not go
-    /// through all of them. It takes memory then.
+    /// Sorts the ids for [`number`](Expander::number), if a type refers to one and they are not
+    /// sorted yet.
+    ///
+    /// Only then it allocates, because in most modules no signature has an id.
     pub(crate) fn sort_names_for(&mut self, ty: &FunctionType<'a>) -> Result<(), Error<'a>>
         ensures stays { self.new ≡ self.old }
         ensures refusal { IfErr result (λ e. e ≡ out_of_memory) }
@@ -97,7 +111,7 @@ impl<'a> Expander<'a> {
         Ok(())
     }
 
-    /// The index that a key is bound to.
+    /// Returns the index of a key, if it has one.
     #[tactic(auto, using(crate::proofs::Bound::found_in_order, crate::proofs::Placed::found_at_hash, crate::proofs::Placed::found_beside, crate::proofs::Placed::found_else))]
     pub(crate) fn get(&self, key: &FuncKey<'a>) -> Option<Index<'a>>
         ensures { result ≡ index_of self.now.bound key.now }
@@ -108,7 +122,7 @@ impl<'a> Expander<'a> {
         }
     }
 
-    /// Binds a key, unless it is bound.
+    /// Adds a key with its index, unless the key has one.
     pub(crate) fn put(&mut self, key: FuncKey<'a>, index: Index<'a>) -> Result<(), Error<'a>>
         ensures ok { OnOk result (Extends self.old.bound self.new.bound ((key.entry, index.entry) ∷ [])) }
         ensures names { self.new.names ≡ self.old.names }
@@ -122,7 +136,8 @@ impl<'a> Expander<'a> {
     }
 }
 
-/// Binds a key, unless it is bound; where the first key of its hash is another one, it is given back.
+/// Adds a key under its hash, unless the key has an index. Returns the key if another key has its
+/// hash.
 fn bind_first<'a>(
     firsts: &mut BTreeMap<u64, (FuncKey<'a>, Index<'a>)>,
     key: FuncKey<'a>,
@@ -143,7 +158,7 @@ fn bind_first<'a>(
     Ok(None)
 }
 
-/// What a key is looked up by first.
+/// Returns the hash of a key.
 fn hash_of(key: &FuncKey<'_>) -> u64
     ensures { result ≡ hash_of key.now }
 {

@@ -1,4 +1,4 @@
-//! The pass that gives each type that is a field of its own an id, and each type use that needs a type the index of one.
+//! The pass that gives ids to types and indices to type uses.
 
 ghost use Rattle.std.specs.Prelude.{◌≡◌, ◌≤◌, ◌+◌, ◌++◌, IfOk, IfErr, OnOk};
 ghost use Rattle.wast_base.specs.Faults.{out_of_memory};
@@ -24,21 +24,52 @@ use wast_tree_nodes::{
     InnerTypeKind, ModuleField, TypeDef, discard_fields, push_field, take_field,
 };
 
-/// Binds each type use that needs a type and has no index to the first eligible type that has its signature (text format,
-/// type uses: abbreviations); that of a block needs none where it has no parameter and at most one result. Eligible is a
-/// function type in a field of its own that is final, unshared, and without parents, descriptor and describes. Signatures
-/// are compared by the numbers of the written types: each id that denotes one, members of groups included, counts as its
-/// position; another id is equal to itself alone.
+/// Resolves each type use without an index that needs a type, and appends missing types (text
+/// format, type uses: abbreviations).
 ///
-/// It gives the fields in their order, and after them a type for each signature that no eligible type has, in the order
-/// of first use, with numbers in the place of the ids that denote written types. A use is bound by the id of its type, so
-/// each field that is a type without an id is given a generated one, at its place. No use takes a member of a group, and
-/// no member is given an id. Ids and indices that are there stay, and so do inline types. It takes any fields; the ids that
-/// it makes are new where the counter stands above `gensym_bound` of `wast_tree`.
+/// A type use matches the first eligible type with its signature. A type is eligible if it is a
+/// function type in a field of its own, final, not shared, and without supertypes, descriptor and
+/// describes. A member of a group is never matched. The type use of a block needs a type only if it
+/// has a parameter or two results.
 ///
-/// It takes memory for the names of types, for the keys of types and for the new fields. The error is E12 where memory was
-/// refused, and E10 only where the counter would pass the greatest `u64`, or where there are 2^32 written types or more. On
-/// an error the fields are dropped, and the counter stays: no id of this call is left.
+/// Signatures are compared by the numbers of the source's types. For example, `(ref $t)` equals
+/// `(ref 0)` if `$t` is type 0. An id of no source type equals only itself.
+///
+/// If no eligible type has a signature, one is appended after all fields, in the order of first
+/// use. In it, each id of a source type is replaced by its number. Types are referred to by id. A
+/// type without an id gets a generated one at its position, unless it is a member of a group. Ids
+/// and indices of the source are unchanged, and so are the inline types of functions, imports and
+/// tags. Generated ids are new if the counter is past `gensym_bound` of `wast_tree`.
+///
+/// # Example
+///
+///     let expanded = types::expand(alloc, fields, &mut Gensym::new(1)).expect(rt, "memory");
+///     let count = expanded.len();
+///     discard_fields(expanded);
+///
+/// For example, `(type (func)) (func) (func (param i32))` becomes
+/// `(type [1] (func)) (func (type [1]))`, `(func (type [2]) (param i32))` and
+/// `(type [2] (func (param i32)))`.
+///
+/// # Errors
+///
+/// - E10: the counter would overflow a `u64`, or there are 2^32 source types or more.
+/// - E12: allocation failed.
+///
+/// After an error the fields are dropped. The counter has its old value, because no id of this call
+/// is left.
+///
+/// # Guarantees
+///
+/// - `list`: the result is `expanded_fields`. `counted`: the counter rises by the number of ids
+///   generated.
+/// - `refusal`: the errors are those above. `stays`: after an error the counter has its old value.
+/// - `counter_grows`: the counter never falls.
+///
+/// # Memory
+///
+/// Allocates a list of the ids of types, a key for each eligible type and type use, and the
+/// appended types.
 pub fn expand<'a>(
     alloc: Global,
     fields: Seq<ModuleField<'a>>,
@@ -62,7 +93,7 @@ pub fn expand<'a>(
     }
 }
 
-/// Expands the fields in their place.
+/// Resolves the type uses of the fields, and appends types.
 fn expand_fields<'a>(
     alloc: Global,
     fields: &mut Seq<ModuleField<'a>>,
@@ -103,7 +134,7 @@ fn expand_fields<'a>(
     }
 }
 
-/// Gives each type that is a field of its own an id, and gathers the names that types have without.
+/// Generates missing ids of types in fields of their own, and collects the ids that the source has.
 fn name_types<'a>(
     fields: &mut Seq<ModuleField<'a>>,
     gensym: &mut Gensym,
@@ -121,7 +152,7 @@ fn name_types<'a>(
     Ok(())
 }
 
-/// The same of a field.
+/// Does the same for one field.
 fn name_type<'a>(
     field: &mut ModuleField<'a>,
     gensym: &mut Gensym,
@@ -143,7 +174,7 @@ fn name_type<'a>(
     }
 }
 
-/// Binds what a use takes of each written type to the first type of which it takes that.
+/// Adds the signatures of eligible types in all fields.
 fn bind_types<'a>(fields: &[ModuleField<'a>], cx: &mut Expander<'a>) -> Result<(), Error<'a>>
     ensures ok { OnOk result (Extends cx.old.bound cx.new.bound (bindings (numbers_in cx.old) fields.now)) }
     ensures names { cx.new.names ≡ cx.old.names }
@@ -155,7 +186,7 @@ fn bind_types<'a>(fields: &[ModuleField<'a>], cx: &mut Expander<'a>) -> Result<(
     Ok(())
 }
 
-/// Binds what a use takes of a written type, unless it is bound.
+/// Adds the signature of the type in a field, if it is eligible.
 fn bind_type<'a>(field: &ModuleField<'a>, cx: &mut Expander<'a>) -> Result<(), Error<'a>>
     ensures ok { OnOk result (Extends cx.old.bound cx.new.bound (bindings_in (numbers_in cx.old) field.now)) }
     ensures names { cx.new.names ≡ cx.old.names }
@@ -170,7 +201,7 @@ fn bind_type<'a>(field: &ModuleField<'a>, cx: &mut Expander<'a>) -> Result<(), E
     }
 }
 
-/// Binds what a use takes of a type to the id of the type, unless it is bound.
+/// Adds the signature of a type with the id of the type, if it is eligible and new.
 fn bind_def<'a>(
     def: &TypeDef<'a>,
     id: Option<Id<'a>>,
@@ -194,7 +225,8 @@ fn bind_def<'a>(
     }
 }
 
-/// Whether a use may take a type: it is final, unshared, and without parents, descriptor and describes.
+/// Returns whether a type use can match a type: it is final, not shared, and without supertypes,
+/// descriptor and describes.
 fn is_eligible(def: &TypeDef<'_>) -> bool
     ensures { result ≡ is_eligible def.now }
 {
@@ -205,7 +237,7 @@ fn is_eligible(def: &TypeDef<'_>) -> bool
         && def.describes.is_none()
 }
 
-/// Puts more fields at the end.
+/// Appends fields.
 fn append<'a>(
     fields: &mut Seq<ModuleField<'a>>,
     more: Seq<ModuleField<'a>>,
@@ -219,7 +251,7 @@ fn append<'a>(
     appended
 }
 
-/// Puts more fields at the end. It takes them out of their places.
+/// Appends fields, which are moved out of their list.
 fn push_each<'a>(
     fields: &mut Seq<ModuleField<'a>>,
     more: &mut Seq<ModuleField<'a>>,

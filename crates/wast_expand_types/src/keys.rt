@@ -1,4 +1,4 @@
-//! Keys of types: what is equal of two types that a type use may take.
+//! Signatures of types as keys of a map.
 
 ghost use Rattle.std.specs.Prelude.{◌≡◌, ◌∷◌, [], map, length, refl, IsOk, IfOk, IfErr, OnOk, OnErr};
 ghost use Rattle.std.specs.Cmp.{partial_equiv_from_equiv};
@@ -20,13 +20,19 @@ use std::marker::Model;
 use wast_base::{Error, Id, Index, NameAnnotation, Seq, Span};
 use wast_tree_nodes::{FunctionType, HeapType, InnerTypeKind, RefType, TypeDef, ValType};
 
-/// The key of a function type: the types of its parameters, and of its results. Contracts see its signature.
+/// The signature of a function type as a key: the types of its parameters, and of its results.
 ///
-/// Keys are equal where their signatures are equal in the numbers of the written types (text format, type uses):
-/// `(ref $t)` and `(ref 0)` are one where `$t` is the first type. Another id is equal to itself alone.
+/// Keys are equal exactly if their signatures are equal. [`TypeReference::key`] replaces each id of
+/// a source type by its number, so the keys of `(ref $t)` and `(ref 0)` are equal if `$t` is type 0
+/// (text format: type uses).
 ///
-/// Keys have an order, for maps; the format gives it no meaning. It is by the number of parameters, then of results, then
-/// by the types of the parameters and of the results, in turn.
+/// Keys are ordered so that maps can store them; the order has no meaning in the format. It is by
+/// the number of parameters, then of results, then by the types of the parameters, then of the
+/// results.
+///
+/// # Example
+///
+///     FuncKey(list_of(rt, alloc, params), list_of(rt, alloc, results))
 #[derive(Debug, Drop)]
 pub struct FuncKey<'a>(pub Seq<ValType<'a>>, pub Seq<ValType<'a>>);
 
@@ -75,7 +81,7 @@ impl<'a> Ord for FuncKey<'a> {
     }
 }
 
-/// What keys are ordered by: how long their lists are, and then the lists.
+/// Returns the parts that decide the order of keys: the lengths of the lists, and then the lists.
 fn by_lengths<'k, 'a>(key: &'k FuncKey<'a>) -> (usize, usize, &'k [ValType<'a>], &'k [ValType<'a>])
     ensures lengths { (result.0 ≡ length key.now.0) × (result.1 ≡ length key.now.1) }
     ensures types { (result.2.now, result.3.now) ≡ key.now }
@@ -95,27 +101,51 @@ impl<'a> Hash for FuncKey<'a> {
     }
 }
 
-/// A type that a type use may write out in place (text format, type uses).
+/// A type that a type use can have inline (text format: type uses).
+///
+/// # Example
+///
+///     let mut cx = Expander::new(alloc);
+///     ty.expand(&mut cx).expect(rt, "memory");
+///     let empty = T::empty(alloc).key(&cx).expect(rt, "memory");
 pub trait TypeReference<'a> {
-    /// What is equal of two of them.
+    /// The type of keys: equal types have equal keys.
     type Key: TypeKey<'a>;
 
-    /// Its signature.
+    /// The signature of the type.
     ghost signature: { Self → Signature };
 
-    /// The type that is meant where none is written out: `(func)`. It takes no memory.
+    /// Returns the type that is meant if none is inline: `(func)`. Does not allocate.
+    ///
+    /// For example, the empty [`FunctionType`] has no parameters and no results.
     fn empty(alloc: Global) -> Self
         ensures { signature result ≡ empty_signature };
 
-    /// Its key: the signature, in which each id that `cx` knows of a written type is the number of that type. It takes
-    /// memory for the key; where that is refused it answers E12.
+    /// Returns the key: the signature, with each id of a source type in `cx` replaced by its
+    /// number.
+    ///
+    /// For example, the key of `(func (param (ref $t)))` has `(ref 0)` if `$t` is type 0.
+    ///
+    /// # Errors
+    ///
+    /// E12: allocation failed. The key is allocated.
     fn key(&self, cx: &Expander<'a>) -> Result<Self::Key, Error<'a>>
         ensures key { IfOk result (λ k.
             Self.Key.signature k ≡ numbered_signature (numbers_in cx.now) (signature self.now)) }
         ensures refusal { IfErr result (λ e. e ≡ out_of_memory) };
 
-    /// Binds the type uses within it; its signature stays, what is bound stays so, and the names of types stay. It may take
-    /// memory; where that is refused it answers E12.
+    /// Resolves the type uses inside the type.
+    ///
+    /// For example, it leaves `(func (param i32))` unchanged, because no type use is inside.
+    ///
+    /// # Errors
+    ///
+    /// E12: allocation failed.
+    ///
+    /// # Guarantees
+    ///
+    /// - `stays`: the signature is unchanged. `keeps`: signatures in `cx` keep their indices.
+    ///   `names`: the ids of types in `cx` are unchanged.
     fn expand(&mut self, cx: &mut Expander<'a>) -> Result<(), Error<'a>>
         ensures stays { signature self.new ≡ signature self.old }
         ensures keeps { Keeps cx.old.bound cx.new.bound }
@@ -123,23 +153,49 @@ pub trait TypeReference<'a> {
         ensures refusal { IfErr result (λ e. e ≡ out_of_memory) };
 }
 
-/// The key of a type that a type use may take (text format, type uses).
+/// The key of a type that a type use can match (text format: type uses).
+///
+/// # Example
+///
+///     let before = key.lookup(cx);
+///     key.insert(cx, indices[0]).expect(rt, "memory");
+///     let after = key.lookup(cx);
 pub trait TypeKey<'a> {
-    /// The signature that it stands for.
+    /// The signature of the key.
     ghost signature: { Self → Signature };
 
-    /// The index that the key is bound to, if it is bound. It takes no memory.
+    /// Returns the index of the key, if it has one. Does not allocate.
+    ///
+    /// For example, it returns `None` for each key of a new [`Expander`].
     fn lookup(&self, cx: &Expander<'a>) -> Option<Index<'a>>
         ensures { result ≡ index_of cx.now.bound (signature self.now) };
 
-    /// The definition of a type of this key: final, without parents, its parameters without names. It takes memory for its
-    /// lists; where that is refused it answers E12.
+    /// Returns a type definition with this signature: final, without supertypes, with unnamed
+    /// parameters.
+    ///
+    /// # Example
+    ///
+    ///     let def = found.to_def(alloc, at(3), true).expect(&rt, "memory");
+    ///     assert!(rt; def.shared && def.final_type.is_none());
+    ///
+    /// # Errors
+    ///
+    /// E12: allocation failed. The lists of the definition are allocated.
     fn to_def(&self, alloc: Global, span: Span, shared: bool) -> Result<TypeDef<'a>, Error<'a>>
         ensures def { IfOk result (λ d. d ≡ def_of (signature self.now) shared) }
         ensures refusal { IfErr result (λ e. e ≡ out_of_memory) };
 
-    /// Binds the key to an index, unless it is bound; other keys keep theirs, and the names of types stay. It may take
-    /// memory; where that is refused it answers E12, and nothing changes.
+    /// Adds the key with an index, unless it has one.
+    ///
+    /// For example, a second call for the same key with another index changes nothing.
+    ///
+    /// # Errors
+    ///
+    /// E12: allocation failed. Nothing changes then.
+    ///
+    /// # Guarantees
+    ///
+    /// - `ok`: other keys keep their indices. `names`: the ids of types in `cx` are unchanged.
     fn insert(&self, cx: &mut Expander<'a>, index: Index<'a>) -> Result<(), Error<'a>>
         ensures ok { OnOk result (Extends cx.old.bound cx.new.bound ((signature self.now, index.entry) ∷ [])) }
         ensures names { cx.new.names ≡ cx.old.names }
@@ -165,7 +221,7 @@ impl<'a> TypeReference<'a> for FunctionType<'a> {
         Ok(FuncKey(params, results))
     }
 
-    /// No type use is within it, and nothing changes. It takes no memory.
+    /// Does nothing, because a function type has no type use inside. Does not allocate.
     fn expand(&mut self, _cx: &mut Expander<'a>) -> Result<(), Error<'a>>
         ensures stays { signature_of self.new ≡ signature_of self.old }
         ensures keeps { Keeps _cx.old.bound _cx.new.bound }
@@ -206,7 +262,7 @@ impl<'a> TypeKey<'a> for FuncKey<'a> {
     }
 }
 
-/// The key of a function type, for which the names of types may be sorted first.
+/// Returns the key of a function type. Sorts the ids of types first, if that helps.
 pub(crate) fn key_in<'a>(
     ty: &FunctionType<'a>,
     cx: &mut Expander<'a>,
@@ -222,7 +278,7 @@ pub(crate) fn key_in<'a>(
 /// A parameter: its id, its name annotation and its type.
 type Param<'a> = (Option<Id<'a>>, Option<NameAnnotation<'a>>, ValType<'a>);
 
-/// The types of parameters, in the numbers of the written types.
+/// Returns the types of parameters, with ids of source types replaced by numbers.
 fn types_of<'a>(params: &Seq<Param<'a>>, cx: &Expander<'a>) -> Result<Seq<ValType<'a>>, Error<'a>>
     ensures ok { IfOk result (λ types. types ≡ map (numbered_val (numbers_in cx.now)) (map type_of_param params.now)) }
     ensures refusal { IfErr result (λ e. e ≡ out_of_memory) }
@@ -234,7 +290,7 @@ fn types_of<'a>(params: &Seq<Param<'a>>, cx: &Expander<'a>) -> Result<Seq<ValTyp
     Ok(Seq::from_vec(types))
 }
 
-/// The same value types, in the numbers of the written types.
+/// Returns the value types, with ids of source types replaced by numbers.
 fn numbered<'a>(types: &Seq<ValType<'a>>, cx: &Expander<'a>) -> Result<Seq<ValType<'a>>, Error<'a>>
     ensures ok { IfOk result (λ list. list ≡ map (numbered_val (numbers_in cx.now)) types.now) }
     ensures refusal { IfErr result (λ e. e ≡ out_of_memory) }
@@ -246,7 +302,7 @@ fn numbered<'a>(types: &Seq<ValType<'a>>, cx: &Expander<'a>) -> Result<Seq<ValTy
     Ok(Seq::from_vec(list))
 }
 
-/// A value type, in the numbers of the written types.
+/// Returns a value type, with the id of a source type replaced by its number.
 fn numbered_val<'a>(ty: ValType<'a>, cx: &Expander<'a>) -> ValType<'a>
     ensures { result ≡ numbered_val (numbers_in cx.now) ty.entry }
 {
@@ -263,7 +319,7 @@ fn numbered_val<'a>(ty: ValType<'a>, cx: &Expander<'a>) -> ValType<'a>
     }
 }
 
-/// A heap type, in the numbers of the written types.
+/// Returns a heap type, with the id of a source type replaced by its number.
 fn numbered_heap<'a>(heap: HeapType<'a>, cx: &Expander<'a>) -> HeapType<'a>
     ensures { result ≡ mapped_heap (in_numbers (numbers_in cx.now)) heap.entry }
 {
@@ -274,14 +330,14 @@ fn numbered_heap<'a>(heap: HeapType<'a>, cx: &Expander<'a>) -> HeapType<'a>
     }
 }
 
-/// A parameter of this type, without names.
+/// Returns a parameter of this type without an id.
 fn nameless<'a>(ty: ValType<'a>) -> Param<'a>
     ensures { result ≡ unnamed_param ty.entry }
 {
     (None, None, ty)
 }
 
-/// Parameters of these types, without names.
+/// Returns parameters of these types without ids.
 fn params_of<'a>(alloc: Global, types: &Seq<ValType<'a>>) -> Result<Seq<Param<'a>>, Error<'a>>
     ensures ok { IfOk result (λ params. params ≡ map unnamed_param types.now) }
     ensures refusal { IfErr result (λ e. e ≡ out_of_memory) }
@@ -293,7 +349,7 @@ fn params_of<'a>(alloc: Global, types: &Seq<ValType<'a>>) -> Result<Seq<Param<'a
     Ok(Seq::from_vec(params))
 }
 
-/// The same value types in a list of their own.
+/// Returns a copy of a list of value types.
 fn copied<'a>(alloc: Global, types: &Seq<ValType<'a>>) -> Result<Seq<ValType<'a>>, Error<'a>>
     ensures ok { IfOk result (λ copy. copy ≡ types.now) }
     ensures refusal { IfErr result (λ e. e ≡ out_of_memory) }

@@ -1,7 +1,34 @@
-//! Type uses of a WebAssembly module in the text format: each that needs a type and has no index is bound to one, and
-//! the types that no text defines are appended.
+//! Resolves each type use that needs a type and has no index, and appends the types that the source
+//! does not define (text format: type uses).
 //!
-//! A call takes memory only where its text says so. A call that can fail says when, and with what.
+//! This is the second step of resolving: `wast_resolve` calls it after inline parts are expanded.
+//! Callers who need the step alone meet it through `wast_expand`.
+//!
+//! # Example
+//!
+//! For example, `(func)` becomes `(func (type [1])) (type [1] (func))`, with the generated id
+//! `[1]`. In `(func) (type $t (func))` the function gets `$t`, and no type is appended.
+//!
+//! # Modules
+//!
+//! - `types`: the public name of the pass, `expand`.
+//! - `expansion`: the pass. The rule is `expanded_fields` of `specs/Expanded.antt`. The rule for
+//!   eligible types is in `specs/EligibleTypes.antt`.
+//! - `binding`, `constants`: one `impl` of `Bind` for each part of the tree. `binder`: the state
+//!   that they share.
+//! - `keys`: [`FuncKey`], and the traits [`TypeReference`] and [`TypeKey`]. `same_signature` of
+//!   `specs/Signatures.antt` is the rule for equal signatures.
+//! - `expanders`: [`Expander`], the map from signatures to types. `type_names`: the ids of the
+//!   source's types.
+//! - `laws`: theorems about the result. `examples`: example modules that the definitions compute.
+//!
+//! # Guarantees
+//!
+//! - `types::expand`, clause `list`: the result is exactly the list that `expanded_fields` defines.
+//! - `types::expand`, clauses `refusal` and `stays`: the only errors are E10 and E12, and they
+//!   restore the counter.
+//! - [`expanded_laws`]: each type use that needs a type has an index, and a second expansion
+//!   changes nothing.
 #![tactic(auto)]
 
 mod binder;

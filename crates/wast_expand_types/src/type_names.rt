@@ -1,4 +1,4 @@
-//! The names of the written types, as they are gathered; and which types refer to one.
+//! The ids of the source's types, and which function types refer to a type by id.
 
 ghost use Rattle.std.specs.Prelude.{◌≡◌, ◌++◌, ◌∷◌, [], flat_map, IfErr, OnOk};
 ghost use Rattle.wast_base.specs.Ids.{mark_of_option};
@@ -12,7 +12,7 @@ use wast_base::{Error, Fault, Id, Index};
 use wast_resolve_namespace::NamespaceBuilder;
 use wast_tree_nodes::{FunctionType, HeapType, ModuleField, Type, ValType};
 
-/// The types of a field.
+/// Appends the ids of the types in a field.
 pub(crate) fn gather_field<'a>(
     gathering: &mut NamespaceBuilder<'a>,
     field: &ModuleField<'a>,
@@ -33,7 +33,7 @@ pub(crate) fn gather_field<'a>(
     }
 }
 
-/// The members of a group.
+/// Appends the ids of the members of a group.
 fn gather_types<'a>(
     gathering: &mut NamespaceBuilder<'a>,
     types: &[Type<'a>],
@@ -47,7 +47,7 @@ fn gather_types<'a>(
     Ok(())
 }
 
-/// One type more.
+/// Appends the id of one type.
 fn gather_type<'a>(
     gathering: &mut NamespaceBuilder<'a>,
     id: Option<Id<'a>>,
@@ -62,7 +62,7 @@ fn gather_type<'a>(
     Ok(())
 }
 
-/// Whether a function type refers to a type by an id.
+/// Returns whether a function type refers to a type by id.
 pub(crate) fn names_a_type<'a>(ty: &FunctionType<'a>) -> bool {
     for param in ty.params.as_slice() {
         if is_by_id(&param.2) {
@@ -77,7 +77,7 @@ pub(crate) fn names_a_type<'a>(ty: &FunctionType<'a>) -> bool {
     false
 }
 
-/// Whether a value type refers to a type by an id.
+/// Returns whether a value type refers to a type by id.
 fn is_by_id<'a>(ty: &ValType<'a>) -> bool {
     match ty {
         ValType::Ref(ty) => matches!(

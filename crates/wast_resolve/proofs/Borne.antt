@@ -1,4 +1,4 @@
--- What items of the fields bear is known to the names.
+-- Proves SettledStays: names know the ids of the fields' items.
 use Rattle.std.proofs.Common.{◌≡◌, ℕ, ◌+◌, Bool, true, true≢false, not, ◌&&◌, ◌||◌, List, [], ◌∷◌, Some, None, is_some, ap, sym, ◌∙◌}
 use Rattle.std.specs.List.{list_any}
 use Rattle.std.proofs.Math.Bool.{and-true, and-false}
@@ -30,7 +30,7 @@ module _ (s : Space) (q : Name) where
   abbrev is_known : List ModuleField → Bool
   is_known fields = is_borne q (names_in s (items fields))
 
-  -- an item that is given an id bore none
+  -- an item that gets an id had none
   still_bear : (n : ℕ) (cs : List Change) → bear (olds cs) ≡ true → bear (news n cs) ≡ true
   still_bear n [] h = h
   still_bear n (Kept x ∷ cs) h = either_stays (bears x) (bear (olds cs)) (bears x) (bear (news n cs)) (λ e. e) (still_bear n cs) h

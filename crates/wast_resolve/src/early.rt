@@ -1,4 +1,4 @@
-//! A look at fields without resolving them.
+//! The checks of fields that need no resolving.
 
 ghost use Rattle.std.specs.Prelude.{◌≡◌, ⊤, None, IfErr, OnOk};
 ghost use Rattle.wast_base.specs.Faults.{diagnostic_of};
@@ -10,16 +10,34 @@ use wast_base::Error;
 use wast_resolve_passes::{check_order, name_spaces};
 use wast_tree_nodes::ModuleField;
 
-/// The first fault of fields as far as it can be told without changing them, so that a tool can show them beside it (text
-/// format, modules and identifiers).
+/// Checks the order of imports and duplicate ids of fields, without changing them (text format:
+/// modules, identifiers).
 ///
-/// It needs nothing of the fields: what stands in place is read there, an import in place as an import at its field. The error
-/// is E1 at the first import that stands behind a function, table, memory, global or tag of the module; after that, in the
-/// order of the fields, E2 at the second bearer of an id in a space, and directly after a type E3 at the second bearer of an
-/// id among the fields of its struct. It is E12 where memory was refused, and E10 only where some space has 2^32 or more
-/// items, or some struct as many fields. Ok says that none of these is there, and nothing of uses: what ids, labels and
-/// locals denote, and whether inline types match, [`resolve`](crate::resolve) tells, whose first error this one is, by
-/// [`early_law`](crate::early_law).
+/// A tool can report these errors while the source is being edited. Any fields are accepted. An
+/// inline import counts as an import at its field.
+///
+/// # Example
+///
+///     let late = told(&rt, alloc, defined(alloc, 9, 14), imported(alloc, 19, 24));
+///     assert!(rt; late == Err(Error::new(at(19), Fault::ImportAfter("function"))));
+///
+/// Here `told` calls `early_fault` on `(func $a) (func $a (import "m" "n"))`. The import comes
+/// after a definition.
+///
+/// # Errors
+///
+/// - E1 at the first import after a definition of a function, table, memory, global or tag.
+/// - Then, in the order of the items: E2 two items of an index space have the same id; E3 two
+///   fields of a struct do.
+/// - E10: an index space has 2^32 items or more, or a struct as many fields.
+/// - E12: allocation failed.
+///
+/// # Guarantees
+///
+/// - `met`: on success all these checks pass. Uses are not checked: ids at indices, labels, locals
+///   and inline types. [`resolve`](crate::resolve) checks them.
+/// - `refusal`: the errors are those above. By [`early_law`](crate::early_law) an error with a
+///   position is also the one of `resolve`.
 pub fn early_fault<'a>(alloc: Global, fields: &[ModuleField<'a>]) -> Result<(), Error<'a>>
     ensures met { OnOk result (first_unmet (early_demands fields.now) ≡ None) }
     ensures refusal { IfErr result (λ e.

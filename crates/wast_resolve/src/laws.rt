@@ -1,14 +1,23 @@
-//! Laws for callers to cite: the root of the crate passes on those of lists and of labels too.
+//! Theorems for proofs of callers. Those of `wast_resolve_laws` and `wast_resolve_passes` are
+//! re-exported.
 
 ghost use Rattle.wast_resolve.specs.Laws.{SettledStays};
 
 pub use wast_resolve_laws::{early_law, label_law, naming_laws, resolved_laws, resting_laws};
 pub use wast_resolve_passes::core_type_laws;
 
-/// What is settled by the items of the fields is settled by the names that [`resolve`](crate::resolve) gives, from any
-/// counter: an index that is a generated id is known, where an item of the fields bears that id (text format, indices).
+/// States that an index that qualifies for look-ups before resolving qualifies afterwards (text
+/// format: indices).
 ///
-/// So it meets the need of the look-ups of [`Names`](crate::Names). It does nothing.
+/// The function does nothing. A proof calls it to obtain its clause, which holds for all fields and
+/// counters. A look-up of [`Names`](crate::Names) requires that a generated id is known. This is so
+/// if an item of the fields has that id.
+///
+/// # Example
+///
+///     borne_law();
+///     let names = module.resolve(alloc, gensym)?;
+///     let start = number_start(&names, idx);
 pub fn borne_law()
     ensures { SettledStays }
 {}

@@ -1,4 +1,31 @@
-//! Names of a WebAssembly module: name spaces, and the passes that replace each id by the number that it denotes.
+//! Resolves module fields: desugars them, checks them, and replaces each id by the index that it
+//! names (text format: abbreviations, identifiers, indices, type uses).
+//!
+//! For callers who have fields without a module. `Module::resolve` of `wast_core` calls [`resolve`]
+//! on a text module.
+//!
+//! # Example
+//!
+//! For example, `(func $f (export "a"))` becomes
+//! `(export "a" (func 0)) (func $f (type 0)) (type [1] (func))`, with the generated id `[1]`.
+//!
+//! # Modules
+//!
+//! - `resolution`: [`resolve`], and [`Names`] for look-ups afterwards. The rules are in
+//!   `wast_resolve_rules`.
+//! - `early`: [`early_fault`], the checks that need no resolving. The rule is `Early` of
+//!   `wast_resolve_rules`.
+//! - [`names`]: the last step of resolving alone. [`laws`]: theorems.
+//! - [`resolve_type`] and the like: the indices in a type, by a user-defined [`ResolveCoreType`].
+//!
+//! # Guarantees
+//!
+//! - [`resolve`], clauses `met` and `list`: on success all checks pass, and the fields are
+//!   `resolved_fields_from`.
+//! - [`resolve`], clauses `refusal` and `stays`: an error with a position is that of the first
+//!   check that fails, and errors restore the counter.
+//! - [`resolved_laws`], [`resting_laws`], [`naming_laws`], [`early_law`], [`label_law`],
+//!   [`borne_law`], [`core_type_laws`]: theorems for proofs of callers.
 #![tactic(auto)]
 
 mod early;
@@ -15,7 +42,7 @@ pub use wast_resolve_passes::{
     resolve_storagetype, resolve_type, resolve_type_def, resolve_type_func, resolve_valtype,
 };
 
-/// The two passes over a list of fields, and what they ask of inline types.
+/// The last step of resolving, which replaces ids by indices, and the trait for inline types.
 pub mod names {
     pub use wast_resolve_passes::names::{TypeReference, resolve};
 }

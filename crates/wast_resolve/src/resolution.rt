@@ -1,4 +1,4 @@
-//! What the ids of a resolved module denote.
+//! Resolving, and look-ups of ids afterwards.
 
 ghost use Rattle.std.specs.Prelude.{◌≡◌, ◌<◌, ◌≤◌, ◌+◌, [], None, IfOk, IfErr, OnOk};
 ghost use Rattle.wast_tree_nodes.specs.Items.{items};
@@ -22,7 +22,13 @@ use wast_expand_types::types;
 use wast_resolve_passes::{Resolver, in_order, names};
 use wast_tree_nodes::ModuleField;
 
-/// What the ids of a module denote, for a caller that has indices of its own (text format, indices).
+/// The ids of a resolved module with their indices, for indices that a caller keeps outside the
+/// module (text format: indices).
+///
+/// # Example
+///
+///     let names = module.resolve(alloc, gensym)?;
+///     let mut read = Index::Id(Id::new("read", at(244)));
 #[derive(Drop)]
 pub struct Names<'a> {
     resolver: Resolver<'a>,
@@ -39,7 +45,9 @@ impl<'a> Model for Names<'a> {
 }
 
 impl<'a> Names<'a> {
-    /// Binds nothing. It takes no memory.
+    /// Returns names without ids. Does not allocate.
+    ///
+    /// For example, a look-up of `$f` in them fails with E4.
     #[tactic(auto, using(wast_resolve_passes::proofs::Trying::nothing_known))]
     pub fn empty(alloc: Global) -> Self
         ensures names { known_to result ≡ id_context [] }
@@ -50,18 +58,43 @@ impl<'a> Names<'a> {
         }
     }
 
-    /// The ids of a space with their numbers, each once: by the bytes of the names, then written before generated, then by
-    /// generation (text format, indices). It takes no memory.
+    /// Returns the ids of a space with their indices, each once. Does not allocate.
+    ///
+    /// They are ordered by the bytes of the names. A source id comes before a generated one with
+    /// the same name, and generated ids with the same name are ordered by generation.
+    ///
+    /// For example, for `(module (func $b) (func $a))` the pairs of `Space::Func` are `$a` with 1
+    /// and `$b` with 0.
     pub fn pairs(&self, space: Space) -> &[(Id<'a>, u32)]
         ensures { entries_of result.now ≡ finmap.entries (space_in self.now.spaces space).names }
     {
         self.resolver.pairs(space)
     }
 
-    /// Replaces the id of a function by its number, at the id's place; a number passes.
+    /// Replaces the id of a function by its index. A number is left as it is.
     ///
-    /// It needs that a generated id is known. An unknown id is E4 at its place, and then the index stays. It takes no
-    /// memory.
+    /// The new index keeps the position of the id, so that later errors still point into the
+    /// source. Does not allocate.
+    ///
+    /// # Example
+    ///
+    /// In `(module (import "host" "ready" (func $ready)) (func $read))`, `$read` is function 1:
+    ///
+    ///     names.resolve_func(&mut read)?;
+    ///
+    /// # Requires
+    ///
+    /// A generated id must be one that these names know. Numbers and ids from the source always
+    /// qualify. For an index that was in the module before it was resolved, call
+    /// [`borne_law`](crate::borne_law) to obtain this.
+    ///
+    /// # Errors
+    ///
+    /// E4 at the position of the id, if no function has it. `idx` is then not changed.
+    ///
+    /// # Guarantees
+    ///
+    /// `met`, `refusal`: success and failure are exactly these. `index`: the new value of `idx`.
     pub fn resolve_func(&self, idx: &mut Index<'a>) -> Result<(), Error<'a>>
         requires { IsSettledFor (known_to self.now) space.Func idx.old }
         ensures met { OnOk result (IsMetBy (known_to self.now) space.Func idx.old) }
@@ -72,10 +105,18 @@ impl<'a> Names<'a> {
         Ok(())
     }
 
-    /// Replaces the id of a memory by its number, at the id's place; a number passes.
+    /// Replaces the id of a memory by its index, as
+    /// [`resolve_func`](Names::resolve_func) does.
     ///
-    /// It needs that a generated id is known. An unknown id is E4 at its place, and then the index stays. It takes no
-    /// memory.
+    /// Does not allocate. For example, in `(module (memory 1) (memory $m 1))`, `$m` becomes 1.
+    ///
+    /// # Requires
+    ///
+    /// A generated id must be one that these names know.
+    ///
+    /// # Errors
+    ///
+    /// E4 at the position of the id, if no memory has it.
     pub fn resolve_memory(&self, idx: &mut Index<'a>) -> Result<(), Error<'a>>
         requires { IsSettledFor (known_to self.now) space.Memory idx.old }
         ensures met { OnOk result (IsMetBy (known_to self.now) space.Memory idx.old) }
@@ -86,10 +127,17 @@ impl<'a> Names<'a> {
         Ok(())
     }
 
-    /// Replaces the id of a table by its number, at the id's place; a number passes.
+    /// Replaces the id of a table by its index, as [`resolve_func`](Names::resolve_func) does.
     ///
-    /// It needs that a generated id is known. An unknown id is E4 at its place, and then the index stays. It takes no
-    /// memory.
+    /// Does not allocate. For example, in `(module (table $t 1 funcref))` the index `$t` becomes 0.
+    ///
+    /// # Requires
+    ///
+    /// A generated id must be one that these names know.
+    ///
+    /// # Errors
+    ///
+    /// E4 at the position of the id, if no table has it.
     pub fn resolve_table(&self, idx: &mut Index<'a>) -> Result<(), Error<'a>>
         requires { IsSettledFor (known_to self.now) space.Table idx.old }
         ensures met { OnOk result (IsMetBy (known_to self.now) space.Table idx.old) }
@@ -100,10 +148,22 @@ impl<'a> Names<'a> {
         Ok(())
     }
 
-    /// Replaces the id of a global by its number, at the id's place; a number passes.
+    /// Replaces the id of a global by its index, as
+    /// [`resolve_func`](Names::resolve_func) does.
     ///
-    /// It needs that a generated id is known. An unknown id is E4 at its place, and then the index stays. It takes no
-    /// memory.
+    /// Does not allocate.
+    ///
+    /// # Example
+    ///
+    ///     names.resolve_global(&mut closed)?;
+    ///
+    /// # Requires
+    ///
+    /// A generated id must be one that these names know.
+    ///
+    /// # Errors
+    ///
+    /// E4 at the position of the id, if no global has it.
     pub fn resolve_global(&self, idx: &mut Index<'a>) -> Result<(), Error<'a>>
         requires { IsSettledFor (known_to self.now) space.Global idx.old }
         ensures met { OnOk result (IsMetBy (known_to self.now) space.Global idx.old) }
@@ -114,10 +174,21 @@ impl<'a> Names<'a> {
         Ok(())
     }
 
-    /// Replaces the id of a tag by its number, at the id's place; a number passes.
+    /// Replaces the id of a tag by its index, as [`resolve_func`](Names::resolve_func) does.
     ///
-    /// It needs that a generated id is known. An unknown id is E4 at its place, and then the index stays. It takes no
-    /// memory.
+    /// Does not allocate.
+    ///
+    /// # Example
+    ///
+    ///     names.resolve_tag(&mut stop)?;
+    ///
+    /// # Requires
+    ///
+    /// A generated id must be one that these names know.
+    ///
+    /// # Errors
+    ///
+    /// E4 at the position of the id, if no tag has it.
     pub fn resolve_tag(&self, idx: &mut Index<'a>) -> Result<(), Error<'a>>
         requires { IsSettledFor (known_to self.now) space.Tag idx.old }
         ensures met { OnOk result (IsMetBy (known_to self.now) space.Tag idx.old) }
@@ -128,10 +199,21 @@ impl<'a> Names<'a> {
         Ok(())
     }
 
-    /// Replaces the id of a type by its number, at the id's place; a number passes.
+    /// Replaces the id of a type by its index, as [`resolve_func`](Names::resolve_func) does.
     ///
-    /// It needs that a generated id is known. An unknown id is E4 at its place, and then the index stays. It takes no
-    /// memory.
+    /// Does not allocate.
+    ///
+    /// # Example
+    ///
+    ///     names.resolve_type(&mut reader)?;
+    ///
+    /// # Requires
+    ///
+    /// A generated id must be one that these names know.
+    ///
+    /// # Errors
+    ///
+    /// E4 at the position of the id, if no type has it.
     pub fn resolve_type(&self, idx: &mut Index<'a>) -> Result<(), Error<'a>>
         requires { IsSettledFor (known_to self.now) space.Ty idx.old }
         ensures met { OnOk result (IsMetBy (known_to self.now) space.Ty idx.old) }
@@ -142,10 +224,18 @@ impl<'a> Names<'a> {
         Ok(())
     }
 
-    /// Replaces the id of an element segment by its number, at the id's place; a number passes.
+    /// Replaces the id of an element segment by its index, as
+    /// [`resolve_func`](Names::resolve_func) does.
     ///
-    /// It needs that a generated id is known. An unknown id is E4 at its place, and then the index stays. It takes no
-    /// memory.
+    /// Does not allocate. For example, in `(module (elem $e func))` the index `$e` becomes 0.
+    ///
+    /// # Requires
+    ///
+    /// A generated id must be one that these names know.
+    ///
+    /// # Errors
+    ///
+    /// E4 at the position of the id, if no element segment has it.
     pub fn resolve_elem(&self, idx: &mut Index<'a>) -> Result<(), Error<'a>>
         requires { IsSettledFor (known_to self.now) space.Elem idx.old }
         ensures met { OnOk result (IsMetBy (known_to self.now) space.Elem idx.old) }
@@ -156,10 +246,18 @@ impl<'a> Names<'a> {
         Ok(())
     }
 
-    /// Replaces the id of a data segment by its number, at the id's place; a number passes.
+    /// Replaces the id of a data segment by its index, as
+    /// [`resolve_func`](Names::resolve_func) does.
     ///
-    /// It needs that a generated id is known. An unknown id is E4 at its place, and then the index stays. It takes no
-    /// memory.
+    /// Does not allocate. For example, in `(module (data $d "a"))` the index `$d` becomes 0.
+    ///
+    /// # Requires
+    ///
+    /// A generated id must be one that these names know.
+    ///
+    /// # Errors
+    ///
+    /// E4 at the position of the id, if no data segment has it.
     pub fn resolve_data(&self, idx: &mut Index<'a>) -> Result<(), Error<'a>>
         requires { IsSettledFor (known_to self.now) space.Data idx.old }
         ensures met { OnOk result (IsMetBy (known_to self.now) space.Data idx.old) }
@@ -171,25 +269,68 @@ impl<'a> Names<'a> {
     }
 }
 
-/// Resolves the fields of a module: its abbreviations are written out, each type use that needs a type has an index, and each
-/// id where an index is wanted becomes its number, at the id's place (text format, abbreviations, indices and type uses).
+/// Resolves the fields of a module: desugars and checks them, and replaces every id by the index
+/// that it names (text format: abbreviations, identifiers, indices, type uses).
 ///
-/// It gives the fields in their order, each with the fields that stand for it once its exports, import, elements or data in
-/// place are written out, as [`deinline::run`] tells, and after them a type for each signature that a use without an index
-/// needs and no type has; and what the ids denote. A generated id is filled in where a field whose item is so referred to
-/// has none, then where a type has none, in the order of the fields, and is given to each type at the end. It needs a counter
-/// above `gensym_bound` of `wast_tree`, and leaves it above the ids that it gives.
+/// Each field is replaced by its expansion, as [`deinline::run`] describes. After all fields comes
+/// a type for each signature that a type use needs and no eligible type has. The returned [`Names`]
+/// look up more ids.
 ///
-/// The error is the first demand that is not met: E1 at an import, also one in place, that stands behind a function, table,
-/// memory, global or tag of the module; after that, in the order of the fields, E2 at the second bearer of an id in a space,
-/// and directly after a type E3 at the second bearer of an id among the fields of its struct; after all of these, field by
-/// field, E4 at an id that denotes nothing; E9 where a field is named of a type that is no struct with a named field; E6, E5
-/// or E7 at an index whose type is not the inline type beside it; E2 at the second of two parameters and locals of one id; and
-/// E8 at a label at an `else` or an `end` that is not that of its block. It is E12 where memory was refused, and E10 only
-/// where some space has 2^32 or more items, where some struct has as many fields, where a function has as many parameters and
-/// locals or an expression as many open blocks (both only where no items clash), where as many bytes stand in place in a
-/// memory, or where the counter would pass the greatest `u64`. On an error the fields are dropped, and the counter stays: no
-/// id of this call is left.
+/// Generated ids are numbered in this order: items that inline parts refer to, types without an id,
+/// appended types.
+///
+/// # Example
+///
+///     match resolve(alloc, fields, &mut Gensym::new(1)) {
+///         Ok((fields, names)) => {
+///             assert!(rt; fields.len() == 3);
+///             discard_fields(fields);
+///             discard_names(names);
+///         }
+///         Err(_) => assert!(rt; false),
+///     }
+///
+/// For example, `(func $f (export "a"))` becomes
+/// `(export "a" (func 0)) (func $f (type 0)) (type [1] (func))`, with the generated id `[1]`.
+///
+/// # Requires
+///
+/// The id counter is past every generated id in the fields: above `gensym_bound` of `wast_tree`.
+///
+/// # Errors
+///
+/// The first check that fails, with its position. First:
+///
+/// - E1: an import comes after the definition of a function, table, memory, global or tag.
+///
+/// Then, in the order of the items:
+///
+/// - E2: two items of an index space have the same id. After each struct, E3: two of its fields do.
+///
+/// Then, field by field:
+///
+/// - E4: an id is not defined.
+/// - E9: a field is named of a type that is not a struct with named fields.
+/// - E5, E6, E7: an inline type does not match the index beside it.
+/// - E2: two parameters or locals of a function have the same id.
+/// - E8: the label at an `else` or `end` is not that of its block.
+///
+/// Two errors have no position:
+///
+/// - E10: an index space has 2^32 items or more, a struct as many fields, or a memory as many bytes
+///   of inline data; or the counter would overflow a `u64`. If no two items have the same id, also:
+///   a function has as many parameters and locals, or an expression as many enclosing blocks.
+/// - E12: allocation failed.
+///
+/// After an error the fields are dropped. The counter has its old value, because no id of this call
+/// is left.
+///
+/// # Guarantees
+///
+/// - `met`: on success all these checks pass. `list`: the fields are `resolved_fields_from`.
+/// - `names`: the names have exactly the ids of the result. `refusal`: the errors are those above.
+/// - `counter`: the counter rises by the number of ids generated. `counter_grows`: it never falls.
+/// - `stays`: after an error the counter has its old value.
 pub fn resolve<'a>(
     alloc: Global,
     fields: Seq<ModuleField<'a>>,
@@ -214,7 +355,7 @@ pub fn resolve<'a>(
     }
 }
 
-/// The same, but that the counter may have risen where it answers an error.
+/// Does the same, but does not restore the counter after an error.
 fn resolve_from<'a>(
     alloc: Global,
     fields: Seq<ModuleField<'a>>,
@@ -235,7 +376,11 @@ fn resolve_from<'a>(
     Ok((fields, Names { resolver }))
 }
 
-/// Drops names, and gives their memory back.
+/// Drops names, and frees their memory.
+///
+/// # Example
+///
+///     discard_names(names);
 pub fn discard_names(names: Names<'_>) {
     drop(names);
 }

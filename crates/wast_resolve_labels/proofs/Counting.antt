@@ -1,18 +1,18 @@
--- Opening and closing blocks gives what counting openers and closers gives.
+-- Opening and closing blocks has the same result as counting openers and closers.
 use Rattle.std.proofs.Common.{◌≡◌, ℕ, zero, suc, ◌+◌, ◌-◌, ◌≤◌, List, [], ◌∷◌, ◌++◌, Option, Bool, cond, true, false, refl, ap, sym, ◌∙◌, length, take, arith, eqb, inl, inr, ◌⊎◌, append_assoc, append-nil, length-append}
 use Rattle.std.proofs.lemmas.Bool.{cases_eq, and_parts, and_from, leb-true, le-leb, eq-eqb, ne_eqb, false_from_ne_true}
 use Rattle.wast_base.specs.Blocks.{Blocks, without_innermost, BlockEffect, Opens, Closes, Stays, openers, closers, never_closed, stays_open}
 use Rattle.wast_base.specs.Ids.{Name}
 use Rattle.wast_resolve_labels.specs.Turns.{open_blocks, blocks_after, blocks_after_all}
 
--- the closers that no opener of these stands before
+-- The closers without an opener before them in this list.
 surplus : List BlockEffect → ℕ
 surplus [] = 0
 surplus (Opens l ∷ ts) = surplus ts - 1
 surplus (Closes ∷ ts) = surplus ts + 1
 surplus (Stays ∷ ts) = surplus ts
 
--- in each of the first n fronts the closers are at most the openers and d
+-- In each of the first n prefixes there are at most d more closers than openers.
 abbrev Within : List BlockEffect → ℕ → ℕ → Type 0
 Within ts d n = (k : ℕ) → k ≤ n → closers (take k ts) ≤ openers (take k ts) + d
 
@@ -57,14 +57,14 @@ no_surplus : (ts : List BlockEffect) → stays_open ts ≡ true → surplus ts �
 unfolding stays_open
 no_surplus ts h = omega (arith, within_surplus ts 0 (never_within ts (length ts) h))
 
--- a block stays open where no closer is left over
+-- A block stays open if no closer is left over.
 stays : (ts : List BlockEffect) → stays_open ts ≡ eqb (surplus ts) 0
 stays ts = elim (cases_eq (surplus ts) 0) [
   | inl e ↦ stays_without_surplus ts e ∙ sym (eq-eqb (surplus ts) 0 e)
   | inr e ↦ false_from_ne_true (stays_open ts) (λ h. e (no_surplus ts h)) ∙ sym (ne_eqb (surplus ts) 0 e)
 ]
 
--- one where no block is open
+-- The case without enclosing blocks.
 none : Blocks → ℕ
 none [] = 1
 none (l ∷ ls) = 0
@@ -81,7 +81,7 @@ kept_surplus l [] zero = refl
 kept_surplus l (m ∷ ls) zero = refl
 kept_surplus l ls (suc s) = rw (ne_eqb (suc s) 0 (λ e. omega arith)) (omega arith)
 
--- a closer takes the innermost block off
+-- A closer removes the innermost block.
 record Closing (ts : List BlockEffect) : Type 0 where
   blocks : open_blocks (ts ++ Closes ∷ []) ≡ without_innermost (open_blocks ts)
   left : surplus (ts ++ Closes ∷ []) ≡ surplus ts + none (open_blocks ts)
@@ -129,7 +129,7 @@ stays_put (Opens l ∷ ts) = rw (stays (ts ++ Stays ∷ []), stays ts, stays_sur
 stays_put (Closes ∷ ts) = stays_put ts
 stays_put (Stays ∷ ts) = stays_put ts
 
--- one more instruction
+-- One more instruction.
 pub one_step : (ts : List BlockEffect) (t : BlockEffect) → open_blocks (ts ++ t ∷ []) ≡ blocks_after (open_blocks ts) t
 one_step ts (Opens l) = opens ts l
 one_step ts Closes = (closing ts).blocks
@@ -142,7 +142,7 @@ walked_from ts (u ∷ us) = ap (λ ls. blocks_after_all ls us) (sym (one_step ts
 pub walked_all : (ts : List BlockEffect) → blocks_after_all [] ts ≡ open_blocks ts
 walked_all ts = walked_from [] ts
 
--- no more blocks than openers
+-- At most as many blocks as openers.
 one_longer : (b : Bool) (l : Option Name) (ls : Blocks) (n : ℕ) → length ls ≤ n → length (cond b (ls ++ l ∷ []) ls) ≤ n + 1
 one_longer true l ls n h = omega (arith, h, length-append ls (l ∷ []))
 one_longer false l ls n h = omega arith

@@ -1,4 +1,4 @@
--- What indexing a block and taking it out keep, and the numbers that an index gives.
+-- Indexing a block and removing it keep the index correct, and depths follow from the index.
 use Rattle.std.proofs.Common.{◌≡◌, ℕ, suc, ◌+◌, ◌-◌, ◌<◌, ◌≤◌, List, [], ◌∷◌, ◌++◌, length, map, reverse, get_or, take, drop, Option, Some, None, IsSome, is_some, option_map, cond, Bool, true, false, refl, sym, ap, ◌∙◌, subst, arith, inl, inr}
 use Rattle.std.specs.BTreeMap.{BTreeMap, get, Updates}
 use Rattle.std.specs.Cmp.{both_ways}
@@ -21,7 +21,7 @@ use Rattle.wast_resolve_labels.specs.Indexed.{label_of, labels_of, innermost_of,
 use Rattle.wast_base.proofs.Names.{same_name_equal, same_name_itself}
 use Rattle.wast_base.proofs.Positions.{position_head, first_place, no_place}
 
--- the place of the innermost block of a label, and what the label denotes
+-- The position of the innermost block with a label, and the depth of the label.
 abbrev pub IsCount : Name → Blocks → Option ℕ → Type 0
 IsCount q ls None = label_depth q ls ≡ None
 IsCount q ls (Some p) = (p < length ls) × (label_depth q ls ≡ Some (length ls - 1 - p))
@@ -39,7 +39,7 @@ pub counted : (q : Name) (ls : Blocks) → IsCount q ls (innermost_of q ls)
 counted q [] = refl
 counted q (l ∷ ls) = one_further q l ls (is_called q l) refl (innermost_of q ls) (counted q ls)
 
--- the order tells the same ids apart as their names do
+-- Ids are equal in the order exactly if their names are.
 name_is : (a b : code.Name) → same_name (named_by a) (named_by b) ≡ names.ghosts.eq a b
 name_is (name.Written a) (name.Written b) = refl
 name_is (name.Generated a) (name.Generated b) = refl
@@ -49,14 +49,14 @@ name_is (name.Generated a) (name.Written b) = refl
 ties : (a b : Id) → is_eq (by_name.ghosts.cmp a b) ≡ same_name (name_of a) (name_of b)
 ties a b = sym (laws.matches_eq-law a b) ∙ sym (name_is a.name b.name)
 
--- the names are the same from both sides
+-- Equality of names is symmetric.
 same_turned : (a b : Name) → same_name a b ≡ same_name b a
 same_turned a b = both_ways (same_name a b) (same_name b a) (turn a b) (turn b a)
   where
     turn : (a b : Name) → same_name a b ≡ true → same_name b a ≡ true
     turn a b h = ap (λ n. same_name n a) (sym (same_name_equal a b h)) ∙ same_name_itself a
 
--- what a label has is put in place of what it had
+-- A new position of a label replaces the old one.
 module _ (m n : BTreeMap Id ℕ) (id : Id) (w : Option ℕ) (updates : Updates by_name.ghosts.cmp m n id w) where
   kept_now : (q : Id) → get by_name.ghosts.cmp n q ≡ cond (same_name (name_of q) (name_of id)) w (get by_name.ghosts.cmp m q)
   kept_now q = updates.0 q ∙ ap (λ b. cond b w (get by_name.ghosts.cmp m q)) (ties id q ∙ same_turned (name_of id) (name_of q))
@@ -66,7 +66,7 @@ module _ (m n : BTreeMap Id ℕ) (id : Id) (w : Option ℕ) (updates : Updates b
       let b = same_name (name_of q) (name_of id) in
       kept_now q ∙ ap (cond b w) (h q) ∙ ap (λ o. cond b o (innermost_of (name_of q) ls)) is
 
-  -- the place of the next one further out is kept again
+  -- The position of the next block further out is stored again.
   fewer_places : (ls : Blocks) → w ≡ innermost_of (name_of id) ls → HasPlaces m (Some (name_of id) ∷ ls) → HasPlaces n ls
   fewer_places ls is h q = elim (cases_Bool (same_name (name_of q) (name_of id))) [
     | inl e ↦ kept_now q ∙ ap (λ b. cond b w (get by_name.ghosts.cmp m q)) e ∙ is ∙ ap (λ x. innermost_of x ls) (sym (same_name_equal (name_of q) (name_of id) e))
@@ -75,16 +75,16 @@ module _ (m n : BTreeMap Id ℕ) (id : Id) (w : Option ℕ) (updates : Updates b
         ∙ ap (λ b. cond b (Some (length ls)) (innermost_of (name_of q) ls)) e
   ]
 
--- the label of an indexed block is in the index
+-- The label of an indexed block is in the index.
 is_kept : (m : BTreeMap Id ℕ) (id : Id) (ls : Blocks) → HasPlaces m (Some (name_of id) ∷ ls) → get by_name.ghosts.cmp m id ≡ Some (length ls)
 is_kept m id ls h = h id ∙ ap (λ b. cond b (Some (length ls)) (innermost_of (name_of id) ls)) (same_name_itself (name_of id))
 
--- none of the first blocks has the label
+-- None of the first blocks has the label.
 pub record IsSought (q : Name) (ls : Blocks) (steps : ℕ) : Type 0 where
   pub within : steps ≤ length ls
   pub others : (k : ℕ) → k < steps → is_called q (get_or ls k None) ≡ false
 
--- a block by its distance from the innermost, among those with the outermost first
+-- A block by its distance from the innermost, in a list with the outermost first.
 there : (ids : List (Option Id)) (steps : ℕ) (d : Option Id) → steps < length ids → get_or (labels_of ids) steps None ≡ label_of (get_or ids (length ids - 1 - steps) d)
 there ids steps d lt =
     let long = length-map ids label_of in
@@ -116,7 +116,7 @@ module _ (q : Name) (ids : List (Option Id)) (steps : ℕ) (d : Option Id) (h : 
 pub sought_all : (q : Name) (ids : List (Option Id)) (steps : ℕ) → IsSought q (labels_of ids) steps → length ids ≤ steps → label_depth q (labels_of ids) ≡ None
 sought_all q ids steps h le = no_place (is_called q) (labels_of ids) None (λ k lt. h.others k (omega (arith, lt, le, as_many ids)))
 
--- the same of a label that there is, and of how the blocks are chained
+-- The same for a label that exists, and for the chain of blocks.
 module _ (m n : BTreeMap Id ℕ) (id : Id) (label : Option Id) (is : label ≡ Some id) where
   pub keeps : (place : ℕ) (old : Option ℕ) → old ≡ get by_name.ghosts.cmp m id → Updates by_name.ghosts.cmp m n id (Some place) → (ls : Blocks) → length ls ≡ place → HasPlaces m ls
       → HasPlaces n (label_of label ∷ ls) × (old ≡ innermost_if (label_of label) ls)
@@ -124,7 +124,7 @@ module _ (m n : BTreeMap Id ℕ) (id : Id) (label : Option Id) (is : label ≡ S
       subst (λ (l : Option Id). HasPlaces n (label_of l ∷ ls) × (old ≡ innermost_if (label_of l) ls)) (sym is)
       (more_places m n id (Some place) updates ls (ap Some (sym long)) h, was ∙ h id)
 
-  -- the label of the block that is closed is in the index, whatever it has then
+  -- The label of the closed block is in the index, whatever its position is then.
   pub forgets : (further : Option ℕ) → (IsSome (get by_name.ghosts.cmp m id) → Updates by_name.ghosts.cmp m n id further) → (os ps : List (Option ℕ)) → ps ≡ os ++ further ∷ [] → (ls : Blocks)
       → IsIndexed m ps (label_of label ∷ ls) → IsIndexed n os ls
   forgets further put os ps less ls h =
@@ -136,7 +136,7 @@ module _ (m n : BTreeMap Id ℕ) (id : Id) (label : Option Id) (is : label ≡ S
         chained = chained.1;
       }
 
--- the first of two lists that has one that passes
+-- The first of two lists with an element that passes.
 module _ {X : Type 0} (p : X → Bool) (ys : List X) where
   found_later : (xs : List X) (o : Option ℕ) → position p xs ≡ o → (n : ℕ) → option_map suc o ≡ Some n → ((m : ℕ) → position p xs ≡ Some m → position p (xs ++ ys) ≡ Some m) → option_map suc (position p (xs ++ ys)) ≡ Some n
   found_later xs None e n h more = absurd (cc (h))
@@ -170,14 +170,14 @@ module _ {X : Type 0} (p : X → Bool) (ys : List X) where
         ∙ further_on (length xs) (position p ys)
   ]
 
--- what a label denotes that one of the innermost blocks has
+-- The depth of a label that one of the innermost blocks has.
 pub found_nearest : (id : Id) (ids xs nearest : List (Option Id)) (k : ℕ) → xs ≡ ids → nearest ≡ drop k xs → (o : Option ℕ) → o ≡ label_depth (name_of id) (labels_of nearest) → (steps : ℕ) → o ≡ Some steps → label_depth (name_of id) (labels_of ids) ≡ Some steps
 found_nearest id ids xs nearest k same back o is steps here =
     let split : ids ≡ take k xs ++ nearest = sym same ∙ (sym (take-append-drop k xs) ∙ ap (λ ys. take k xs ++ ys) (sym back)) in
     let parted : labels_of ids ≡ labels_of nearest ++ labels_of (take k xs) = ap labels_of split ∙ (ap reverse (map-append label_of (take k xs) nearest) ∙ reverse-append (map label_of (take k xs)) (map label_of nearest)) in
     ap (label_depth (name_of id)) parted ∙ found_first (is_called (name_of id)) (labels_of (take k xs)) (labels_of nearest) steps (sym is ∙ here)
 
--- what a label denotes, by the blocks that are not indexed, and by those that are
+-- The depth of a label, from the blocks that are not indexed and those that are.
 module _ (id : Id) (m : BTreeMap Id ℕ) (outer : List (Option ℕ)) (ids xs further near : List (Option Id)) (k : ℕ) (h : IsIndexOf ids m outer) (same : xs ≡ ids) (long : k ≡ length outer) (front : further ≡ take k xs) (back : near ≡ drop k xs) where
   split : ids ≡ further ++ near
   split = sym same ∙ (sym (take-append-drop k xs) ∙ sym (λ i. front i ++ back i))

@@ -1,4 +1,4 @@
--- The last opener of an open block, and the last one of a label.
+-- The last unclosed opener, and the last one with a label.
 use Rattle.std.proofs.Common.{◌≡◌, ℕ, zero, suc, ◌+◌, List, [], ◌∷◌, ◌++◌, Option, Some, None, option_map, Bool, true, false, cond, refl, ap, sym, ◌∙◌, length, drop, arith, length-append}
 use Rattle.std.proofs.lemmas.Bool.{false_from_ne_true}
 use Rattle.wast_base.specs.Blocks.{Blocks, BlockEffect, Opens, Closes, Stays, stays_open}
@@ -9,7 +9,7 @@ use Rattle.wast_resolve_labels.specs.Turns.{open_blocks, open_count, IsOpen, IsL
 use Rattle.wast_base.proofs.Names.{called_is, same_name_itself}
 use Rattle.wast_base.proofs.Positions.{position_head}
 
--- openers behind the first instruction
+-- Openers after the first instruction.
 one_behind : (t : BlockEffect) (ts : List BlockEffect) (l : Option Name) (at : ℕ) → IsOpen ts l at → IsOpen (t ∷ ts) l (suc at)
 one_behind t ts l at h = record { opener = h.opener; stays = h.stays }
 
@@ -37,14 +37,14 @@ opens_with t ts l h = the_turn t (Opens l) h.opener
 here_open : (ts : List BlockEffect) (l : Option Name) → stays_open ts ≡ true → IsOpen (Opens l ∷ ts) l zero
 here_open ts l h = record { opener = refl; stays = h }
 
--- the opener of an open block adds its label behind the others
+-- An unclosed opener adds its label after the others.
 added : (ts : List BlockEffect) (l : Option Name) → stays_open ts ≡ true → open_blocks (Opens l ∷ ts) ≡ open_blocks ts ++ l ∷ []
 added ts l h = ap (λ b. cond b (open_blocks ts ++ l ∷ []) (open_blocks ts)) h
 
 not_added : (ts : List BlockEffect) (l : Option Name) → stays_open ts ≡ false → open_blocks (Opens l ∷ ts) ≡ open_blocks ts
 not_added ts l h = ap (λ b. cond b (open_blocks ts ++ l ∷ []) (open_blocks ts)) h
 
--- no block is open where no opener is that of an open block
+-- No block is open if no opener is unclosed.
 none_open : (ts : List BlockEffect) → ((at : ℕ) (l : Option Name) → IsOpen ts l at → ⊥) → open_blocks ts ≡ []
 none_open [] h = refl
 none_open (Opens l ∷ ts) h =
@@ -55,7 +55,7 @@ none_open (Stays ∷ ts) h = none_open ts (λ at m o. h (suc at) m (one_behind S
 pub expects_any : (ts : List BlockEffect) (label : Name) → ((at : ℕ) (l : Option Name) → IsOpen ts l at → ⊥) → is_expected_label (Some label) (open_blocks ts) ≡ true
 expects_any ts label h = ap (is_expected_label (Some label)) (none_open ts h)
 
--- the last opener's block is the first
+-- The block of the last opener is the first.
 abbrev BeginsWith : Option Name → Blocks → Type 0
 BeginsWith l ls = (rest : Blocks) × (ls ≡ l ∷ rest)
 
@@ -77,7 +77,7 @@ last_is_first (Stays ∷ ts) own (suc at) h = last_is_first ts own at (last_behi
 pub expects_the_last : (ts : List BlockEffect) (own : Option Name) (at : ℕ) (label : Name) → IsLastOpen ts own at → is_expected_label (Some label) (open_blocks ts) ≡ is_called label own
 expects_the_last ts own at label h = ap (is_expected_label (Some label)) (last_is_first ts own at h).1
 
--- what a label denotes among blocks, where one more stands last
+-- The depth of a label if one more block is last.
 denotes_head : (q : Name) (b : Bool) (l : Option Name) (ls : Blocks) → is_called q l ≡ b → label_depth q (l ∷ ls) ≡ cond b (Some 0) (option_map suc (label_depth q ls))
 denotes_head q b l ls h = position_head (is_called q) b l ls h
 
@@ -113,7 +113,7 @@ still_none q m (l ∷ ls) e h =
     let x = none_first q (is_called q l) l ls refl h in
     denotes_head q false l (ls ++ m ∷ []) x.0 ∙ ap (option_map suc) (still_none q m ls e x.1)
 
--- as many blocks are open as there are openers of open blocks
+-- There are as many enclosing blocks as unclosed openers.
 one_longer : (b : Bool) (l : Option Name) (ls : Blocks) (n : ℕ) → length ls ≡ n → length (cond b (ls ++ l ∷ []) ls) ≡ cond b (n + 1) n
 one_longer true l ls n h = omega (arith, h, length-append ls (l ∷ []))
 one_longer false l ls n h = h
@@ -124,7 +124,7 @@ as_many (Opens l ∷ ts) = one_longer (stays_open ts) l (open_blocks ts) (open_c
 as_many (Closes ∷ ts) = as_many ts
 as_many (Stays ∷ ts) = as_many ts
 
--- a label of no open block
+-- A label that no enclosing block has.
 none_added : (q : Name) (b : Bool) (l : Option Name) (ls : Blocks) → (b ≡ true → is_called q l ≡ false) → label_depth q ls ≡ None → label_depth q (cond b (ls ++ l ∷ []) ls) ≡ None
 none_added q true l ls f h = still_none q l ls (f refl) h
 none_added q false l ls f h = h
@@ -137,7 +137,7 @@ denotes_nothing (Opens l ∷ ts) q never =
 denotes_nothing (Closes ∷ ts) q never = denotes_nothing ts q (λ at o. never (suc at) (one_behind Closes ts (Some q) at o))
 denotes_nothing (Stays ∷ ts) q never = denotes_nothing ts q (λ at o. never (suc at) (one_behind Stays ts (Some q) at o))
 
--- the last opener of a label
+-- The last opener with a label.
 found_added : (q : Name) (b : Bool) (l : Option Name) (ls : Blocks) (n : ℕ) → label_depth q ls ≡ Some n → label_depth q (cond b (ls ++ l ∷ []) ls) ≡ Some n
 found_added q true l ls n h = still_found q l ls n h
 found_added q false l ls n h = h

@@ -1,4 +1,4 @@
--- What the definitions say of a worked expression, computed.
+-- Computes the example of `Worked`.
 use Rattle.std.proofs.Common.{refl}
 use Rattle.wast_base.specs.Blocks.{stays_open}
 use Rattle.wast_resolve_labels.specs.Worked.{ThreeAreOpen, LabelsThere, EndsThere}

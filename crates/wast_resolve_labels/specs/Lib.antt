@@ -1,5 +1,9 @@
--- What the contracts cite of labels: open blocks and what is asked of them, and the laws that tie both to an expression's
--- openers and closers (`Turns`, `Laws`); beside it what fields hold (`Indexed`, `Marks`).
+-- The definitions of labels.
+--
+-- - OpenBlocks: depths. Asked: the checks E4 and E8. Turns: the enclosing blocks at a position, by counting and by
+--   walking.
+-- - Laws: the theorems that relate them. Indexed, Marks: the index and the marks of `Labels`. Worked: an example that
+--   computes.
 pub mod Asked
 pub mod Indexed
 pub mod Laws

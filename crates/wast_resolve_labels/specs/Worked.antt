@@ -1,4 +1,4 @@
--- The open blocks of a worked expression, and what labels are among them, computed.
+-- Enclosing blocks and labels of one expression, which the definitions compute.
 use Rattle.std.specs.Prelude.{◌≡◌, true, false, List, [], ◌∷◌, Some, None, codes}
 use Rattle.wast_base.specs.Blocks.{without_innermost, BlockEffect, Opens, Closes, Stays}
 use Rattle.wast_base.specs.Ids.{Name, Written, Generated}
@@ -11,22 +11,23 @@ a = Written (codes "a")
 abbrev pub b : Name
 b = Written (codes "b")
 
--- `block $a loop $b block nop end block $a`
+-- The expression `block $a loop $b block nop end block $a`.
 abbrev pub nested : List BlockEffect
 nested = Opens (Some a) ∷ Opens (Some b) ∷ Opens None ∷ Stays ∷ Closes ∷ Opens (Some a) ∷ []
 
--- Of its four openers three are those of open blocks, by counting and by walking.
+-- Three of its four openers are not closed, by counting and by walking.
 abbrev pub ThreeAreOpen : Type 0
 ThreeAreOpen =
     (open_blocks nested ≡ Some a ∷ Some b ∷ Some a ∷ []) × (open_count nested ≡ 3) × (blocks_after_all [] nested ≡ Some a ∷ Some b ∷ Some a ∷ [])
 
--- There `br $a` is `br 0`, `br $b` is `br 1`, and behind `end` `br $a` is `br 1`; other labels denote nothing.
+-- At its end `br $a` is `br 0` and `br $b` is `br 1`. After one more `end`, `br $a` is `br 1`. Other labels have no
+-- depth.
 abbrev pub LabelsThere : Type 0
 LabelsThere =
     (label_depth a (blocks_after_all [] nested) ≡ Some 0) × (label_depth b (blocks_after_all [] nested) ≡ Some 1) × (label_depth a (without_innermost (blocks_after_all [] nested)) ≡ Some 1)
     × (label_depth (Generated 1) (blocks_after_all [] nested) ≡ None)
 
--- There `end $a` may stand and `end $b` may not; where no block is open nothing is asked.
+-- At its end `end $a` is allowed, and `end $b` is not. Without enclosing blocks any label is allowed.
 abbrev pub EndsThere : Type 0
 EndsThere =
     (is_expected_label (Some a) (blocks_after_all [] nested) ≡ true) × (is_expected_label (Some b) (blocks_after_all [] nested) ≡ false) × (is_expected_label None (blocks_after_all [] nested) ≡ true)

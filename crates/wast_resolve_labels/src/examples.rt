@@ -1,8 +1,8 @@
-//! A worked expression, of which the definitions compute what they say.
+//! An expression with its enclosing blocks and labels, which the definitions compute.
 
 ghost use Rattle.wast_resolve_labels.specs.Worked.{ThreeAreOpen, LabelsThere, EndsThere};
 
-/// The open blocks of a worked expression, what its labels denote there, and what may stand at an `end`.
+/// The enclosing blocks of the example, the depths of its labels, and the labels allowed at `end`.
 #[tactic(auto, using(crate::proofs::Worked::three_are_open, crate::proofs::Worked::labels_there, crate::proofs::Worked::ends_there))]
 pub(crate) fn nested_blocks()
     ensures open_blocks { ThreeAreOpen }

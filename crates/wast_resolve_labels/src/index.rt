@@ -1,4 +1,4 @@
-//! The open blocks by their labels: one by one, and by an index.
+//! Searching enclosing blocks by label: one by one, and with an index.
 
 ghost use Rattle.std.specs.Prelude.{◌≡◌, ◌+◌, ◌-◌, ◌∷◌, length, Some, IsSome, IfOk, OnOk, OnErr};
 ghost use Rattle.std.specs.BTreeMap.{get, Updates};
@@ -15,8 +15,7 @@ use std::alloc::AllocError;
 use std::collections::BTreeMap;
 use wast_base::Id;
 
-/// How many blocks stand within the innermost one that has a label, going by one after the other. The blocks are given with
-/// their marks.
+/// Returns the depth of a label among blocks with their marks, comparing one after the other.
 #[inline(never)]
 pub(crate) fn steps_back<'a>(blocks: &[Option<Id<'a>>], marks: &[u16], id: &Id<'a>) -> Option<usize>
     requires { marks.now ≡ marks_of blocks.now }
@@ -34,7 +33,7 @@ pub(crate) fn steps_back<'a>(blocks: &[Option<Id<'a>>], marks: &[u16], id: &Id<'
     None
 }
 
-/// Whether a block that is opened with this id has a label. Only if its mark is that of the label are the names compared.
+/// Returns whether a block has a label. Names are compared only if the marks are equal.
 #[inline(always)]
 fn has_label<'a>(block: &Option<Id<'a>>, own: u16, mark: u16, id: &Id<'a>) -> bool
     requires own { own ≡ label_mark (label_of block.now) }
@@ -47,7 +46,7 @@ fn has_label<'a>(block: &Option<Id<'a>>, own: u16, mark: u16, id: &Id<'a>) -> bo
     is_labelled(block, id)
 }
 
-/// The same, by its name.
+/// The same, by name.
 fn is_labelled<'a>(block: &Option<Id<'a>>, id: &Id<'a>) -> bool
     ensures { result ≡ is_called (name_of id.now) (label_of block.now) }
 {
@@ -57,14 +56,14 @@ fn is_labelled<'a>(block: &Option<Id<'a>>, id: &Id<'a>) -> bool
     }
 }
 
-/// The place of the innermost block that is indexed and has a label.
+/// Returns the position of the innermost indexed block with a label.
 pub(crate) fn indexed_place<'a>(places: &BTreeMap<Id<'a>, usize>, id: &Id<'a>) -> Option<usize>
     ensures { result ≡ get by_name.ghosts.cmp places.now id.now }
 {
     places.get(id).copied()
 }
 
-/// Indexes all blocks. Where memory is refused some are not.
+/// Indexes all blocks. If allocation fails, some are not indexed.
 pub(crate) fn index_all<'a>(
     blocks: &[Option<Id<'a>>],
     places: &mut BTreeMap<Id<'a>, usize>,
@@ -78,7 +77,7 @@ pub(crate) fn index_all<'a>(
     Ok(())
 }
 
-/// Indexes one block more, the innermost of those that are indexed. Where memory is refused nothing changes.
+/// Indexes one more block, which is inside the indexed ones. If allocation fails, nothing changes.
 fn index_block<'a>(
     places: &mut BTreeMap<Id<'a>, usize>,
     outer: &mut Vec<Option<usize>>,
@@ -95,7 +94,7 @@ fn index_block<'a>(
     Ok(())
 }
 
-/// Keeps a place for a label, if there is one, and gives the place that was kept for it.
+/// Stores a position for a label, if there is one, and returns the position that was stored before.
 fn keep_place<'a>(
     places: &mut BTreeMap<Id<'a>, usize>,
     place: usize,
@@ -111,8 +110,8 @@ fn keep_place<'a>(
     }
 }
 
-/// Takes the innermost of the blocks that are indexed out of the index: its label has the place of the next one further out
-/// that has it, or is not in the index any more.
+/// Removes the innermost indexed block from the index. Its label gets the position of the next one
+/// further out with it, or leaves the index.
 pub(crate) fn unindex_block<'a>(
     places: &mut BTreeMap<Id<'a>, usize>,
     outer: &mut Vec<Option<usize>>,
@@ -126,14 +125,13 @@ pub(crate) fn unindex_block<'a>(
     }
 }
 
-/// Puts the place of the next block further out in the place of that of the innermost one, which a label has; with no next
-/// block the label leaves the map.
+/// Replaces the position of a label by that of the next block further out, or removes the label.
 fn put_further<'a>(places: &mut BTreeMap<Id<'a>, usize>, id: Id<'a>, further: Option<usize>)
     ensures { IsSome (get by_name.ghosts.cmp places.old id.entry) → Updates by_name.ghosts.cmp places.old places.new id.entry further }
 {
     match further {
         Some(place) => {
-            // the label is in the map, so that this takes no memory
+            // The label is in the map, so this does not allocate.
             let _ = places.insert(id, place);
         }
         None => {

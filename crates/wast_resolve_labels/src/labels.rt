@@ -1,4 +1,4 @@
-//! The open blocks of an expression, by their labels.
+//! The enclosing blocks of an instruction, by their labels.
 
 ghost use Rattle.std.specs.Prelude.{◌≡◌, ◌+◌, ◌<◌, ◌≤◌, ◌^◌, ◌↔◌, [], ◌∷◌, length, Some, None, codes, IsTrue, IsFalse, IfOk, IfSome, OnOk, OnErr};
 ghost use Rattle.wast_base.specs.Blocks.{without_innermost};
@@ -17,33 +17,45 @@ use std::collections::BTreeMap;
 use std::marker::Model;
 use wast_base::{Error, Fault, Id, Index, Numbering, number_index};
 
-/// So many of the innermost open blocks are looked at one by one before it is asked whether the others are to be indexed.
+/// This many innermost blocks are searched one by one, before indexing the others is considered.
 const NEAR: usize = 16;
 
-/// Indexing a block costs about as much as going along this many blocks, one by one.
+/// Indexing a block takes about as long as comparing this many blocks.
 const DUE: usize = 256;
 
-/// The open blocks of an expression (text format, control instructions: labels). Contracts see their labels, the innermost
-/// first.
+/// The enclosing blocks of an instruction, by their labels (text format: control instructions,
+/// labels).
 ///
-/// A label is looked for one by one among the blocks that are not indexed, and by the index among those that are, which are
-/// the outermost ones. Each block has a mark beside it, made of the length and the last byte of its label: a block with another
-/// mark is passed by.
+/// Its model in contracts is the list of labels, innermost first.
 ///
-/// If [`reach`](Labels::reach) is called before each look-up, blocks are indexed as soon as going along them has cost as much
-/// as indexing them does. So, besides the 16 innermost, all look-ups together go along at most a few hundred blocks for each
-/// block that is opened, however deep blocks are nested and however often they are opened and closed.
+/// Look-ups compare the blocks that are not indexed, one by one, and then use an index of the
+/// others, which are the outermost. Each block has a mark, made of the length and the last byte of
+/// its label. Blocks with another mark are skipped.
+///
+/// If [`reach`](Labels::reach) is called before each look-up, blocks are indexed as soon as
+/// comparing them has taken as long as indexing them. So apart from the 16 innermost, all look-ups
+/// together compare at most a few hundred blocks for each block that is opened, however deep the
+/// nesting is.
+///
+/// # Example
+///
+///     let mut labels = Labels::new(rt.alloc());
+///     open_many(&rt, &mut labels, id("l"));
+///     let mut branch = Index::Id(id("l"));
+///     assert!(rt; labels.number(&mut branch) == Ok(0));
+///     assert!(rt; branch == Index::Num(0, Span { offset: 7 }));
 #[derive(Drop)]
 pub struct Labels<'a> {
-    // of all open blocks, the outermost first
+    // All enclosing blocks, the outermost first.
     open: Vec<Option<Id<'a>>>,
-    // of each of them: the mark of its label
+    // For each of them, the mark of its label.
     marks: Vec<u16>,
-    // of the labels of the blocks that are indexed, the outermost ones, and of no others: the place of the innermost that has it
+    // For each label of an indexed block, the position of the innermost indexed block with it.
     places: BTreeMap<Id<'a>, usize>,
-    // of each block that is indexed, the outermost first: the place of the next one further out that has its label
+    // For each indexed block, the outermost first, the position of the next one further out with
+    // its label.
     outer: Vec<Option<usize>>,
-    // how many blocks were gone along since blocks were indexed last
+    // How many blocks were compared since blocks were indexed last.
     spent: usize,
 }
 
@@ -61,7 +73,7 @@ impl<'a> Model for Labels<'a> {
 }
 
 impl<'a> Labels<'a> {
-    /// No open blocks. It takes no memory.
+    /// Creates an empty list: no enclosing blocks. Does not allocate.
     pub fn new(alloc: Global) -> Self
         ensures { result ≡ [] }
     {
@@ -74,17 +86,29 @@ impl<'a> Labels<'a> {
         }
     }
 
-    /// Whether 4,294,967,295 blocks are open, so that no further one can be numbered. It takes no memory.
+    /// Returns whether there are 4,294,967,295 enclosing blocks, so that no more can be opened.
+    /// Does not allocate.
     pub fn is_full(&self) -> bool
         ensures { IsTrue result ↔ (2 ^ 32 ≤ length self.now + 1) }
     {
         self.open.len() >= u32::MAX as usize
     }
 
-    /// Opens a block: it is the innermost from then on.
+    /// Opens a block with its label, if it has one. It is the innermost block then.
     ///
-    /// It needs fewer than 4,294,967,295 open blocks, as [`is_full`](Labels::is_full) tells. Where memory is refused nothing
-    /// changes.
+    /// # Example
+    ///
+    ///     assert!(rt; !labels.is_full());
+    ///     labels.open(label).expect(rt, "memory");
+    ///
+    /// # Requires
+    ///
+    /// There are fewer than 4,294,967,295 enclosing blocks: [`is_full`](Labels::is_full) returns
+    /// `false`.
+    ///
+    /// # Errors
+    ///
+    /// `AllocError`: allocation failed. Nothing changes then.
     pub fn open(&mut self, label: Option<Id<'a>>) -> Result<(), AllocError>
         requires { length self.old + 1 < 2 ^ 32 }
         ensures ok { OnOk result (self.new ≡ name_if (mark_of_option label.entry) ∷ self.old) }
@@ -98,12 +122,29 @@ impl<'a> Labels<'a> {
         Ok(())
     }
 
-    /// Prepares for looking up the label of an index, so that all look-ups together cost little. If it is an id, if none of
-    /// the innermost open blocks, at most 16, has it, and if going along the others has by now cost as much as indexing them
-    /// does, then all open blocks are indexed.
+    /// Prepares for looking up a label, so that all look-ups together are fast. Depths do not
+    /// change.
     ///
-    /// What labels denote stays. It takes memory only where blocks are indexed; where that is refused it answers an error. A
-    /// block is indexed once, however often labels are asked for.
+    /// It indexes all enclosing blocks if three conditions hold:
+    ///
+    /// - the index is an id;
+    /// - none of the innermost blocks has it: at most 16 that are not indexed;
+    /// - comparing the others has taken as long by now as indexing them does.
+    ///
+    /// # Example
+    ///
+    ///     let mut branch = Index::Id(id(text.as_str()));
+    ///     labels.reach(&branch).expect(rt, "memory");
+    ///     assert!(rt; labels.number(&mut branch) == Ok(want));
+    ///
+    /// # Errors
+    ///
+    /// `AllocError`: allocation failed. Depths do not change then either.
+    ///
+    /// # Memory
+    ///
+    /// Allocates only if it indexes blocks. A block is indexed once, however many labels are looked
+    /// up.
     pub fn reach(&mut self, idx: &Index<'a>) -> Result<(), AllocError>
         ensures { self.new ≡ self.old }
     {
@@ -115,10 +156,18 @@ impl<'a> Labels<'a> {
         Ok(())
     }
 
-    /// Prepares for looking up a label that none of the innermost blocks has, as [`reach`](Labels::reach) does: if more than 16
-    /// open blocks are not indexed, and if going along them has by now cost as much as indexing them does, then all are indexed.
+    /// Prepares for looking up a label that no innermost block has, like [`reach`](Labels::reach).
     ///
-    /// What labels denote stays, and memory is taken as [`reach`](Labels::reach) takes it.
+    /// It indexes all enclosing blocks if more than 16 are not indexed, and comparing them has
+    /// taken as long by now as indexing them does.
+    ///
+    /// # Example
+    ///
+    ///     labels.reach_all().expect(&rt, "memory");
+    ///
+    /// # Errors
+    ///
+    /// `AllocError`: allocation failed. Depths do not change then either.
     pub fn reach_all(&mut self) -> Result<(), AllocError>
         ensures { self.new ≡ self.old }
     {
@@ -138,8 +187,10 @@ impl<'a> Labels<'a> {
         Ok(())
     }
 
-    /// Whether it is due to index, because by now as many blocks were gone along as indexing costs. It counts that those that
-    /// are not indexed are gone along once more, and counts anew where it is due.
+    /// Returns whether indexing is due, because as many blocks were compared by now as it costs.
+    ///
+    /// It counts that all blocks that are not indexed are compared once more, and restarts the
+    /// count if it is due.
     fn is_due(&mut self) -> bool
         ensures { self.new ≡ self.old }
     {
@@ -152,19 +203,20 @@ impl<'a> Labels<'a> {
         true
     }
 
-    /// Whether each label is found in few steps: at most 16 open blocks are not indexed. Then [`reach`](Labels::reach) has nothing
-    /// to do. It takes no memory.
+    /// Returns whether each look-up is fast: at most 16 enclosing blocks are not indexed.
+    ///
+    /// Then [`reach`](Labels::reach) does nothing. Does not allocate.
     #[inline(always)]
     pub fn is_near(&self) -> bool {
         self.open.len() - self.outer.len() <= NEAR
     }
 
-    /// Whether more blocks than a few are not indexed, and none of the innermost ones has a label.
+    /// Returns whether many blocks are not indexed, and none of the innermost ones has the label.
     fn is_far(&self, id: &Id<'a>) -> bool {
         !self.is_near() && self.near(id).is_none()
     }
 
-    /// Closes the innermost open block, if there is one. It takes no memory.
+    /// Closes the innermost block, if there is one. Does not allocate.
     pub fn close(&mut self)
         ensures { self.new ≡ without_innermost self.old }
     {
@@ -176,8 +228,17 @@ impl<'a> Labels<'a> {
         }
     }
 
-    /// What a label denotes: the number of open blocks that were opened after the last one that has it; `None` where no
-    /// open block has it. Its place does not count. It takes no memory.
+    /// Returns the depth of a label: the number of blocks opened after the innermost one with it.
+    ///
+    /// The result is `None` if no enclosing block has the label. Its position is ignored. Does not
+    /// allocate.
+    ///
+    /// # Example
+    ///
+    ///     for _ in 0..100 {
+    ///         open(&rt, &mut labels, None);
+    ///     }
+    ///     assert!(rt; labels.denotes(&id("l")) == Some(100));
     pub fn denotes(&self, id: &Id<'a>) -> Option<u32>
         ensures { result ≡ label_depth (name_of id.now) self.now }
     {
@@ -187,7 +248,7 @@ impl<'a> Labels<'a> {
         self.sought(id)
     }
 
-    /// What a label denotes, looked for among all open blocks.
+    /// Returns the depth of a label, among all enclosing blocks.
     fn sought(&self, id: &Id<'a>) -> Option<u32>
         ensures { result ≡ label_depth (name_of id.now) self.now }
     {
@@ -201,8 +262,10 @@ impl<'a> Labels<'a> {
         Some((self.open.len() - 1 - place) as u32)
     }
 
-    /// What a label denotes, if one of the innermost open blocks has it: of those that are not indexed, at most 16. The
-    /// innermost of all is looked at first, because most branches go there.
+    /// Returns the depth of a label, if one of the innermost blocks has it.
+    ///
+    /// These are at most 16 blocks that are not indexed. The innermost of all is compared first,
+    /// because most branches go there.
     #[inline(always)]
     fn near(&self, id: &Id<'a>) -> Option<u32>
         ensures { IfSome result (λ n. label_depth (name_of id.now) self.now ≡ Some n) }
@@ -214,7 +277,7 @@ impl<'a> Labels<'a> {
         }
     }
 
-    /// The same, looked for among these blocks one by one.
+    /// The same, comparing these blocks one by one.
     #[inline(never)]
     fn sought_near(&self, id: &Id<'a>) -> Option<u32>
         ensures { IfSome result (λ n. label_depth (name_of id.now) self.now ≡ Some n) }
@@ -227,9 +290,19 @@ impl<'a> Labels<'a> {
         Some(steps as u32)
     }
 
-    /// Numbers a label index, as [`Labels::number`] does, where that takes few steps: where it is a number, or one of the
-    /// innermost open blocks has it, of those that are not indexed and at most 16. Whether it did; else the index stays. It takes
-    /// no memory.
+    /// Replaces a label by its depth if that is fast, and returns whether it did.
+    ///
+    /// It is fast for a number, and for the label of one of the innermost blocks: at most 16 that
+    /// are not indexed. Otherwise the index is unchanged. Does not allocate.
+    ///
+    /// # Example
+    ///
+    ///     assert!(&rt; labels.is_near() && !labels.try_number(&mut outermost));
+    ///
+    /// # Guarantees
+    ///
+    /// - `met`, `index`: after `true` the result is that of [`Labels::number`] without an error.
+    /// - `stays`: after `false` the index is unchanged.
     #[inline(always)]
     pub fn try_number(&self, idx: &mut Index<'a>) -> bool
         ensures met { IsTrue result → first_unmet (known_index (number_among self.now) (codes "label") idx.old) ≡ None }
@@ -249,10 +322,26 @@ impl<'a> Labels<'a> {
         }
     }
 
-    /// The number of a label index: a number is its own, and an id that denotes a block is replaced by its number, at the
-    /// id's place.
+    /// Returns the depth of a label index, and replaces a label by its depth.
     ///
-    /// An id that denotes no open block is E4 `label` at its place, and then the index stays. It takes no memory.
+    /// A number is returned as it is. The new index keeps the position of the label. Does not
+    /// allocate.
+    ///
+    /// # Example
+    ///
+    ///     let mut branch = Index::Id(id("l"));
+    ///     assert!(rt; labels.number(&mut branch) == Ok(0));
+    ///     assert!(rt; branch == Index::Num(0, Span { offset: 7 }));
+    ///
+    /// # Errors
+    ///
+    /// E4 `label` at the position of the label, if no enclosing block has it. The index is
+    /// unchanged then.
+    ///
+    /// # Guarantees
+    ///
+    /// - `answer`: success and the error are exactly these.
+    /// - `number`, `index`: the result and the new index are the depth.
     pub fn number(&self, idx: &mut Index<'a>) -> Result<u32, Error<'a>>
         ensures answer { Outcome ⊥ ⊥ (first_unmet (known_index (number_among self.now) (codes "label") idx.old)) result }
         ensures number { IfOk result (λ n. denoted (number_among self.now) idx.old ≡ Some n) }
@@ -261,7 +350,8 @@ impl<'a> Labels<'a> {
         number_index(self, idx, "label")
     }
 
-    /// Whether the innermost open block has this label; not where no block is open. It takes no memory.
+    /// Returns whether the innermost block has this label. Without enclosing blocks it is `false`.
+    /// Does not allocate.
     #[inline(always)]
     pub fn is_innermost(&self, id: &Id<'a>) -> bool
         ensures { result ≡ is_innermost (name_of id.now) self.now }
@@ -272,8 +362,10 @@ impl<'a> Labels<'a> {
         }
     }
 
-    /// Whether an `else` or an `end` may have this label: any may where no block is open, and else that of the innermost
-    /// one. It may have none. It takes no memory.
+    /// Returns whether `else` or `end` may repeat this label (text format: control instructions).
+    ///
+    /// It may be left out, or be that of the innermost block. Without enclosing blocks any label is
+    /// allowed, as in the `wast` crate. Does not allocate.
     pub fn expects(&self, label: Option<Id<'a>>) -> bool
         ensures { result ≡ is_expected_label (name_if (mark_of_option label.entry)) self.now }
     {
@@ -283,8 +375,13 @@ impl<'a> Labels<'a> {
         }
     }
 
-    /// The check of the label at an `else` or an `end`, before the block is closed: E8 at its place, where
-    /// [`expects`](Labels::expects) tells that it may not stand there. It takes no memory.
+    /// Checks the label at an `else` or `end`, before the block is closed. Does not allocate.
+    ///
+    /// For example, in `block $a end $b` the label `$b` is E8.
+    ///
+    /// # Errors
+    ///
+    /// E8 at the position of the label, if [`expects`](Labels::expects) returns `false` for it.
     pub fn check(&self, label: Option<Id<'a>>) -> Result<(), Error<'a>>
         ensures { Outcome ⊥ ⊥ (wrong_label self.now (mark_of_option label.entry)) result }
     {

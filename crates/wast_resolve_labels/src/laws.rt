@@ -1,13 +1,21 @@
-//! What holds of the open blocks of each expression.
+//! Theorems about the enclosing blocks at each position of an expression.
 
 ghost use Rattle.wast_resolve_labels.specs.Laws.{StepsAsCounted, WalksAsCounted, HasFewBlocks, HasRoom, DenotesTheLast, DenotesNothing, ExpectsTheLast, ExpectsAny};
 
-/// The laws of walking (text format, control instructions: labels): a walk that opens a block at each opener and closes one
-/// at each closer has, at each place, the blocks that are open there; they are no more than the openers, and where an
-/// opener stands they are fewer than all openers of the expression; and a label denotes the number of open blocks whose
-/// openers stand after the last opener of its open blocks.
+/// States the theorems about walking an expression. It does nothing.
 ///
-/// It does nothing: what it ensures holds for each list of instructions, seen as what they do to the open blocks.
+/// A walk opens a block at each opener and closes one at each closer. They hold for each list of
+/// instructions, reduced to their effects on blocks (text format: control instructions, labels).
+/// For example, after `block $a loop $b block nop end` the enclosing blocks are `$b`, `$a`.
+///
+/// # Guarantees
+///
+/// - `step`, `walk`: at each position the walk has the blocks that are opened and not closed.
+/// - `few`: they are at most as many as the openers before it.
+/// - `room`: before an opener they are fewer than all openers of the expression.
+/// - `denotes`: the depth of a label is the number of unclosed openers after the last unclosed one
+///   with the label.
+/// - `denotes_nothing`: a label has no depth if no unclosed opener has it.
 pub fn walking_law()
     ensures step { StepsAsCounted }
     ensures walk { WalksAsCounted }
@@ -17,10 +25,17 @@ pub fn walking_law()
     ensures denotes_nothing { DenotesNothing }
 {}
 
-/// The laws of labels at `else` and `end` (text format, control instructions: labels): where a block is open, one is
-/// expected exactly where it is that of the open block whose opener stands last, and any where no block is open.
+/// States the theorems about labels at `else` and `end`. It does nothing.
 ///
-/// It does nothing: what it ensures holds for each list of instructions, seen as what they do to the open blocks.
+/// They hold for each list of instructions, reduced to their effects on blocks (text format:
+/// control instructions, labels). For example, after `block $a` the label of `end $a` is allowed,
+/// and that of `end $b` is not.
+///
+/// # Guarantees
+///
+/// - `last`: if a block is open, a label is allowed exactly if it is that of the last unclosed
+///   opener.
+/// - `any`: if no block is open, any label is allowed.
 pub fn expecting_law()
     ensures last { ExpectsTheLast }
     ensures any { ExpectsAny }

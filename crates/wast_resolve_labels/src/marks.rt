@@ -1,4 +1,4 @@
-//! Marks of labels, by which most blocks that have another label are passed by.
+//! Marks of labels: two bytes that are compared before names.
 
 ghost use Rattle.std.specs.Prelude.{◌≡◌, Some};
 ghost use Rattle.wast_base.specs.Ids.{name_of};
@@ -7,7 +7,7 @@ ghost use Rattle.wast_resolve_labels.specs.Marks.{label_mark};
 
 use wast_base::Id;
 
-/// The mark of the label of a block that is opened with this id.
+/// Returns the mark of a label that may be missing.
 #[inline(always)]
 pub(crate) fn mark_if<'a>(label: &Option<Id<'a>>) -> u16
     ensures { result ≡ label_mark (label_of label.now) }
@@ -18,7 +18,7 @@ pub(crate) fn mark_if<'a>(label: &Option<Id<'a>>) -> u16
     }
 }
 
-/// The mark of a label: the lowest byte of its length, and its last byte.
+/// Returns the mark of a label: the lowest byte of its length, and its last byte.
 #[inline(always)]
 pub(crate) fn mark_of<'a>(id: &Id<'a>) -> u16
     ensures { result ≡ label_mark (Some (name_of id.now)) }

@@ -1,4 +1,5 @@
-//! Many blocks, with ample memory: no contract says that calls get it.
+//! Tests of many blocks, with enough memory, because contracts permit each call that allocates to
+//! fail.
 
 use crate::Labels;
 use std::process::Abort;
@@ -60,7 +61,7 @@ fn many_labels_are_told_apart(rt: HostRuntime) {
     open_each(&rt, &mut labels, &texts);
     are_apart(&rt, &mut labels, &texts);
     open_each(&rt, &mut labels, &texts);
-    // they are indexed once going along them has cost as much
+    // They are indexed after comparing them has taken as long.
     for _ in 0..257 {
         labels.reach_all().expect(&rt, "memory");
     }

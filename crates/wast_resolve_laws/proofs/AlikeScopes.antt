@@ -1,5 +1,5 @@
--- Where two scopes have the same types, and what passes a test denotes the same, sites that pass it demand the same, and as
--- many parameters and locals are counted.
+-- If two scopes have the same types and the same numbers for names that pass a test, sites that pass it have the same
+-- checks, and functions the same sizes.
 use Rattle.std.specs.Prelude.{cond, ◌&&◌}
 use Rattle.std.proofs.Common.{◌≡◌, ℕ, zero, suc, ◌+◌, ◌<◌, length, Bool, true, not, List, [], ◌∷◌, ◌++◌, map, Option, Some, None, is_some, refl, sym, ap, ◌∙◌, append-nil, false}
 use Rattle.std.specs.Prelude.{codes}
@@ -31,7 +31,7 @@ use Rattle.wast_resolve_laws.proofs.SameTypes.{signatures_alike}
 use Rattle.wast_resolve_laws.proofs.Nameless.{by_names, unsaid_denoted}
 
 module _ (ok : Check → Bool) where
-  -- what stands in a type passes
+  -- the checks of a type pass
   abbrev pub type_passes : Shape → Bool
   type_passes (Function s) = values_pass (value_passes ok) s
   type_passes (Struct number) = true
@@ -64,7 +64,7 @@ module _ (ok : Check → Bool) where
   members_pass (m ∷ ms) h =
       both_so (type_passes (shape_of m.def.kind)) (list_all type_passes (map (λ t. shape_of t.def.kind) ms)) (type_type_passes m (first_part ok (in_type m) (flat_map in_type ms) h)) (members_pass ms (second_part ok (in_type m) (flat_map in_type ms) h))
 
-  -- the types of a field, one after the other
+  -- the types of a field, one after another
   members_asked : (x : ModuleField) → pass ok (checks_of (in_field x)) ≡ true → pass ok (flat_map in_type (types_of x)) ≡ true
   members_asked (field.Ty t) h = ap (pass ok) (append-nil (in_type t)) ∙ (sym (ap (pass ok) (asked_asking (in_type t))) ∙ h)
   members_asked (field.Rec r) h = sym (ap (pass ok) (asked_asking (in_rec r))) ∙ h
@@ -94,7 +94,7 @@ module _ (ok : Check → Bool) where
     type_alike i j h k =
         ap (λ o. same_number o (denoted (c.known.number space.Ty) j)) (numbers space.Ty i h) ∙ ap (λ o. same_number (denoted (d.known.number space.Ty) i) o) (numbers space.Ty j k)
 
-    -- what stands at a position passes
+    -- the checks at a position pass
     abbrev found_passes : Option Shape → Bool
     found_passes None = true
     found_passes (Some t) = type_passes t
@@ -145,7 +145,7 @@ module _ (ok : Check → Bool) where
     sites_alike (s ∷ ss) h =
         ap (λ ds. ds ++ site_demands c ss) (site_alike s (first_part ok (asked_in s) (checks_of ss) h)) ∙ ap (λ ds. site_demand d s ++ ds) (sites_alike ss (second_part ok (asked_in s) (checks_of ss) h))
 
-    -- and as many parameters and locals are counted
+    -- and functions have as many parameters and locals
     unsaid_same : (i : Option Index) (t : Option FunctionType) → pass ok (if_there (in_index space.Ty) i ++ if_there in_signature t) ≡ true → unsaid_params c i t ≡ unsaid_params d i t
     unsaid_same i (Some t) h = refl
     unsaid_same None None h = refl
@@ -164,8 +164,8 @@ module _ (ok : Check → Bool) where
         ap (λ ns. ns ++ flat_map (body_counts_in c) xs) (body_alike x (first_part ok (checks_of (in_field x)) (checks_of (in_module xs)) both))
         ∙ ap (λ ns. body_counts_in d x ++ ns) (bodies_alike xs (second_part ok (checks_of (in_field x)) (checks_of (in_module xs)) both))
 
--- Where both lists have the same types, and old names denote the same in both, sites that ask for old names alone demand the
--- same, and functions have as many parameters.
+-- If two lists have the same types, and old names have the same numbers in both, sites with old names alone have the
+-- same checks, and functions as many parameters.
 module _ (n : ℕ) (xs ys : List ModuleField) (types : shapes_of_types xs ≡ shapes_of_types ys) (old : (s : Space) (q : Name) → generation_of q < n → (id_context (items xs)).number s q ≡ (id_context (items ys)).number s q) where
   denoted_alike : (s : Space) (i : Index) → is_below n (ItemIndex s i) ≡ true → denoted ((id_context (items xs)).number s) i ≡ denoted ((id_context (items ys)).number s) i
   denoted_alike s (index.Num m p) h = refl

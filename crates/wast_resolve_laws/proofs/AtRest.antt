@@ -1,5 +1,4 @@
--- What is so of a resolved list: no id is left where an index is wanted, no generation is above those that were there, and
--- it is well formed as it was.
+-- Resolved fields have no id at an index and no new generated id, and they stay well formed.
 use Rattle.std.proofs.Common.{◌≡◌, ℕ, suc, ◌<◌, ◌≤◌, Bool, true, ◌&&◌, List, [], ◌∷◌, refl, sym, ap, ◌∙◌, map}
 use Rattle.std.specs.Prelude.{nat_lt, Option, Some, None, is_some}
 use Rattle.std.specs.Cmp.{first_so, second_so}
@@ -33,7 +32,7 @@ use Rattle.wast_resolve_laws.proofs.Standing.{numbered_in, asked_passes}
 use Rattle.wast_resolve_rules.proofs.Numbering.{numbering_keeps}
 use Rattle.wast_resolve_rules.proofs.Unmet.{met_parts}
 
--- an index whose demand is met becomes a number
+-- an index whose check passes becomes a number
 met_index : (f : Cause) (s : Span) (id : Id) (o : Option ℕ) → first_unmet (record { fault = f; place = s; met = is_some o } ∷ []) ≡ None → is_number (numbered_by o id) ≡ true
 met_index f s id None h = cc
 met_index f s id (Some n) h = refl
@@ -50,7 +49,7 @@ known_denotes number word (index.Id id) h = by_number _ _ (number (name_of id)) 
     by_number f s None h = absurd (cc h)
     by_number f s (Some n) h = refl
 
--- so does that of a field, where that of its type denotes one
+-- so does that of a field, if that of its type has a number
 met_field : (types : List Shape) (o : Option ℕ) (i : Index) → is_some o ≡ true → first_unmet (field_at types o i) ≡ None → is_number (resolved_index (field_in (type_at types o)) i) ≡ true
 met_field types None i some h = absurd (cc some)
 met_field types (Some n) (index.Num m span) some h = refl
@@ -62,7 +61,7 @@ met_field types (Some n) (index.Id id) some h = by_shape (slice_get types n) h
     by_shape (Some (Struct number)) h = met_index _ _ id (number (name_of id)) h
     by_shape (Some Other) h = absurd (cc h)
 
--- no generation is new
+-- no generated id is new
 below_by : (id : Id) (o : Option ℕ) → generation_at (numbered_by o id) ≤ generation_at (index.Id id)
 below_by id None = omega arith
 below_by id (Some n) = omega arith
@@ -71,7 +70,7 @@ below_index : (number : Name → Option ℕ) (i : Index) → generation_at (reso
 below_index number (index.Num n span) = omega arith
 below_index number (index.Id id) = below_by id (number (name_of id))
 
--- what is kept stays so, once each index is a number
+-- the ids that are kept stay, once each index is a number
 number_settles : (number : Name → Option ℕ) (i : Index) → is_number i ≡ true → is_settled_index number i ≡ true
 number_settles number (index.Num n span) h = refl
 number_settles number (index.Id id) h = absurd (cc h)
@@ -80,7 +79,7 @@ number_written : (i : Index) → is_number i ≡ true → is_written_index i ≡
 number_written (index.Num n span) h = refl
 number_written (index.Id id) h = absurd (cc h)
 
--- an id of which nothing is asked passes
+-- an id without a check passes
 mark_passes : (ok : Check → Bool) → ((m : Mark) → ok (PlainId m) ≡ true) → (m : Option Mark) → list_all ok (mark_asked m) ≡ true
 mark_passes ok one None = refl
 mark_passes ok one (Some m) = ap (λ b. b && true) (one m)
@@ -102,7 +101,7 @@ module _ (c : Scope) where
       let p = met_parts (ask_demand c.known a) (ask_demands c.known asks) h in
       ap (λ b. b && are_numbered (map numbered_ask asks)) (met_ask a head p.0) ∙ met_asks asks tail p.1
 
-  -- Where what a site demands is met, what is asked there, once it is numbered, is numbers.
+  -- If the checks of a site pass, its checks after numbering are of numbers.
   site_numbered : (s : Site) → IsOuter s → first_unmet (site_demand c s) ≡ None → are_numbered (numbered_in c s) ≡ true
   site_numbered (Asked a) o h = ap (λ b. b && true) (met_ask a o h)
   site_numbered (Used w u) o h = met_asks (in_type_use u) (outer_use u) (met_parts (ask_demands c.known (in_type_use u)) (match_if c u.index u.inline) h).0
@@ -125,7 +124,7 @@ module _ (c : Scope) where
       list_all-append is_numbered (numbered_in c s) (flat_map (numbered_in c) ss)
       ∙ both_so (are_numbered (numbered_in c s)) (are_numbered (flat_map (numbered_in c) ss)) (site_numbered s o.0 p.0) (sites_numbered ss o.1 p.1)
 
-  -- no generation is new, below a bound
+  -- no generated id is new, below a bound
   module _ (m : ℕ) where
     abbrev is_under : Check → Bool
     is_under a = nat_lt (generation_in a) m
@@ -207,7 +206,7 @@ module _ (c : Scope) where
         (site_kept s (first_so (are_kept c.known (asked_in s)) (are_kept c.known (checks_of ss)) kept) (first_so (are_numbered now) (are_numbered behind) numbers))
         (sites_kept ss (second_so (are_kept c.known (asked_in s)) (are_kept c.known (checks_of ss)) kept) (second_so (are_numbered now) (are_numbered behind) numbers))
 
--- So what is asked, once it is numbered, is numbers.
+-- So the checks after numbering are of numbers.
 asks_numbered : (fields : List ModuleField) → first_unmet (name_demands fields) ≡ None → are_numbered (flat_map (numbered_in (module_scope fields)) (in_module fields)) ≡ true
 asks_numbered fields met =
     let c = module_scope fields in

@@ -1,5 +1,5 @@
--- In a list of fields each local stands in the function of its field, whose type use is asked there; and beside indices of
--- locals and labels nothing is asked that stands within a function.
+-- In a list of fields, each local is in the function of its field, whose type use is checked there. Apart from indices
+-- of locals and labels, no check depends on the function.
 use Rattle.std.specs.Prelude.{⊤}
 use Rattle.std.proofs.Common.{◌≡◌, false, not, List, [], ◌∷◌, ◌++◌, map, Option, Some, None, refl, ap, subst}
 use Rattle.std.specs.List.{flat_map}
@@ -111,7 +111,7 @@ data_fixed : (k : DataKind) → Fixed None (in_data_kind k)
 data_fixed data_kind.Passive = refl
 data_fixed (data_kind.Active memory offset) = fixed_both None (at_index space.Memory memory) (in_constant offset) refl (constant_fixed offset)
 
--- no type stands in a custom section
+-- a custom section has no types
 custom_typed : (ss : List Dylink0Subsection) → map as_type (flat_map in_subsection ss) ≡ flat_map in_subsection ss
 custom_typed [] = refl
 custom_typed (dylink.TargetArch text ∷ ss) = ap (λ asks. Covered form.TargetArch false ∷ asks) (custom_typed ss)
@@ -149,7 +149,7 @@ each_both : {S : Type 0} (p : S → Type 0) (xs ys : List S) → Each p xs → E
 each_both p [] ys h k = k
 each_both p (x ∷ xs) ys h k = (h.0, each_both p xs ys h.1 k)
 
--- Nothing is asked within a function where a site asks.
+-- No check of a site depends on the function.
 abbrev pub IsOuter : Site → Type 0
 IsOuter (Asked a) = outer a ≡ a
 IsOuter s = ⊤
@@ -175,7 +175,7 @@ all_outer [] = tt
 all_outer (x ∷ xs) = each_both IsOuter (in_field x) (in_module xs) (each_outer (owner_of x) (in_field x) (field_fixed x)) (all_outer xs)
 
 module _ (p : Check → Type 0) where
-  -- What is asked in the type use of the function in which a local stands is so.
+  -- The check of the type use of the function around a local is one of them.
   abbrev pub Stands : Site → Type 0
   Stands (LocalAt locals i) = Each p (if_there in_type_use locals.owner)
   Stands s = ⊤
@@ -200,7 +200,7 @@ module _ (p : Check → Type 0) where
   owner_stands (field.Func f) h = each_first p (in_type_use f.ty) (checks_of (in_func_kind f.ty f.kind)) h
   owner_stands x h = tt
 
-  -- What is so of all that is asked is so of it.
+  -- A property of all checks holds for it.
   pub all_stand : (xs : List ModuleField) → Each p (checks_of (in_module xs)) → Each Stands (in_module xs)
   all_stand [] h = tt
   all_stand (x ∷ xs) h =

@@ -1,4 +1,5 @@
--- The resolved list with the ids that a counter gives is the one by positions, generated ids and places aside.
+-- Proves SamePositions: resolved fields with generated ids are those by positions, apart from the ids and positions of
+-- indices.
 use Rattle.std.proofs.Common.{◌≡◌, ℕ, ◌+◌, ◌<◌, Bool, true, false, List, [], ◌∷◌, ◌++◌, map, Option, Some, None, option_map, is_none, is_some, refl, sym, ap, ◌∙◌, arith}
 use Rattle.std.specs.List.{slice_get}
 use Rattle.std.proofs.lemmas.List.{map-append}
@@ -37,7 +38,7 @@ use Rattle.wast_resolve_laws.proofs.SameUses.{telling, one_pass, SameAsk, Same, 
 use Rattle.wast_resolve_laws.proofs.Nameless.{number_at}
 use Rattle.wast_resolve_laws.proofs.ExpandedTypes.{bound_shapes, same_shapes}
 
--- Ids that are given are generated, and so set aside.
+-- New ids are generated ids, which are ignored.
 module _ (c : Scope) (find : LookUp) where
   abbrev told : ModuleField → ModuleField
   told x = mapped_field (telling c find) x
@@ -66,7 +67,7 @@ module _ (c : Scope) (find : LookUp) where
       ∙ (ap (λ xs. xs ++ map told (implied_types m (implied_signatures fields))) (filled_aside n fields)
       ∙ (ap (λ xs. map told fields ++ xs) (implied_aside m (implied_signatures fields)) ∙ sym (map-append told fields (map unnamed_type (implied_signatures fields)))))
 
--- What the list by positions tells.
+-- The references in the list by positions.
 same_scope : (find : LookUp) (xs : List ModuleField) → module_scope (map (bound_field find) xs) ≡ module_scope xs
 same_scope find xs = λ i. record { known = id_context (bound_items find xs i); types = bound_shapes find xs i }
 
@@ -74,12 +75,12 @@ pub told_positions : (fields : List ModuleField) → all_mapped stripping (resol
 told_positions fields =
     ap (λ (c : Scope). all_mapped stripping (all_mapped (numbering_change c) (fields_with_type_positions fields))) (same_scope (position_for fields) (fields_with_implied_types fields)) ∙ one_pass (module_scope (fields_with_implied_types fields)) (position_for fields) (fields_with_implied_types fields)
 
--- a position is told at the start of the text
+-- a position has offset 0
 pub position_stays : (k : IdContext) (o : Option ℕ) → number_at k (option_map (λ p. index.Num p start_of_text) o) ≡ option_map (λ p. index.Num p start_of_text) o
 position_stays k None = refl
 position_stays k (Some p) = refl
 
--- Indices are numbered alike where older names denote alike, and none that is asked is new.
+-- Indices have the same numbers if older names have, and no name that is looked up is new.
 module _ (c d : Scope) (n : ℕ) (alike : (q : Name) (s : Space) → generation_of q < n → c.known.number s q ≡ d.known.number s q) where
   ask_alike : (a : Check) → generation_in a < n → SameAsk c d a
   ask_alike (ItemIndex s (index.Num m p)) lt = refl
@@ -103,7 +104,7 @@ module _ (n : ℕ) (fields : List ModuleField) (above : greatest_generation fiel
   abbrev old : Scope
   old = module_scope (fields_with_implied_types fields)
 
-  -- What a signature is bound to denotes its position.
+  -- The index for a signature has the position of its type.
   no_clash : first_unmet (item_demands (items (expanded_fields n fields))) ≡ None
   no_clash = (met_parts (item_demands (items (expanded_fields n fields))) (site_demands (module_scope (expanded_fields n fields)) (in_module (expanded_fields n fields))) (names_met n fields above met)).0
 
@@ -122,7 +123,7 @@ module _ (n : ℕ) (fields : List ModuleField) (above : greatest_generation fiel
   bound_alike : (s : Signature) → number_at new.known (made s) ≡ number_at old.known (position_for fields s)
   bound_alike s = bound_at (index_for fields s) (made s) (takes_the_type_at_its_index n fields s) (bound_where_there n fields s) ∙ sym (position_stays old.known (index_for fields s))
 
-  -- The indices that are written denote what they denoted.
+  -- The indices of the source have the same numbers.
   old_alike : Same new old (checks_of (in_module (fields_with_implied_types fields)))
   old_alike = asks_alike new old n (expanded_position n fields (omega (arith, above))) (checks_of (in_module (fields_with_implied_types fields))) (completed_below n fields (omega (arith, above)))
 

@@ -1,4 +1,4 @@
--- Items of which some are given generated ids: what older names denote among them, and which of them clash.
+-- Items of which some get generated ids: the numbers of older names among them, and duplicates.
 use Rattle.std.proofs.Common.{◌≡◌, ℕ, suc, ◌+◌, ◌<◌, ◌≤◌, ◌==◌, Bool, true, false, cond, not, ◌&&◌, ◌||◌, List, [], ◌∷◌, ◌++◌, map, length, Option, Some, None, is_some, option_map, refl, sym, ap, ◌∙◌, arith}
 use Rattle.std.specs.List.{position}
 use Rattle.std.proofs.lemmas.Bool.{eqb-true}
@@ -17,9 +17,9 @@ use Rattle.wast_base.proofs.Positions.{position_head}
 use Rattle.wast_resolve_rules.proofs.Unmet.{alike_behind}
 
 pub data Change : Type 0 where
-  -- an item that stays
+  -- an unchanged item
   Kept : Item → Change
-  -- an item without an id, with these fields, which is given one at this place
+  -- an item without an id, with these fields, which gets one at this position
   Given : Space → Span → List (Option Mark) → Change
 
 abbrev pub old_of : Change → Item
@@ -30,7 +30,7 @@ abbrev pub new_of : ℕ → Change → Item
 new_of n (Kept x) = x
 new_of n (Given s p fields) = record { space = s; id = Some (Generated n, p); fields = fields }
 
--- the generation of the next id
+-- the next generated id
 abbrev pub next_of : ℕ → Change → ℕ
 next_of n (Kept x) = n
 next_of n (Given s p fields) = n + 1
@@ -42,7 +42,7 @@ abbrev pub news : ℕ → List Change → List Item
 news n [] = []
 news n (c ∷ cs) = new_of n c ∷ news (next_of n c) cs
 
--- items that stay, before others
+-- unchanged items, before others
 pub old_kept : (xs : List Item) → xs ≡ olds (map Kept xs)
 old_kept [] = refl
 old_kept (x ∷ xs) = ap (λ ys. x ∷ ys) (old_kept xs)
@@ -59,7 +59,7 @@ rises : (n : ℕ) (c : Change) → n ≤ next_of n c
 rises n (Kept x) = omega arith
 rises n (Given s p fields) = omega arith
 
--- An older name is not that of a given id.
+-- An older name is not that of a new id.
 other_name : (q : Name) (n : ℕ) → generation_of q < n → same_name q (Generated n) ≡ false
 other_name (Written t) n lt = refl
 other_name (Generated m) n lt = not_equal (m == n) m n refl (λ e. omega (arith, lt, e))
@@ -86,7 +86,7 @@ position_passes p [] = refl
 position_passes p (x ∷ xs) =
     position_head p (p x) x xs refl ∙ (ap (λ o. cond (p x) (Some 0) (option_map suc o)) (position_passes p xs) ∙ sym (position_head (λ b. b) (p x) (p x) (map p xs) refl))
 
--- Older names denote what they denoted, and there are as many items.
+-- Older names have the same numbers, and there are as many items.
 same_position : (q : Name) (s : Space) (n : ℕ) (cs : List Change) → generation_of q < n → position_of q (names_in s (news n cs)) ≡ position_of q (names_in s (olds cs))
 same_position q s n cs lt =
     position_passes (is_called q) (names_in s (news n cs)) ∙ (ap (position (λ b. b)) (called_news q s n cs lt) ∙ sym (position_passes (is_called q) (names_in s (olds cs))))
@@ -96,7 +96,7 @@ same_length s n cs lt =
     let q = Written [] in
     sym (length-map (names_in s (news n cs)) (is_called q)) ∙ (ap length (called_news q s n cs lt) ∙ length-map (names_in s (olds cs)) (is_called q))
 
--- No id of an earlier generation bears a later name.
+-- No id of an earlier generation has a later name.
 later_name : (o : Option Mark) (m : ℕ) → generation_or_zero o < m → is_called (Generated m) (name_if o) ≡ false
 later_name None m lt = refl
 later_name (Some (Written t, p)) m lt = refl
@@ -109,7 +109,7 @@ and_false false c h = refl
 not_borne : (s : Space) (x : Item) (m : ℕ) → generation_or_zero x.id < m → is_borne (Generated m) (names_in s (x ∷ [])) ≡ false
 not_borne s x m lt = borne_among s (Generated m) (x ∷ []) ∙ and_false (same_space s x.space) (is_called (Generated m) (name_if x.id)) (later_name x.id m lt)
 
--- What stands before: older names are borne as they were, and those of the next generations are not borne.
+-- The items before: they have the same older names, and none of the next generations.
 record Before (old n : ℕ) (xs ys : List Item) : Type 0 where
   above : old ≤ n
   same : (s : Space) (q : Name) → generation_of q < old → is_borne q (names_in s ys) ≡ is_borne q (names_in s xs)
@@ -134,7 +134,7 @@ same_new : (fault : Name → Cause) (xs ys : List (Option Name)) (o : Option Mar
 same_new fault xs ys None h = refl
 same_new fault xs ys (Some m) h = ap (λ b. record { fault = fault m.0; place = m.1; met = not b } ∷ []) (h m refl)
 
--- Ids that are new clash with none.
+-- New ids are no duplicates.
 clashes : (old n : ℕ) (xs ys : List Item) (cs : List Change) → greatest_item (olds cs) < old → Before old n xs ys → first_unmet (each_after item_demand ys (news n cs)) ≡ first_unmet (each_after item_demand xs (olds cs))
 clashes old n xs ys [] lt h = refl
 clashes old n xs ys (c ∷ cs) lt h = one c (clashes old (next_of n c) (xs ++ old_of c ∷ []) (ys ++ new_of n c ∷ []) cs (omega (arith, lt)) (one_more old n xs ys c (omega (arith, lt)) h)) lt
@@ -155,7 +155,7 @@ clashes old n xs ys (c ∷ cs) lt h = one c (clashes old (next_of n c) (xs ++ ol
 same_clashes : (n : ℕ) (cs : List Change) → greatest_item (olds cs) < n → first_unmet (item_demands (news n cs)) ≡ first_unmet (item_demands (olds cs))
 same_clashes n cs lt = clashes n n [] [] cs lt (record { above = omega arith; same = λ s q less. refl; new = λ s m le. refl })
 
--- The fields stay.
+-- The fields are unchanged.
 one_count : (n : ℕ) (c : Change) → length (new_of n c).fields ≡ length (old_of c).fields
 one_count n (Kept x) = refl
 one_count n (Given s p fields) = refl

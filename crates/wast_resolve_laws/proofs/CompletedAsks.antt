@@ -1,4 +1,5 @@
--- What passes of all that the fields ask passes of what they ask with the implied types, since each of these stands in a use.
+-- A property of the checks of the fields holds for the checks with appended types, because each of these has the
+-- signature of a type use.
 use Rattle.std.proofs.Common.{◌≡◌, ℕ, ◌<◌, Bool, true, false, ◌&&◌, List, [], ◌∷◌, ◌++◌, map, Option, Some, None, refl, sym, ap, ◌∙◌, arith}
 use Rattle.std.specs.Prelude.{nat_lt}
 use Rattle.std.specs.Cmp.{first_so, second_so}
@@ -32,7 +33,7 @@ module _ (ok : Check → Bool) where
   abbrev pub pass : List Check → Bool
   pass asks = list_all ok asks
 
-  -- what a value type, and a parameter, asks passes
+  -- the checks of a value type and a parameter pass
   abbrev pub value_passes : ValType → Bool
   value_passes v = pass (in_val v)
 
@@ -53,7 +54,7 @@ module _ (ok : Check → Bool) where
       list_all-append ok (flat_map in_param t.params) (flat_map in_val t.results)
       ∙ (ap (λ b. b && pass (flat_map in_val t.results)) (all_parts ok in_param t.params) ∙ ap (λ b. list_all param_passes t.params && b) (all_parts ok in_val t.results))
 
-  -- of what the uses need
+  -- those of the signatures that type uses need
   pub signature_needs : (t : FunctionType) → pass (in_signature t) ≡ true → values_pass value_passes (signature_of t) ≡ true
   signature_needs t h =
       let both = sym (signature_passes t) ∙ h in
@@ -82,7 +83,7 @@ module _ (ok : Check → Bool) where
   sites_need ss h =
       all_parts (values_pass value_passes) needed_at ss ∙ all_pass (λ s. pass (asked_in s)) (λ s. all_pass_in (needed_at s)) site_needs ss (sym (all_parts ok asked_in ss) ∙ h)
 
-  -- and of what types without names ask, which are not shared
+  -- and those of unnamed types, which are not shared
   module _ (unshared : ok (Covered form.Shared true) ≡ true) (numbers : (m : ℕ) (p : Span) → ok (ItemIndex space.Ty (index.Num m p)) ≡ true) where
     unnamed_passes : (t : FunctionType) → pass (in_signature t ++ Covered form.Shared true ∷ []) ≡ (list_all param_passes t.params && list_all value_passes t.results)
     unnamed_passes t =
@@ -129,7 +130,7 @@ module _ (ok : Check → Bool) where
         ∙ (list_all-append ok (checks_of (in_module fields)) (checks_of (in_module new))
         ∙ both_so (pass (checks_of (in_module fields))) (pass (checks_of (in_module new))) h (unnamed_pass (implied_signatures fields) ∙ all_implied value_passes fields (numbered_passes (type_names fields)) (sites_need (in_module fields) h)))
 
--- So no generation is new among them.
+-- So no generated id is new among them.
 module _ (n : ℕ) where
   abbrev pub is_below : Check → Bool
   is_below a = nat_lt (generation_in a) n

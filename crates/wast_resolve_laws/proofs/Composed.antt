@@ -1,4 +1,4 @@
--- What an expanded list answers, and what is so of it when it is resolved.
+-- The errors of the expanded fields, and the properties of their resolved form.
 use Rattle.std.proofs.Common.{◌≡◌, ℕ, ◌+◌, ◌<◌, true, not, ◌&&◌, ◌||◌, List, ◌∷◌, None, is_some, refl, ap, ◌∙◌, arith}
 use Rattle.std.specs.Prelude.{max}
 use Rattle.std.proofs.Math.Bool.{or-true}
@@ -48,14 +48,14 @@ module _ (n : ℕ) (fields : List ModuleField) where
       ap (λ j. are_kept new (ItemIndex space.Ty j ∷ asks)) h.is
       ∙ (ap (λ b. (not (is_generated (name_of h.id)) || b) && are_kept new asks) h.borne ∙ ap (λ b. b && are_kept new asks) (or-true (not (is_generated (name_of h.id)))))
 
-  -- the greatest generation of the items, and of what is asked
+  -- the greatest generated id of the items and of the checks
   abbrev greatest_with : List Check → ℕ
   greatest_with asks = max (greatest_item (items (expanded_fields n fields))) (greatest_asked asks)
 
   found_below : (i : Index) → IsTypeOf (items (expanded_fields n fields)) i → (asks : List Check) → greatest_with (ItemIndex space.Ty i ∷ asks) ≡ greatest_with asks
   found_below i h asks = let b = h.below in ap (λ j. greatest_with (ItemIndex space.Ty j ∷ asks)) h.is ∙ omega (arith, b)
 
-  -- What is kept, and the greatest generation, go by what the fields ask with the implied types.
+  -- The ids that are kept and the greatest generated id depend on the checks of the fields with the appended types.
   uses_kept : are_kept new (checks_of (in_module (expanded_fields n fields))) ≡ are_kept new (checks_of (in_module (fields_with_implied_types fields)))
   uses_kept =
       bound_measure find (λ (asks : List Check). are_kept new asks) (λ a xs ys h. ap (λ b. is_kept new a && b) h) (λ s i asks e. found_kept i (found_known n fields s i e) asks) types
@@ -112,7 +112,7 @@ same_answer n fields above =
     let c = fields_with_implied_types fields in
     alike_behind (order_demands e) (order_demands c) (name_demands e) (name_demands c) (ap first_unmet (expanded_orders n fields)) (λ met. same_names n fields above)
 
--- Where each demand of the completed list is met, so is each demand of names of the expanded one.
+-- If each check of the completed fields passes, so does each check of ids of the expanded ones.
 pub names_met : (n : ℕ) (fields : List ModuleField) → greatest_generation fields < n → first_unmet (demands (fields_with_implied_types fields)) ≡ None → first_unmet (name_demands (expanded_fields n fields)) ≡ None
 names_met n fields above met = same_names n fields above ∙ (met_parts (order_demands (fields_with_implied_types fields)) (name_demands (fields_with_implied_types fields)) met).1
 

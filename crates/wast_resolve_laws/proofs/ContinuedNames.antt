@@ -1,4 +1,4 @@
--- What the names of written types denote, they denote in the expanded list.
+-- The ids of source types have the same numbers in the expanded fields.
 use Rattle.std.proofs.Common.{◌≡◌, ℕ, suc, ◌<◌, ◌≤◌, Bool, true, false, ◌&&◌, ◌||◌, List, [], ◌∷◌, ◌++◌, map, Option, Some, None, option_map, is_some, refl, sym, ap, ◌∙◌, arith}
 use Rattle.std.specs.Cmp.{second_so}
 use Rattle.std.specs.List.{list_any, position}
@@ -19,7 +19,7 @@ use Rattle.wast_resolve_laws.specs.Tree.space
 use Rattle.wast_resolve_laws.proofs.ExpandedItems.{expanded_position}
 use Rattle.wast_resolve_laws.proofs.SameTypes.{Continues}
 
--- a place in a list is one in a longer list
+-- a position in a list is one in a longer list
 still_there : {A : Type 0} (p : A → Bool) (xs ys : List A) (i : ℕ) → position p xs ≡ Some i → position p (xs ++ ys) ≡ Some i
 still_there p [] ys i e = absurd (cc e)
 still_there {A} p (x ∷ xs) ys i e = by_test (p x) refl (still_there p xs ys)
@@ -32,7 +32,7 @@ still_there {A} p (x ∷ xs) ys i e = by_test (p x) refl (still_there p xs ys)
     by_test true t rest = position_head p true x (xs ++ ys) t ∙ (sym (position_head p true x xs t) ∙ e)
     by_test false t rest = position_head p false x (xs ++ ys) t ∙ shifted (position p xs) refl rest (sym (position_head p false x xs t) ∙ e)
 
--- an item that bears a name has its generation
+-- an item with a name has its generation
 called_below : (q : Name) (m : Option Mark) → is_called q (name_if m) ≡ true → generation_of q ≤ generation_or_zero m
 called_below q None h = absurd (cc h)
 called_below q (Some m) h = let e : generation_of m.0 ≡ generation_of q = ap named (called_is q (Some m.0) h) in omega (arith, e)

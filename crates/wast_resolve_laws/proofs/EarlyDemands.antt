@@ -1,4 +1,4 @@
--- Writing abbreviations and types out leaves the demands of the order of imports, and those of items.
+-- Proves EarlyStays: desugaring does not change the checks of the order of imports and of items.
 use Rattle.std.proofs.Common.{◌≡◌, ℕ, Bool, true, false, cond, not, ◌||◌, List, [], ◌∷◌, ◌++◌, map, append_assoc, Option, Some, None, refl, sym, ap, ◌∙◌}
 use Rattle.std.specs.Borrow.{Bor}
 use Rattle.std.specs.Option.{option_or}
@@ -38,17 +38,17 @@ use Rattle.wast_resolve_laws.proofs.OrderKept.{completed_orders}
 use Rattle.wast_resolve_rules.proofs.Orders.{orders_from, orders_are}
 use Rattle.wast_resolve_rules.proofs.Unmet.{first_unmet-append, unmet_append}
 
--- what is demanded from a field on that is imported at a place, or defines an item of a space
+-- the checks from a field on that has an inline import, or defines an item of a space
 abbrev orders_at : Option Span → Space → Option Space → List ModuleField → List Demand
 orders_at place s last ys = nothing_defined last place ++ orders_from (option_or (unless_import place (Some s)) last) ys
 
 module _ (last : Option Space) (ys : List ModuleField) where
-  -- exports demand nothing of it
+  -- exports have no such check
   exported : (span : Span) (k : ExportKind) (i : Index) (names : List (Bor (List ℕ))) → orders_from last (map (export_of span k i) names ++ ys) ≡ orders_from last ys
   exported span k i [] = refl
   exported span k i (name ∷ names) = exported span k i names
 
-  -- nor do segments
+  -- neither have segments
   func_orders : (f : Func) (k : FuncKind) → orders_from last (func_alone f k ∷ ys) ≡ orders_at (imported_at f.span (Some (is_imported_func k))) space.Func last ys
   func_orders f (func.Import source exact) = refl
   func_orders f (func.Inline locals e) = refl
@@ -71,7 +71,7 @@ module _ (last : Option Space) (ys : List ModuleField) where
   tag_orders t (tag_kind.Import source) = refl
   tag_orders t tag_kind.Inline = refl
 
--- behind the exports of a field
+-- after the exports of a field
 module _ (last : Option Space) (span : Span) (k : ExportKind) (i : Index) (names : List (Bor (List ℕ))) (xs ys : List ModuleField) where
   behind_exports : orders_from last ((map (export_of span k i) names ++ xs) ++ ys) ≡ orders_from last (xs ++ ys)
   behind_exports = ap (orders_from last) (append_assoc (map (export_of span k i) names) xs ys) ∙ exported last (xs ++ ys) span k i names
@@ -97,7 +97,7 @@ orders_after before (x ∷ xs) last =
 orders_stay : (fields : List ModuleField) → order_demands (explicit_fields fields) ≡ order_demands fields
 orders_stay fields = completed_orders (desugared_by_position fields) ∙ (orders_are (desugared_by_position fields) ∙ (orders_after [] fields None ∙ sym (orders_are fields)))
 
--- Demands of items by what those before them bear.
+-- Checks of items, from the names before them.
 abbrev Borne : Type 0
 Borne = Space → Name → Bool
 
@@ -129,7 +129,7 @@ demands_are before (x ∷ xs) =
     ∙ ap (λ ds. (own_by (borne_in before) x.space x.id ++ field_demands x.fields) ++ ds)
     (demands_are (before ++ x ∷ []) xs ∙ ap (λ borne. clashes_by borne xs) (same_borne (borne_in (before ++ x ∷ [])) (with_item (borne_in before) x) (λ s q. borne_by_both s q before (x ∷ []))))
 
--- An item without an id and fields makes no difference.
+-- An item without id and fields makes no difference.
 bare_bears : (borne : Borne) (t : Space) → with_item borne (item t None []) ≡ borne
 bare_bears borne t = same_borne (with_item borne (item t None [])) borne (λ s q. by_space q (borne s q) (same_space s t))
   where
@@ -137,7 +137,7 @@ bare_bears borne t = same_borne (with_item borne (item t None [])) borne (λ s q
     by_space q a true = or-false a
     by_space q a false = or-false a
 
--- what some items demand, by what is borne before them
+-- the checks of some items, from the names before them
 abbrev clashes : List Item → Borne → List Demand
 clashes xs borne = clashes_by borne xs
 

@@ -1,4 +1,5 @@
--- What an expanded list asks is what the fields ask with the implied types, and beside it only the types that uses are bound to.
+-- The checks of the expanded fields are those of the fields with the appended types, and those of the types of type
+-- uses.
 use Rattle.std.proofs.Common.{◌≡◌, ℕ, ◌+◌, Bool, true, false, List, [], ◌∷◌, ◌++◌, map, append_assoc, Option, Some, None, refl, sym, ap, ◌∙◌}
 use Rattle.std.proofs.lemmas.Grind.{flat_map-append}
 use Rattle.wast_base.specs.Filling.{one_if, given_if, with_ids_from, missing_id_count}
@@ -16,12 +17,12 @@ use Rattle.wast_resolve_laws.specs.Tree.{Index, FunctionType, TypeUse, ModuleFie
 use Rattle.wast_resolve_laws.specs.Tree.space
 use Rattle.wast_resolve_laws.specs.Tree.field
 
--- Binding leaves what is asked by itself.
+-- Resolving type uses leaves other checks unchanged.
 pub bound_ask : (find : LookUp) (a : Check) → mapped_ask (binding_change find).index a ≡ a
 bound_ask find (ItemIndex s i) = refl
 bound_ask find a = refl
 
--- What goes by each ask, and by those that were there alone, goes by what the fields ask.
+-- A property that depends on each check, and on those of the fields, depends on the checks of the fields.
 module _ {M : Type 0} (find : LookUp) (measure : List Check → M) (each : (a : Check) (ps qs : List Check) → measure ps ≡ measure qs → measure (a ∷ ps) ≡ measure (a ∷ qs))
     (skip : (s : Signature) (i : Index) (ps : List Check) → find s ≡ Some i → measure (ItemIndex space.Ty i ∷ ps) ≡ measure ps) where
   after : (cs ps qs : List Check) → measure ps ≡ measure qs → measure (cs ++ ps) ≡ measure (cs ++ qs)
@@ -41,7 +42,7 @@ module _ {M : Type 0} (find : LookUp) (measure : List Check → M) (each : (a : 
       by_need true = found (find (inline_signature inline)) refl
       by_need false = h
 
-  -- the inline type that a block is given asks nothing
+  -- the empty inline type of a block has no check
   given_asks : (w : Where) (i : Option Index) (inline : Option FunctionType) → if_there in_signature (bound_inline w i inline) ≡ if_there in_signature inline
   given_asks OfItem i inline = refl
   given_asks OfCall i inline = refl
@@ -69,7 +70,7 @@ module _ {M : Type 0} (find : LookUp) (measure : List Check → M) (each : (a : 
   pub bound_measure : (xs : List ModuleField) → measure (checks_of (in_module (map (bound_field find) xs))) ≡ measure (checks_of (in_module xs))
   bound_measure xs = ap (λ ss. measure (checks_of ss)) (stands (binding_change find) (binding_keeps find) xs) ∙ sites_measure (in_module xs)
 
--- Ids ask nothing.
+-- Ids have no check.
 named_asks : (b : Bool) (n : ℕ) (x : ModuleField) → in_field (given_if b with_type_id n x) ≡ in_field x
 named_asks false n x = refl
 named_asks true n (field.Ty t) = refl

@@ -1,5 +1,5 @@
--- Where no items clash, the functions of an expanded list have as many parameters and locals as those of the completed one, and
--- as many blocks are open where one begins.
+-- If no two items have the same id, the functions of the expanded fields have as many parameters, locals and enclosing
+-- blocks as those of the completed ones.
 use Rattle.std.proofs.Common.{◌≡◌, ℕ, ◌+◌, true, List, [], ◌∷◌, ◌++◌, map, length, Option, Some, None, refl, ap, ◌∙◌, arith}
 use Rattle.std.specs.List.{flat_map}
 use Rattle.std.proofs.lemmas.Grind.{common_steps}
@@ -23,7 +23,7 @@ use Rattle.wast_resolve_laws.proofs.ExpandedTypes.{all_stay}
 use Rattle.wast_resolve_laws.proofs.FoundMatches.{HasSignature, what_is_found}
 use Rattle.wast_resolve_laws.proofs.Standing.{kind_declared}
 
--- Blocks begin where they began, whatever changes.
+-- Blocks start at the same sites after any change.
 one_open : (f : Change) (s : Site) → open_counts_at (mapped_site f s) ≡ open_counts_at s
 one_open f s = grind (arith, common_steps)
 
@@ -34,7 +34,7 @@ all_open f (s ∷ ss) = ap (λ ns. ns ++ open_counts (map (mapped_site f) ss)) (
 pub still_open : (f : Change) → KeepsMarks f → (x : ModuleField) → open_counts (in_field (mapped_field f x)) ≡ open_counts (in_field x)
 still_open f keeps x = ap open_counts (stands_at x (field_at x) f keeps) ∙ all_open f (in_field x)
 
--- A type that has the empty signature has no parameters.
+-- A type with the empty signature has no parameters.
 no_params : (k : TypeNames) (vs : List ValType) (rs : List ValType) → same_signature empty_signature (numbered_signature k (vs, rs)) ≡ true → length vs ≡ 0
 no_params k [] rs h = refl
 no_params k (v ∷ vs) rs h = absurd (cc h)

@@ -1,4 +1,4 @@
--- The items of an expanded list are those of the fields and of the implied types, of which some are given ids.
+-- The items of the expanded fields are those of the fields and of the appended types, some with generated ids.
 use Rattle.std.proofs.Common.{◌≡◌, ℕ, ◌+◌, ◌<◌, Bool, true, false, List, [], ◌∷◌, ◌++◌, map, append_assoc, length, Option, Some, None, is_none, refl, sym, ap, ◌∙◌, arith}
 use Rattle.std.specs.Prelude.{max}
 use Rattle.std.specs.List.{flat_map}
@@ -24,7 +24,7 @@ use Rattle.wast_resolve_laws.specs.Tree.field
 use Rattle.wast_resolve_rules.specs.Demands.{first_unmet, item_demands, item_counts}
 use Rattle.wast_resolve_laws.proofs.Changes.{Change, Kept, Given, old_of, new_of, olds, news, old_kept, new_kept, changed_position, changed_clashes, changed_counts}
 
--- what is done to the items of a field, and of types that are implied
+-- the changes of the items of a field, and of appended types
 abbrev type_change : Bool → Option Id → Span → List StructField → Change
 type_change true id p fields = Given space.Ty p (field_ids fields)
 type_change false id p fields = Kept (item space.Ty id fields)
@@ -98,7 +98,7 @@ bound_items find xs = items_alone (binding_change find) (λ o. refl) (binding_ke
 pub new_items : (n : ℕ) (fields : List ModuleField) → items (expanded_fields n fields) ≡ news n (changes fields)
 new_items n fields = bound_items (found_for fields n) (fields_with_types n fields) ∙ typed_items n fields
 
--- Implied types bear no ids.
+-- Appended types have no ids.
 none_implied : (ss : List Signature) → greatest_item (olds (map implied_change ss)) ≡ 0
 none_implied [] = refl
 none_implied (s ∷ ss) = let e = none_implied ss in omega arith
@@ -114,7 +114,7 @@ old_greatest fields =
     let c = ap greatest_item (old_fields fields) in
     omega arith
 
--- The given ids follow the counter.
+-- The generated ids follow the counter.
 abbrev given_in : List Change → ℕ
 given_in [] = 0
 given_in (Kept x ∷ cs) = given_in cs
@@ -143,7 +143,7 @@ given_fields (x ∷ xs) ss =
     let same = given_kept (items_in x) (flat_map change_in xs ++ map implied_change ss) in
     omega (arith, kept, same, given_fields xs ss)
 
--- The items of the two lists compared, where the counter is above the ids of the fields.
+-- Compares the items of both lists, if the counter is past the ids of the fields.
 module _ (n : ℕ) (fields : List ModuleField) (above : greatest_item (items fields) < n) where
   pub completed_items_below : greatest_item (items (fields_with_implied_types fields)) < n
   completed_items_below =

@@ -1,4 +1,4 @@
--- The types of an expanded list are read as those of the completed one.
+-- Checks read the types of the expanded fields like those of the completed ones.
 use Rattle.std.proofs.Common.{◌≡◌, ℕ, ◌+◌, Bool, true, false, List, [], ◌∷◌, ◌++◌, map, refl, sym, ap, ◌∙◌}
 use Rattle.std.specs.List.{flat_map}
 use Rattle.std.proofs.lemmas.Grind.{flat_map-append}
@@ -14,7 +14,7 @@ use Rattle.wast_resolve_laws.specs.Tree.ty
 use Rattle.wast_resolve_laws.specs.Tree.field
 use Rattle.wast_resolve_rules.specs.Scopes.{shape_of, shapes_in, shapes_of_types}
 
--- What neither ids nor indices of type uses change, field by field, they do not change in the list.
+-- A function of each field that ignores ids and indices of type uses has the same value on the list.
 module _ {A : Type 0} (f : ModuleField → List A) where
   pub each_bound : (find : LookUp) → ((x : ModuleField) → f (bound_field find x) ≡ f x) → (xs : List ModuleField) → flat_map f (map (bound_field find) xs) ≡ flat_map f xs
   each_bound find bound [] = refl
@@ -50,7 +50,7 @@ given_types : (n : ℕ) (x : ModuleField) → shapes_in (with_type_id n x) ≡ s
 given_types n (field.Ty t) = refl
 given_types n x = refl
 
--- whatever type uses are bound to
+-- for any indices of type uses
 pub bound_shapes : (find : LookUp) (xs : List ModuleField) → shapes_of_types (map (bound_field find) xs) ≡ shapes_of_types xs
 bound_shapes find xs = each_bound shapes_in find (bound_types find) xs
 

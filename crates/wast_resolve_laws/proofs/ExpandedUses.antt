@@ -1,5 +1,5 @@
--- Where no items clash, uses of an expanded list demand what they demand in the completed one: each index that is filled in is
--- known, and an inline type matches it once its names are known.
+-- Type uses of the expanded fields have the checks that they have in the completed ones, if no two items have the same
+-- id. Each new index is known, and the inline type matches it.
 use Rattle.std.proofs.Common.{◌≡◌, ℕ, ◌<◌, Bool, true, false, List, [], ◌∷◌, ◌++◌, map, append-nil, Option, Some, None, refl, sym, ap, ◌∙◌, subst}
 use Rattle.std.specs.Prelude.{codes}
 use Rattle.std.specs.Option.{option_or}
@@ -44,7 +44,7 @@ module _ (n : ℕ) (fields : List ModuleField) where
   abbrev new_scope : Scope
   new_scope = module_scope (expanded_fields n fields)
 
-  -- What a signature is bound to is a known type.
+  -- The index for a signature is a known type.
   pub found_known : (s : Signature) (i : Index) → find s ≡ Some i → IsTypeOf (items (expanded_fields n fields)) i
   found_known s i e = subst (λ xs. IsTypeOf xs i) (sym (bound_items find types)) (found (type_names fields) types (numbered_signature (type_names fields) s) i e)
 
@@ -84,7 +84,7 @@ module _ (n : ℕ) (fields : List ModuleField) where
         by_need true = by_found (find (inline_signature inline)) refl
         by_need false = refl
 
-    -- the inline type that a block is given demands nothing
+    -- the empty inline type of a block has no check
     bound_use_met : (w : Where) (i : Option Index) (inline : Option FunctionType) → first_unmet (use_demanded (bound_index find w i inline) (bound_inline w i inline)) ≡ first_unmet (use_demanded i inline)
     bound_use_met OfItem i inline = index_met OfItem i inline
     bound_use_met OfCall i inline = index_met OfCall i inline

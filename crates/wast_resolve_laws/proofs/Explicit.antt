@@ -1,4 +1,4 @@
--- What is so of the list in which nothing is left out: it is the expanded list of what is written out.
+-- Proves the theorems about the fields after both steps of desugaring.
 use Rattle.std.proofs.Common.{◌≡◌, ℕ, ◌+◌, ◌<◌, List, None, ap, ◌∙◌, arith}
 use Rattle.wast_tree_nodes.specs.Generations.{greatest_generation}
 use Rattle.wast_expand_inline.specs.Written.{desugared_from, reference_id_count}
@@ -21,7 +21,7 @@ use Rattle.wast_resolve_laws.proofs.WrittenAlike.{written_unmet, clashes_alike, 
 use Rattle.wast_resolve_laws.proofs.WrittenPositions.{written_positions}
 
 module _ (n : ℕ) (fields : List ModuleField) where
-  -- the generation after those of what is written out
+  -- the counter after the first step
   abbrev pub next : ℕ
   next = n + reference_id_count fields
 

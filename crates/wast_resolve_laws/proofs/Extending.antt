@@ -1,11 +1,11 @@
--- The map of all names is injective where the finite one is.
+-- Proves ExtendedIsInjective and ExtendedAgrees.
 use Rattle.std.proofs.Common.{◌≡◌, ℕ, ◌+◌, ◌≤◌, Bool, true, false, cond, [], ◌∷◌, length, length-append, Option, Some, None, refl, sym, ap, ◌∙◌, arith}
 use Rattle.std.specs.Prelude.{replicate}
 use Rattle.std.proofs.lemmas.List.{length-replicate, append_cancel_left}
 use Rattle.wast_base.specs.Ids.{Name, Written, Generated, same_name, text_of, generation_of}
 use Rattle.wast_resolve_laws.specs.Extended.{FiniteNaming, renamed_name, longest, newest, other_name, name_or, ExtendedIsInjective, ExtendedAgrees}
 
--- what is given is no longer, and no newer
+-- a new name in the map is no longer, and no newer, than the bounds
 bounded : (m : FiniteNaming) (a c : Name) → renamed_name m a ≡ Some c → (length (text_of c) ≤ longest m) × (generation_of c ≤ newest m)
 bounded [] a c h = absurd (cc h)
 bounded (e ∷ m) a c h = by (same_name a e.0) (renamed_name m a) (bounded m a c) h
@@ -19,7 +19,7 @@ bounded (e ∷ m) a c h = by (same_name a e.0) (renamed_name m a) (bounded m a c
         (omega (arith, long), omega (arith, new))
     by false o k g = let l = k g in (omega (arith, l.0), omega (arith, l.1))
 
--- so it is not what a name becomes that is not there
+-- so it is not the new name of a name outside of the map
 differs : (m : FiniteNaming) (a b c : Name) → renamed_name m a ≡ Some c → c ≡ other_name m b → ⊥
 differs m a (Written text) c h e =
     let l = (bounded m a c h).0 in
@@ -31,7 +31,7 @@ differs m a (Generated n) c h e =
     let k : generation_of c ≡ 1 + newest m + n = ap generation_of e in
     omega (arith, l, k)
 
--- which tells the name
+-- which determines the name
 others : (m : FiniteNaming) (a b : Name) → other_name m a ≡ other_name m b → a ≡ b
 others m (Written s) (Written t) e = ap Written (append_cancel_left (replicate (1 + longest m) 0) s t (ap text_of e))
 others m (Written s) (Generated n) e = absurd (cc e)

@@ -1,4 +1,4 @@
--- What a signature is bound to has that signature: an inline type matches the index that its use is given.
+-- The type at the index for a signature has that signature, so the inline type matches it.
 use Rattle.std.specs.Prelude.{⊤}
 use Rattle.std.proofs.Common.{◌≡◌, ℕ, zero, suc, Bool, true, false, cond, List, [], ◌∷◌, ◌++◌, map, get_or, Option, Some, None, option_map, refl, sym, ap, ◌∙◌}
 use Rattle.std.specs.List.{flat_map, slice_get}
@@ -30,7 +30,7 @@ use Rattle.wast_resolve_laws.proofs.ExpandedItems.{bound_items}
 use Rattle.wast_resolve_laws.proofs.FreeNames.{free_position}
 use Rattle.wast_resolve_laws.proofs.SameTypes.{Continues, numbers_match}
 
--- As many places, and each signature that stands in one is, in the numbers of the written types, what stands in the other.
+-- As many positions, and at each the same signature, after ids of source types are replaced by numbers.
 abbrev Within : TypeNames → List (Option Signature) → List Shape → Type 0
 Within k [] [] = ⊤
 Within k [] (b ∷ bs) = ⊥
@@ -87,7 +87,7 @@ module _ (k : TypeNames) where
       inside a e = cc e
   within_get (a ∷ us) (b ∷ bs) h (suc p) s e = within_get us bs h.1 p s e
 
--- The index is an id that denotes a function type of the signature, in the numbers of the written types.
+-- The index is an id of a function type with the signature, after ids of source types are replaced by numbers.
 pub record HasSignature (k : TypeNames) (c : Scope) (s : Signature) (i : Index) : Type 0 where
   pub id : Id
   pub is : i ≡ index.Id id
@@ -97,7 +97,7 @@ pub record HasSignature (k : TypeNames) (c : Scope) (s : Signature) (i : Index) 
   pub stands : slice_get c.types number ≡ Some (Function found)
   pub same : same_signature (numbered_signature k s) (numbered_signature k found) ≡ true
 
--- an inline type whose names are known matches it
+-- an inline type whose ids are known matches it
 pub it_matches : (k : TypeNames) (c : Scope) → Continues k c.known → (t : FunctionType) (i : Index) → HasSignature k c (signature_of t) i → first_unmet (ask_demands c.known (in_signature t)) ≡ None → first_unmet (match_demands c i t) ≡ None
 it_matches k c continues t i h met =
     let place = place_of h.id in
@@ -106,7 +106,7 @@ it_matches k c continues t i h met =
     ∙ (ap (λ o. first_unmet (match_with (signatures_match c.known t) place o)) h.stands
     ∙ ap (λ b. first_unmet (match_with (λ u. b) place (Some (Function h.found)))) (numbers_match k c.known continues t h.found h.same met)))
 
--- a type that has a signature
+-- a type with a signature
 its_signature : (s : Signature) (o : Option Signature) → has_signature s o ≡ true → (t : Signature) × (o ≡ Some t) × (same_signature s t ≡ true)
 its_signature s None h = absurd (cc h)
 its_signature s (Some t) h = (t, refl, h)
@@ -118,7 +118,7 @@ module _ (n : ℕ) (fields : List ModuleField) (free : first_unmet (item_demands
   same_names : names_in space.Ty (items (expanded_fields n fields)) ≡ names_by ids
   same_names = ap (names_in space.Ty) (bound_items (found_for fields n) (fields_with_types n fields)) ∙ names_of_types (fields_with_types n fields)
 
-  -- the id at a position denotes it
+  -- the id at a position has it as its number
   pub id_denotes : (p : ℕ) (id : Id) → slice_get ids p ≡ Some (Some id) → position_of (name_of id) (names_in space.Ty (items (expanded_fields n fields))) ≡ Some p
   id_denotes p id at =
       let named : slice_get (names_by ids) p ≡ Some (Some (name_of id)) = slice_get-map (λ id. name_if (mark_of_option id)) ids p ∙ ap (option_map (λ id. name_if (mark_of_option id))) at in

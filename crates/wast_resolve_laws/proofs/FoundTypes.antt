@@ -1,4 +1,4 @@
--- What a signature is bound to is the id of a type that stands there.
+-- The index for a signature is the id of a type in the list.
 use Rattle.std.proofs.Common.{◌≡◌, ◌≤◌, Bool, true, false, cond, ◌&&◌, ◌||◌, List, [], ◌∷◌, ◌++◌, Option, Some, None, refl, ap, ◌∙◌, arith}
 use Rattle.std.specs.List.{list_any}
 use Rattle.wast_base.specs.Ids.{name_of, generation_of}

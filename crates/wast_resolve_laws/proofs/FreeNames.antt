@@ -1,4 +1,4 @@
--- Where no item has the name of an earlier one of its space, each name denotes the item that bears it.
+-- If no item has the id of an earlier one of its space, each name has the number of its owner.
 use Rattle.std.proofs.Common.{◌≡◌, ℕ, zero, suc, ◌<◌, Bool, true, false, not, ◌||◌, true≢false, is_some, cond, List, [], ◌∷◌, ◌++◌, length, get_or, Option, Some, None, option_map, refl, sym, ap, ◌∙◌, arith}
 use Rattle.std.proofs.lemmas.Bool.{eqb-true}
 use Rattle.wast_base.specs.Ids.{Name, Mark}
@@ -19,7 +19,7 @@ or_parts : (a b : Bool) → (a || b) ≡ false → (a ≡ false) × (b ≡ false
 or_parts true b h = absurd cc
 or_parts false b h = (refl, h)
 
--- The name is borne by no item before, and denotes the position.
+-- No item before has the name, so its number is the position.
 abbrev IsFree : Space → Name → List Item → List Item → ℕ → Type 0
 IsFree s q before xs p = (is_borne q (names_in s before) ≡ false) × (position_of q (names_in s xs) ≡ Some p)
 
@@ -31,7 +31,7 @@ abbrev name_or : Name → Option Name → Name
 name_or d None = d
 name_or d (Some n) = n
 
--- the name of an item whose demand is met
+-- the name of an item whose check passes
 met_name : (word : List ℕ) (earlier : List (Option Name)) (id : Option Mark) (q : Name) → first_unmet (new_name_in word earlier id) ≡ None → name_if id ≡ Some q → is_borne q earlier ≡ false
 met_name word earlier None q met is = absurd (cc is)
 met_name word earlier (Some m) q met is =
@@ -42,7 +42,7 @@ met_name word earlier (Some m) q met is =
 one_more : (s : Space) (q : Name) (before : List Item) (x : Item) → is_borne q (names_in s (before ++ x ∷ [])) ≡ false → (is_borne q (names_in s before) ≡ false) × (is_borne q (names_in s (x ∷ [])) ≡ false)
 one_more s q before x h = or_parts (is_borne q (names_in s before)) (is_borne q (names_in s (x ∷ []))) (sym (borne_by_both s q before (x ∷ [])) ∙ h)
 
--- a name that one item does not bear
+-- a name that an item does not have
 not_called : (q : Name) (o : Option Name) → is_borne q (o ∷ []) ≡ false → is_called q o ≡ false
 not_called q o h = by_test (is_called q o) refl
   where

@@ -1,4 +1,4 @@
--- What passes of each value type of the signatures that uses need passes of those of the implied types.
+-- A property of each value type in the signatures that type uses need holds for those of the appended types.
 use Rattle.std.proofs.Common.{◌≡◌, Bool, true, false, cond, ◌||◌, ◌&&◌, List, [], ◌∷◌, map, refl, ap, ◌∙◌}
 use Rattle.std.specs.Cmp.{first_so, second_so}
 use Rattle.std.specs.List.{flat_map, list_all}
@@ -12,7 +12,7 @@ use Rattle.wast_resolve_laws.specs.Tree.{ValType, ModuleField}
 pub both_so : (a b : Bool) → a ≡ true → b ≡ true → (a && b) ≡ true
 both_so a b h k = ap (λ c. c && b) h ∙ k
 
--- each passes one test, and so another
+-- each element passes one test, and so another
 pub all_pass : {A : Type 0} (p q : A → Bool) → ((x : A) → p x ≡ true → q x ≡ true) → (xs : List A) → list_all p xs ≡ true → list_all q xs ≡ true
 all_pass p q one [] h = refl
 all_pass p q one (x ∷ xs) h = both_so (q x) (list_all q xs) (one x (first_so (p x) (list_all p xs) h)) (all_pass p q one xs (second_so (p x) (list_all p xs) h))
@@ -37,7 +37,7 @@ all_new p known (s ∷ ss) h =
 abbrev pub values_pass : (ValType → Bool) → Signature → Bool
 values_pass p s = list_all p s.0 && list_all p s.1
 
--- the same of signatures in numbers, where what passes does so as a number
+-- the same after ids are replaced by numbers, if what passes does so as a number
 all_numbered : (p : ValType → Bool) (k : TypeNames) → ((v : ValType) → p v ≡ true → p (numbered_val k v) ≡ true) → (ss : List Signature) → list_all (values_pass p) ss ≡ true → list_all (values_pass p) (map (numbered_signature k) ss) ≡ true
 all_numbered p k one ss h = list_all-map (values_pass p) (numbered_signature k) ss ∙ all_pass (values_pass p) (λ s. values_pass p (numbered_signature k s)) each ss h
   where

@@ -1,4 +1,4 @@
--- Resolving puts nothing in place.
+-- Proves FinishedIsWrittenOut: resolving adds no inline part.
 use Rattle.std.proofs.Common.{◌∙◌}
 use Rattle.wast_tree_map.proofs.Alone.{written_alone}
 use Rattle.wast_expand_types.specs.Expanded.{expanded_fields}

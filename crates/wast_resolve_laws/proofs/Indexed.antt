@@ -1,5 +1,5 @@
--- Uses that have an index keep one when they are resolved, and a block without one has a short type; so nothing is left to
--- resolve.
+-- Proves UsesHaveIndices and FinishedIsResolved: type uses keep their indices, and a block without one has a short
+-- type.
 use Rattle.std.proofs.Common.{◌≡◌, ℕ, ◌==◌, Bool, true, false, not, ◌&&◌, ◌||◌, List, [], ◌∷◌, ◌++◌, map, length, Option, Some, None, is_some, refl, ap, ◌∙◌}
 use Rattle.std.specs.Prelude.{nat_lt}
 use Rattle.std.specs.Cmp.{first_so, second_so}
@@ -26,7 +26,7 @@ use Rattle.wast_resolve_laws.proofs.Composed.{all_are_numbers}
 use Rattle.wast_resolve_laws.proofs.ImpliedSignatures.{both_so, all_pass}
 use Rattle.wast_resolve_rules.proofs.Numbering.{numbering_keeps}
 
--- A block without index needs nothing where its type is short.
+-- A block without an index needs no type if its type is short.
 none_needed : (b : Bool) (s : Signature) → needed_if (not b) s ≡ [] → b ≡ true
 none_needed true s h = refl
 none_needed false s h = absurd cc
@@ -82,7 +82,7 @@ module _ (c : Scope) where
 pub numbered_indexed : HasIndices
 numbered_indexed n fields = has_fields (module_scope (expanded_fields n fields)) (expanded_fields n fields) (uses_are_bound n fields)
 
--- Where each index is a number, and no type use needs one, the list is resolved.
+-- If each index is a number and no type use needs a type, the list is resolved.
 use_enough : (w : Where) (i : Option Index) (t : Option FunctionType) → needed_without w i t ≡ [] → says (Used w (record { index = i; inline = t })) ≡ true → (is_some i || says_enough w t) ≡ true
 use_enough w (Some i) t none said = refl
 use_enough OfItem None t none said = absurd cc

@@ -1,4 +1,4 @@
--- What is kept goes by the names that items bear: implied types bear none.
+-- The ids that are kept depend on the names of items, and appended types have none.
 use Rattle.std.proofs.Common.{◌≡◌, ℕ, ◌<◌, false, not, ◌&&◌, ◌||◌, List, [], ◌∷◌, map, is_some, refl, ap, ◌∙◌, arith}
 use Rattle.std.specs.List.{list_any}
 use Rattle.std.proofs.Math.Bool.{and-false, or-false}
@@ -19,7 +19,7 @@ use Rattle.wast_resolve_laws.specs.Tree.{Space, ModuleField}
 use Rattle.wast_resolve_laws.specs.Tree.index
 use Rattle.wast_resolve_laws.specs.Tree.space
 
--- Types without ids bear no name.
+-- Types without ids have no name.
 none_borne : (q : Name) (s : Space) (ss : List Signature) → is_borne q (names_in s (items (map unnamed_type ss))) ≡ false
 none_borne q s ss = borne_among s q (items (map unnamed_type ss)) ∙ none ss
   where
@@ -33,7 +33,7 @@ completed_borne q s fields =
     ap (λ xs. is_borne q (names_in s xs)) (flat_map-append items_in fields (map unnamed_type (implied_signatures fields)))
     ∙ (borne_by_both s q (items fields) new ∙ (ap (λ b. is_borne q (names_in s (items fields)) || b) (none_borne q s (implied_signatures fields)) ∙ or-false (is_borne q (names_in s (items fields)))))
 
--- Where old names are borne alike, the same is kept.
+-- If old names are the same, the same ids are kept.
 module _ (n : ℕ) (k l : IdContext) (same : (s : Space) (q : Name) → generation_of q < n → is_some (k.number s q) ≡ is_some (l.number s q)) where
   kept_alike : (a : Check) → generation_in a < n → is_kept k a ≡ is_kept l a
   kept_alike (ItemIndex s (index.Num m p)) lt = refl

@@ -1,5 +1,5 @@
--- Parameters that no inline type says: where two scopes have one list of types, and an index denotes the same in both, a
--- function has as many in both. Whether a name denotes a local goes by the names alone.
+-- Parameters of a function without an inline type. If two scopes have the same types and the index has the same number
+-- in both, the function has as many in both. Whether a name is a local depends on the names alone.
 use Rattle.std.proofs.Common.{◌≡◌, ℕ, ◌+◌, List, Option, Some, None, option_map, is_some, refl, sym, ap, ◌∙◌}
 use Rattle.wast_base.specs.Ids.{Name, name_of, mark_of}
 use Rattle.wast_base.specs.Spaces.{position_of}
@@ -13,7 +13,7 @@ use Rattle.wast_resolve_rules.specs.Demands.{unknown_demand, known_index}
 use Rattle.wast_resolve_rules.specs.Resolved.{numbered_by, resolved_index, numbered_at}
 use Rattle.wast_resolve_rules.specs.Stripped.{at_start}
 
--- Behind some parameters without names a name denotes something where it does among the names.
+-- After some unnamed parameters a name is known if it is among the names.
 behind_some : (n : ℕ) (o : Option ℕ) → is_some (option_map (λ p. n + p) o) ≡ is_some o
 behind_some n None = refl
 behind_some n (Some p) = refl
@@ -22,7 +22,7 @@ pub by_names : (c : Scope) (l : Locals) (word : List ℕ) (i : Index) → known_
 by_names c l word (index.Num n p) = refl
 by_names c l word (index.Id id) = ap (unknown_demand word (mark_of id)) (behind_some (implicit_param_count c l.owner) (position_of (name_of id) l.names))
 
--- the number that an index is
+-- the number of an index
 abbrev pub number_of : Index → Option ℕ
 number_of (index.Num n p) = Some n
 number_of (index.Id id) = None
@@ -39,7 +39,7 @@ denoted_number number (index.Id id) = by_number (number (name_of id))
     by_number None = refl
     by_number (Some n) = refl
 
--- a type use has the number of its index, at the start of the text
+-- a type use has the number of its index, at offset 0
 abbrev pub number_at : IdContext → Option Index → Option Index
 number_at k i = option_map at_start (option_map (numbered_at k space.Ty) i)
 

@@ -1,4 +1,4 @@
--- What is demanded at a site is met there once each index is a number, where it was met.
+-- The checks of a site that passed still pass once each index is a number.
 use Rattle.std.proofs.Common.{◌≡◌, ℕ, ◌+◌, List, [], ◌∷◌, ◌++◌, map, Option, Some, None, option_map, is_some, refl, ap, ◌∙◌, append-nil}
 use Rattle.std.specs.Prelude.{if◌then◌else◌, codes}
 use Rattle.std.specs.List.{slice_get}
@@ -26,7 +26,7 @@ use Rattle.wast_resolve_rules.specs.Resolved.{numbered_by, resolved_index, numbe
 use Rattle.wast_resolve_rules.proofs.Unmet.{met_parts}
 use Rattle.wast_resolve_laws.proofs.NumberedTypes.{met_both, met_index, span_still, denoted_still, numbered_shape, with_still, ask_rests, index_asks, inline_asks, both_asks}
 
--- By the scope of a list, and that of the numbered list.
+-- In the scope of a list, and in that of the numbered list.
 module _ (c : Scope) where
   abbrev k : IdContext
   k = c.known
@@ -50,7 +50,7 @@ module _ (c : Scope) where
   if_still (Some i) None = refl
   if_still (Some i) (Some t) = match_still i t
 
-  -- a use that says all, and one that an index says
+  -- a type use with an inline type, and one with an index alone
   asks_of : (o : Option Index) (t : Option FunctionType) → first_unmet (ask_demands k (if_there (in_index space.Ty) o ++ if_there in_signature t)) ≡ None
       → ask_demands k (if_there (in_index space.Ty) (option_map (numbered_at k space.Ty) o) ++ if_there in_signature (option_map (mapped_signature (numbered_at k)) t)) ≡ []
   asks_of o t h =
@@ -77,7 +77,7 @@ module _ (c : Scope) where
   use_rests OfCall u h = ap first_unmet (once_asks u.index u.inline (met_parts (ask_demands k (in_type_use u)) (match_if c u.index u.inline) h).0)
   use_rests OfBlock u h = ap first_unmet (once_asks u.index u.inline (met_parts (ask_demands k (in_type_use u)) (match_if c u.index u.inline) h).0)
 
-  -- an access to a field
+  -- a struct field access
   field_rests : (types : List Shape) (o : Option ℕ) (i : Index) → first_unmet (field_at c.types o i) ≡ None → field_at types o (resolved_index (field_in (type_at c.types o)) i) ≡ []
   field_rests types None i h = refl
   field_rests types (Some n) (index.Num m p) h = refl

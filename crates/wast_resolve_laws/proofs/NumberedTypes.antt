@@ -1,4 +1,4 @@
--- What an index denotes it denotes as a number, so types are compared alike.
+-- An index and its number name the same item, so types compare equal.
 use Rattle.std.proofs.Common.{◌≡◌, ℕ, ◌+◌, ◌&&◌, List, [], ◌∷◌, ◌++◌, map, Option, Some, None, option_map, is_some, refl, sym, ap, ◌∙◌, append-nil, arith}
 use Rattle.std.specs.Prelude.{if◌then◌else◌}
 use Rattle.std.specs.Bool.{beq}
@@ -30,7 +30,7 @@ use Rattle.wast_resolve_rules.proofs.Numbering.{numbering_keeps}
 pub met_both : (ds es : List Demand) → first_unmet ds ≡ None → first_unmet es ≡ None → first_unmet (ds ++ es) ≡ None
 met_both ds es h k = first_unmet-append ds es h ∙ k
 
--- An index whose demand is met is a number, of which nothing is demanded.
+-- An index whose check passes becomes a number, which has no check.
 met_id : (f : Cause) (s : Span) (word : List ℕ) (number : Name → Option ℕ) (id : Id) (o : Option ℕ) → first_unmet (record { fault = f; place = s; met = is_some o } ∷ []) ≡ None → known_index number word (numbered_by o id) ≡ []
 met_id f s word number id None h = absurd (cc h)
 met_id f s word number id (Some k) h = refl
@@ -47,7 +47,7 @@ span_still number (index.Id id) = by (number (name_of id))
     by None = refl
     by (Some k) = refl
 
--- What an index denotes it denotes as a number.
+-- An index and its number name the same item.
 pub denoted_still : (number : Name → Option ℕ) (i : Index) → denoted number (resolved_index number i) ≡ denoted number i
 denoted_still number (index.Num k p) = refl
 denoted_still number (index.Id id) = by (number (name_of id)) refl
@@ -56,7 +56,7 @@ denoted_still number (index.Id id) = by (number (name_of id)) refl
     by None h = h
     by (Some k) h = refl
 
--- Types are compared by what their indices denote.
+-- Types are compared by the items that their indices name.
 module _ (k : IdContext) where
   type_still : (i j : Index) → same_type k (numbered_at k space.Ty i) (numbered_at k space.Ty j) ≡ same_type k i j
   type_still i j = λ t. same_number (denoted_still (k.number space.Ty) i t) (denoted_still (k.number space.Ty) j t)
@@ -97,20 +97,20 @@ module _ (k : IdContext) where
       ap (λ u. same_signature_by (same_type k) u (numbered_signature s)) (signature_still t)
       ∙ (λ i. values_still (signature_of t).0 s.0 i && values_still (signature_of t).1 s.1 i)
 
-  -- Shapes.
+  -- The data of types.
   abbrev pub numbered_shape : Shape → Shape
   numbered_shape (Function s) = Function (numbered_signature s)
   numbered_shape (Struct number) = Struct number
   numbered_shape Other = Other
 
-  -- What is demanded where both are there.
+  -- The checks if there are both.
   pub with_still : (p : Span) (t : FunctionType) (o : Option Shape) → match_with (signatures_match k (mapped_signature (numbered_at k) t)) p (option_map numbered_shape o) ≡ match_with (signatures_match k t) p o
   with_still p t None = refl
   with_still p t (Some (Function s)) = ap (λ b. match_with (λ u. b) p (Some (Function s))) (matches_still t s)
   with_still p t (Some (Struct number)) = refl
   with_still p t (Some Other) = refl
 
-  -- Asks that are met.
+  -- Checks that pass.
   pub ask_rests : (a : Check) → first_unmet (ask_demand k a) ≡ None → ask_demand k (mapped_ask (numbered_at k) a) ≡ []
   ask_rests (ItemIndex s i) h = met_index (k.number s) (k.number s) (word_of s) i h
   ask_rests (InnerIndex i) h = refl

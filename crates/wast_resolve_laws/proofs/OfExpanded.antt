@@ -1,4 +1,4 @@
--- What is so of each expanded list, where the counter begins above the generations of the fields.
+-- Properties of every list of expanded fields, if the counter is past the generated ids of the fields.
 use Rattle.std.specs.Prelude.{◌≡◌, ℕ, ◌+◌, ◌<◌, true, [], None, List}
 use Rattle.wast_tree_nodes.specs.Items.{items}
 use Rattle.wast_tree_nodes.specs.WellFormed.{is_well_formed}
@@ -12,7 +12,7 @@ use Rattle.wast_resolve_laws.specs.Tree.{ModuleField}
 use Rattle.wast_resolve_rules.specs.Demands.{first_unmet, item_demands, demands, item_counts, body_counts}
 use Rattle.wast_resolve_rules.specs.Resolved.{resolved_fields}
 
--- the expanded list, once each index is a number
+-- the expanded fields, once each index is a number
 abbrev pub numbered : ℕ → List ModuleField → List ModuleField
 numbered n fields = resolved_fields (expanded_fields n fields)
 

@@ -1,4 +1,4 @@
--- Binding type uses, giving ids to types and appending implied types leave what the order of imports demands.
+-- Resolving type uses, generating ids of types and appending types leave the order of imports unchanged.
 use Rattle.std.proofs.Common.{◌≡◌, ℕ, ◌+◌, Bool, true, false, List, [], ◌∷◌, ◌++◌, map, Option, Some, None, refl, sym, ap, ◌∙◌}
 use Rattle.std.specs.Option.{option_or}
 use Rattle.wast_tree_map.specs.Mapped.{mapped_func_kind, mapped_table_kind, mapped_global_kind}
@@ -20,7 +20,7 @@ use Rattle.wast_resolve_rules.specs.ImportOrder.{imported_at, import_place, unle
 use Rattle.wast_resolve_rules.specs.Demands.{order_demands}
 use Rattle.wast_resolve_rules.proofs.Orders.{orders_from, orders_are}
 
--- a field and a changed one, which import and define the same
+-- a field and a changed one that import and define the same
 record Alike (x y : ModuleField) : Type 0 where
   place : import_place x ≡ import_place y
   space : defined_space x ≡ defined_space y
@@ -31,7 +31,7 @@ one_alike last x y xs ys a rest =
     ∙ (ap (λ o. nothing_defined last (import_place y) ++ orders_from (option_or (unless_import (import_place y) o) last) xs) a.space
     ∙ ap (λ ds. nothing_defined last (import_place y) ++ ds) (rest (option_or (defines y) last)))
 
--- what is imported in place stays so
+-- an inline import stays one
 bound_func : (find : LookUp) (span : Span) (u : TypeUse FunctionType) (k : FuncKind) → imported_at span (Some (is_imported_func (mapped_func_kind (binding_change find) u k))) ≡ imported_at span (Some (is_imported_func k))
 bound_func find span u (func.Import source exact) = refl
 bound_func find span u (func.Inline locals e) = refl
@@ -67,7 +67,7 @@ filled_orders n last [] = refl
 filled_orders n last (x ∷ xs) =
     one_alike last (given_if (lacks_id x) with_type_id n x) x (with_ids_from lacks_id with_type_id (n + one_if (lacks_id x)) xs) xs (given_alike (lacks_id x) n x) (λ o. filled_orders (n + one_if (lacks_id x)) o xs)
 
--- Types demand nothing of it.
+-- Types have no check of the order of imports.
 none_unnamed : (last : Option Space) (ss : List Signature) → orders_from last (map unnamed_type ss) ≡ []
 none_unnamed last [] = refl
 none_unnamed last (s ∷ ss) = none_unnamed last ss

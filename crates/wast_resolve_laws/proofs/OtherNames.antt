@@ -1,4 +1,4 @@
--- What other names leave of positions, items and signatures.
+-- Other names leave positions, items and signatures the same.
 use Rattle.std.specs.Bool.{beq}
 use Rattle.std.specs.List.{position_or_len}
 use Rattle.std.specs.Prelude.{nat_lt, if◌then◌else◌, ◌==◌}
@@ -25,7 +25,7 @@ use Rattle.wast_resolve_laws.specs.Tree.heap
 use Rattle.wast_resolve_laws.specs.Tree.value
 use Rattle.wast_resolve_laws.specs.Renaming.{Renaming, IsRenaming, renamed_index, renamed_type, renaming}
 
--- Two names are one exactly where the others are.
+-- Two names are equal exactly if the others are.
 module _ (n : Naming) (injective : (a b : Name) → n a ≡ n b → a ≡ b) where
   pub name_same : (a b : Name) → same_name (n a) (n b) ≡ same_name a b
   name_same a b = by (same_name a b) refl
@@ -74,7 +74,7 @@ module _ (n : Naming) (injective : (a b : Name) → n a ≡ n b → a ≡ b) whe
   marks_same [] = refl
   marks_same (m ∷ ms) = λ i. named_if n m i ∷ marks_same ms i
 
--- Types are compared by indices alone.
+-- Types are compared by their indices alone.
 module _ (f : Indices) (same other : Index → Index → Bool) (alike : (i j : Index) → other (f space.Ty i) (f space.Ty j) ≡ same i j) where
   heap_same : (a b : HeapType) → same_heap_by other (mapped_heap f a) (mapped_heap f b) ≡ same_heap_by same a b
   heap_same (heap.Abstract s a) (heap.Abstract t b) = refl
@@ -112,14 +112,14 @@ module _ (f : Indices) (same other : Index → Index → Bool) (alike : (i j : I
   values_same (v ∷ vs) [] = refl
   values_same (v ∷ vs) (w ∷ ws) = λ i. value_same v w i && values_same vs ws i
 
-  -- a signature whose indices are changed
+  -- a signature with changed indices
   abbrev pub changed_signature : Signature → Signature
   changed_signature s = (map (mapped_val f) s.0, map (mapped_val f) s.1)
 
   pub signatures_same : (s t : Signature) → same_signature_by other (changed_signature s) (changed_signature t) ≡ same_signature_by same s t
   signatures_same s t = λ i. values_same s.0 t.0 i && values_same s.1 t.1 i
 
--- the signature of a type whose ids and indices are changed
+-- the signature of a type with changed ids and indices
 params_changed : (own : Ids) (f : Indices) (ps : List (Option Id × Option NameAnnotation × ValType)) → map type_of_param (map (named_param own f) ps) ≡ map (mapped_val f) (map type_of_param ps)
 params_changed own f [] = refl
 params_changed own f (p ∷ ps) = ap (λ vs. mapped_val f p.2 ∷ vs) (params_changed own f ps)
@@ -127,7 +127,7 @@ params_changed own f (p ∷ ps) = ap (λ vs. mapped_val f p.2 ∷ vs) (params_ch
 pub signature_changed : (own : Ids) (f : Indices) (t : FunctionType) → signature_of (named_signature own f t) ≡ (map (mapped_val f) (signature_of t).0, map (mapped_val f) (signature_of t).1)
 signature_changed own f t = ap (λ vs. (vs, map (mapped_val f) t.results)) (params_changed own f t.params)
 
--- What is so of a renaming.
+-- The properties of a renaming.
 module _ (r : Renaming) (is : IsRenaming r) where
   pub ids_named : NamesItems r.name (renaming r)
   ids_named None = refl
@@ -147,7 +147,7 @@ module _ (r : Renaming) (is : IsRenaming r) where
   id_same : (a b : Id) → same_id (r.id a) (r.id b) ≡ same_id a b
   id_same a b = (λ i. same_name ((is.calls a i).0) ((is.calls b i).0)) ∙ name_same r.name is.injective (name_of a) (name_of b)
 
-  -- indices are one where the others are
+  -- indices are equal exactly if the others are
   pub index_same : (i j : Index) → same_index (renamed_index r i) (renamed_index r j) ≡ same_index i j
   index_same (index.Id a) (index.Id b) = id_same a b
   index_same (index.Num m p) (index.Num k q) = refl

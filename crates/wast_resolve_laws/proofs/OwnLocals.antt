@@ -1,5 +1,5 @@
--- An instruction reads the locals of the body that it stands in, and so do all behind it; and beside indices of locals and labels
--- it asks nothing that stands within a function.
+-- An instruction reads the locals of its body, and so do all after it. Apart from indices of locals and labels, no
+-- check depends on the function.
 use Rattle.std.proofs.Common.{◌≡◌, true, List, [], ◌∷◌, ◌++◌, map, Option, None, refl, sym, ap, ◌∙◌, arith, false}
 use Rattle.std.specs.List.{flat_map}
 use Rattle.std.proofs.lemmas.Grind.{common_steps}
@@ -18,18 +18,18 @@ use Rattle.wast_resolve_laws.specs.Tree.instr
 use Rattle.wast_resolve_rules.proofs.TypeParts.{as_type, both_typed, index_part, list_part, option_part}
 use Rattle.wast_resolve_rules.proofs.PartsOfTypes.{heap_part, ref_part, val_part, signature_part}
 
--- what is asked, but of nothing within a function
+-- the checks that do not depend on the function
 abbrev pub outer : Check → Check
 outer (InnerIndex i) = Clause 0 true
 outer a = a
 
--- a site, with this owner of its local, and of nothing within a function where it asks
+-- a site with this owner of its local, whose checks do not depend on the function
 abbrev pub own : Option (TypeUse FunctionType) → Site → Site
 own o (Asked a) = Asked (outer a)
 own o (LocalAt locals i) = LocalAt (record locals { owner = o }) i
 own o s = s
 
--- In types nothing is asked within a function.
+-- No check in types depends on the function.
 outer_one : (a : Check) → outer (as_type a) ≡ as_type a
 outer_one a = grind (arith, common_steps)
 
@@ -63,7 +63,7 @@ module _ (o : Option (TypeUse FunctionType)) where
   pub fixed_asks : (asks : List Check) → map as_type asks ≡ asks → Fixed (check_sites asks)
   fixed_asks asks typed = asked_own asks ∙ ap check_sites (outer_part asks typed)
 
-  -- what stands in types, and behind it whether that is without a form
+  -- the checks of types, and after them whether a construct is supported
   pub fixed_form : (asks : List Check) (form : Check) → map as_type asks ≡ asks → as_type form ≡ form → Fixed (check_sites (asks ++ form ∷ []))
   fixed_form asks form typed same = fixed_asks (asks ++ form ∷ []) (both_typed asks (form ∷ []) typed (ap (λ a. a ∷ []) same))
 
@@ -123,7 +123,7 @@ instr_fixed h (instr.resume_throw a) = fixed_both h.locals.owner (check_sites (i
 instr_fixed h (instr.resume_throw_ref a) = handlers_fixed h.locals.owner h.blocks (space.Ty) a.type_index a.table
 instr_fixed h i = grind (arith, common_steps, heap_fixed h.locals.owner)
 
--- where the next one stands, the locals are the same
+-- the locals are the same in the context of the next instruction
 after_locals : (h : BodyContext) (s : Site) → (context_after_site h s).locals ≡ h.locals
 after_locals h s = grind (arith, common_steps)
 

@@ -1,4 +1,4 @@
--- What other names leave of the list in which nothing is left out, and of what is written out from a counter.
+-- Proves the theorems about modules with other names.
 use Rattle.std.proofs.Common.{◌≡◌, ℕ, ◌+◌, length, List, [], ◌∷◌, ◌++◌, map, Some, option_map, refl, sym, ap, ◌∙◌, subst}
 use mathlib.Core.Path.{fun_ext}
 use Rattle.std.specs.List.{flat_map}
@@ -102,7 +102,7 @@ renamed_counts r is fields = (
   ap body_counts (same_explicit r is fields) ∙ bodies_count r is (explicit_fields fields),
 )
 
--- What is written out from a counter is written out: nothing stands for an abbreviation of it.
+-- The expansion has no inline part, so expanding it again changes nothing.
 pub written_answer : WrittenAnswer
 written_answer n fields above =
     let all = desugared_from n fields in

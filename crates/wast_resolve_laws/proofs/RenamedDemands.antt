@@ -1,4 +1,4 @@
--- What is demanded with other names.
+-- The checks of a module with other names.
 use Rattle.std.specs.Prelude.{codes}
 use Rattle.std.specs.List.{slice_get, flat_map}
 use Rattle.std.specs.Option.{option_or}
@@ -39,7 +39,7 @@ use Rattle.wast_resolve_laws.proofs.OtherNames.{position_same, borne_same, expec
 use Rattle.wast_resolve_laws.proofs.RenamedShapes.{ShapesAlike, FoundAlike, get_alike, shapes_alike, items_are, numbers_are, span_same, type_denoted, at_index}
 use Rattle.wast_resolve_laws.proofs.ToldNames.{AllAlike, both_alike, all_among, parts_alike, first_alike, one_alike, lone, told_alike}
 
--- the names of the fields of items that may be told
+-- the ids of struct fields that an error can have
 abbrev pub fields_marks : List Item → List Mark
 fields_marks xs = flat_map (λ x. flat_map mark_if x.fields) xs
 
@@ -85,13 +85,13 @@ module _ (r : Renaming) (is : IsRenaming r) where
       (both_alike n own (own_demand before x) (own_demand (map (renamed_item n) before) (renamed_item n x)) (field_demands x.fields) (field_demands (map (renamed_mark n) x.fields)) (own_alike own before x) (fields_told [] x.fields))
       (subst (λ (b : List Item). AllAlike n (fields_marks xs) old (each_after item_demand b (map (renamed_item n) xs))) (map-append (renamed_item n) before (x ∷ [])) (items_told (before ++ x ∷ []) xs))
 
-  -- An index that a name denotes by one, and the other name by the other.
+  -- An index whose name has a number in one look-up, and whose new name has it in the other.
   index_told : (number other : Name → Option ℕ) → ((q : Name) → other (n q) ≡ number q) → (word : List ℕ) (i : Index) → AllAlike n (index_marks i) (known_index number word i) (known_index other word (renamed_index r i))
   index_told number other h word (index.Num k place) = tt
   index_told number other h word (index.Id id) =
       told_alike n word (mark_of id) (mark_of (r.id id)) _ _ (is.calls id) (ap is_some (ap (λ (m : Mark). other m.0) (is.calls id) ∙ h (name_of id)))
 
-  -- Sites, by two scopes.
+  -- Sites, in two scopes.
   module _ (c d : Scope) (numbers : (s : Space) (q : Name) → d.known.number s (n q) ≡ c.known.number s q) (types : ShapesAlike r c.types d.types) where
     ask_told : (a : Check) → AllAlike n (ask_marks a) (ask_demand c.known a) (ask_demand d.known (named_ask n (renaming r).index a))
     ask_told (ItemIndex s i) = index_told (c.known.number s) (d.known.number s) (numbers s) (word_of s) i
@@ -108,7 +108,7 @@ module _ (r : Renaming) (is : IsRenaming r) where
     type_same : (i j : Index) → same_type d.known (renamed_index r i) (renamed_index r j) ≡ same_type c.known i j
     type_same i j = λ t. same_number (type_denoted r is c d numbers types i t) (type_denoted r is c d numbers types j t)
 
-    -- an inline type, and the type that its index denotes
+    -- an inline type, and the type at its index
     with_alike : (marks : List Mark) (place : Span) (t : FunctionType) (o other : Option Shape) → FoundAlike r o other
         → AllAlike n marks (match_with (signatures_match c.known t) place o) (match_with (signatures_match d.known (renamed_type r t)) place other)
     with_alike marks place t (Some (Function s)) (Some (Function u)) h =
@@ -139,7 +139,7 @@ module _ (r : Renaming) (is : IsRenaming r) where
         both_alike n marks (ask_demands c.known (in_type_use u)) (ask_demands d.known (in_type_use (renamed_use r u))) (match_if c u.index u.inline) (match_if d (renamed_use r u).index (renamed_use r u).inline)
         (subst (λ (asks : List Check). AllAlike n marks (ask_demands c.known (in_type_use u)) (ask_demands d.known asks)) (sym (use_asks u)) (asks_told (in_type_use u))) (if_alike marks u.index u.inline)
 
-    -- an access to a field
+    -- a struct field access
     none_told : (k : ℕ) (m o : Mark) → o ≡ (n m.0, m.1) → AllAlike n (m ∷ []) (one_demand (NoNamedFields (text_of m.0) k) m.1 false) (one_demand (NoNamedFields (text_of o.0) k) o.1 false)
     none_told k m o e = (record { fault = (m.0, (lone n m, (refl, ap (λ (p : Mark). NoNamedFields (text_of p.0) k) e))); place = ap (λ (p : Mark). p.1) e; met = refl }, tt)
 
@@ -171,14 +171,14 @@ module _ (r : Renaming) (is : IsRenaming r) where
     declared_alike marks before None = tt
     declared_alike marks before (Some m) = one_alike n marks (Duplicate (codes "local")) m.1 refl (ap not (borne_same n is.injective m.0 before))
 
-    -- a local among those that have names
+    -- a local among those with names
     local_told : (l : Locals) (i : Index) → AllAlike n (index_marks i) (known_index (local_number c l) (codes "local") i) (known_index (local_number d (named_locals n (renaming r) l)) (codes "local") (renamed_index r i))
     local_told l i =
         subst (λ (ds : List Demand). AllAlike n (index_marks i) ds (known_index (local_number d (named_locals n (renaming r) l)) (codes "local") (renamed_index r i))) (sym (by_names c l (codes "local") i))
         (subst (λ (es : List Demand). AllAlike n (index_marks i) (known_index (λ name. position_of name l.names) (codes "local") i) es) (sym (by_names d (named_locals n (renaming r) l) (codes "local") (renamed_index r i)))
         (index_told (λ name. position_of name l.names) (λ name. position_of name (renamed n l.names)) (λ q. position_same n is.injective q l.names) (codes "local") i))
 
-    -- an index that is asked alone
+    -- an index alone
     alone : (marks : List Mark) (ds es : List Demand) → AllAlike n marks ds es → AllAlike n (marks ++ []) ds es
     alone marks ds es h = all_among n marks (marks ++ []) (Contains-append_left marks []) ds es h
 
@@ -255,7 +255,7 @@ module _ (r : Renaming) (is : IsRenaming r) where
       both_alike n marks (order_demand before x) (order_demand (renamed_fields r before) (mapped_field (renaming r) x)) old (each_after order_demand (renamed_fields r before ++ mapped_field (renaming r) x ∷ []) (renamed_fields r xs)) (order_alike marks before x)
       (subst (λ (b : List ModuleField). AllAlike n marks old (each_after order_demand b (renamed_fields r xs))) (map-append (mapped_field (renaming r)) before (x ∷ [])) (orders_alike marks (before ++ x ∷ []) xs))
 
--- What is unmet first.
+-- The first check that fails.
 pub same_demands : (r : Renaming) → IsRenaming r → (xs : List ModuleField) → RenamesFault r.name (told_marks xs) (first_unmet (demands xs)) (first_unmet (demands (renamed_fields r xs)))
 same_demands r is xs =
     first_alike r.name (told_marks xs) (demands xs) (demands (renamed_fields r xs))

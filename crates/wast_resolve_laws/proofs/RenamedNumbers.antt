@@ -21,7 +21,7 @@ use Rattle.wast_resolve_laws.proofs.OtherNames.{names, position_same}
 use Rattle.wast_resolve_laws.proofs.RenamedShapes.{ShapesAlike, shapes_alike, numbers_are, local_same, field_same}
 
 module _ (r : Renaming) (is : IsRenaming r) where
-  -- An index is numbered with another name as it was.
+  -- An index has the same number with another name.
   by_number : (id : Id) (o : Option ℕ) → numbered_by o (r.id id) ≡ renamed_index r (numbered_by o id)
   by_number id None = refl
   by_number id (Some k) = ap (λ (m : Mark). index.Num k m.1) (is.calls id)
@@ -61,7 +61,7 @@ module _ (r : Renaming) (is : IsRenaming r) where
   once_by None t = refl
   once_by (Some i) t = refl
 
-  -- By two scopes.
+  -- In two scopes.
   module _ (c d : Scope) (numbers : (s : Space) (q : Name) → d.known.number s (r.name q) ≡ c.known.number s q) (types : ShapesAlike r c.types d.types) where
     index_numbered : (s : Space) (i : Index) → numbered_at d.known s (renamed_index r i) ≡ renamed_index r (numbered_at c.known s i)
     index_numbered s i = number_same (c.known.number s) (d.known.number s) (numbers s) i
@@ -107,7 +107,7 @@ module _ (r : Renaming) (is : IsRenaming r) where
     named (Begins blocks m) = tt
     named Ends = tt
 
-    -- as numbers first
+    -- numbers first
     asks_numbered : (a : Check) → JoinsAsk (numbering_change c).index (renaming r).index both.index a
     asks_numbered (ItemIndex s i) = sym (index_numbered s i)
     asks_numbered (InnerIndex i) = tt

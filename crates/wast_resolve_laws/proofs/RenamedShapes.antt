@@ -1,4 +1,4 @@
--- The types of a list, by position, with other names.
+-- The types of a list, by index, with other names.
 use Rattle.std.specs.Prelude.{⊤}
 use Rattle.std.specs.List.{slice_get, list_any}
 use Rattle.std.proofs.Common.{◌≡◌, ℕ, zero, suc, ◌+◌, Bool, true, false, cond, length, List, [], ◌∷◌, ◌++◌, map, Option, Some, None, option_map, is_some, refl, sym, ap, ◌∙◌, subst}
@@ -26,7 +26,7 @@ use Rattle.wast_resolve_laws.proofs.OtherNames.{position_same, known_same, marks
 abbrev pub renamed_signature : Renaming → Signature → Signature
 renamed_signature r s = (map (mapped_val (λ t. renamed_index r)) s.0, map (mapped_val (λ t. renamed_index r)) s.1)
 
--- A shape, and the shape of the same type with other names.
+-- The data of a type, and that of the same type with other names.
 abbrev pub ShapeAlike : Renaming → Shape → Shape → Type 0
 ShapeAlike r (Function s) (Function t) = t ≡ renamed_signature r s
 ShapeAlike r (Struct number) (Struct other) = (q : Name) → other (r.name q) ≡ number q
@@ -68,7 +68,7 @@ module _ (r : Renaming) where
   more_alike (x ∷ xs) [] vs ws h k = absurd h
   more_alike (x ∷ xs) (y ∷ ys) vs ws h k = (h.0, more_alike xs ys vs ws h.1 k)
 
-  -- how many parameters a type has, and what names denote in it
+  -- the number of parameters of a type, and the numbers of its fields
   pub params_alike : (x y : Option Shape) → FoundAlike r x y → params_of y ≡ params_of x
   params_alike (Some (Function s)) (Some (Function t)) h = ap (λ (u : Signature). length u.0) h ∙ length-map s.0 (mapped_val (λ t. renamed_index r))
   params_alike None None h = refl
@@ -87,7 +87,7 @@ module _ (r : Renaming) (is : IsRenaming r) where
   abbrev n : Naming
   n = r.name
 
-  -- the names of the fields of a struct
+  -- the ids of the fields of a struct
   some_same : (names : List (Option Name)) → list_any is_some (renamed n names) ≡ list_any is_some names
   some_same [] = refl
   some_same (None ∷ os) = some_same os
@@ -128,14 +128,14 @@ module _ (r : Renaming) (is : IsRenaming r) where
   shapes_alike [] = tt
   shapes_alike (x ∷ xs) = more_alike r (shapes_in x) (shapes_in (mapped_field (renaming r) x)) (shapes_of_types xs) (shapes_of_types (renamed_fields r xs)) (in_alike x) (shapes_alike xs)
 
-  -- what items make known
+  -- the identifier context of items
   pub items_are : (xs : List ModuleField) → items (renamed_fields r xs) ≡ map (renamed_item n) (items xs)
   items_are xs = items_named n (renaming r) (ids_named r is) (names r is) xs
 
   pub numbers_are : (xs : List ModuleField) (s : Space) (q : Name) → (id_context (items (renamed_fields r xs))).number s (n q) ≡ (id_context (items xs)).number s q
   numbers_are xs s q = ap (λ its. (id_context its).number s (n q)) (items_are xs) ∙ known_same n is.injective (items xs) s q
 
-  -- an index, by what names denote
+  -- an index, from the numbers of names
   pub denoted_same : (number other : Name → Option ℕ) → ((q : Name) → other (n q) ≡ number q) → (i : Index) → denoted other (renamed_index r i) ≡ denoted number i
   denoted_same number other h (index.Num k place) = refl
   denoted_same number other h (index.Id id) = ap (λ (m : Mark). other m.0) (is.calls id) ∙ h (name_of id)
@@ -144,7 +144,7 @@ module _ (r : Renaming) (is : IsRenaming r) where
   span_same (index.Num k place) = refl
   span_same (index.Id id) = ap (λ (m : Mark). m.1) (is.calls id)
 
-  -- What is read of two scopes.
+  -- The data of two scopes.
   module _ (c d : Scope) (numbers : (s : Space) (q : Name) → d.known.number s (n q) ≡ c.known.number s q) (types : ShapesAlike r c.types d.types) where
     pub type_denoted : (i : Index) → denoted (d.known.number space.Ty) (renamed_index r i) ≡ denoted (c.known.number space.Ty) i
     type_denoted i = denoted_same (c.known.number space.Ty) (d.known.number space.Ty) (numbers space.Ty) i

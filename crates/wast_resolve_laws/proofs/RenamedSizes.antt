@@ -1,4 +1,4 @@
--- What other names leave of how many ids are filled in, and of whether a list is too large.
+-- Other names leave the number of generated ids and the condition for E10 the same.
 use Rattle.std.specs.Prelude.{is_none, IsTrue}
 use Rattle.std.specs.List.{list_any}
 use Rattle.std.proofs.Common.{◌≡◌, ℕ, ◌+◌, ◌≤◌, ◌^◌, Bool, ◌&&◌, ◌||◌, length, List, [], ◌∷◌, map, Option, Some, None, option_map, inl, inr, refl, sym, ap, ◌∙◌, subst}
@@ -24,13 +24,13 @@ use Rattle.wast_resolve_laws.proofs.RenamedShapes.{renamed_signature}
 use Rattle.wast_resolve_laws.proofs.RenamedTypes.{all_implied}
 use Rattle.wast_resolve_laws.proofs.RenamedWrittenOut.{same_written}
 
--- as many of a list want an id where each does that did
+-- as many elements need an id if each needs one that did
 wanted_like : {A : Type 0} (wants : A → Bool) (f : A → A) → ((x : A) → wants (f x) ≡ wants x) → (xs : List A) → missing_id_count wants (map f xs) ≡ missing_id_count wants xs
 wanted_like wants f same [] = refl
 wanted_like wants f same (x ∷ xs) = λ i. one_if (same x i) + wanted_like wants f same xs i
 
 module _ (r : Renaming) (is : IsRenaming r) where
-  -- An item has an id where it had one.
+  -- An item has an id exactly if it had one.
   none_same : (o : Option Id) → is_none (option_map r.id o) ≡ is_none o
   none_same None = refl
   none_same (Some id) = refl
@@ -58,7 +58,7 @@ module _ (r : Renaming) (is : IsRenaming r) where
   filled_same : (xs : List ModuleField) → generated_id_count (renamed_fields r xs) ≡ generated_id_count xs
   filled_same xs = λ i. wanted_like wants_id (mapped_field (renaming r)) wants_same xs i + (ap type_id_count (same_written r is xs) ∙ types_same (desugared_by_position xs)) i
 
-  -- The bytes in place stay.
+  -- The bytes of inline data are the same.
   overflow_same : (x : ModuleField) → has_oversized_data (mapped_field (renaming r) x) ≡ has_oversized_data x
   overflow_same (field.Memory x) = refl
   overflow_same x = refl
@@ -67,7 +67,7 @@ module _ (r : Renaming) (is : IsRenaming r) where
   overflows_same [] = refl
   overflows_same (x ∷ xs) = λ i. overflow_same x i || overflows_same xs i
 
-  -- No two items have one name where no two had one.
+  -- No two items have the same id if no two had.
   unclashed : (xs : List ModuleField) → first_unmet (item_demands (items xs)) ≡ None → first_unmet (item_demands (items (renamed_fields r xs))) ≡ None
   unclashed xs = by (first_unmet (item_demands (items xs))) (first_unmet (item_demands (items (renamed_fields r xs)))) (same_item_demands r is xs)
     where
@@ -84,7 +84,7 @@ module _ (r : Renaming) (is : IsRenaming r) where
       by (Some a) None f h = absurd f
       by (Some a) (Some b) f h = absurd (cc h)
 
-  -- two lists that have as many of each, and no clash where the other has none
+  -- two lists with as many of each, and no duplicates in one if the other has none
   crowded_by : (xs ys : List ModuleField) → item_counts (items xs) ≡ item_counts (items ys) → (first_unmet (item_demands (items xs)) ≡ None → first_unmet (item_demands (items ys)) ≡ None) → body_counts xs ≡ body_counts ys → IsCrowded xs → IsCrowded ys
   crowded_by xs ys counts met bodies h = elim h [ inl many ↦ inl (subst HasMany counts many) | inr inside ↦ inr (met inside.0, subst HasMany bodies inside.1) ]
 

@@ -1,4 +1,4 @@
--- With other names uses imply the same types, at the same positions.
+-- With other names type uses append the same types, at the same positions.
 use Rattle.std.specs.Prelude.{if◌then◌else◌, is_none, nat_lt, ◌==◌}
 use Rattle.std.specs.List.{position, position_or_len, flat_map}
 use Rattle.std.proofs.Common.{◌≡◌, ℕ, ◌+◌, Bool, true, false, not, cond, ◌||◌, ◌&&◌, length, List, [], ◌∷◌, ◌++◌, map, Option, Some, None, option_map, refl, sym, ap, ◌∙◌}
@@ -31,7 +31,7 @@ use Rattle.wast_resolve_laws.proofs.OtherNames.{signatures_same, signature_chang
 use Rattle.wast_resolve_laws.proofs.RenamedNumbers.{number_same, values_same}
 use Rattle.wast_resolve_laws.proofs.RenamedShapes.{renamed_signature, numbers_are}
 
--- a position in a list whose items are changed, where they pass the changed test as they passed the other
+-- a position in a list with changed items, if they pass the changed test as they passed the other
 place_like : {A B : Type 0} (p : A → Bool) (q : B → Bool) (f : A → B) → ((x : A) → q (f x) ≡ p x) → (xs : List A) → position_or_len q (map f xs) ≡ position_or_len p xs
 place_like p q f h [] = refl
 place_like p q f h (x ∷ xs) = λ i. cond (not (h x i)) (1 + place_like p q f h xs i) 0
@@ -51,7 +51,7 @@ module _ (r : Renaming) (is : IsRenaming r) where
   told_same : (s t : Signature) → same_signature (told s) (told t) ≡ same_signature s t
   told_same s t = signatures_same (λ t. renamed_index r) same_index same_index (index_same r is) s t
 
-  -- What uses need.
+  -- The signatures that type uses need.
   inline_told : (t : Option FunctionType) → inline_signature (option_map (renamed_type r) t) ≡ told (inline_signature t)
   inline_told None = refl
   inline_told (Some t) = signature_changed given (λ t. renamed_index r) t
@@ -91,7 +91,7 @@ module _ (r : Renaming) (is : IsRenaming r) where
   all_needed : (xs : List ModuleField) → needed_signatures (renamed_fields r xs) ≡ map told (needed_signatures xs)
   all_needed xs = ap needed_in (stands_named r.name (renaming r) (names r is) xs) ∙ sites_told (in_module xs)
 
-  -- In the numbers of the written types.
+  -- After ids of source types are replaced by numbers.
   numbers_same : (xs : List ModuleField) (q : Name) → type_names (renamed_fields r xs) (r.name q) ≡ type_names xs q
   numbers_same xs q = numbers_are r is xs space.Ty q
 
@@ -172,7 +172,7 @@ module _ (r : Renaming) (is : IsRenaming r) where
       (λ i. first_new (is_among (eligible_signatures_told xs i)) (needed_numbers_told xs i))
       ∙ new_told (is_among (eligible_signatures xs)) (is_among (map told (eligible_signatures xs))) (among_told (eligible_signatures xs)) (needed_numbers xs)
 
-  -- The implied types.
+  -- The appended types.
   params_told : (vs : List ValType) → map unnamed_param (map (mapped_val (λ t. renamed_index r)) vs) ≡ map (named_param given (λ t. renamed_index r)) (map unnamed_param vs)
   params_told [] = refl
   params_told (v ∷ vs) = ap (λ ps. unnamed_param (mapped_val (λ t. renamed_index r) v) ∷ ps) (params_told vs)
@@ -226,7 +226,7 @@ module _ (r : Renaming) (is : IsRenaming r) where
       (λ i. position (has_signature (numbered_told (type_names xs) (type_names (renamed_fields r xs)) (numbers_same xs) s i)) (space_told xs i))
       ∙ position_like (has_signature own) (has_signature (told own)) (option_map told) (has_told own) (type_space xs)
 
-  -- Each use with its position.
+  -- Each type use with its position.
   module _ (find other : LookUp) (finds : (s : Signature) → other (told s) ≡ option_map (renamed_index r) (find s)) where
     if_told : (b : Bool) (o : Option Index) → bound_if b (option_map (renamed_index r) o) ≡ option_map (renamed_index r) (bound_if b o)
     if_told true o = refl

@@ -1,4 +1,4 @@
--- With other names the same fields stand for abbreviations.
+-- With other names the expansion has the same fields.
 use Rattle.std.specs.Borrow.{Bor}
 use Rattle.std.proofs.Common.{◌≡◌, ℕ, true, false, length, List, [], ◌∷◌, ◌++◌, map, Option, Some, None, option_map, refl, sym, ap, ◌∙◌}
 use Rattle.std.proofs.lemmas.List.{length-map, map-append}
@@ -27,7 +27,7 @@ use Rattle.wast_resolve_laws.specs.Renaming.{Renaming, IsRenaming, renaming, ren
 use Rattle.wast_resolve_laws.proofs.OtherNames.{count_same, names, ids_named}
 
 module _ (r : Renaming) (is : IsRenaming r) where
-  -- An item is referred to by the same position, at the same place.
+  -- An item is referred to by the same position, at the same span.
   place_same : (span : Span) (o : Option Id) → place_or span (option_map r.id o) ≡ place_or span o
   place_same span None = refl
   place_same span (Some id) = ap (λ (m : Mark). m.1) (is.calls id)
@@ -93,7 +93,7 @@ module _ (r : Renaming) (is : IsRenaming r) where
     exported : (span : Span) (kind : ExportKind) (s : Space) (o : Option Id) (exports : InlineExport) → exports_of span kind (new s span (option_map r.id o)) exports ≡ map (mapped_field (renaming r)) (exports_of span kind (old s span o) exports)
     exported span kind s o exports = ap (λ i. exports_of span kind i exports) (reference_same before s span o) ∙ exports_same span kind (length (names_in s before)) (place_or span o) exports.names
 
-    -- what is exported, and the field behind it
+    -- the exports, and the field after them
     one_same : (span : Span) (kind : ExportKind) (s : Space) (o : Option Id) (exports : InlineExport) (rest : List ModuleField) {after : List ModuleField} → after ≡ map (mapped_field (renaming r)) rest
         → exports_of span kind (new s span (option_map r.id o)) exports ++ after ≡ map (mapped_field (renaming r)) (exports_of span kind (old s span o) exports ++ rest)
     one_same span kind s o exports rest h = both_same (exports_of span kind (old s span o) exports) rest (exported span kind s o exports) h

@@ -1,4 +1,4 @@
--- What numbering the expanded list answers is what resolving the fields answers.
+-- The errors of numbering the expanded fields are errors of resolving the fields.
 use Rattle.std.proofs.Common.{◌≡◌, ℕ, ◌+◌, ◌<◌, ◌≤◌, ◌^◌, ◌⊎◌, List, map, length, length-append, None, inl, inr, refl, sym, ap, ◌∙◌, subst, arith}
 use Rattle.std.specs.Prelude.{⊤}
 use Rattle.wast_base.specs.Faults.{diagnostic_of, too_large, out_of_memory}
@@ -22,16 +22,16 @@ use Rattle.wast_resolve_laws.proofs.OrderKept.{completed_orders}
 use Rattle.wast_resolve_rules.proofs.Unmet.{first_unmet-append, answers_more, answers_first, answers_after}
 use Rattle.wast_resolve_laws.proofs.WrittenAlike.{clashes_alike, written_counts, written_bodies}
 
--- There is as much in a list that has as many items, which clash alike, and as much in its bodies where none clash.
+-- Two lists have the same sizes if they have as many items, with the same duplicates, and as many in bodies.
 crowded_as : (xs ys : List ModuleField) → item_counts (items xs) ≡ item_counts (items ys) → first_unmet (item_demands (items xs)) ≡ first_unmet (item_demands (items ys))
     → (first_unmet (item_demands (items ys)) ≡ None → body_counts xs ≡ body_counts ys) → IsCrowded xs → IsCrowded ys
 crowded_as xs ys counts clashes bodies h = elim h [ inl many ↦ inl (subst HasMany counts many) | inr inside ↦ let free = sym clashes ∙ inside.0 in inr (free, subst HasMany (bodies free) inside.1) ]
 
--- The counter would run out, or too much is asked for: so it is told, whatever is unmet.
+-- E10 from the counter or the inline data is permitted, whatever check fails.
 out_of : (n : ℕ) (fields : List ModuleField) (too_much : Type 0) (e : Error) → (too_much → IsTooLarge n fields) → (e ≡ out_of_memory) ⊎ ((e ≡ too_large) × too_much) → IsUnresolved n fields e
 out_of n fields too_much e large h = elim h [ inl memory ↦ subst (IsUnresolved n fields) (sym memory) tt | inr much ↦ subst (IsUnresolved n fields) (sym much.0) (large much.1) ]
 
--- What is expanded after abbreviations are written out is the list in which nothing is left out.
+-- The expanded fields, after inline parts are expanded, are those after both steps of desugaring.
 pub expands_all : (n : ℕ) (fields : List ModuleField) {m : ℕ} {xs ys zs : List ModuleField} → xs ≡ desugared_from n fields → m ≡ n + reference_id_count fields → ys ≡ xs → zs ≡ expanded_fields m ys → zs ≡ explicit_fields_from n fields
 expands_all n fields w c o e = e ∙ (λ i. expanded_fields (c i) ((o ∙ w) i))
 
@@ -39,7 +39,7 @@ module _ (n : ℕ) (fields : List ModuleField) (above : greatest_generation fiel
   abbrev rest : List ModuleField
   rest = desugared_from n fields
 
-  -- what is so large of what is written out
+  -- the sizes after inline parts are expanded
   abbrev IsLarge : Type 0
   IsLarge = IsCrowded (fields_with_implied_types rest) ⊎ (2 ^ 64 ≤ next n fields + type_id_count rest)
 
@@ -52,14 +52,14 @@ module _ (n : ℕ) (fields : List ModuleField) (above : greatest_generation fiel
   answered_alike : (e : Error) → Answers ⊤ IsLarge (diagnostic_of e) (first_unmet (demands (fields_with_implied_types rest))) → IsUnresolved n fields e
   answered_alike e h = answers_more (diagnostic_of e) (first_unmet (demands (fields_with_implied_types rest))) (first_unmet (demands (explicit_fields fields))) (λ l. l) large_alike (λ f g. sym (unmet_alike n fields above) ∙ g) h
 
-  -- An import that stands behind what is defined is answered first.
+  -- An import after a definition is reported first.
   pub unordered_still : (e : Error) → Answers ⊥ ⊥ (diagnostic_of e) (first_unmet (order_demands rest)) → IsUnresolved n fields e
   unordered_still e h =
       answered_alike e
       (answers_first (diagnostic_of e) (order_demands (fields_with_implied_types rest)) (name_demands (fields_with_implied_types rest)) (λ l. absurd l) (λ m. absurd m)
       (subst (λ ds. Answers ⊥ ⊥ (diagnostic_of e) (first_unmet ds)) (sym (completed_orders rest)) h))
 
-  -- The types of what is written out are among those of the completed list.
+  -- The types after inline parts are expanded are among those of the completed fields.
   many_types : HasManyTypes rest → IsTooLarge n fields
   many_types many =
       let new = map unnamed_type (implied_signatures rest) in
@@ -72,7 +72,7 @@ module _ (n : ℕ) (fields : List ModuleField) (above : greatest_generation fiel
   pub unexpanded_still : (e : Error) → StopsExpanding (next n fields) rest e → IsUnresolved n fields e
   unexpanded_still e h = elim h [ inl counter ↦ out_of n fields (2 ^ 64 ≤ next n fields + type_id_count rest) e (λ m. large_alike (inr m)) counter | inr many ↦ out_of n fields (HasManyTypes rest) e many_types (inr many) ]
 
-  -- xs is the expanded list
+  -- xs are the expanded fields
   module _ (xs : List ModuleField) (expands : xs ≡ explicit_fields_from n fields) where
     same_unmet : first_unmet (name_demands xs) ≡ first_unmet (name_demands (fields_with_implied_types rest))
     same_unmet = ap (λ (ys : List ModuleField). first_unmet (name_demands ys)) expands ∙ same_names (next n fields) rest (still_above n fields above)

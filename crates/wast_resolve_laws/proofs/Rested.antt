@@ -1,4 +1,4 @@
--- What is resolved is at rest, also with start fields of numbers behind it.
+-- Proves the theorems about resolved fields, also with start fields with numbers after them.
 use Rattle.std.proofs.Common.{◌≡◌, ℕ, ◌+◌, true, List, [], ◌∷◌, map, refl, ap, ◌∙◌, arith}
 use Rattle.std.specs.List.{list_all}
 use Rattle.std.proofs.lemmas.List.Folds.{list_all-append}
@@ -30,7 +30,7 @@ use Rattle.wast_resolve_laws.proofs.Settled.{explicit_is, by_positions_is, expli
 use Rattle.wast_resolve_laws.proofs.StartsBehind.{wanted_behind, needed_behind}
 use Rattle.wast_resolve_laws.proofs.StartsKept.{still_well_formed}
 
--- Numbering gives no type an id, and takes none.
+-- Numbering adds and removes no id of a type.
 ids_kept : (c : Scope) (xs : List ModuleField) → missing_id_count lacks_id (map (mapped_field (numbering_change c)) xs) ≡ missing_id_count lacks_id xs
 ids_kept c [] = refl
 ids_kept c (x ∷ xs) = λ t. one_if (kept x t) + ids_kept c xs t

@@ -1,4 +1,4 @@
--- The demands of a numbered list are met where those of the list were.
+-- The checks of numbered fields pass if those of the fields did.
 use Rattle.std.proofs.Common.{◌≡◌, ℕ, ◌+◌, Bool, true, false, cond, List, [], ◌∷◌, ◌++◌, map, Option, Some, None, refl, sym, ap, ◌∙◌, append-nil}
 use Rattle.std.specs.Prelude.{if◌then◌else◌}
 use Rattle.std.specs.Option.{option_or}
@@ -38,7 +38,7 @@ module _ (c : Scope) where
   abbrev k : IdContext
   k = c.known
 
-  -- the types of the numbered list
+  -- the types of the numbered fields
   fields_still : (fs : List StructField) → field_ids (map (mapped_struct_field (numbered_at k)) fs) ≡ field_ids fs
   fields_still [] = refl
   fields_still (f ∷ fs) = ap (λ ids. mark_of_option f.id ∷ ids) (fields_still fs)

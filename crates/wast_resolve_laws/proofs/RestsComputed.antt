@@ -1,4 +1,4 @@
--- Worked modules at rest, computed.
+-- Computes the resolved example modules.
 use Rattle.std.proofs.Common.{refl}
 use Rattle.wast_resolve_laws.specs.WorkedRests.{Row27, Row9, Row48}
 

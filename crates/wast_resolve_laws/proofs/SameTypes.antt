@@ -1,5 +1,5 @@
--- Signatures that are equal in the numbers of the written types are equal once each index is what it denotes, where each denotes
--- something; and what denotes the same by two modules is equal by both.
+-- Signatures that are equal after ids of source types are replaced by numbers also match, if each index is known; and
+-- look-ups that agree compare types the same.
 use Rattle.std.proofs.Common.{◌≡◌, ℕ, Bool, true, ◌&&◌, cond, List, [], ◌∷◌, map, Option, Some, None, is_some, refl, sym, ap, ◌∙◌, false}
 use Rattle.std.specs.Bool.{beq}
 use Rattle.std.specs.Cmp.{first_so, second_so}
@@ -27,17 +27,17 @@ use Rattle.wast_resolve_rules.proofs.Unmet.{met_parts}
 use Rattle.wast_resolve_laws.proofs.CompletedAsks.{pass, value_passes}
 use Rattle.wast_resolve_laws.proofs.ImpliedSignatures.{both_so, values_pass}
 
--- what names of written types denote is what they denote by all types
+-- the ids of source types have the same numbers among all types
 abbrev pub Continues : TypeNames → IdContext → Type 0
 Continues k l = (q : Name) (p : ℕ) → k q ≡ Some p → l.number space.Ty q ≡ Some p
 
--- Where each index of the one denotes something.
+-- If each index of the first is known.
 module _ (k : TypeNames) (l : IdContext) (continues : Continues k l) where
   same_some : (o : Option ℕ) (f : Cause × Span) → cond (is_some o) None (Some f) ≡ None → same_number o o ≡ true
   same_some None f met = absurd (cc met)
   same_some (Some n) f met = eq-eqb n n refl
 
-  -- an id that denotes a written type denotes that by all types
+  -- an id of a source type has the same number among all types
   numbers : (m : ℕ) (id : Id) (p : Span) (o : Option ℕ) → k (name_of id) ≡ o → same_index (index.Num m p) (numbered_by o id) ≡ true → same_number (Some m) (l.number space.Ty (name_of id)) ≡ true
   numbers m id p None e h = absurd (cc h)
   numbers m id p (Some n) e h = ap (same_number (Some m)) (continues (name_of id) n e) ∙ h
@@ -135,7 +135,7 @@ module _ (k : TypeNames) (l : IdContext) (continues : Continues k l) where
   map_same [] = refl
   map_same (v ∷ vs) = ap (λ ws. v ∷ ws) (map_same vs)
 
--- so an inline type matches a signature that is equal to it in numbers
+-- so an inline type matches a signature that is equal after this replacement
 pub numbers_match : (k : TypeNames) (l : IdContext) → Continues k l → (t : FunctionType) (s : Signature)
     → same_signature (numbered_signature k (signature_of t)) (numbered_signature k s) ≡ true → first_unmet (ask_demands l (in_signature t)) ≡ None → signatures_match l t s ≡ true
 numbers_match k l continues t s h met =
@@ -147,7 +147,7 @@ numbers_match k l continues t s h met =
     (ap (λ vs. same_values_by (same_type l) vs s.1) (sym (map_same k l continues t.results))
     ∙ values_denote k l continues (λ v. v) in_val (λ v m. m) t.results s.1 (ap (λ vs. same_values_by same_index (map (told k l continues) vs) (map (told k l continues) s.1)) (map_same k l continues t.results) ∙ second_so params results h) parts.1)
 
--- Where both denote the same for what passes a test.
+-- If both look-ups agree on what passes a test.
 module _ (ok : Check → Bool) (same same2 : Index → Index → Bool)
     (alike : (i j : Index) → ok (ItemIndex space.Ty i) ≡ true → ok (ItemIndex space.Ty j) ≡ true → same i j ≡ same2 i j) where
   index_passes : (i : Index) → pass ok (in_index space.Ty i) ≡ true → ok (ItemIndex space.Ty i) ≡ true

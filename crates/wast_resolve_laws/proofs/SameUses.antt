@@ -1,5 +1,5 @@
--- Lists are told alike, generated ids and places of type uses aside, where each index that stands in them is numbered alike and
--- where their type uses are bound to indices that are numbered alike.
+-- Two lists are the same, apart from generated ids and positions of indices in type uses, if their indices and type
+-- uses get the same numbers.
 use Rattle.std.proofs.Common.{◌≡◌, ℕ, ◌+◌, Bool, true, false, List, [], ◌∷◌, Option, Some, None, option_map, refl, sym, ap, ◌∙◌}
 use Rattle.wast_base.specs.Ids.{Name}
 use Rattle.wast_base.specs.Spaces.{position_of}
@@ -26,7 +26,7 @@ use Rattle.wast_resolve_laws.proofs.Bodies.{Stands, all_stand}
 use Rattle.wast_resolve_laws.proofs.Nameless.{number_of, denoted_number, number_at, unsaid_alike}
 use Rattle.wast_resolve_rules.proofs.Numbering.{numbering_keeps}
 
--- what is told of a list whose type uses are bound, once each index is a number: one change
+-- fields with resolved type uses, once each index is a number: one change
 abbrev pub telling : Scope → LookUp → Change
 telling c find = compose (compose (binding_change find) (numbering_change c)) stripping
 
@@ -34,12 +34,12 @@ pub one_pass : (c : Scope) (find : LookUp) (xs : List ModuleField) → all_mappe
 one_pass c find xs =
     ap (all_mapped stripping) (twice (binding_change find) (numbering_change c) (binding_keeps find) xs) ∙ twice (compose (binding_change find) (numbering_change c)) stripping (record { params = λ u. (numbering_keeps c).params ((binding_change find).used OfItem u); owns = λ o. refl }) xs
 
--- a local by its name, behind some parameters without names
+-- a local by its name, after some unnamed parameters
 abbrev behind_nameless : List (Option Name) → Index → ℕ → Index
 behind_nameless names i n = resolved_index (λ name. option_map (λ p. n + p) (position_of name names)) i
 
 module _ (c d : Scope) where
-  -- an index that is asked for is numbered alike, and so is each
+  -- an index that is looked up has the same number, and so has each
   abbrev pub SameAsk : Check → Type 0
   SameAsk a = JoinsAsk no_change.index (numbered_at c.known) (numbered_at d.known) a
 
@@ -54,7 +54,7 @@ module _ (c d : Scope) where
       let a = option_at signature_at t in
       ap (inline_at c.known) (sym a.still) ∙ joins_in t a no_change (numbering_change c) (numbering_change d) (record { keeps = same_keeps; ids = λ o. refl; owns = λ o. refl }) h
 
-  -- the inline type that a block is given has no index
+  -- the empty inline type of a block has no index
   given_alike : (w : Where) (i : Option Index) (t : Option FunctionType) → inline_at c.known t ≡ inline_at d.known t → inline_at c.known (bound_inline w i t) ≡ inline_at d.known (bound_inline w i t)
   given_alike OfItem i t h = h
   given_alike OfCall i t h = h
@@ -62,7 +62,7 @@ module _ (c d : Scope) where
   given_alike OfBlock None (Some t) h = h
   given_alike OfBlock None None h = refl
 
-  -- whether an index is there, its place does not tell
+  -- whether there is an index does not depend on its position
   alone_at : (i : Option Index) (t : Option FunctionType) → inline_alone i t ≡ inline_alone (option_map at_start i) t
   alone_at None t = refl
   alone_at (Some i) t = refl
@@ -93,14 +93,14 @@ module _ (c d : Scope) where
         by_place OfCall index inline i = record { index = index i; inline = alone_alike _ _ _ _ index inline i }
         by_place OfBlock index inline i = record { index = index i; inline = alone_alike _ _ _ _ index inline i }
 
-    -- A local stands in a function whose type use is told alike, so that as many parameters have no name.
+    -- A local is in a function whose type use is the same, so as many parameters are unnamed.
     module _ (types : c.types ≡ d.types) where
       nameless_alike : (o : Option (TypeUse FunctionType)) → Same (if_there in_type_use o)
           → implicit_param_count c (option_map (λ u. bound_use find OfItem u) (option_map (λ u. u) o)) ≡ implicit_param_count d (option_map (λ u. bound_use other OfItem u) o)
       nameless_alike None h = refl
       nameless_alike (Some u) h = unsaid_alike c d types (bound_index find OfItem u.index u.inline) (bound_index other OfItem u.index u.inline) u.inline (its_index OfItem u h)
 
-      -- A field stands in the type that its owner denotes.
+      -- A field is in the type that its owner names.
       field_alike : (owner i : Index) → numbered_at c.known space.Ty owner ≡ numbered_at d.known space.Ty owner
           → resolved_index (field_in (type_at c.types (denoted (c.known.number space.Ty) owner))) i ≡ resolved_index (field_in (type_at d.types (denoted (d.known.number space.Ty) owner))) i
       field_alike owner i same =

@@ -1,4 +1,4 @@
--- A list in which nothing is left to be written out, bound or given an id stays as it is.
+-- A list with nothing to expand or to resolve, and in which no item needs an id, is unchanged.
 use Rattle.std.proofs.Common.{◌≡◌, ℕ, ◌+◌, true, List, [], ◌++◌, map, length, append-nil, ap, ◌∙◌, arith}
 use Rattle.std.specs.List.{list_all}
 use Rattle.wast_base.specs.Filling.{with_ids_from, missing_id_count}

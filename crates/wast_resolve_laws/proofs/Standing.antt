@@ -1,4 +1,5 @@
--- What is asked of the resolved list was asked, each index numbered; and what a function declares is what it declared.
+-- The checks of the resolved fields are those of the fields, with each index numbered; and functions declare the same
+-- ids.
 use Rattle.std.proofs.Common.{◌≡◌, Bool, true, ◌&&◌, List, ◌++◌, map, refl, sym, ap, ◌∙◌}
 use Rattle.std.specs.Prelude.{Option, Some, None}
 use Rattle.std.specs.List.{flat_map, list_all}
@@ -25,12 +26,12 @@ module _ (c : Scope) where
   pub use_stands : (u : TypeUse FunctionType) → in_type_use (numbered_use c.known u) ≡ map (mapped_ask (numbered_at c.known)) (in_type_use u)
   use_stands u = stands_in (u.index, u.inline) (both_at u.index u.inline (option_at (index_in space.Ty) u.index) (option_at signature_at u.inline)) (numbering_change c) (numbering_keeps c)
 
-  -- what is asked at a site once it is numbered, its inline type beside an index too
+  -- the checks of a site after numbering, also of its inline type beside an index
   abbrev pub numbered_in : Site → List Check
   numbered_in (Used w u) = map (mapped_ask (numbered_at c.known)) (in_type_use u)
   numbered_in s = asked_in (mapped_site (numbering_change c) s)
 
-  -- What passes of that passes of what is asked then: no inline type says more than it did.
+  -- A property of these holds for the checks afterwards, because no inline type is added.
   module _ (ok : Check → Bool) where
     said_passes : (i : Option Index) (inline : Option FunctionType) → list_all ok (if_there (in_index space.Ty) i ++ if_there in_signature inline) ≡ true
         → list_all ok (if_there (in_index space.Ty) i ++ if_there in_signature (inline_alone i inline)) ≡ true
@@ -55,7 +56,7 @@ module _ (c : Scope) where
     pub asked_passes : (fields : List ModuleField) → list_all ok (flat_map numbered_in (in_module fields)) ≡ true → list_all ok (checks_of (in_module (map (mapped_field (numbering_change c)) fields))) ≡ true
     asked_passes fields h = ap (λ ss. list_all ok (checks_of ss)) (stands (numbering_change c) (numbering_keeps c) fields) ∙ sites_pass (in_module fields) h
 
--- What a function declares stays, where the ids of its locals do.
+-- The declarations of a function are the same if the ids of its locals are.
 pub kind_declared : (f : Change) → KeepsMarks f → (u : TypeUse FunctionType) (k : FuncKind) → kind_marks (mapped_func_kind f u k) ≡ kind_marks k
 kind_declared f keeps u (func.Import import exact) = refl
 kind_declared f keeps u (func.Inline locals e) = marks_stay f keeps locals

@@ -1,4 +1,4 @@
--- Start fields behind a list: they stand before the types that are implied, which are the same, and are no items.
+-- Start fields after a list: they come before the appended types, which are the same, and they are not items.
 use Rattle.std.proofs.Common.{◌≡◌, ℕ, ◌+◌, Bool, true, false, List, [], ◌∷◌, ◌++◌, map, append-nil, append_assoc, Option, Some, None, is_some, refl, sym, ap, ◌∙◌}
 use Rattle.std.specs.List.{flat_map, list_all}
 use Rattle.std.specs.Cmp.{first_so, second_so}
@@ -36,7 +36,7 @@ use Rattle.wast_resolve_rules.proofs.Orders.{orders_from, orders_are}
 use Rattle.wast_resolve_laws.specs.Rests.{start_fields_of}
 use Rattle.wast_resolve_laws.proofs.NumberedTypes.{met_both}
 
--- What a start field has none of, a list has as much of with start fields in it.
+-- A list has as much with start fields in it, of anything that a start field has none of.
 module _ {A : Type 0} (g : ModuleField → List A) (none : (i : Index) → g (field.Start i) ≡ []) (is : List Index) where
   pub starts_none : flat_map g (start_fields_of is) ≡ []
   starts_none = each is
@@ -53,7 +53,7 @@ module _ {A : Type 0} (g : ModuleField → List A) (none : (i : Index) → g (fi
   pub behind_all : (xs : List ModuleField) → flat_map g (xs ++ start_fields_of is) ≡ flat_map g xs
   behind_all xs = flat_map-append g xs (start_fields_of is) ∙ (ap (λ zs. flat_map g xs ++ zs) starts_none ∙ append-nil (flat_map g xs))
 
--- They want no ids.
+-- They need no ids.
 module _ (wants : ModuleField → Bool) (give : ℕ → ModuleField → ModuleField) (none : (i : Index) → wants (field.Start i) ≡ false) where
   starts_filled : (n : ℕ) (is : List Index) → with_ids_from wants give n (start_fields_of is) ≡ start_fields_of is
   starts_filled n [] = refl
@@ -72,7 +72,7 @@ module _ (wants : ModuleField → Bool) (give : ℕ → ModuleField → ModuleFi
   wanted_behind (x ∷ xs) is = ap (λ k. one_if (wants x) + k) (wanted_behind xs is)
 
 module _ (is : List Index) where
-  -- Writing abbreviations out leaves them.
+  -- Expanding inline parts leaves them unchanged.
   starts_written : flat_map (desugar_field by_id) (start_fields_of is) ≡ start_fields_of is
   starts_written = each is
     where
@@ -85,7 +85,7 @@ module _ (is : List Index) where
       ap (flat_map (desugar_field by_id)) (filled_behind wants_id with_item_id (λ i. refl) n fields is)
       ∙ (flat_map-append (desugar_field by_id) (with_referred_ids n fields) (start_fields_of is) ∙ ap (λ ys. desugared_from n fields ++ ys) starts_written)
 
-  -- They imply no type, and bind none.
+  -- They append no type, and add no signature.
   starts_need : needed_signatures (start_fields_of is) ≡ []
   starts_need = each is
     where
@@ -98,7 +98,7 @@ module _ (is : List Index) where
       ap needed_in (flat_map-append in_field xs (start_fields_of is))
       ∙ (flat_map-append needed_at (in_module xs) (in_module (start_fields_of is)) ∙ (ap (λ ss. needed_signatures xs ++ ss) starts_need ∙ append-nil (needed_signatures xs)))
 
-  -- They are no types, and are taken by no use.
+  -- They are not types, so no type use matches them.
   names_behind : (xs : List ModuleField) → type_names (xs ++ start_fields_of is) ≡ type_names xs
   names_behind xs = ap (λ its. (id_context its).number space.Ty) (behind_all items_in (λ i. refl) is xs)
 
@@ -108,7 +108,7 @@ module _ (is : List Index) where
   implied_behind : (xs : List ModuleField) → implied_signatures (xs ++ start_fields_of is) ≡ implied_signatures xs
   implied_behind xs = λ t. first_new (is_among (eligible_behind xs t)) (map (numbered_signature (names_behind xs t)) (needed_behind xs t))
 
--- An expanded list is its own fields and the types that are implied, each use bound.
+-- The expanded fields are the fields and the appended types, with each type use resolved.
 module _ (m : ℕ) (xs : List ModuleField) where
   abbrev pub with_ids : List ModuleField
   with_ids = with_ids_from lacks_id with_type_id m xs
@@ -153,7 +153,7 @@ module _ (m : ℕ) (xs : List ModuleField) where
         ∙ (map-append (bound_field find) with_ids (start_fields_of is ++ more_types)
         ∙ ap (λ ys. own_fields ++ ys) (map-append (bound_field find) (start_fields_of is) more_types ∙ ap (λ ys. ys ++ new_types) starts_bound))
 
--- Fields that are types of their own.
+-- Type definitions in fields of their own.
 pub record AreTypes (xs : List ModuleField) : Type 0 where
   pub types : List ty.«Type»
   pub are : xs ≡ map field.Ty types
@@ -174,7 +174,7 @@ implied_are m (s ∷ ss) =
       are = ap (λ xs. implied_type m s ∷ xs) a.are;
     }
 
--- What is read of a list by its items and types is the same with start fields in it.
+-- Data that is read from items and types is the same with start fields in the list.
 module _ (is : List Index) (xs ys : List ModuleField) where
   items_among : items (xs ++ (start_fields_of is ++ ys)) ≡ items (xs ++ ys)
   items_among = among items_in (λ i. refl) is xs ys
@@ -182,7 +182,7 @@ module _ (is : List Index) (xs ys : List ModuleField) where
   scope_among : module_scope (xs ++ (start_fields_of is ++ ys)) ≡ module_scope (xs ++ ys)
   scope_among = λ t. record { known = id_context (items_among t); types = among shapes_in (λ i. refl) is xs ys t }
 
--- and so is what is demanded of the order of imports.
+-- and so are the checks of the order of imports.
 orders_among : (last : Option Space) (is : List Index) (ys : List ModuleField) → orders_from last (start_fields_of is ++ ys) ≡ orders_from last ys
 orders_among last [] ys = refl
 orders_among last (i ∷ is) ys = orders_among last is ys
@@ -191,7 +191,7 @@ orders_behind : (last : Option Space) (is : List Index) (xs ys : List ModuleFiel
 orders_behind last is [] ys = orders_among last is ys
 orders_behind last is (x ∷ xs) ys = ap (λ ds. nothing_defined last (import_place x) ++ ds) (orders_behind (option_or (defines x) last) is xs ys)
 
--- A start field that denotes a function demands what is met.
+-- The check of a start field that names a function passes.
 abbrev pub denotes_function : IdContext → Index → Bool
 denotes_function k i = is_some (denoted (k.number space.Func) i)
 
@@ -247,7 +247,7 @@ module _ (is : List Index) (xs ys : List ModuleField) where
       ∙ (map-append (mapped_field (numbering_change c)) xs (start_fields_of is ++ ys)
       ∙ ap (λ zs. map (mapped_field (numbering_change c)) xs ++ zs) (map-append (mapped_field (numbering_change c)) (start_fields_of is) ys ∙ ap (λ zs. zs ++ map (mapped_field (numbering_change c)) ys) starts_numbered))
 
--- So with start fields behind the fields of a module.
+-- The same with start fields after the fields of a module.
 module _ (n : ℕ) (fields : List ModuleField) where
   abbrev pub next : ℕ
   next = n + reference_id_count fields

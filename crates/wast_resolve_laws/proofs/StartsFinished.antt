@@ -1,4 +1,4 @@
--- Start fields behind the fields of a module, resolved.
+-- Proves StartsAreMet and StartsComeBefore.
 use Rattle.std.proofs.Common.{◌≡◌, ◌+◌, List, ◌++◌, map, None, sym, ap, ◌∙◌}
 use Rattle.std.specs.List.{list_all}
 use Rattle.std.proofs.lemmas.List.{map-append}

@@ -1,4 +1,4 @@
--- A list with start fields behind it: its generations, and what is well formed.
+-- Proves StartsStayBelow: a list with start fields after it has the same greatest generated id.
 use Rattle.std.proofs.Common.{◌≡◌, ℕ, ◌+◌, ◌<◌, ◌≤◌, Bool, true, false, not, ◌&&◌, ◌||◌, List, [], ◌∷◌, ◌++◌, map, Option, Some, None, is_some, refl, sym, ap, ◌∙◌, arith}
 use Rattle.std.specs.Prelude.{max}
 use Rattle.std.specs.List.{list_all, list_any}
@@ -36,7 +36,7 @@ items_behind xs is = behind_all items_in (λ i. refl) is xs
 asked_behind : (xs : List ModuleField) (is : List Index) → checks_of (in_module (xs ++ start_fields_of is)) ≡ checks_of (in_module xs) ++ checks_of (in_module (start_fields_of is))
 asked_behind xs is = ap checks_of (flat_map-append in_field xs (start_fields_of is)) ∙ flat_map-append asked_in (in_module xs) (in_module (start_fields_of is))
 
--- The greatest generation is that of the list, or of the start fields.
+-- The greatest generated id is that of the list, or of the start fields.
 generation_behind : (xs : List ModuleField) (is : List Index) → greatest_generation (xs ++ start_fields_of is) ≡ max (greatest_generation xs) (greatest_asked (checks_of (in_module (start_fields_of is))))
 generation_behind xs is =
     let a = ap greatest_item (items_behind xs is) in
@@ -47,7 +47,7 @@ generation_behind xs is =
 pub below_before : (n : ℕ) (xs : List ModuleField) (is : List Index) → greatest_generation (xs ++ start_fields_of is) < n → greatest_generation xs < n
 below_before n xs is h = let e = generation_behind xs is in omega (arith, e, h)
 
--- A name that is borne has no generation above that of its bearer,
+-- A name of an item has no later generation than the item,
 generation_called : (q : Name) (o : Option Mark) → is_called q (name_if o) ≡ true → generation_of q ≡ generation_or_zero o
 generation_called q None h = absurd (cc h)
 generation_called q (Some m) h = ap generation_of (same_name_equal q m.0 h)
@@ -67,7 +67,7 @@ module _ (s : Space) (q : Name) where
   borne_below : (xs : List Item) → is_borne q (names_in s xs) ≡ true → generation_of q ≤ greatest_item xs
   borne_below xs h = bearer_below xs (sym (borne_among s q xs) ∙ h)
 
--- and so has an index that is settled.
+-- and neither has an index that is known.
 settled_below : (xs : List Item) (s : Space) (i : Index) → is_settled_index ((id_context xs).number s) i ≡ true → generation_at i ≤ greatest_item xs
 settled_below xs s (index.Num n p) h = omega arith
 settled_below xs s (index.Id id) h = by_name (name_of id) h

@@ -1,4 +1,4 @@
--- To number a numbered list again changes nothing.
+-- Numbering numbered fields again changes nothing.
 use Rattle.std.proofs.Common.{◌≡◌, ℕ, ◌+◌, List, [], ◌∷◌, ◌++◌, map, Option, Some, None, option_map, refl, ap, ◌∙◌}
 use Rattle.std.proofs.lemmas.List.{length-map, map-append}
 use Rattle.wast_base.specs.declared.ids.Span.{Span}
@@ -23,7 +23,7 @@ use Rattle.wast_resolve_laws.proofs.NumberedTypes.{numbered_shape, denoted_still
 use Rattle.wast_resolve_laws.proofs.NumberedSites.{rested, at_still}
 use Rattle.wast_resolve_laws.proofs.Resting.{scope_rests}
 
--- An index that is numbered twice is numbered once.
+-- Numbering an index twice is the same as once.
 twice : (number other : Name → Option ℕ) → ((q : Name) → other q ≡ number q) → (i : Index) → resolved_index other (resolved_index number i) ≡ resolved_index number i
 twice number other h (index.Num k p) = refl
 twice number other h (index.Id id) = by (number (name_of id)) refl
@@ -68,7 +68,7 @@ module _ (k : IdContext) where
   numbered_twice : (u : TypeUse FunctionType) → numbered_use k (numbered_use k u) ≡ numbered_use k u
   numbered_twice u = λ i. record { index = index_twice u.index i; inline = signature_twice u.inline i }
 
-  -- said once, a use is numbered so
+  -- a type use whose inline type was removed is numbered so
   said_twice : (o : Option Index) (t : Option FunctionType) → said_once (numbered_use k (said_once (record { index = o; inline = t }))) ≡ said_once (numbered_use k (record { index = o; inline = t }))
   said_twice None t = refl
   said_twice (Some i) t = refl

@@ -1,4 +1,4 @@
--- Lists of demands that differ in the names that are told.
+-- Lists of checks that differ in the names in their errors.
 use Rattle.std.specs.Prelude.{⊤, if◌then◌else◌, Contains}
 use Rattle.std.proofs.Common.{◌≡◌, ℕ, Bool, true, false, List, [], ◌∷◌, ◌++◌, Some, refl, ap, arith}
 use Rattle.std.proofs.lemmas.List.Elements.{Contains-append_left, Contains-append_right}
@@ -9,7 +9,7 @@ use Rattle.wast_tree_map.specs.Named.{Naming}
 use Rattle.wast_resolve_laws.specs.Tree.{Span}
 use Rattle.wast_resolve_laws.specs.Renaming.{RenamesName, RenamesCause, RenamesFault}
 
--- one demand, by the marks whose names may be told
+-- one check, with the ids that its error can have
 pub record Alike (n : Naming) (marks : List Mark) (d e : Demand) : Type 0 where
   pub fault : RenamesCause n marks d.place d.fault e.fault
   pub place : e.place ≡ d.place
@@ -28,7 +28,7 @@ module _ (n : Naming) where
   both_alike marks (d ∷ ds) [] vs ws h k = absurd h
   both_alike marks (d ∷ ds) (e ∷ es) vs ws h k = (h.0, both_alike marks ds es vs ws h.1 k)
 
-  -- more names may be told
+  -- more ids are permitted
   module _ (marks more : List Mark) (wider : (m : Mark) → Contains marks m → Contains more m) where
     name_among : (place : Span) (fault : List ℕ → Cause) (text : List ℕ) (other : Cause) → RenamesName n marks place fault text other → RenamesName n more place fault text other
     name_among place fault text other h = (h.0, (wider (h.0, place) h.1.0, h.1.1))
@@ -45,12 +45,12 @@ module _ (n : Naming) where
     all_among (d ∷ ds) [] h = absurd h
     all_among (d ∷ ds) (e ∷ es) h = (record { fault = cause_among d.place d.fault e.fault h.0.fault; place = h.0.place; met = h.0.met }, all_among ds es h.1)
 
-  -- two parts, each with the names that may be told of it
+  -- two parts, each with the ids that its errors can have
   pub parts_alike : (first rest : List Mark) (ds es vs ws : List Demand) → AllAlike n first ds es → AllAlike n rest vs ws → AllAlike n (first ++ rest) (ds ++ vs) (es ++ ws)
   parts_alike first rest ds es vs ws h k =
       both_alike (first ++ rest) ds es vs ws (all_among first (first ++ rest) (Contains-append_left first rest) ds es h) (all_among rest (first ++ rest) (Contains-append_right first rest) vs ws k)
 
-  -- what is unmet first
+  -- the first check that fails
   first_by : (marks : List Mark) (d e : Demand) (ds es : List Demand) (b c : Bool) → c ≡ b → Alike n marks d e → RenamesFault n marks (first_unmet ds) (first_unmet es)
       → RenamesFault n marks (if b then first_unmet ds else Some (d.fault, d.place)) (if c then first_unmet es else Some (e.fault, e.place))
   first_by marks d e ds es true true h k rest = rest
@@ -64,7 +64,7 @@ module _ (n : Naming) where
   first_alike marks (d ∷ ds) [] h = absurd h
   first_alike marks (d ∷ ds) (e ∷ es) h = first_by marks d e ds es d.met e.met h.0.met h.0 (first_alike marks ds es h.1)
 
-  -- a demand whose fault tells no name, and one that tells the name of a mark
+  -- a check whose error has no name, and one with the name of an id
   abbrev pub one_alike : (marks : List Mark) (f : Cause) (place : Span) {b c : Bool} → RenamesCause n marks place f f → c ≡ b → AllAlike n marks (one_demand f place b) (one_demand f place c)
   one_alike marks f place h k = (record { fault = h; place = refl; met = k }, tt)
 

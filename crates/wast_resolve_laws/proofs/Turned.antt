@@ -1,4 +1,4 @@
--- The blocks that are open where an instruction stands are those that counting openers and closers gives.
+-- Proves BlocksAreCounted: counting block starts and ends finds the enclosing blocks.
 use Rattle.std.proofs.Common.{◌≡◌, List, [], ◌∷◌, ◌++◌, refl, ap, ◌∙◌}
 use Rattle.std.specs.List.{flat_map}
 use Rattle.wast_base.specs.Ids.{mark_of_option}
@@ -13,7 +13,7 @@ use Rattle.wast_resolve_laws.specs.Tree.instr
 use Rattle.wast_resolve_laws.specs.Laws.{BlocksAreCounted}
 use Rattle.wast_resolve_rules.proofs.Unmoved.{asking_stays, catches_stay, labels_stay, cast_stays, behind_stays, handlers_stay}
 
--- an instruction does to the open blocks what it does to their count
+-- an instruction has the same effect on the enclosing blocks as on their count
 turned : (h : BodyContext) (i : Instruction) → (after_all h (in_instr h i)).blocks ≡ blocks_after h.blocks (turn_of i)
 turned h (instr.Mem op m) = ap (λ (g : BodyContext). g.blocks) (asking_stays h (in_mem_arg m))
 turned h (instr.select t) = ap (λ (g : BodyContext). g.blocks) (asking_stays h (in_select t))

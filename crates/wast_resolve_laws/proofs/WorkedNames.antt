@@ -1,4 +1,4 @@
--- The worked modules with other names, computed.
+-- Computes the example modules with other names.
 use Rattle.std.proofs.Common.{◌≡◌, refl, ap}
 use Rattle.std.specs.Prelude.{codes}
 use Rattle.std.proofs.lemmas.List.{append_cancel_left}

@@ -1,4 +1,4 @@
--- The list that is written out by ids is, in all that is demanded and counted, the one that is written out by positions.
+-- The expansion by ids has the same checks and sizes as the one by positions.
 use Rattle.std.proofs.Common.{◌≡◌, ℕ, ◌<◌, true, List, None, ap, ◌∙◌, arith}
 use Rattle.std.proofs.lemmas.Bool.{lt-ltb}
 use Rattle.wast_tree_nodes.specs.Items.{items}
@@ -31,7 +31,7 @@ module _ (n : ℕ) (fields : List ModuleField) (above : greatest_generation fiel
   items_below : greatest_item (items fields) < n
   items_below = omega (arith, above)
 
-  -- No generation is new among what is asked by positions.
+  -- No generated id is new among the checks by positions.
   asks_below : pass (is_below n) (checks_of (in_module old)) ≡ true
   asks_below =
       let some : is_below n (Covered form.Shared true) ≡ true = lt-ltb 0 n (omega (arith, above)) in

@@ -1,4 +1,4 @@
--- The items of the list that is written out by ids are those of the list by positions, of which some are given ids.
+-- The items of the expansion by ids are those of the one by positions, some with generated ids.
 use Rattle.std.proofs.Common.{◌≡◌, ℕ, ◌+◌, ◌<◌, Bool, true, false, List, [], ◌∷◌, ◌++◌, map, append_assoc, refl, sym, ap, ◌∙◌, subst, arith}
 use Rattle.std.specs.Prelude.{max}
 use Rattle.std.proofs.lemmas.Grind.{flat_map-append}
@@ -22,7 +22,7 @@ use Rattle.wast_resolve_laws.proofs.Changes.{Change, Kept, Given, old_of, new_of
 use Rattle.wast_resolve_laws.proofs.ExpandedItems.{completed_items_below}
 use Rattle.wast_resolve_laws.proofs.WrittenLooks.{alike_implied, written_looks}
 
--- the second items are the first, of which some are given ids from a generation on
+-- the second items are the first, some with ids from a counter on
 record AreChanged (n : ℕ) (xs ys : List Item) : Type 0 where
   cs : List Change
   old : xs ≡ olds cs
@@ -68,7 +68,7 @@ fields_changed n before ts (x ∷ xs) =
     (ap (λ ws. ws ++ (items_in y ++ (items news ++ ts))) (sym (same_segments b n x)) ∙ sym (parts by_id y news ts))
     (subst (λ ws. AreChanged n ws (segments x ++ (items_in y ++ (items news ++ ts)))) (sym (parts (by_position before) x olds ts)) all)
 
--- The items of the two lists compared, where the counter is above the ids of the fields.
+-- Compares the items of both lists, if the counter is past the ids of the fields.
 module _ (n : ℕ) (fields : List ModuleField) where
   abbrev new : List Item
   new = items (fields_with_implied_types (desugared_from n fields))

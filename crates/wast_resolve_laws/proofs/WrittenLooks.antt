@@ -1,5 +1,5 @@
--- The list that is written out by ids looks like the one by positions: what reads neither the ids of items nor what refers to
--- them reads the same in both.
+-- The expansion by ids and the one by positions differ only in ids of items and in references to them, so a function
+-- that ignores both has the same value.
 use Rattle.std.specs.Prelude.{⊤}
 use Rattle.std.proofs.Common.{◌≡◌, ℕ, ◌+◌, Bool, List, [], ◌∷◌, ◌++◌, map, length, Option, Some, None, option_map, refl, sym, ap, ◌∙◌, arith}
 use Rattle.std.specs.List.{flat_map, position}
@@ -32,12 +32,12 @@ use Rattle.wast_resolve_rules.specs.Demands.{Demand, declared_ids, open_counts, 
 use Rattle.wast_resolve_rules.proofs.Orders.{orders_from, orders_are}
 use Rattle.wast_resolve_laws.proofs.WrittenSame.{called, IsBlind, AllOwn, fields_alike}
 
--- the type use of a function, and how many parameters and locals it names
+-- the type use of a function, and the number of its parameters and locals
 abbrev functions_in : ModuleField → List (TypeUse FunctionType × ℕ)
 functions_in (field.Func f) = (f.ty, length (declared_ids f.ty.inline f.kind)) ∷ []
 functions_in x = []
 
--- what is read of a field beside the id of its item and what it refers to
+-- the data of a field without the id of its item and its references
 pub record Look : Type 0 where
   pub needs : List Signature
   pub ids : List (Option Id)
@@ -64,7 +64,7 @@ look x = record {
   lacks = lacks_id x;
 }
 
--- It looks so by any indices.
+-- It is the same for any indices.
 abbrev Any : Space → Index → Index → Type 0
 Any s i j = ⊤
 
@@ -84,7 +84,7 @@ look_blind n = record {
     by_field a b (field.Func f) = refl
     by_field a b x = refl
 
--- What is read of fields that look alike.
+-- The data of fields that differ in nothing else.
 by_looks : {A : Type 0} (g : Look → List A) (xs : List ModuleField) → flat_map (λ x. g (look x)) xs ≡ flat_map g (map look xs)
 by_looks g [] = refl
 by_looks g (x ∷ xs) = ap (λ ys. g (look x) ++ ys) (by_looks g xs)
@@ -128,7 +128,7 @@ module _ {xs ys : List ModuleField} (h : LookAlike xs ys) where
   alike_needed : needed_signatures xs ≡ needed_signatures ys
   alike_needed = each_of_each in_field needed_at xs ∙ (alike (λ l. l.needs) ∙ sym (each_of_each in_field needed_at ys))
 
-  -- the names of the written types denote the same
+  -- the ids of source types have the same numbers
   alike_names : type_names xs ≡ type_names ys
   alike_names =
       ap {B = TypeNames} (λ (names : List (Option Name)) (q : Name). position_of q names) (names_of_types xs ∙ (ap names_by (alike (λ l. l.ids)) ∙ sym (names_of_types ys)))
@@ -158,7 +158,7 @@ module _ (n : ℕ) (fields : List ModuleField) where
   pub written_looks : LookAlike (desugared_from n fields) (desugared_by_position fields)
   written_looks = record { looks = fields_alike Any (look_blind n) n [] fields (omega arith) (all_any n [] fields) }
 
-  -- What is the same of each part is the same with the types that are implied.
+  -- What is the same for each part is the same with the appended types.
   pub completed_alike : {X : Type 0} {give : ModuleField → X} (Same : Space → Index → Index → Type 0) → IsBlind Same n give → AllOwn Same n [] fields
       → map give (fields_with_implied_types (desugared_from n fields)) ≡ map give (fields_with_implied_types (desugared_by_position fields))
   completed_alike {give = give} Same blind own =

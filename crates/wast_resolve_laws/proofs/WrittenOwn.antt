@@ -1,4 +1,5 @@
--- Where no items clash, the ids by which a list that is written out refers denote the positions of their items.
+-- If no two items have the same id, the references of the expansion by ids have the positions of their items as
+-- numbers.
 use Rattle.std.proofs.Common.{◌≡◌, ℕ, ◌+◌, Bool, true, false, true≢false, cond, List, [], ◌∷◌, ◌++◌, map, length, length-append, append_assoc, get_or, Option, Some, None, refl, sym, ap, ◌∙◌, arith}
 use Rattle.std.specs.List.{flat_map}
 use Rattle.std.proofs.Math.Seq.{get_or-append_seam}
@@ -52,7 +53,7 @@ module _ (s : Space) where
       by_space true o p = refl
       by_space false o p = refl
 
-  -- as many with an id that is given
+  -- as many items after an id is generated
   as_many : (b : Bool) (m : ℕ) (x : ModuleField) → wants_id x ≡ b → length (names_in s (items_in (given_if b with_item_id m x))) ≡ length (names_in s (items_in x))
   as_many false m x e = refl
   as_many true m x e = let g = given m x e in ap (λ xs. length (names_in s xs)) g.new ∙ (one_name g.s (Some (gensym_id m g.p)) None ∙ sym (ap (λ xs. length (names_in s xs)) g.old))

@@ -1,4 +1,4 @@
--- The list that is written out by ids has, once each index is a number, the numbers of the one by positions.
+-- Once each index is a number, the expansion by ids has the numbers of the one by positions.
 use Rattle.std.proofs.Common.{◌≡◌, ℕ, ◌<◌, List, None, sym, ap, ◌∙◌, arith}
 use Rattle.wast_tree_nodes.specs.Items.{items}
 use Rattle.wast_tree_nodes.specs.Known.{id_context}

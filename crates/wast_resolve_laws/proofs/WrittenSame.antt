@@ -1,4 +1,4 @@
--- What is the same of each part of a list that is written out by ids and by positions is the same of both lists.
+-- A function that is the same on each part of the expansion by ids and by positions is the same on both lists.
 use Rattle.std.specs.Prelude.{⊤}
 use Rattle.std.proofs.Common.{◌≡◌, ℕ, ◌+◌, ◌≤◌, ◌==◌, Bool, true, false, not, ◌&&◌, ◌||◌, true≢false, List, [], ◌∷◌, ◌++◌, map, length, Option, Some, None, is_none, refl, sym, ap, ◌∙◌, arith}
 use Rattle.std.specs.Borrow.{Bor}
@@ -39,7 +39,7 @@ second_or false b h = h
 some_there : {A : Type 0} (x : A) (xs : List A) → not (length (x ∷ xs) == 0) ≡ true
 some_there x xs = ap not (eqb-suc-zero (length xs))
 
--- with this id, a field that can be referred to
+-- a field with this id, which can be referred to
 abbrev pub called : Option Id → ModuleField → ModuleField
 called id (field.Func f) = field.Func (record f { id = id })
 called id (field.Table t) = field.Table (record t { id = id })
@@ -48,12 +48,12 @@ called id (field.Global g) = field.Global (record g { id = id })
 called id (field.Tag t) = field.Tag (record t { id = id })
 called id x = x
 
--- What is given of a field, and of what is imported in its place, is the same by two ids.
+-- The exports and the import of a field are the same for two ids.
 pub record SameByIds {X : Type 0} (give : ModuleField → X) (x y : Option Id) : Type 0 where
   pub of_import : (span : Span) (name : Option NameAnnotation) (source : InlineImport) (k : ItemKind) → give (import_of span x name source k) ≡ give (import_of span y name source k)
   pub of_field : (z : ModuleField) → give (called x z) ≡ give (called y z)
 
--- What is given of a field: the same by indices that are the same, and by an id of a generation from this one on as by none.
+-- The expansion of a field is the same for equal indices, and for a generated id from this one on as for none.
 pub record IsBlind {X : Type 0} (Same : Space → Index → Index → Type 0) (n : ℕ) (give : ModuleField → X) : Type 0 where
   pub exported : (span : Span) (e : ExportKind) (i j : Index) (name : Bor (List ℕ)) → Same (exported_space e) i j → give (export_of span e i name) ≡ give (export_of span e j name)
   pub of_elem : (span : Span) (i j : Index) (is64 : Bool) (p : ElemPayload) → Same space.Table i j → give (elem_into span i is64 p) ≡ give (elem_into span j is64 p)
@@ -106,7 +106,7 @@ module _ (Same : Space → Index → Index → Type 0) where
       tag_named t (tag_kind.Import source) = named.of_import t.span None source (kind.Tag t.ty)
       tag_named t k = named.of_field (tag_alone t k)
 
-      -- the segment of what stands in place
+      -- the segment of inline data or elements
       elem_turns : (span : Span) (k : TableKind) → SameFor space.Table span (has_elements k) → Alike (elem_in k span (r space.Table span x)) (elem_in k span (q space.Table span y))
       elem_turns span (table.Inline ty is64 shared p) same = ap (λ v. v ∷ []) (blind.of_elem span (r space.Table span x) (q space.Table span y) is64 p (same refl))
       elem_turns span k same = refl
@@ -147,7 +147,7 @@ module _ (Same : Space → Index → Index → Type 0) where
       tag_turns : (t : Tag) → SameFor space.Tag t.span (exports_some t.exports) → Turns (field.Tag t)
       tag_turns t same = parts_turn t.span export.Tag t.exports [] [] _ _ same refl (tag_named t t.kind)
 
-    -- A field that is given an id where it wants one, or keeps the one that it has.
+    -- A field that gets an id if it needs one, or keeps its own.
     module _ (m : ℕ) (le : n ≤ m) (before : List Item) where
       module _ (s : Space) (its : is_of_segments s ≡ false) (span : Span) (z : ModuleField) (bears : (id : Option Id) → items_in (called id z) ≡ item s id [] ∷ [])
           (gives : (id : Option Id) → with_item_id m (called id z) ≡ called (Some (gensym_id m span)) z) where

@@ -1,4 +1,4 @@
--- A change that numbers indices and sets generated ids aside makes one list of what is written out by ids and by positions.
+-- Numbering indices and removing generated ids makes the expansions by ids and by positions equal.
 use Rattle.std.proofs.Common.{◌≡◌, ℕ, List, [], Some, None, refl, ap}
 use Rattle.wast_base.specs.Blocks.{Blocks}
 use Rattle.wast_base.specs.Ids.{gensym_id}

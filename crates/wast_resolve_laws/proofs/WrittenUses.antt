@@ -1,5 +1,5 @@
--- What uses demand in the list that is written out by ids is what they demand in the one by positions, where the ids by which it
--- refers denote these positions.
+-- Type uses have the same checks in the expansion by ids as in the one by positions, if the ids have these positions as
+-- numbers.
 use Rattle.std.proofs.Common.{◌≡◌, ℕ, false, List, [], ◌∷◌, map, Option, Some, None, is_some, refl, sym, ap, ◌∙◌, ◌++◌}
 use Rattle.std.specs.Prelude.{codes}
 use Rattle.std.specs.Option.{option_or}
@@ -24,18 +24,18 @@ use Rattle.wast_resolve_laws.proofs.WrittenSame.{AllOwn}
 use Rattle.wast_resolve_laws.proofs.WrittenOwn.{Numbers}
 use Rattle.wast_resolve_laws.proofs.WrittenTold.{telling_numbers, told_alike}
 
--- the first that is unmet of some sites
+-- the first check that fails of some sites
 abbrev first_of : List (Option (Cause × Span)) → Option (Cause × Span)
 first_of [] = None
 first_of (o ∷ os) = option_or o (first_of os)
 
--- An index that stays an id is unknown.
+-- An index that is still an id is unknown.
 abbrev unmet_at : Space → Index → Option (Cause × Span)
 unmet_at s (index.Num n p) = None
 unmet_at s (index.Id id) = first_unmet (unknown_demand (word_of s) (mark_of id) false)
 
 module _ (c : Scope) where
-  -- the indices outside type uses are numbers
+  -- the indices outside of type uses are numbers
   abbrev numbers : Change
   numbers = telling_numbers c.known (λ w u. u) (λ l i. i) (λ o i. i) (λ b i. i)
 

@@ -1,4 +1,4 @@
--- Worked modules with other names, computed. A text may lie anywhere in memory.
+-- Example modules with other ids, computed. Names may be at any address.
 use Rattle.std.specs.Prelude.{◌≡◌, List, [], ◌∷◌, ◌++◌, Some, None, codes}
 use Rattle.wast_base.specs.declared.ids.Name as code
 use Rattle.wast_base.specs.declared.ids.Name.TheVariants as name
@@ -16,12 +16,12 @@ use Rattle.wast_resolve_laws.specs.Tree.{Id, ModuleField}
 use Rattle.wast_resolve_laws.specs.Tree.instr
 use Rattle.wast_resolve_laws.specs.Tree.field
 
--- `r` before each written name
+-- `r` before each source name
 abbrev pub prefixed : Name → Name
 prefixed (Written text) = Written (codes "r" ++ text)
 prefixed (Generated n) = Generated n
 
--- in memory too
+-- the same for the names of the AST
 abbrev pub prefixed_code : code.Name → code.Name
 prefixed_code (name.Written text) = name.Written (record text { now = codes "r" ++ text.now })
 prefixed_code (name.Generated n) = name.Generated n
@@ -35,7 +35,7 @@ prefixing = record { name = prefixed; id = prefixed_id }
 abbrev pub PrefixesNames : Type 0
 PrefixesNames = IsRenaming prefixing
 
--- `(module (type $rt (func)) (func $rf (type $rt) call $rf) (export "a" (func $rf)))`, at the places of row 27
+-- `(module (type $rt (func)) (func $rf (type $rt) call $rf) (export "a" (func $rf)))`, at the positions of row 27
 abbrev pub row27_twin : (a b c d e f : Address) → List ModuleField
 row27_twin a b c d e f =
     field.Ty (plain_type (Some (id_at a (codes "rt") 14)) 8)
@@ -43,7 +43,7 @@ row27_twin a b c d e f =
     ∷ export_field c 53 (by_id f (codes "rf") 71)
     ∷ []
 
--- Its indices become the numbers that they were, and the names of three indices may be told.
+-- The indices are those of row 27, and an error can have the ids of three indices.
 abbrev pub Row27 : Type 0
 Row27 = (a b c d e f : Address) →
     (renamed_fields prefixing (row27 a b c d e f) ≡ row27_twin a b c d e f)
@@ -51,7 +51,7 @@ Row27 = (a b c d e f : Address) →
     × (resolved_fields (by_positions (row27_twin a b c d e f)) ≡ renamed_fields prefixing (resolved_fields (by_positions (row27 a b c d e f))))
     × (told_marks (row27 a b c d e f) ≡ (Written (codes "t"), place 40) ∷ (Written (codes "f"), place 49) ∷ (Written (codes "f"), place 71) ∷ [])
 
--- `(module (tag $e) (func block $h try_table (catch $e $h) end end))`: labels too; its type is implied, and has one id, as before.
+-- `(module (tag $e) (func block $h try_table (catch $e $h) end end))`: labels too. Its type is appended, with one id.
 abbrev pub Row9 : Type 0
 Row9 = (a b c d : Address) →
     let fields = catching a b c d in
@@ -59,21 +59,22 @@ Row9 = (a b c d : Address) →
     × (resolved_fields (by_positions (renamed_fields prefixing fields)) ≡ renamed_fields prefixing (resolved_fields (by_positions fields)))
     × (generated_id_count (renamed_fields prefixing fields) ≡ 1)
 
--- An unknown name is told as what the name of the id there becomes.
+-- An unknown id is reported with its new name.
 abbrev pub Row31 : Type 0
 Row31 = (a b c d e : Address) →
     (first_unmet (demands (explicit_fields (row31 a b c d e))) ≡ Some (Unknown (codes "func") (codes "g"), place 43))
     × (first_unmet (demands (explicit_fields (renamed_fields prefixing (row31 a b c d e)))) ≡ Some (Unknown (codes "func") (codes "rg"), place 43))
     × (told_marks (row31 a b c d e) ≡ (Written (codes "g"), place 43) ∷ (Written (codes "t"), place 63) ∷ [])
 
--- So is the field of a struct; those of the type, and the indices that are asked, may be told.
+-- So is an unknown struct field. An error can have the ids of the fields and of the indices.
 abbrev pub Row48 : Type 0
 Row48 = (a b c d e : Address) →
     (first_unmet (demands (explicit_fields (renamed_fields prefixing (reading a b c d (by_id e (codes "y") 74))))) ≡ None)
     × (first_unmet (demands (explicit_fields (renamed_fields prefixing (reading a b c d (by_id e (codes "z") 74))))) ≡ Some (Unknown (codes "field") (codes "rz"), place 74))
     × (told_marks (reading a b c d (by_id e (codes "z") 74)) ≡ (Written (codes "y"), place 32) ∷ (Written (codes "s"), place 57) ∷ (Written (codes "s"), place 71) ∷ (Written (codes "z"), place 74) ∷ [])
 
--- One name is given; any other text stands behind three zeros, as that is of two letters, and any other generation behind 0.
+-- One name is in the map. Another name gets three zeros, because the new name has two letters. Generated ids are raised
+-- by one.
 abbrev pub OneGiven : Type 0
 OneGiven =
     let m = (Written (codes "f"), Written (codes "rf")) ∷ [] in

@@ -1,4 +1,4 @@
--- Worked modules at rest, and with start fields behind them, computed. A text may lie anywhere in memory.
+-- Resolved example modules, also with start fields after them, computed. Names may be at any address.
 use Rattle.std.specs.Prelude.{◌≡◌, ℕ, List, [], ◌∷◌, ◌++◌, None, codes}
 use Rattle.wast_tree_nodes.specs.WorkedModules.{Address, place, id_at, by_id, by_number, row27}
 use Rattle.wast_expand_types.specs.Signatures.{empty_signature}
@@ -15,14 +15,15 @@ use Rattle.wast_resolve_laws.specs.Rests.{start_fields_of, numbers, with_start_f
 abbrev pub two_numbers : List (ℕ × Span)
 two_numbers = (0, place 80) ∷ (7, place 90) ∷ []
 
--- With these behind it, a list is met, is itself where it is resolved from another counter, and takes no id.
+-- With these start fields all checks pass, resolving from another counter changes nothing, and no id is generated.
 abbrev pub IsAtRestWithTwo : List ModuleField → Type 0
 IsAtRestWithTwo fields =
     (first_unmet (demands (explicit_fields (with_start_fields 5 fields two_numbers))) ≡ None)
     × (resolved_fields_from 9 (with_start_fields 5 fields two_numbers) ≡ with_start_fields 5 fields two_numbers)
     × (generated_id_count (with_start_fields 5 fields two_numbers) ≡ 0)
 
--- `(module (type $t (func)) (func $f (type $t) call $f) (export "a" (func $f)))`: whatever the numbers denote; and `(start $f)` is `(start 0)`.
+-- `(module (type $t (func)) (func $f (type $t) call $f) (export "a" (func $f)))`: numbers are not checked. And
+-- `(start $f)` becomes `(start 0)`.
 abbrev pub Row27 : Type 0
 Row27 = (a b c d e f g : Address) →
     let fields = row27 a b c d e f in
@@ -30,8 +31,8 @@ Row27 = (a b c d e f g : Address) →
     × (resolved_fields_from 5 (fields ++ start_fields_of (by_id g (codes "f") 80 ∷ [])) ≡ resolved_fields_from 5 fields ++ start_fields_of (by_number 0 80 ∷ []))
     × (first_unmet (demands (explicit_fields (fields ++ start_fields_of (by_id g (codes "f") 80 ∷ [])))) ≡ None)
 
--- `(module (tag $e) (func block $h try_table (catch $e $h) end end))`: the implied type is written once, and start fields put last
--- stand before it.
+-- `(module (tag $e) (func block $h try_table (catch $e $h) end end))`: the type is appended once, and start fields at
+-- the end come before it.
 abbrev pub Row9 : Type 0
 Row9 = (a b c d : Address) →
     let fields = catching a b c d in

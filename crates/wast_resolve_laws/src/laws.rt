@@ -1,16 +1,34 @@
-//! Laws for callers to cite: of the resolved list of fields, of the open blocks of a body, and of what is told of fields
-//! early.
+//! Theorems about resolved fields, about enclosing blocks, and about errors before resolving.
 
 ghost use Rattle.wast_resolve_laws.specs.Laws.{SameAnswer, SameCounts, SameBodyCounts, ExplicitStaysWellFormed, NoIdIsLeft, FinishedStaysWellFormed, SamePositions, FinishedIsResolved, FinishedIsBelow, UsesHaveIndices, FinishedIsWrittenOut, ItemsStay, BlocksAreCounted, EarlyStays, EarlyIsFirst, SitesComeAfter};
 
 use wast_resolve_labels::walking_law;
 
-/// Where the counter begins above the ids of the fields, the ids that are filled in change no answer and no count of items, nor
-/// one in bodies where no items clash, and well formed fields stay well formed. In the resolved list of fields whose demands
-/// are met no id is left where an index is wanted, each type use that needs a type has an index (that of a block with a short
-/// type needs none), so it is resolved; it is well formed if they are, and each generation in it is below that of the next id;
-/// it is written out; and it is the list by positions, generated ids and places of type uses aside. Its items are those of the
-/// list in which nothing is left out, whatever is met. It does nothing.
+/// States theorems about resolved fields, if the counter is past the generated ids in the fields.
+///
+/// The function does nothing. A proof calls it to obtain its clauses, which hold for all fields and
+/// counters.
+///
+/// # Example
+///
+/// For example, `(func (export "a"))` resolves to
+/// `(export "a" (func 0)) (func [1] (type 0)) (type [2] (func))`. No index is an id (`numbers`),
+/// and without `[1]` and `[2]` it is the list by positions (`positions`).
+///
+/// # Guarantees
+///
+/// - `answer`: generated ids do not change which check fails first.
+/// - `counts`, `bodies`: they do not change sizes. For bodies this holds if no two items have the
+///   same id.
+/// - `explicit`, `well_formed`: well-formed fields stay well formed, with generated ids and after
+///   resolving.
+/// - `numbers`, `resolved`: if all checks pass, no index is an id, and nothing is left to resolve.
+/// - `positions`: if all checks pass, the result is that by positions, apart from generated ids and
+///   the positions of indices in type uses.
+/// - `generations`: the counter is past the generated ids in the result.
+/// - `indices`: each type use that needs a type has an index. That of a block with a short type
+///   needs none.
+/// - `written_out`: the result has no inline part. `items`: its items are those before numbering.
 #[tactic(auto, using(crate::proofs::Explicit::explicit_answer, crate::proofs::Explicit::explicit_counts, crate::proofs::Explicit::explicit_bodies, crate::proofs::Explicit::explicit_well_formed, crate::proofs::Explicit::finished_numbered, crate::proofs::Explicit::finished_resolved, crate::proofs::Explicit::finished_well_formed, crate::proofs::Explicit::finished_by_position, crate::proofs::Explicit::finished_below, crate::proofs::Explicit::finished_indexed, crate::proofs::Explicit::finished_written_out, crate::proofs::Explicit::finished_items))]
 pub fn resolved_laws()
     ensures answer { SameAnswer }
@@ -27,17 +45,31 @@ pub fn resolved_laws()
     ensures items { ItemsStay }
 {}
 
-/// Behind the instructions of a body, the blocks that are open, by which labels are looked up (text format, control
-/// instructions: labels), are those that counting its openers and closers gives, each with its label. It does nothing.
+/// States that counting block starts and ends finds the enclosing blocks at an instruction (text
+/// format, control instructions: labels).
+///
+/// The function does nothing. A proof calls it to obtain its clause.
+///
+/// For example, after `block $a  block $b  end` the enclosing blocks are `$a` alone.
 pub fn label_law()
     ensures { BlocksAreCounted }
 {
     walking_law();
 }
 
-/// What is demanded of fields as they stand, the order of imports and that no names clash, is demanded as it is of the list in
-/// which nothing is left out. So what is unmet first of it is what resolving answers; where none of it is unmet, resolving
-/// answers the first unmet demand of uses, labels and locals. It does nothing.
+/// States that an error before resolving is also the error of resolving.
+///
+/// The function does nothing. A proof calls it to obtain its clauses.
+///
+/// For example, `(start $x) (func $a) (func $a)` fails with E2 at the second `$a`, before and by
+/// resolving.
+///
+/// # Guarantees
+///
+/// - `stays`: desugaring does not change the order of imports and duplicate ids.
+/// - `first`: the first of these checks that fails is the first that fails in resolving.
+/// - `after`: if all of them pass, resolving reports the first check of uses, labels and locals
+///   that fails.
 #[tactic(auto, using(crate::proofs::EarlyDemands::early_stays, crate::proofs::EarlyDemands::early_is_first, crate::proofs::EarlyDemands::sites_come_after))]
 pub fn early_law()
     ensures stays { EarlyStays }

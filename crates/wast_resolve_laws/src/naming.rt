@@ -1,16 +1,30 @@
-//! Laws of other names, for callers to cite.
+//! Theorems about modules with other ids.
 
 ghost use Rattle.wast_resolve_laws.specs.Extended.{ExtendedIsInjective, ExtendedAgrees};
 ghost use Rattle.wast_resolve_laws.specs.Renaming.{RenamedAnswer, RenamedPositions, RenamedCounts, RenamedFilled, RenamedTooLarge, WrittenAnswer, WrittenPositions};
 
-/// Where each id of a list of fields is called otherwise, at its place, and no two names become one, what is unmet first is
-/// what was unmet first: the fault is the same, at its place, and where it tells a name, it tells what the name of an id there
-/// becomes. The resolved list by positions is that list with the other names; there are as many items, fields of structs,
-/// parameters, locals and open blocks; as many ids are filled in; and the list is too large exactly where it was. What is
-/// written out from a counter above the ids of the fields is answered as the fields are, and where each demand is met it has
-/// their resolved list by positions, generated ids and places of type uses aside: so both is so of it too where the ids that
-/// the counter gave are called otherwise. A finite map of names by which no two become one extends to one of all names. It does
-/// nothing.
+/// States theorems about modules in which each id has another name, at the same position, and no
+/// two names become one.
+///
+/// The function does nothing. A proof calls it to obtain its clauses.
+///
+/// # Example
+///
+/// For example, with `r` before each name, `(export "a" (func $g))` fails with E4 at the same
+/// position. The error has the name `rg` instead of `g` (`answer`).
+///
+/// # Guarantees
+///
+/// - `answer`: the first check that fails is the same, at the same position. A name in it is the
+///   other name.
+/// - `positions`: the resolved fields by positions are the same, with the other names.
+/// - `counts`, `filled`, `large`: sizes, the number of generated ids, and the condition for E10 are
+///   the same.
+/// - `written`: expanding inline parts first does not change which check fails first.
+/// - `written_positions`: if all checks pass, it does not change the result by positions, apart from
+///   generated ids and positions of indices in type uses.
+/// - `injective`, `agrees`: a finite map of names in which no two names become one extends to all
+///   names.
 #[tactic(auto, using(crate::proofs::Renamed::renamed_answer, crate::proofs::Renamed::renamed_positions, crate::proofs::Renamed::written_answer, crate::proofs::Renamed::written_by_positions, crate::proofs::Extending::extended_is_injective, crate::proofs::Extending::extended_agrees))]
 pub fn naming_laws()
     ensures answer { RenamedAnswer }

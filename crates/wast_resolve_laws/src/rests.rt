@@ -1,16 +1,33 @@
-//! Laws of a resolved list that is at rest, for callers to cite.
+//! Theorems about fields that are already resolved.
 
 ghost use Rattle.wast_resolve_laws.specs.WorkedRests.{Row27, Row9, Row48};
 ghost use Rattle.wast_resolve_laws.specs.Rests.{RestsMet, RestsStill, RestsByPosition, FillsNoMore, StartsStayWellFormed, StartsStayBelow, StartsAreMet, StartsComeBefore};
 
-/// What is resolved is at rest, also with start fields of numbers behind it, any number of them (text format, abbreviations,
-/// indices and start functions). Where the counter begins above the ids of the fields and their demands are met, those of the
-/// resolved list are met, and it is well formed where the fields are. Resolved again, from any counter and by positions, the
-/// list stays as it is, and no id is filled in, whatever is met.
+/// States that resolving resolved fields changes nothing, also with start fields after them (text
+/// format: abbreviations, indices, start functions).
 ///
-/// Start fields behind any fields, each of a number, of a written id or of the generated id of a function, have no generation
-/// that is new. Where each is of a function that the resolved names know, the demands stay met; resolved, they stand before the
-/// types that are implied, and the other fields are the same. It does nothing.
+/// The function does nothing. A proof calls it to obtain its clauses.
+///
+/// # Example
+///
+/// For example, resolving `(func (type 0)) (type [1] (func)) (start 0)` returns the same fields.
+///
+/// # Guarantees
+///
+/// Clauses about checks assume that the counter was past the generated ids of the original fields.
+///
+/// For resolved fields, followed by any start fields with numbers:
+///
+/// - `met`: if the checks of the original fields pass, all checks pass again. `well_formed`:
+///   likewise for well-formed fields.
+/// - `still`, `by_position`: resolving them again changes nothing. `fills`: it generates no id.
+///
+/// For any fields, followed by start fields whose generated ids are those of functions:
+///
+/// - `below`: the greatest generated id is that of the fields.
+/// - `starts_met`: if each start field names a function, the checks still pass.
+/// - `starts`: after resolving, the start fields come before the appended types, and other fields
+///   are the same.
 #[tactic(auto, using(crate::proofs::Rested::rests_are_met, crate::proofs::Rested::rests_by_position, crate::proofs::Rested::fills_no_more, crate::proofs::Rested::starts_stay_well_formed, crate::proofs::StartsKept::starts_stay_below, crate::proofs::StartsFinished::starts_are_met))]
 pub fn resting_laws()
     ensures met { RestsMet }
@@ -23,7 +40,7 @@ pub fn resting_laws()
     ensures starts { StartsComeBefore }
 {}
 
-/// Lists that are resolved, with start fields of numbers behind them: nothing is unmet, filled in or changed there.
+/// Resolved example modules with start fields after them: all checks pass, and nothing changes.
 #[tactic(auto, using(crate::proofs::RestsComputed::row27, crate::proofs::RestsComputed::row9, crate::proofs::RestsComputed::row48))]
 pub(crate) fn rows_at_rest()
     ensures row27 { Row27 }

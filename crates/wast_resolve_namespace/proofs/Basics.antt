@@ -28,12 +28,12 @@ three_cases x y = elim (cases_Bool (nat_lt x y)) [
 ]
 
 module _ {X : Type 0} where
-  -- an element of a list that reaches behind n
+  -- An element of a list that is longer than n.
   pub some_element : (xs : List X) (n : ℕ) → n < length xs → X
   some_element [] n lt = absurd (omega arith)
   some_element (x ∷ xs) n lt = x
 
-  -- where there is an element the default does not matter
+  -- If there is an element, the default does not matter.
   pub any_default : (xs : List X) (i : ℕ) (d e : X) → i < length xs → get_or xs i d ≡ get_or xs i e
   any_default [] i d e lt = absurd (omega arith)
   any_default (x ∷ xs) zero d e lt = refl

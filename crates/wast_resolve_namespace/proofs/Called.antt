@@ -1,4 +1,4 @@
--- The first position in a list that bears a name.
+-- The first position in a list with a name.
 use Rattle.std.proofs.Common.{◌≡◌, ℕ, zero, suc, ◌<◌, List, [], ◌∷◌, length, get_or, take, length-take, get_or-take, Option, Some, None, is_some, option_map, Bool, true, false, true≢false, cond, refl, sym, ap, ◌∙◌, arith}
 use Rattle.std.specs.List.{position}
 use Rattle.std.proofs.lemmas.List.Quantifiers.{position-Some}
@@ -23,15 +23,15 @@ module _ {X : Type 0} (p : X → Bool) where
   position-None (x ∷ xs) h zero d lt = fails (p x) (position p xs) (sym (position_head p (p x) x xs refl) ∙ h)
   position-None (x ∷ xs) h (suc i) d lt = position-None xs (fails_later (p x) (position p xs) (sym (position_head p (p x) x xs refl) ∙ h)) i d (omega arith)
 
--- a position that bears the name
+-- A position with the name.
 pub position_bears : (q : Name) (names : List (Option Name)) (i : ℕ) → position_of q names ≡ Some i → (i < length names) × (get_or names i None ≡ Some q)
 position_bears q names i h = let x = position-Some (is_called q) names i None h in (x.0, called_is q (get_or names i None) x.1)
 
--- there is none
+-- There is no such position.
 pub no_position : (q : Name) (names : List (Option Name)) → position_of q names ≡ None → (i : ℕ) → i < length names → get_or names i None ≡ Some q → ⊥
 no_position q names h i lt at = true≢false (sym (is_called_so q (get_or names i None) at) ∙ position-None (is_called q) names h i None lt)
 
--- a name that an earlier item has
+-- A name that an earlier item has.
 pub borne_at : (q : Name) (names : List (Option Name)) (n i : ℕ) → i < n → n < length names → get_or names i None ≡ Some q → is_borne q (take n names) ≡ true
 borne_at q names n i before within at = by_position (position_of q (take n names)) refl
   where

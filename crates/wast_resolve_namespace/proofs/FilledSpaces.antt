@@ -1,4 +1,4 @@
--- What sorted pairs of all names of a space say: which of them stand twice, and what each denotes.
+-- Properties of the sorted pairs of all names: which are duplicates, and the position of each.
 use Rattle.std.proofs.Common.{◌≡◌, ℕ, ◌+◌, ◌<◌, List, length, get_or, false, true≢false, inl, inr, ◌≤◌, T, Option, Some, None, option_map, refl, sym, ap, ◌∙◌, subst, subst₂, arith, IsPermutation}
 use Rattle.std.specs.Ordering.{is_lt}
 use Rattle.std.specs.List.Sorted.{IsSortedBy}
@@ -46,7 +46,7 @@ bears o q h =
     let x = bearer o (key_of q) h in
     x.1 ∙ ap Some (sym (name_from-key_of x.0) ∙ (ap name_from x.2 ∙ name_from-key_of q))
 
--- an item has the name of an earlier one where its key stands earlier
+-- An item has the name of an earlier one if its key occurs earlier.
 clash_from_again : (names : List (Option Name)) (p : ℕ) → IsAgain (keys_of names) p → IsClash names p
 clash_from_again names p a =
     let long = same_keys_length names in
@@ -69,7 +69,7 @@ again_from_clash names p c =
       again = key_there names p c.within ∙ ap (option_map key_of) c.bears;
     }
 
--- pairs are sorted by their names and numbers where their entries are
+-- Pairs are sorted by their names and numbers if their entries are.
 sorted_entries : (es : List (Id × ℕ)) → AreRanked es → IsSortedBy (λ a b. is_lt (pair_cmp key_cmp a b)) (entries_of es)
 sorted_entries es h k x le lt =
     let long = length-map es entry_of in
@@ -77,14 +77,14 @@ sorted_entries es h k x le lt =
     let d = some_element es (k + 1) within in
     subst₂ (λ (a b : Key × ℕ). is_lt (pair_cmp key_cmp a b) ≡ false) (sym (key_get es (k + 1) d x within)) (sym (key_get es k d x (omega arith))) (h k d le within)
 
--- no item before the first position bears the name
+-- No item before the first position has the name.
 not_before : (q : Name) (names : List (Option Name)) (i j : ℕ) → position_of q names ≡ Some i → j < length names → get_or names j None ≡ Some q → {r : ℕ} → r ≡ 0 + j → i ≤ r
 not_before q names i j e within at place = elim (cases_Bool (nat_lt j i)) [
   | inl before ↦ absurd (true≢false (sym (is_called_so q (get_or names j None) at) ∙ (position-Some (is_called q) names i None e).2 j (ltb-true j i before)))
   | inr not ↦ let le = ltb-false j i not in omega (arith, place, le)
 ]
 
--- pairs es in order, of the same ids and numbers as ps, which are those of the names
+-- The pairs es are the sorted pairs ps, which are those of the names.
 module _ (names : List (Option Name)) (ps es : List (Id × ℕ)) (are : entries_of ps ≡ numbered_from 0 (keys_of names)) (moved : IsPermutation ps es) (ordered : AreRanked es) where
   moved_entries : IsPermutation (numbered_from 0 (keys_of names)) (entries_of es)
   moved_entries = subst (λ (xs : List (Key × ℕ)). IsPermutation xs (entries_of es)) are (IsPermutation-map entry_of ps es moved)
@@ -125,7 +125,7 @@ module _ (names : List (Option Name)) (ps es : List (Id × ℕ)) (are : entries_
       number = λ q. ap (λ (s : NameSpace). number_in s q) is ∙ denotes q (position_of q names) refl;
     }
 
-  -- Each name is found at the first item that bears it, whether or not another bears it.
+  -- Each name has the position of the first item with it, even if others have it.
   found_at : (q : Name) (r : Option ℕ) → position_of q names ≡ r → find key_cmp (key_of q) (entries_of es) ≡ r
   found_at q None e =
       nowhere_found keys_total exact_keys (keys_of names) (entries_of es) moved_entries (key_of q) (λ p lt at.

@@ -1,4 +1,4 @@
--- The number of the first pair that has a name is the position of the first item that bears it.
+-- The number of the first pair with a name is the position of the first item with it.
 use Rattle.std.proofs.Common.{◌≡◌, ℕ, zero, suc, ◌+◌, ◌-◌, List, [], ◌∷◌, Bool, true, false, cond, Option, Some, None, option_map, refl, ap, ◌∙◌, arith}
 use Rattle.wast_base.specs.declared.ids.Id.{Id}
 use Rattle.wast_base.specs.Ids.{Name, same_name, name_of}

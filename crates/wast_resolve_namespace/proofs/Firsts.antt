@@ -1,4 +1,4 @@
--- The first pair of each key in a sorted list: its keys rise, and what is found there is found in the list.
+-- The first pair of each key in a sorted list: its keys increase, and look-ups have the same results.
 use Rattle.std.proofs.Common.{◌≡◌, ℕ, zero, suc, ◌+◌, ◌<◌, ◌≤◌, List, [], ◌∷◌, ◌++◌, length, get_or, drop, Option, Some, None, refl, sym, ap, ◌∙◌, subst, T, true, false, ◌&&◌, Bool, cond, arith, inl, inr, append_assoc, append-nil, ◌-◌}
 use Rattle.std.specs.declared.cmp.Ordering.{Ordering}
 use Rattle.std.specs.declared.cmp.Ordering.TheVariants.{Less, Equal, Greater}
@@ -51,7 +51,7 @@ module _ {K : Type 0} {R : K → K → Ordering} (o : IsTotalOrder R) (exact : C
       ])
       (λ no. least_found q p es (climbs_tail x es climbs) (i, omega (arith, lt), is) (λ r c. least r (later x (q, r) es c)))
 
-  -- Pairs that are left out have the key of one before them, so each key is found where it was.
+  -- Pairs that are left out have the key of one before them, so look-ups have the same results.
   found_behind : (q : K) (last : K × ℕ) (es : List (K × ℕ)) → find R q (last ∷ others_behind R last es) ≡ find R q (last ∷ es)
   found_behind q last [] = refl
   found_behind q last (e ∷ es) = by_same (is_eq (R last.0 e.0)) refl (found_behind q e es)
@@ -71,7 +71,7 @@ module _ {K : Type 0} {R : K → K → Ordering} (o : IsTotalOrder R) (exact : C
   found_first q [] = refl
   found_first q (e ∷ es) = found_behind q e es
 
-  -- the keys that are left rise
+  -- The remaining keys increase.
   both : (a b : Bool) → T a → T b → T (a && b)
   both true b t u = u
   both false b t u = absurd t
@@ -116,7 +116,7 @@ module _ {K : Type 0} {R : K → K → Ordering} (o : IsTotalOrder R) (exact : C
   firsts_rise [] climbs = tt
   firsts_rise (e ∷ es) climbs = rise_behind e es climbs
 
--- the first n of these pairs are looked at, and those that are kept are there
+-- The first n of these pairs are visited, and the kept ones are in the result.
 abbrev pub IsLeft : List (Id × ℕ) → List (Id × ℕ) → ℕ → Type 0
 IsLeft es kept n = (d : Key × ℕ) → entries_of kept ++ others_behind key_cmp (get_or (entries_of es) (n - 1) d) (drop n (entries_of es)) ≡ first_of_each key_cmp (entries_of es)
 

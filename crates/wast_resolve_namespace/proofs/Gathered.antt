@@ -1,4 +1,4 @@
--- Ids with their positions, as they are gathered.
+-- Ids with their positions, as a builder adds them.
 use Rattle.std.proofs.Common.{◌≡◌, ℕ, zero, suc, ◌+◌, ◌-◌, List, [], ◌∷◌, ◌++◌, length, Option, Some, None, refl, sym, ap, ◌∙◌, subst, arith}
 use Rattle.wast_base.specs.declared.ids.Id.{Id}
 use Rattle.wast_base.specs.Ids.{Name, name_of, mark_of_option}
@@ -63,7 +63,7 @@ named_positions : (at : ℕ) (es : List (Id × ℕ)) (count : ℕ) (id : Id) →
 named_positions at [] count id h = (h, omega arith)
 named_positions at (e ∷ es) count id h = (h.0, named_positions (suc e.1) es count id h.1)
 
--- The items es with the count m are those of ds with the count n and one more, which bears an id or none.
+-- The items es with the count m are those of ds with the count n, and one more, with an id or without.
 pub record IsOneMore (ds : List (Id × ℕ)) (n : ℕ) (id : Option Id) (es : List (Id × ℕ)) (m : ℕ) : Type 0 where
   pub positions : ArePositions 0 es m
   pub names : names_from 0 es m ≡ names_from 0 ds n ++ name_if (mark_of_option id) ∷ []

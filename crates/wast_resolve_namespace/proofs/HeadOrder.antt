@@ -1,4 +1,4 @@
--- Texts whose heads differ have the order of their heads.
+-- Texts with different prefix keys have the order of their keys.
 use Rattle.std.proofs.Common.{◌≡◌, ◌≢◌, ℕ, zero, suc, ◌+◌, ◌*◌, ◌^◌, ◌<◌, ◌≤◌, List, [], ◌∷◌, refl, sym, ap, ◌∙◌, arith, inl, inr, nat_lt}
 use Rattle.std.specs.Prelude.{slice_index}
 use Rattle.std.specs.declared.cmp.Ordering.{Ordering}
@@ -46,7 +46,7 @@ more_worth x y p r s lt below h =
     let split : (y + 1) * p ≡ y * p + p = omega arith in
     omega (arith, up, split, below, h)
 
--- the lesser number is that of the text that comes first
+-- The text with the lesser key comes first.
 first_by_worth : (n : ℕ) (xs ys : List ℕ) → AreSmall n xs → AreSmall n ys → worth n xs < worth n ys → slice_cmp nat_cmp xs ys ≡ Less
 first_by_worth zero xs ys s t h = absurd (omega (arith, h))
 first_by_worth (suc n) [] [] s t h = absurd (omega (arith, h))
@@ -83,7 +83,7 @@ first_by_head a b h k p q lt =
     let at_b : k ≡ worth 8 b = q.number ∙ number_is b in
     first_by_worth 8 a b p.bytes q.bytes (omega (arith, lt, at_a, at_b))
 
--- heads that differ tell which pair comes first
+-- Different keys decide which pair comes first.
 pub by_head : (a b : Id × ℕ) (h k : ℕ) → IsHead (text_of (name_of a.0)) h → IsHead (text_of (name_of b.0)) k → h ≢ k → nat_lt h k ≡ is_lt (pair_cmp key_cmp (entry_of a) (entry_of b))
 by_head a b h k p q apart =
     let s = text_of (name_of a.0) in

@@ -1,4 +1,4 @@
--- One pair that goes back among sorted ones, step by step, and the heads beside them.
+-- One pair that is moved back among sorted ones, step by step, with its key.
 use Rattle.std.proofs.Common.{◌≡◌, ◌≢◌, ℕ, ◌+◌, ◌-◌, ◌<◌, ◌≤◌, Bool, List, length, get_or, set, true, false, sym, ap, ◌∙◌, subst, subst₂, arith, inl, inr}
 use Rattle.std.specs.Prelude.{slice_index}
 use Rattle.std.specs.List.{SwappedAt}
@@ -24,7 +24,7 @@ before a b = is_lt (pair_cmp key_cmp (entry_of a) (entry_of b))
 before_weak : IsStrictWeakOrder before
 before_weak = ranks_by (pairs_total keys_total exact_keys) entry_of
 
--- The first n pairs are sorted but for the one at a place, which may have to go further back.
+-- The first n pairs are sorted except for one, which may have to be moved back further.
 pub record IsOnItsWay (es : List (Id × ℕ)) (n at : ℕ) : Type 0 where
   pub others : (k : ℕ) (d : Id × ℕ) → k + 1 < n → k + 1 ≢ at → before (get_or es (k + 1) d) (get_or es k d) ≡ false
   pub across : (k : ℕ) (d : Id × ℕ) → k + 1 ≡ at → k + 2 < n → before (get_or es (k + 2) d) (get_or es k d) ≡ false
@@ -74,7 +74,7 @@ module _ (es fs : List (Id × ℕ)) (n at a : ℕ) (next : at ≡ a + 1) (swappe
         (h.others k f (omega (arith, lt)) (omega (arith, is, next)));
   }
 
--- where it does not come before its neighbour, all are sorted
+-- If it does not come before its neighbour, all are sorted.
 pub arrived : (es : List (Id × ℕ)) (n at : ℕ) (d e : Id × ℕ) → n ≤ length es → IsOnItsWay es n at → before (get_or es at d) (get_or es (at - 1) e) ≡ false → AreRankedTo es n
 arrived es n at d e within h test k f low lt = elim (cases_eq (k + 1) at) [
   | inr other ↦ h.others k f lt other
@@ -88,7 +88,7 @@ arrived es n at d e within h test k f low lt = elim (cases_eq (k + 1) at) [
 pub arrived_first : (es : List (Id × ℕ)) (n at : ℕ) → at ≡ 0 → IsOnItsWay es n at → AreRankedTo es n
 arrived_first es n at none h k f low lt = h.others k f lt (omega (arith, none))
 
--- heads that go with their pairs
+-- Keys that move with their pairs.
 pub heads_swapped : (es fs : List (Id × ℕ)) (hs ks : List ℕ) (n a b : ℕ) → a < n → b < n → SwappedAt es fs a b → SwappedAt hs ks a b → AreHeads es hs n → AreHeads fs ks n
 heads_swapped es fs hs ks n a b lt below pairs heads h = record {
   head = λ k d within. elim (cases_eq k a) [
@@ -103,7 +103,7 @@ heads_swapped es fs hs ks n a b lt below pairs heads h = record {
   ];
 }
 
--- one head more
+-- One key more.
 pub heads_more : (es : List (Id × ℕ)) (hs : List ℕ) (n h : ℕ) (d : Id × ℕ) → n < length es → n < length hs → AreHeads es hs n → IsHead (text_of (name_of (get_or es n d).0)) h → AreHeads es (set hs n h) (n + 1)
 heads_more es hs n h d within room heads head = record {
   head = λ k e lt. elim (cases_eq k n) [

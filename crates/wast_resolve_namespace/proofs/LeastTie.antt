@@ -1,4 +1,4 @@
--- The least number of a tie, as it is looked for.
+-- The search for the least number of equal neighbours.
 use Rattle.std.proofs.Common.{◌≡◌, ◌≢◌, ℕ, suc, ◌+◌, ◌<◌, ◌≤◌, ◌⊎◌, List, cond, Option, Some, None, refl, sym, ap, ◌∙◌, subst, length, get_or, true, false, Bool, arith, inl, inr, true≢false}
 use Rattle.std.specs.declared.cmp.Ordering.TheVariants.{Equal}
 use Rattle.std.specs.Prelude.{nat_lt}

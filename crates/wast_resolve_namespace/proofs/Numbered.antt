@@ -1,4 +1,4 @@
--- Keys with their places: each place once, and a key where it stands.
+-- Keys with their positions: each position once, and each key at its position.
 use Rattle.std.proofs.Common.{◌≡◌, ◌≢◌, ℕ, zero, suc, ◌+◌, ◌<◌, List, [], ◌∷◌, Option, Some, None, sym, ap, ap₂, ◌∙◌, map, length, get_or, false, Bool, arith, inl, inr, true≢false}
 use Rattle.std.specs.declared.cmp.Ordering.TheVariants.{Equal, Greater}
 use Rattle.std.specs.Ordering.{nat_cmp, is_eq}
@@ -31,7 +31,7 @@ module _ {K : Type 0} where
   from_place n (None ∷ xs) (suc i) p k lt e h = from_place (suc n) xs i p k (omega arith) (omega (arith, e)) h
   from_place n (Some x ∷ xs) (suc i) p k lt e h = later (x, n) (k, p) (numbered_from (suc n) xs) (from_place (suc n) xs i p k (omega arith) (omega (arith, e)) h)
 
-  -- the key k stands at the place p, where places are counted from n on
+  -- The key k is at the position p, and positions are counted from n.
   pub record Stands (n : ℕ) (xs : List (Option K)) (k : K) (p : ℕ) : Type 0 where
     pub at : ℕ
     pub place : p ≡ n + at

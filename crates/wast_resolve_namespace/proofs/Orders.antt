@@ -1,4 +1,4 @@
--- Pairs that are looked at with their neighbours.
+-- Pairs that are compared with their neighbours.
 use Rattle.std.proofs.Common.{◌≡◌, ℕ, ◌+◌, ◌-◌, ◌<◌, ◌≤◌, List, length, get_or, false, ap, sym, ◌∙◌, subst₂, arith, inl, inr}
 use Rattle.std.specs.Ordering.{is_lt}
 use Rattle.std.proofs.lemmas.Bool.{cases_eq}

@@ -1,4 +1,4 @@
--- Pairs whose keys rise are sorted, and have each key at its number.
+-- Pairs with increasing keys are sorted, and each key has its number.
 use Rattle.std.proofs.Common.{◌≡◌, ℕ, zero, suc, ◌<◌, List, [], ◌∷◌, Option, Some, None, refl, sym, ap, ◌∙◌, subst, T, length, get_or, true, false, ◌&&◌, Bool, cond, arith, inl, inr, IsPermutation}
 use Rattle.std.specs.declared.cmp.Ordering.{Ordering}
 use Rattle.std.specs.declared.cmp.Ordering.TheVariants.{Less, Equal}
@@ -49,7 +49,7 @@ module _ {K : Type 0} {R : K → K → Ordering} (o : IsTotalOrder R) (exact : C
       let l : R x.0 q ≡ Less = subst (λ (z : K × ℕ). R x.0 z.0 ≡ Less) e (h 0 (suc j) d (omega arith) lt) in
       ap (λ (b : Bool). cond b (Some x.1) (find R q es)) (ap is_eq (o.antisymm q x.0 ∙ ap ordering_reverse l)) ∙ find_at q p es j d (rises_tail x es h) (omega (arith, lt)) e
 
-  -- a key at a place is found there
+  -- A key at a position is found there.
   pub place_is_found : (xs : List (Option K)) (es : List (K × ℕ)) → IsPermutation (numbered_from 0 xs) es → IsSortedBy (λ a b. is_lt (pair_cmp R a b)) es → ((p : ℕ) → IsTie es p → ⊥)
       → (q : K) (p : ℕ) → p < length xs → get_or xs p None ≡ Some q → find R q es ≡ Some p
   place_is_found xs es moved sorted free q p lt h =
@@ -66,7 +66,7 @@ module _ {K : Type 0} {R : K → K → Ordering} (o : IsTotalOrder R) (exact : C
     | inl e ↦ absurd (h x.1 (0, omega arith, pair_is x.0 q x.1 x.1 (sym (exact q x.0 (is_equal (R q x.0) e))) refl))
   ]
 
-  -- a key at no place is not found
+  -- A key at no position is not found.
   pub nowhere_found : (xs : List (Option K)) (es : List (K × ℕ)) → IsPermutation (numbered_from 0 xs) es → (q : K) → ((p : ℕ) → p < length xs → get_or xs p None ≡ Some q → ⊥) → find R q es ≡ None
   nowhere_found xs es moved q h = find_none q es (λ p c.
       let s = to_place 0 xs q p (Contains-permutation es (numbered_from 0 xs) (q, p) (IsPermutation-sym (numbered_from 0 xs) es moved) c) in

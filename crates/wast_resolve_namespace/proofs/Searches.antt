@@ -1,4 +1,4 @@
--- What a search finds among sorted pairs, and what an edit at that place does.
+-- The result of a search among sorted pairs, and of a change at that position.
 use Rattle.std.proofs.Common.{◌≡◌, ℕ, zero, suc, ◌+◌, ◌<◌, ◌≤◌, List, [], ◌∷◌, Some, None, refl, ap, sym, ◌∙◌, subst, subst₂, T, length, get_or, set, map, true, false, true≢false, ◌&&◌, Bool, arith, inl, inr}
 use Rattle.std.specs.declared.cmp.Ordering.{Ordering}
 use Rattle.std.specs.declared.cmp.Ordering.TheVariants.{Less, Equal, Greater}
@@ -77,7 +77,7 @@ module _ (id : Id) (n : ℕ) where
 pub any_answer : (es : List (Id × ℕ)) (k : Key) (at : ℕ) (r : Ordering) (e : Id × ℕ) → at < length es → key_cmp (key_at (get_or es at e)) k ≡ r → (d : Id × ℕ) → key_cmp (key_at (get_or es at d)) k ≡ r
 any_answer es k at r e lt h d = subst (λ (x : Id × ℕ). key_cmp (key_at x) k ≡ r) (any_default es at e d lt) h
 
--- what a search by halving needs and finds
+-- What a binary search needs and finds.
 abbrev pub names_in : List (Id × ℕ) → List Name
 names_in es = map (λ e. name_of e.0) es
 
@@ -106,7 +106,7 @@ module _ (es : List (Id × ℕ)) (name : Name) (at : ℕ) (h : IsPlaceOf (names_
         smaller_key (key_cmp (key_at (get_or es j d)) (key_of name)) (subst (λ (n : Name). name_lt n name ≡ true) is (h.before j lt));
   }
 
-  -- where another one does, or none
+  -- If another one is there, or none.
   greater_key : AreSorted es → (at < length es → (d : Id × ℕ) → key_at (get_or es at d) ≡ key_of name → ⊥) → (j : ℕ) (d : Id × ℕ) → at ≤ j → j < length es → key_cmp (key_at (get_or es j d)) (key_of name) ≡ Greater
   greater_key sorted other j d le lt = by_order (key_cmp (key_at (get_or es j d)) (key_of name)) refl
     where
@@ -136,7 +136,7 @@ module _ (es : List (Id × ℕ)) (name : Name) (at : ℕ) (h : IsPlaceOf (names_
     below = record { greater = greater_key sorted other };
   }
 
--- names that are not the same have other keys
+-- Different names have different keys.
 pub another : (a b : Name) → same_name a b ≡ false → key_of a ≡ key_of b → ⊥
 another a b h e =
     let same : a ≡ b = sym (name_from-key_of a) ∙ ap name_from e ∙ name_from-key_of b in
@@ -161,7 +161,7 @@ pub another_there : (es : List (Id × ℕ)) (at : ℕ) (e d : Id × ℕ) (id : I
 another_there es at e d id lt h is =
     another (name_of (get_or es at e).0) (name_of id) h (ap key_at (any_default es at e d lt) ∙ is)
 
--- where the name of a pair is the same, it stands
+-- If the name of a pair is equal, the pair is found.
 pub stands : (es : List (Id × ℕ)) (id : Id) (at : ℕ) (e : Id × ℕ) → AreSorted es → at < length es → same_id (get_or es at e).0 id ≡ true → IsAt es (key_of (name_of id)) at
 stands es id at e sorted lt same =
     let key : key_at (get_or es at e) ≡ key_of (name_of id) = ap key_of (same_name_equal (name_of (get_or es at e).0) (name_of id) same) in
@@ -171,7 +171,7 @@ stands es id at e sorted lt same =
       same = any_answer es (key_of (name_of id)) at Equal e lt (subst (λ (k : Key). key_cmp k (key_of (name_of id)) ≡ Equal) (sym key) (tied_itself keys_total (key_of (name_of id))));
     }
 
--- names are the same where their keys compare alike
+-- Names are equal if their keys compare as equal.
 same_by_keys : (a b : Name) → is_eq (key_cmp (key_of a) (key_of b)) ≡ same_name a b
 same_by_keys a b = elim (cases_Bool (same_name a b)) [
   | inl e ↦ ap is_eq (subst (λ (n : Name). key_cmp (key_of a) (key_of n) ≡ Equal) (same_name_equal a b e) (tied_itself keys_total (key_of a))) ∙ sym e

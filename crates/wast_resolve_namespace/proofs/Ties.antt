@@ -1,4 +1,4 @@
--- In pairs that are sorted by key and number, keys that stand twice are neighbours.
+-- In pairs sorted by key and number, equal keys are neighbours.
 use Rattle.std.proofs.Common.{◌≡◌, ◌≢◌, ℕ, zero, suc, ◌<◌, ◌≤◌, ◌⊎◌, List, Option, Some, None, refl, sym, ap, ◌∙◌, subst, map, length, get_or, false, Bool, arith, inl, inr, IsPermutation}
 use Rattle.std.specs.declared.cmp.Ordering.{Ordering}
 use Rattle.std.specs.declared.cmp.Ordering.TheVariants.{Less, Equal, Greater}
@@ -16,7 +16,7 @@ use Rattle.wast_resolve_namespace.specs.Filling.{numbered_from, pair_cmp, IsTie}
 use Rattle.wast_resolve_namespace.proofs.Basics.{less, three_cases, any_default}
 use Rattle.wast_resolve_namespace.proofs.Numbered.{eqb, Stands, from_place, to_place, distinct, flips, not_same}
 
--- The key at p stands at an earlier place too.
+-- The key at p is at an earlier position too.
 pub record IsAgain {K : Type 0} (xs : List (Option K)) (p : ℕ) : Type 0 where
   pub name : K
   pub earlier : ℕ
@@ -67,7 +67,7 @@ module _ {K : Type 0} {R : K → K → Ordering} (o : IsTotalOrder R) (exact : C
     stands : (i : ℕ) (d : K × ℕ) → i < length es → Stands 0 xs (get_or es i d).0 (get_or es i d).1
     stands i d lt = to_place 0 xs (get_or es i d).0 (get_or es i d).1 (Contains-permutation es (numbered_from 0 xs) (get_or es i d) (IsPermutation-sym (numbered_from 0 xs) es moved) (Contains-get_or es i d lt))
 
-    -- neighbours of one key are a key that stands twice
+    -- Neighbours with the same key are a key that occurs twice.
     pub tie_is_again : (p : ℕ) (d : K × ℕ) → IsTie es p → IsAgain xs p
     tie_is_again p d t =
         let a = get_or es t.at d in
@@ -130,7 +130,7 @@ module _ {K : Type 0} {R : K → K → Ordering} (o : IsTotalOrder R) (exact : C
       number = λ e. ap (λ (z : K × ℕ). z.1) (any_default es (suc b) e d within ∙ hb);
     }
 
-    -- a key that stands twice is one of two neighbours
+    -- A key that occurs twice is one of two neighbours.
     pub again_is_tie : (p : ℕ) → IsAgain xs p → IsTie es p
     again_is_tie p c =
         let d : K × ℕ = (c.name, 0) in
@@ -139,7 +139,7 @@ module _ {K : Type 0} {R : K → K → Ordering} (o : IsTotalOrder R) (exact : C
         tied_at c.name c.earlier p x.0 y.0 d (found c.name c.earlier d x) (found c.name p d y)
         (in_order c.name c.earlier p x.0 y.0 d (found c.name c.earlier d x) (found c.name p d y) c.before x.1 y.1) y.1
 
-    -- where no key stands twice the pairs rise by their keys, and each key is found at its number
+    -- If no key occurs twice, the keys increase, and each key has its number.
     module _ (free : (p : ℕ) → IsTie es p → ⊥) where
       pub key_rises : (i j : ℕ) (d : K × ℕ) → i < j → j < length es → R (get_or es i d).0 (get_or es j d).0 ≡ Less
       key_rises i j d lt within = elim (rises i j d lt within) [

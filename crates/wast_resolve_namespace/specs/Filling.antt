@@ -1,4 +1,10 @@
--- A name space that is filled with all items of a space at once, by the names that the items bear.
+-- Namespaces that are built from all items of an index space at once (text format: identifiers, indices).
+--
+-- An id that two items share is a duplicate, and the first one is reported (E2). The first is the least position with
+-- the name of an earlier item, because items are checked in order.
+--
+--   names $a, none, $b, $a, $b       first duplicate: position 3
+--   names $a, none, $b               $a is 0, $b is 2
 use Rattle.std.specs.Prelude.{◌≡◌, ℕ, zero, suc, ◌-◌, ◌<◌, ◌≤◌, true, cond, if◌then◌else◌, nat_lt, List, [], ◌∷◌, length, map, take, Option, Some, None, option_map, slice_index_or, Result, Ok, Err}
 use Rattle.std.specs.declared.cmp.Ordering.{Ordering}
 use Rattle.std.specs.Ordering.{nat_cmp, ordering_then, is_lt, is_eq}
@@ -17,106 +23,106 @@ pub record IsClash (names : List (Option Name)) (p : ℕ) : Type 0 where
   pub bears : slice_index_or names p None ≡ Some name
   pub borne : is_borne name (take p names) ≡ true
 
--- The item at p is the first that has the name of an earlier one.
+-- The item at p is the first one with the name of an earlier one.
 pub record IsFirstClash (names : List (Option Name)) (p : ℕ) : Type 0 where
   pub clash : IsClash names p
   pub least : (r : ℕ) → IsClash names r → p ≤ r
 
--- No two items have one name, and each name denotes the position that bears it.
+-- No two items have the same name, and each name has the position of its item.
 pub record IsFilled (names : List (Option Name)) (s : NameSpace) : Type 0 where
   pub free : (p : ℕ) → IsClash names p → ⊥
   pub count : s.count ≡ length names
   pub number : (q : Name) → number_in s q ≡ position_of q names
 
--- what filling gives: the space, or the position of the first clash
+-- The result of building: the namespace, or the position of the first duplicate.
 abbrev pub FillsSpace : List (Option Name) → Result NameSpace ℕ → Type 0
 FillsSpace names (Ok s) = IsFilled names s
 FillsSpace names (Err p) = IsFirstClash names p
 
--- n items without a name, and others after them
+-- A list with n items without a name before it.
 abbrev pub unnamed : ℕ → List (Option Name) → List (Option Name)
 unnamed zero names = names
 unnamed (suc n) names = None ∷ unnamed n names
 
--- the names of the items from a position on, where ids are given with their positions
+-- The names of the items from a position on, if ids are given with their positions.
 abbrev pub names_from : ℕ → List (Id × ℕ) → ℕ → List (Option Name)
 names_from at [] count = unnamed (count - at) []
 names_from at (e ∷ es) count = unnamed (e.1 - at) (Some (name_of e.0) ∷ names_from (suc e.1) es count)
 
--- the number of the first pair that has a name
+-- The number of the first pair with a name.
 abbrev pub first_number : Name → List (Id × ℕ) → Option ℕ
 first_number name [] = None
 first_number name (e ∷ es) = if same_name name (name_of e.0) then Some e.1 else first_number name es
 
--- The positions rise, from one on and below the count.
+-- The positions increase, start at a position, and are below the count.
 abbrev pub ArePositions : ℕ → List (Id × ℕ) → ℕ → Type 0
 ArePositions at [] count = at ≤ count
 ArePositions at (e ∷ es) count = (at ≤ e.1) × ArePositions (suc e.1) es count
 
--- the keys of names
+-- The keys of names.
 abbrev pub keys_of : List (Option Name) → List (Option Key)
 keys_of names = map (λ o. option_map key_of o) names
 
--- what is there with its positions, counted from n on
+-- The values of a list that exist, with their positions, counted from n.
 abbrev pub numbered_from : {K : Type 0} → ℕ → List (Option K) → List (K × ℕ)
 numbered_from n [] = []
 numbered_from n (None ∷ xs) = numbered_from (suc n) xs
 numbered_from n (Some k ∷ xs) = (k, n) ∷ numbered_from (suc n) xs
 
--- by the key, and then by the number
+-- The order by key, then by number.
 abbrev pub pair_cmp : {K : Type 0} → (K → K → Ordering) → K × ℕ → K × ℕ → Ordering
 pair_cmp R a b = ordering_then (R a.0 b.0) (nat_cmp a.1 b.1)
 
--- Pairs do not fall along the list, by the name and then by the number.
+-- The pairs are sorted by name, then by number.
 abbrev pub AreRanked : List (Id × ℕ) → Type 0
 AreRanked es = IsSortedBy (λ a b. is_lt (pair_cmp key_cmp (entry_of a) (entry_of b))) es
 
--- the same of the first n pairs
+-- The first n pairs are sorted by name, then by number.
 abbrev pub AreRankedTo : List (Id × ℕ) → ℕ → Type 0
 AreRankedTo es n = IsSortedWithin (λ a b. is_lt (pair_cmp key_cmp (entry_of a) (entry_of b))) es 0 n
 
--- Two neighbours have one key, and p is the number of the second.
+-- Two neighbours have the same key, and p is the number of the second.
 pub record IsTie {K : Type 0} (es : List (K × ℕ)) (p : ℕ) : Type 0 where
   pub at : ℕ
   pub within : suc at < length es
   pub same : (d : K × ℕ) → (slice_index_or es at d).0 ≡ (slice_index_or es (suc at) d).0
   pub number : (d : K × ℕ) → (slice_index_or es (suc at) d).1 ≡ p
 
--- the least number of a tie
+-- The least number of such neighbours.
 pub record IsLeastTie {K : Type 0} (es : List (K × ℕ)) (p : ℕ) : Type 0 where
   pub tie : IsTie es p
   pub least : (r : ℕ) → IsTie es r → p ≤ r
 
--- the least number of a tie, if there is a tie
+-- The least number of such neighbours, if there are any.
 abbrev pub IsFirstTie : {K : Type 0} → List (K × ℕ) → Option ℕ → Type 0
 IsFirstTie es None = (p : ℕ) → IsTie es p → ⊥
 IsFirstTie es (Some p) = IsLeastTie es p
 
--- the lesser of two numbers, the first of which may be missing
+-- The lesser of two numbers, the first of which may be missing.
 abbrev pub least_of : Option ℕ → ℕ → ℕ
 least_of None p = p
 least_of (Some q) p = cond (nat_lt q p) q p
 
--- the position of the first clash, if there is a clash
+-- The position of the first duplicate, if there is one.
 abbrev pub HasFirstClash : List (Option Name) → Option ℕ → Type 0
 HasFirstClash names None = (p : ℕ) → IsClash names p → ⊥
 HasFirstClash names (Some p) = IsFirstClash names p
 
--- The space is filled, or there is a clash.
+-- The namespace is built, or there is a duplicate.
 abbrev pub IsTried : List (Option Name) → NameSpace → Option ℕ → Type 0
 IsTried names s None = IsFilled names s
 IsTried names s (Some p) = IsFirstClash names p
 
--- pairs without those that have the key of the one before them
+-- The pairs without those with the key of the one before them.
 abbrev pub others_behind : {K : Type 0} → (K → K → Ordering) → K × ℕ → List (K × ℕ) → List (K × ℕ)
 others_behind R last [] = []
 others_behind R last (e ∷ es) = if is_eq (R last.0 e.0) then others_behind R e es else (e ∷ others_behind R e es)
 
--- the first pair of each key, where pairs of one key are neighbours
+-- The first pair of each key, if pairs of one key are neighbours.
 abbrev pub first_of_each : {K : Type 0} → (K → K → Ordering) → List (K × ℕ) → List (K × ℕ)
 first_of_each R [] = []
 first_of_each R (e ∷ es) = e ∷ others_behind R e es
 
--- each name denotes the first position that bears it, also where several do
+-- Each name has the position of the first item with it, even if several items have it.
 abbrev pub Denotes : List (Option Name) → NameSpace → Type 0
 Denotes names s = (q : Name) → number_in s q ≡ position_of q names

@@ -1,4 +1,4 @@
-//! Filling a name space at once, with the names of all its items.
+//! Builds a namespace from the names of all items at once.
 
 ghost use Rattle.std.specs.Prelude.{◌≡◌, ◌+◌, ◌<◌, ◌≤◌, ◌^◌, ◌↔◌, ◌++◌, ◌∷◌, [], IsTrue, List, Option as Maybe, length, IfOk, OnOk, OnErr};
 ghost use Rattle.wast_base.specs.Ids.{Name, name_of, mark_of_option};
@@ -13,7 +13,16 @@ use std::alloc::{AllocError, Global};
 use std::marker::Model;
 use wast_base::{Id, Numbering, compare_names};
 
-/// The items of a space in their order, before its name space is filled: the list of their names.
+/// The items of an index space in order, before their namespace is built.
+///
+/// Its model in contracts is the list of their names. Building sorts all ids once, so it is faster
+/// than adding them one by one.
+///
+/// # Example
+///
+///     let mut items = NamespaceBuilder::new(rt.alloc(), 0).expect(&rt, "memory");
+///     assert!(rt; items.add(Some(written("abcdefgh2"))) == Ok(()));
+///     let filled = items.build(rt.alloc()).expect(&rt, "memory");
 #[derive(Drop)]
 pub struct NamespaceBuilder<'a> {
     pairs: Vec<(Id<'a>, u32)>,
@@ -29,7 +38,7 @@ impl<'a> Model for NamespaceBuilder<'a> {
 }
 
 impl<'a> NamespaceBuilder<'a> {
-    /// No items. It takes no memory.
+    /// Creates a builder without items. Does not allocate.
     pub fn none(alloc: Global) -> Self
         ensures { result ≡ [] }
     {
@@ -37,7 +46,11 @@ impl<'a> NamespaceBuilder<'a> {
         NamespaceBuilder { pairs, count: 0 }
     }
 
-    /// No items, with memory for so many ids.
+    /// Creates a builder without items, with memory for `room` ids.
+    ///
+    /// # Errors
+    ///
+    /// `AllocError`: allocation failed.
     pub fn new(alloc: Global, room: usize) -> Result<Self, AllocError>
         ensures { IfOk result (λ g. g ≡ []) }
     {
@@ -46,10 +59,25 @@ impl<'a> NamespaceBuilder<'a> {
         Ok(NamespaceBuilder { pairs, count: 0 })
     }
 
-    /// One more item, with the id that it bears.
+    /// Adds an item, with its id if it has one.
     ///
-    /// It needs fewer than 4,294,967,295 items, as [`is_full`](NamespaceBuilder::is_full) tells. It takes memory only where there
-    /// are more ids than there was to be room for. Where memory is refused nothing changes.
+    /// # Example
+    ///
+    ///     assert!(rt; !items.is_full());
+    ///     items.add(item).expect(rt, "memory");
+    ///
+    /// # Requires
+    ///
+    /// There are fewer than 4,294,967,295 items: [`is_full`](NamespaceBuilder::is_full) returns
+    /// `false`.
+    ///
+    /// # Errors
+    ///
+    /// `AllocError`: allocation failed. The builder is unchanged then.
+    ///
+    /// # Memory
+    ///
+    /// Allocates only if there are more ids than [`NamespaceBuilder::new`] reserved memory for.
     pub fn add(&mut self, id: Option<Id<'a>>) -> Result<(), AllocError>
         requires { length self.old + 1 < 2 ^ 32 }
         ensures ok { OnOk result (self.new ≡ self.old ++ name_if (mark_of_option id.entry) ∷ []) }
@@ -63,16 +91,29 @@ impl<'a> NamespaceBuilder<'a> {
         Ok(())
     }
 
-    /// Whether there are 4,294,967,295 items, so that no further one can be counted.
+    /// Returns whether there are 4,294,967,295 items, so that no more can be added.
     pub fn is_full(&self) -> bool
         ensures { IsTrue result ↔ (2 ^ 32 ≤ length self.now + 1) }
     {
         self.count == u32::MAX
     }
 
-    /// The position of the first item that has the name of an earlier one, if there is one.
+    /// Returns the position of the first duplicate: an item with the name of an earlier one.
     ///
-    /// It takes memory only where there are more than 20 ids, to sort them, and gives it back.
+    /// For example, the ids `$a $b $a $b` have the first duplicate at position 2.
+    ///
+    /// # Example
+    ///
+    ///     let none = gathered(rt, alloc, ids).first_clash(alloc);
+    ///     assert!(rt; none.expect(rt, "memory") == None);
+    ///
+    /// # Errors
+    ///
+    /// `AllocError`: allocation failed.
+    ///
+    /// # Memory
+    ///
+    /// Allocates only if there are more than 20 ids, to sort them, and frees it.
     pub fn first_clash(self, alloc: Global) -> Result<Option<u32>, AllocError>
         ensures { IfOk result (HasFirstClash self.entry) }
     {
@@ -81,9 +122,25 @@ impl<'a> NamespaceBuilder<'a> {
         Ok(first_tie(&pairs))
     }
 
-    /// The name space of the items, or the position of the first item that has the name of an earlier one.
+    /// Returns the namespace of the items, or the position of the first duplicate.
     ///
-    /// It takes memory only where there are more than 20 ids, to sort them, and gives it back.
+    /// # Example
+    ///
+    ///     let filled = items.build(rt.alloc()).expect(&rt, "memory");
+    ///     let mut space: Namespace<'_> = filled.expect(&rt, "no clash");
+    ///
+    /// # Errors
+    ///
+    /// `AllocError`: allocation failed.
+    ///
+    /// # Guarantees
+    ///
+    /// The inner result is `Ok` exactly if no two items have the same name (`FillsSpace`). Then
+    /// each name has the position of its item.
+    ///
+    /// # Memory
+    ///
+    /// Allocates only if there are more than 20 ids, to sort them.
     pub fn build(self, alloc: Global) -> Result<Result<Namespace<'a>, u32>, AllocError>
         ensures { IfOk result (FillsSpace self.entry) }
     {
@@ -95,9 +152,21 @@ impl<'a> NamespaceBuilder<'a> {
         Ok(Ok(Namespace::from_sorted(pairs, count)))
     }
 
-    /// The name space of the items, where a name denotes the first item that bears it.
+    /// Returns the namespace of the items, in which a duplicate id is that of the first item.
     ///
-    /// It takes memory to sort the ids, and gives that back; and for the names.
+    /// # Example
+    ///
+    ///     let space: Namespace<'_> = items.build_first_wins(rt.alloc()).expect(&rt, "memory");
+    ///     assert!(rt; space.find(&a) == Some(1) && space.find(&b) == Some(3));
+    ///
+    /// # Errors
+    ///
+    /// `AllocError`: allocation failed.
+    ///
+    /// # Guarantees
+    ///
+    /// - `names`: each name has the position of the first item with it.
+    /// - `count`: the count is the number of items.
     pub fn build_first_wins(&self, alloc: Global) -> Result<Namespace<'a>, AllocError>
         ensures names { IfOk result (Denotes self.now) }
         ensures count { IfOk result (λ s. s.count ≡ length self.now) }
@@ -109,7 +178,8 @@ impl<'a> NamespaceBuilder<'a> {
     }
 }
 
-/// A name denotes the first item that bears it. Each look-up goes through the ids; it takes no memory.
+/// An id has the position of the first item with it. Each look-up is a linear search, and does not
+/// allocate.
 impl<'a> Numbering<'a> for NamespaceBuilder<'a> {
     ghost numbers = { λ names name. position_of name names };
 
@@ -118,7 +188,7 @@ impl<'a> Numbering<'a> for NamespaceBuilder<'a> {
     }
 }
 
-/// The number of the first pair that has this name.
+/// Returns the number of the first pair with this name.
 fn first_number<'a>(pairs: &[(Id<'a>, u32)], id: &Id<'a>) -> Option<u32>
     ensures { result ≡ first_number (name_of id.now) pairs.now }
 {
@@ -130,7 +200,7 @@ fn first_number<'a>(pairs: &[(Id<'a>, u32)], id: &Id<'a>) -> Option<u32>
     None
 }
 
-/// The first pair of each name, where pairs of one name are neighbours.
+/// Returns the first pair of each name, if pairs of one name are neighbours.
 fn first_of_each<'a>(
     alloc: Global,
     pairs: &[(Id<'a>, u32)],
@@ -150,7 +220,7 @@ fn first_of_each<'a>(
     Ok(firsts)
 }
 
-/// The least number of a pair that has the name of the one before it.
+/// Returns the least number of a pair with the same name as the pair before it.
 fn first_tie<'a>(pairs: &[(Id<'a>, u32)]) -> Option<u32>
     ensures { IsFirstTie (entries_of pairs.now) result }
 {
@@ -167,7 +237,7 @@ fn first_tie<'a>(pairs: &[(Id<'a>, u32)]) -> Option<u32>
     least
 }
 
-/// The lesser of two numbers, the first of which may be missing.
+/// Returns the lesser of two numbers, the first of which may be missing.
 fn lesser(least: Option<u32>, number: u32) -> u32
     ensures { result ≡ least_of least number }
 {

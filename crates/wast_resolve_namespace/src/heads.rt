@@ -1,5 +1,7 @@
-//! Heads of names, eight bytes as one number, by which names are sorted first, many of them behind a prefix; and their ends,
-//! by which few are told apart first.
+//! Prefix keys and suffix keys of names: eight bytes as one number.
+//!
+//! Many names are sorted by prefix keys first. A search among a few names compares suffix keys
+//! first.
 
 ghost use Rattle.std.specs.Prelude.{◌≡◌, ◌<◌, IfOk, length, map};
 ghost use Rattle.std.specs.List.Sorted.{IsPermutation};
@@ -10,17 +12,17 @@ use std::alloc::{AllocError, Global};
 use std::cmp::Ordering;
 use wast_base::Id;
 
-/// A name and its number, with the head of the name.
+/// A name and its number, with the prefix key of the name.
 #[derive(Clone, Copy)]
 struct Headed<'p, 'a> {
     head: u64,
     pair: &'p (Id<'a>, u32),
 }
 
-/// The pairs by the heads of their names, and then by the name and the number. It takes memory twice.
+/// Sorts a copy of the pairs by prefix key, then by name and number. Allocates twice.
 ///
-/// Nothing is promised of the order. It is that of the names where no two heads are told apart otherwise than the names
-/// are, as those of most names.
+/// Nothing is guaranteed about the order. It is the order of names, unless two names have different
+/// keys in another order than the names, which few names have.
 pub(crate) fn by_heads<'a>(
     alloc: Global,
     pairs: &[(Id<'a>, u32)],
@@ -34,7 +36,7 @@ pub(crate) fn by_heads<'a>(
     Ok(sorted)
 }
 
-/// The pairs, each with the head of its name behind a prefix.
+/// Pairs each name with the key of the bytes after a prefix.
 fn with_heads<'p, 'a>(
     alloc: Global,
     prefix: &[u8],
@@ -53,7 +55,7 @@ fn with_heads<'p, 'a>(
     Ok(headed)
 }
 
-/// The pairs alone.
+/// Returns the pairs without their keys.
 fn without_heads<'p, 'a>(
     alloc: Global,
     headed: &[Headed<'p, 'a>],
@@ -67,7 +69,7 @@ fn without_heads<'p, 'a>(
     Ok(pairs)
 }
 
-/// By the head, and then by the name and the number.
+/// Compares by the key, then by the name and the number.
 fn compare_headed<'p, 'a>(a: &Headed<'p, 'a>, b: &Headed<'p, 'a>) -> Ordering {
     if a.head != b.head {
         return a.head.cmp(&b.head);
@@ -75,7 +77,7 @@ fn compare_headed<'p, 'a>(a: &Headed<'p, 'a>, b: &Headed<'p, 'a>) -> Ordering {
     compare_pairs(a.pair, b.pair)
 }
 
-/// What most names are taken to begin with: the most that two of three of them begin with alike.
+/// Returns a likely common prefix: the longest one that two of three samples share.
 fn likely_prefix<'a>(names: &[(Id<'a>, u32)]) -> &'a [u8] {
     let quarter = names.len() / 4;
     let first = written_text(&names[quarter..]);
@@ -85,7 +87,7 @@ fn likely_prefix<'a>(names: &[(Id<'a>, u32)]) -> &'a [u8] {
     longer(prefix, shared(first, third))
 }
 
-/// The text of the first written name, if there is one.
+/// Returns the text of the first source id, if there is one.
 fn written_text<'a>(names: &[(Id<'a>, u32)]) -> &'a [u8] {
     match names.iter().find(|e| !e.0.is_gensym()) {
         Some(pair) => pair.0.name().as_bytes(),
@@ -93,12 +95,12 @@ fn written_text<'a>(names: &[(Id<'a>, u32)]) -> &'a [u8] {
     }
 }
 
-/// The longer one of two texts.
+/// Returns the longer one of two texts.
 fn longer<'a>(a: &'a [u8], b: &'a [u8]) -> &'a [u8] {
     if a.len() < b.len() { b } else { a }
 }
 
-/// What two texts begin with alike.
+/// Returns the longest common prefix of two texts.
 fn shared<'a>(a: &'a [u8], b: &[u8]) -> &'a [u8] {
     let most = a.len().min(b.len());
     for i in 0..most {
@@ -109,7 +111,8 @@ fn shared<'a>(a: &'a [u8], b: &[u8]) -> &'a [u8] {
     &a[..most]
 }
 
-/// The first eight bytes behind a prefix; for a text without the prefix the least number or the greatest, by its order.
+/// Returns the first eight bytes after a prefix as a number. For a text without the prefix it is
+/// the least or the greatest number, by the order of the texts.
 fn head(prefix: &[u8], text: &[u8]) -> u64 {
     let Some(rest) = text.strip_prefix(prefix) else {
         return match text.cmp(prefix) {
@@ -120,12 +123,15 @@ fn head(prefix: &[u8], text: &[u8]) -> u64 {
     leading(rest)
 }
 
-/// The first eight bytes of a text as a number, the first of them the most; missing bytes count as 0. It takes no memory.
+/// Returns the first eight bytes of a text as a number, the first one as the most significant.
+///
+/// Missing bytes count as 0: for `ab` it is 0x6162000000000000. Does not allocate.
 pub fn leading(bytes: &[u8]) -> u64 {
     first_eight(bytes)
 }
 
-/// The same, with its meaning: where the numbers of two texts differ, the texts have the order of the numbers.
+/// The same with a contract: if the numbers of two texts differ, the texts have the order of the
+/// numbers.
 #[inline(always)]
 pub(crate) fn first_eight(text: &[u8]) -> u64
     ensures { IsHead text.now result }
@@ -138,7 +144,7 @@ pub(crate) fn first_eight(text: &[u8]) -> u64
     ])
 }
 
-/// The same of a text that has fewer than eight bytes, from the last of them to the first.
+/// The same for a text of fewer than eight bytes, from the last byte to the first.
 #[inline(always)]
 fn first_few(text: &[u8]) -> u64
     requires { length text.now < 8 }
@@ -153,7 +159,7 @@ fn first_few(text: &[u8]) -> u64
     head
 }
 
-/// The last eight bytes of a text as a number, or the last byte of a text that has fewer.
+/// Returns the last eight bytes of a text as a number, or the last byte if there are fewer.
 #[inline(always)]
 pub(crate) fn ending(text: &[u8]) -> u64 {
     if text.is_empty() {

@@ -1,4 +1,26 @@
-//! Name spaces: the numbers of ids, and how a space is filled with all its items at once.
+//! Namespaces: the numbers of ids in an index space, and how to build them from all items at once.
+//!
+//! `wast_resolve_passes` builds the namespaces of a module with it, and `wast_expand_types` those
+//! of types. Callers meet [`Namespace`] through `wast_resolve`.
+//!
+//! # Example
+//!
+//!     let mut items = NamespaceBuilder::new(rt.alloc(), 0).expect(&rt, "memory");
+//!     assert!(rt; items.add(Some(written("abcdefgh2"))) == Ok(()));
+//!     let filled = items.build(rt.alloc()).expect(&rt, "memory");
+//!
+//! # Modules
+//!
+//! - `namespace`: look-ups, and adding one item at a time.
+//! - `filling`: building a namespace from all items, and finding the first duplicate id.
+//! - `sorting`, `heads`: sorting names, by their first eight bytes as one number if possible.
+//!
+//! # Guarantees
+//!
+//! - `Namespace::find`: returns the number in the model, a finite map. `Namespace::register`: E2
+//!   only if the id is in the namespace already, and success only if it is not.
+//! - `NamespaceBuilder::build`: the namespace has the position of each id, or the result is the
+//!   first duplicate.
 #![tactic(auto)]
 
 mod filling;

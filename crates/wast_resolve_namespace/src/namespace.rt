@@ -1,4 +1,4 @@
-//! A name space: the numbers of names, and how many items there are.
+//! A namespace: the number of each name, and the number of items.
 
 ghost use Rattle.std.specs.Prelude.{◌≡◌, ⊤, ◌+◌, ◌<◌, ◌≤◌, ◌^◌, ◌↔◌, IsTrue, is_some, not, Some, IfSome, IfOk, OnOk, OnErr, IfErr};
 ghost use Rattle.std.specs.FinMap as finmap;
@@ -18,16 +18,22 @@ use std::alloc::{AllocError, Global};
 use std::marker::Model;
 use wast_base::{Error, Fault, Id, Index, Numbering, number_index, place_among, try_number};
 
-/// Up to so many names are gone through for one before it is sought by halving.
+/// Up to this many names are searched linearly first, because that is faster than a binary search.
 const FEW: usize = 32;
 
-/// A name space (text format, indices): a finite map from ids to numbers, beside a count of items.
+/// A namespace: a finite map from names to numbers, and a count of items (text format: indices).
 ///
-/// Names are those of ids: an id is found whatever its place, by halving; up to 32 names are gone through for it first. A
-/// count is at most 4,294,967,295.
+/// Its model in contracts is both. Names are those of ids, without their positions. Look-ups are a
+/// binary search. Up to 32 names are searched linearly first. The count is at most 4,294,967,295.
+///
+/// # Example
+///
+///     assert!(rt; space.register(Some(written("abcdefgh1")), "func") == Ok(1));
+///     assert!(rt; space.register_specific(written("b"), 9, "func") == Ok(()));
+///     assert!(rt; space.pairs().len() == 3);
 #[derive(Drop)]
 pub struct Namespace<'a> {
-    // sorted by name
+    // Sorted by name.
     names: Vec<(Id<'a>, u32)>,
     count: u32,
 }
@@ -43,21 +49,21 @@ impl<'a> Model for Namespace<'a> {
 }
 
 impl<'a> Namespace<'a> {
-    /// No names, and a count of 0. It takes no memory.
+    /// Creates a namespace without names, with the count 0. Does not allocate.
     pub fn new(alloc: Global) -> Self
         ensures { result ≡ empty_from 0 }
     {
         Namespace::with_count(alloc, 0)
     }
 
-    /// No names, and this count. It takes no memory.
+    /// Creates a namespace without names, with this count. Does not allocate.
     pub fn with_count(alloc: Global, count: u32) -> Self
         ensures { result ≡ empty_from count }
     {
         Namespace::from_sorted(Vec::new(alloc), count)
     }
 
-    /// Sorted names, and a count.
+    /// Creates a namespace of sorted names, with this count.
     pub(crate) fn from_sorted(names: Vec<(Id<'a>, u32)>, count: u32) -> Self
         requires { AreSorted names.items }
         ensures { result ≡ record { names = finmap.from_sorted (entries_of names.entry.items); count = count } }
@@ -65,15 +71,29 @@ impl<'a> Namespace<'a> {
         Namespace { names, count }
     }
 
-    /// The number of the next item, which is the count; the count rises by one, and the item's id, if it has one, gets
-    /// this number.
+    /// Adds an item with its id, if it has one, and returns its number, which is the count before.
     ///
-    /// It needs a count below 4,294,967,295, as [`is_full`](Namespace::is_full) tells. Where the id is there already, it
-    /// answers E2 at the place of the new id, still counts, and leaves the id at the new number. E12 comes only where there
-    /// is an id, and changes nothing.
+    /// A new name moves the greater ones in memory, so n calls take time that grows with n². To
+    /// build a namespace of many items, use [`NamespaceBuilder`](crate::NamespaceBuilder).
     ///
-    /// A new name moves those that are greater, so that n names take time that grows with the square of n. The resolver
-    /// fills its spaces at once.
+    /// # Example
+    ///
+    ///     assert!(rt; space.register(Some(written("abcdefgh1")), "func") == Ok(1));
+    ///
+    /// # Requires
+    ///
+    /// The count is below 4,294,967,295: [`is_full`](Namespace::is_full) returns `false`.
+    ///
+    /// # Errors
+    ///
+    /// - E2 at the position of the id, only if the namespace has the name already. `desc` is the
+    ///   kind of item in the message. The item is still counted, and the name has the new number.
+    /// - E12: allocation failed, only if there is an id. The namespace is unchanged then.
+    ///
+    /// # Guarantees
+    ///
+    /// - `answer`: success means that the name was not in the namespace, and the errors are these.
+    /// - `state`: the new namespace is the one described.
     pub fn register(&mut self, id: Option<Id<'a>>, desc: &'a str) -> Result<u32, Error<'a>>
         requires { self.old.count + 1 < 2 ^ 32 }
         ensures answer { Gives (IsTrue (is_some id.entry)) (first_unmet (new_item self.old desc.now (mark_of_option id.entry))) self.old.count result }
@@ -91,9 +111,12 @@ impl<'a> Namespace<'a> {
         Ok(number)
     }
 
-    /// The number of the next item, which has no id and is the count; the count rises by one.
+    /// Adds an item without an id, and returns its number, which is the count before. Does not
+    /// allocate.
     ///
-    /// It needs a count below 4,294,967,295, as [`is_full`](Namespace::is_full) tells.
+    /// # Requires
+    ///
+    /// The count is below 4,294,967,295: [`is_full`](Namespace::is_full) returns `false`.
     pub fn alloc(&mut self) -> u32
         requires { self.old.count + 1 < 2 ^ 32 }
         ensures number { result ≡ self.old.count }
@@ -103,17 +126,32 @@ impl<'a> Namespace<'a> {
         self.count - 1
     }
 
-    /// Whether the count is 4,294,967,295, so that no further item can be counted. It takes no memory.
+    /// Returns whether the count is 4,294,967,295, so that no more items can be added. Does not
+    /// allocate.
     pub fn is_full(&self) -> bool
         ensures { IsTrue result ↔ (2 ^ 32 ≤ self.now.count + 1) }
     {
         self.count == u32::MAX
     }
 
-    /// Gives an id this number; the count stays.
+    /// Sets the number of an id, and leaves the count unchanged.
     ///
-    /// Where the id is there already, it answers E3 at the place of the new id, and sets its number too. E12 changes
-    /// nothing.
+    /// For example, the fields of a struct are numbered with it.
+    ///
+    /// # Example
+    ///
+    ///     assert!(rt; space.register_specific(written("b"), 9, "func") == Ok(()));
+    ///
+    /// # Errors
+    ///
+    /// - E3 at the position of the id, only if the namespace has the name already. The name has the
+    ///   new number then.
+    /// - E12: allocation failed. The namespace is unchanged then.
+    ///
+    /// # Guarantees
+    ///
+    /// - `answer`: success means that the name was not in the namespace, and the errors are these.
+    /// - `state`: the new namespace is the one described.
     pub fn register_specific(
         &mut self,
         id: Id<'a>,
@@ -130,9 +168,10 @@ impl<'a> Namespace<'a> {
         Ok(())
     }
 
-    /// The number of an index: a number is its own, and an id that is known is replaced by its number, at the id's place.
+    /// Returns the number of an index, and replaces a known id by its number.
     ///
-    /// It is `None` for an unknown id, and then the index stays. It takes no memory.
+    /// A number is returned as it is. The new index keeps the position of the id. For an unknown id
+    /// the result is `None`, and the index is unchanged. Does not allocate.
     pub fn try_resolve(&self, idx: &mut Index<'a>) -> Option<u32>
         ensures number { result ≡ denoted (number_in self.now) idx.old }
         ensures index { idx.new ≡ resolved_index (number_in self.now) idx.old }
@@ -140,10 +179,24 @@ impl<'a> Namespace<'a> {
         try_number(self, idx)
     }
 
-    /// The number of an index, as [`Namespace::try_resolve`] gives it.
+    /// Returns the number of an index, and replaces an id by its number. An unknown id is an error.
     ///
-    /// It needs that a generated id is known. An unknown id is E4 at its place, with `desc` for what was looked for, and
-    /// then the index stays. It takes no memory.
+    /// The new index keeps the position of the id, as in [`Namespace::try_resolve`]. Does not
+    /// allocate.
+    ///
+    /// # Requires
+    ///
+    /// A generated id is in the namespace. Numbers and ids from the source always qualify.
+    ///
+    /// # Errors
+    ///
+    /// E4 at the position of the id, if the namespace does not have it. `desc` is the kind of item
+    /// in the message. The index is unchanged then.
+    ///
+    /// # Guarantees
+    ///
+    /// - `number`: the number is that of the index. `index`: the new index is the one described.
+    /// - `refusal`: an error is E4, and then the id is unknown.
     pub fn resolve(&self, idx: &mut Index<'a>, desc: &'a str) -> Result<u32, Error<'a>>
         requires { IsTrue (is_settled_index (number_in self.now) idx.old) }
         ensures number { IfOk result (λ n. denoted (number_in self.now) idx.old ≡ Some n) }
@@ -153,15 +206,22 @@ impl<'a> Namespace<'a> {
         number_index(self, idx, desc)
     }
 
-    /// The ids with their numbers, each once: by the bytes of the names, then written before generated, then by
-    /// generation. It takes no memory.
+    /// Returns each name with its number, in the order of names. Does not allocate.
+    ///
+    /// The order is by the bytes of the text, then source ids before generated ones, then by
+    /// generation.
     pub fn pairs(&self) -> &[(Id<'a>, u32)]
         ensures { entries_of result.now ≡ finmap.entries self.now.names }
     {
         &self.names
     }
 
-    /// The number of an id, if the id is known; its place does not count. It takes no memory.
+    /// Returns the number of an id, if the namespace has it. Its position is ignored. Does not
+    /// allocate.
+    ///
+    /// # Example
+    ///
+    ///     assert!(rt; space.find(&a) == Some(1) && space.find(&b) == Some(3));
     pub fn find(&self, id: &Id<'a>) -> Option<u32>
         ensures { result ≡ number_in self.now (name_of id.now) }
     {
@@ -171,7 +231,8 @@ impl<'a> Namespace<'a> {
         }
     }
 
-    /// Sets the number of a name, and gives the one before. Where memory is refused nothing changes.
+    /// Sets the number of a name, and returns the number before. If allocation fails, nothing
+    /// changes.
     fn put(&mut self, id: Id<'a>, number: u32) -> Result<Option<u32>, AllocError>
         ensures before { IfOk result (λ before. before ≡ number_in self.old (name_of id.entry)) }
         ensures ok { OnOk result (self.new ≡ named self.old (name_of id.entry) number) }
@@ -190,7 +251,9 @@ impl<'a> Numbering<'a> for Namespace<'a> {
     }
 }
 
-/// The place of a name among sorted names, or the place where it would go; few names are first gone through for it.
+/// Returns the position of a name among sorted names, or the position to insert it.
+///
+/// Few names are searched linearly first.
 fn sought<'a>(names: &[(Id<'a>, u32)], id: &Id<'a>) -> Result<usize, usize>
     requires { AreSorted names.now }
     ensures { IsPlace names.now (key_of (name_of id.now)) result }
@@ -203,10 +266,10 @@ fn sought<'a>(names: &[(Id<'a>, u32)], id: &Id<'a>) -> Result<usize, usize>
     place_of(names, id)
 }
 
-/// The place of a name among sorted names, if it stands there.
+/// Returns the position of a name among sorted names, by a linear search that may miss it.
 ///
-/// Whole names are compared only where their lengths and their ends are the same, so most names are passed over in a few
-/// instructions. Nothing is promised where no place is given.
+/// Whole names are compared only if their lengths and their last bytes are equal. So most names are
+/// skipped in a few instructions. Nothing is guaranteed if the result is `None`.
 fn seen_among<'a>(names: &[(Id<'a>, u32)], id: &Id<'a>) -> Option<usize>
     requires { AreSorted names.now }
     ensures { IfSome result (IsAt names.now (key_of (name_of id.now))) }
@@ -222,7 +285,8 @@ fn seen_among<'a>(names: &[(Id<'a>, u32)], id: &Id<'a>) -> Option<usize>
     None
 }
 
-/// The place of a name among sorted names, or the place where it would go, by halving.
+/// Returns the position of a name among sorted names, or the position to insert it, by binary
+/// search.
 fn place_of<'a>(names: &[(Id<'a>, u32)], id: &Id<'a>) -> Result<usize, usize>
     requires { AreSorted names.now }
     ensures { IsPlace names.now (key_of (name_of id.now)) result }
@@ -235,7 +299,8 @@ fn place_of<'a>(names: &[(Id<'a>, u32)], id: &Id<'a>) -> Result<usize, usize>
     }
 }
 
-/// Sets the number of a name among sorted names, and gives the one before. Where memory is refused nothing changes.
+/// Sets the number of a name among sorted names, and returns the number before. If allocation
+/// fails, nothing changes.
 fn put_among<'a>(
     names: &mut Vec<(Id<'a>, u32)>,
     id: Id<'a>,
@@ -259,7 +324,13 @@ fn put_among<'a>(
     }
 }
 
-/// E4 at the place of an id: nothing of this kind bears its name. It needs a written id.
+/// Returns E4 at the position of an id: the id is not defined.
+///
+/// `ns` is the kind of item in the message, such as `func`.
+///
+/// # Requires
+///
+/// An id from the source, because a generated id has no text for the message.
 pub fn resolve_error<'a>(id: Id<'a>, ns: &'a str) -> Error<'a>
     requires { IsTrue (not (is_generated (name_of id))) }
     ensures { diagnostic_of result ≡ At (Unknown ns.now (text_of (name_of id.entry))) (place_of id.entry) }

@@ -1,4 +1,4 @@
-//! Pairs of names and numbers in their order.
+//! Sorts pairs of names and numbers.
 
 ghost use Rattle.std.specs.Prelude.{◌≡◌, ◌+◌, ◌<◌, ◌≤◌, IsTrue, IfOk, length};
 ghost use Rattle.std.specs.Ordering.{is_lt};
@@ -14,13 +14,13 @@ use std::alloc::{AllocError, Global};
 use std::cmp::Ordering;
 use wast_base::{Id, compare_names};
 
-/// Up to so many pairs are sorted where they stand.
+/// Up to this many pairs are sorted in one array.
 const FEW: usize = 20;
 
-/// The pairs by the name, and then by the number. It takes memory only where they are not few.
+/// Sorts pairs by name, then by number. Allocates only if there are more than 20.
 ///
-/// They are sorted by the heads of their names, because numbers are compared faster than names: few where they stand, many
-/// in a copy.
+/// Pairs are compared by the first eight bytes of their names first, because numbers are compared
+/// faster than names.
 pub(crate) fn in_order<'a>(
     alloc: Global,
     pairs: Vec<(Id<'a>, u32)>,
@@ -36,7 +36,8 @@ pub(crate) fn in_order<'a>(
     Ok(pairs)
 }
 
-/// The same in a copy, for many: by the heads of their names, and again by whole names where heads do not tell their order.
+/// Sorts a copy of many pairs, by prefix key first, and again by name if that is not the order of
+/// names.
 fn many_in_order<'a>(
     alloc: Global,
     pairs: &[(Id<'a>, u32)],
@@ -52,9 +53,9 @@ fn many_in_order<'a>(
     Ok(sorted)
 }
 
-/// Sorts at most 20 pairs by the name, and then by the number.
+/// Sorts at most 20 pairs by name, then by number, without allocation.
 ///
-/// It notes the head of each name once, and puts each pair back among those before it.
+/// It computes the key of each name once, and moves each pair back among those before it.
 fn put_few_in_order<'a>(pairs: &mut [(Id<'a>, u32)])
     requires { length pairs.old ≤ 20 }
     ensures permutation { IsPermutation pairs.old pairs.new }
@@ -67,7 +68,7 @@ fn put_few_in_order<'a>(pairs: &mut [(Id<'a>, u32)])
     }
 }
 
-/// Puts a pair back among those before it, which are sorted, step by step; its head goes with it.
+/// Moves a pair back among the sorted pairs before it, step by step, with its key.
 fn put_back<'a>(pairs: &mut [(Id<'a>, u32)], heads: &mut [u64; FEW], last: usize)
     requires within { last < length pairs.old }
     requires few { length pairs.old ≤ 20 }
@@ -88,7 +89,8 @@ fn put_back<'a>(pairs: &mut [(Id<'a>, u32)], heads: &mut [u64; FEW], last: usize
     }
 }
 
-/// Whether a pair comes before another: by the heads of their names, or by whole names and numbers where the heads are the same.
+/// Returns whether a pair comes before another: by their keys, or by name and number if the keys
+/// are equal.
 #[inline(always)]
 fn comes_before<'a>(pair: &(Id<'a>, u32), head: u64, other: &(Id<'a>, u32), other_head: u64) -> bool
     requires head { IsHead (text_of (name_of pair.now.0)) head }
@@ -101,7 +103,7 @@ fn comes_before<'a>(pair: &(Id<'a>, u32), head: u64, other: &(Id<'a>, u32), othe
     compare_pairs(pair, other).is_lt()
 }
 
-/// Whether no pair comes after the next one, by the name and then by the number.
+/// Returns whether the pairs are sorted by name, then by number.
 fn are_in_order<'a>(pairs: &[(Id<'a>, u32)]) -> bool
     ensures { IsTrue result → AreRanked pairs.now }
 {
@@ -113,7 +115,7 @@ fn are_in_order<'a>(pairs: &[(Id<'a>, u32)]) -> bool
     true
 }
 
-/// Sorts by the name, and then by the number.
+/// Sorts pairs by name, then by number.
 fn put_in_order<'a>(pairs: &mut Vec<(Id<'a>, u32)>)
     ensures permutation { IsPermutation pairs.old.items pairs.new.items }
     ensures sorted { AreRanked pairs.new.items }
@@ -121,7 +123,7 @@ fn put_in_order<'a>(pairs: &mut Vec<(Id<'a>, u32)>)
     pairs.sort_unstable_by(|a, b| compare_pairs(a, b));
 }
 
-/// By the name, and then by the number.
+/// Compares pairs by name, then by number.
 pub(crate) fn compare_pairs<'a>(a: &(Id<'a>, u32), b: &(Id<'a>, u32)) -> Ordering
     ensures { result ≡ pair_cmp key_cmp (entry_of a.now) (entry_of b.now) }
 {

@@ -1,5 +1,5 @@
-//! Calls that take memory, with ample memory: no contract says that they get it. Many names, whose heads no contract
-//! speaks of.
+//! Tests with enough memory, because contracts permit each call to fail; and tests with many names,
+//! because no contract is about prefix keys.
 
 use crate::{Namespace, NamespaceBuilder};
 use std::alloc::Global;
@@ -33,14 +33,14 @@ fn of_several_items_of_one_name_the_first_is_known(rt: HostRuntime) {
     assert!(rt; space.pairs().len() == 2);
 }
 
-/// A generated id.
+/// Returns a generated id.
 fn generated<'a>(rt: &impl Abort, generation: u64) -> Id<'a> {
     assert!(rt; generation > 0);
     let made = Gensym::new(generation).generate(Span { offset: 7 });
     made.expect(rt, "a generation below the greatest")
 }
 
-/// The items of these ids, each after one that has none.
+/// Adds these ids, each after an item without one.
 fn gathered<'a>(rt: &impl Abort, alloc: Global, ids: &[Id<'a>]) -> NamespaceBuilder<'a> {
     let mut items = NamespaceBuilder::new(alloc, ids.len()).expect(rt, "memory");
     for id in ids {
@@ -52,7 +52,7 @@ fn gathered<'a>(rt: &impl Abort, alloc: Global, ids: &[Id<'a>]) -> NamespaceBuil
     items
 }
 
-/// Each id is found at its position, and its name stands in order.
+/// Checks that each id is found at its position, and that the names are sorted.
 fn check_all_are_found<'a>(rt: &impl Abort, alloc: Global, ids: &[Id<'a>]) {
     let none = gathered(rt, alloc, ids).first_clash(alloc);
     assert!(rt; none.expect(rt, "memory") == None);
@@ -71,7 +71,7 @@ fn check_all_are_found<'a>(rt: &impl Abort, alloc: Global, ids: &[Id<'a>]) {
     }
 }
 
-/// Where the id of the middle stands again at the end, that is the first clash.
+/// Checks that an id of the middle, added again at the end, is the first duplicate.
 fn check_clash_is_told<'a>(rt: &impl Abort, alloc: Global, ids: &[Id<'a>]) {
     let mut twice = ids.to_vec(alloc).expect(rt, "memory");
     assert!(rt; ids.len() > 0);
@@ -120,7 +120,7 @@ fn many_names_are_told_apart(rt: HostRuntime) {
     }
 }
 
-/// Texts and generations of one slot, where there are 24 names.
+/// Texts and generations that have the same slot in a table of cached positions for 24 names.
 #[test]
 fn names_of_one_slot_are_found(rt: HostRuntime) {
     let mut ids = Vec::new(rt.alloc());

@@ -1,4 +1,4 @@
--- An access to a field of a struct: its type denotes a number where it is known, and what stands at that number is read of types.
+-- A struct field access: its type has a number if it is known, and the type with that number is read.
 use Rattle.std.proofs.Common.{◌≡◌, ℕ, List, Option, Some, None, Result, Ok, Err, IfErr, option_map, slice_get, is_some, codes, refl, sym, ap, ◌∙◌, subst}
 use Rattle.std.specs.Option.{option_copied}
 use Rattle.std.specs.Borrow.{Bor}
@@ -26,7 +26,7 @@ pub owner_met : (c : Scope) (owner : Index) {n : ℕ} → denoted (c.known.numbe
 owner_met c (index.Num m p) is = refl
 owner_met c (index.Id id) is = ap (λ o. first_unmet (unknown_demand (word_of space.Ty) (mark_of id) (is_some o))) is
 
--- the names of the fields of a type that has no signature
+-- the ids of the fields of a type without a signature
 pub fields_seen : (s : Option Signature) (f : Option NameSpace) (r : Option (Bor NameSpace)) → s ≡ None → option_copied r ≡ f → IsFieldsOf (Some (shape_by s f)) (option_map (λ n. n.now) r)
 fields_seen (Some s) f r none is = absurd (cc none)
 fields_seen None None None none is = refl
@@ -37,7 +37,7 @@ fields_seen None (Some ns) (Some n) none is = ap (λ m. Some (number_in m)) (som
     some_is : (a b : NameSpace) → Some a ≡ Some b → a ≡ b
     some_is a b h = cc h
 
--- a name that is looked up among the fields of a struct, where these have names
+-- the look-up of an id among the fields of a struct
 named_walked : (o : Option Shape) (n : ℕ) (id : Id) (names : NameSpace) (new : Index) (r : Result (Unit {0}) Error) → IsFieldsOf o (Some names)
     → Outcome ⊥ ⊥ (first_unmet (known_index (number_in names) (codes "field") (index.Id id))) r → new ≡ resolved_index (number_in names) (index.Id id)
     → Walks ⊥ ⊥ (named_field n o (mark_of id)) (resolved_index (field_in o) (index.Id id)) new r
@@ -58,7 +58,7 @@ field_walked types n (index.Num m p) names new (Ok x) h met is = (met, is)
 field_walked types n (index.Num m p) names new (Err e) h unmet is = unmet
 field_walked types n (index.Id id) names new r h told is = named_walked (slice_get types n) n id names new r h told is
 
--- what is demanded of an index alone
+-- the check of an index alone
 asked_alone : (k : IdContext) (s : Space) (i : Index) → first_unmet (known_index (k.number s) (word_of s) i) ≡ first_unmet (ask_demands k (in_index s i))
 asked_alone k s (index.Num n p) = refl
 asked_alone k s (index.Id id) = refl

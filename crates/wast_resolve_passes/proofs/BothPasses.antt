@@ -1,4 +1,4 @@
--- The walk over the uses, after the items had what they demand.
+-- The walk over the uses, after the checks of items have passed.
 use Rattle.std.specs.Prelude.{⊤, flat_map}
 use Rattle.std.proofs.Common.{◌≡◌, List, None, inl, inr, sym, ◌∙◌, ap, subst, map}
 use Rattle.wast_base.specs.declared.faults.Error.{Error}
@@ -16,7 +16,7 @@ use Rattle.wast_resolve_rules.proofs.Counted.{many_right}
 use Rattle.wast_resolve_passes.proofs.Shaping.{types_met, types_many}
 use Rattle.wast_resolve_rules.proofs.Unmet.{first_unmet-append, answers_first, answers_after, answers_more}
 
--- gs are the fields that were read, k what is known
+-- gs are the fields that were read, k is the identifier context
 module _ (fs gs : List ModuleField) (p : gs ≡ fs) where
   pub items_stop : (t : Diagnostic) → Answers ⊤ (HasManyItems gs) t (first_unmet (item_demands (items gs))) → Answers ⊤ (IsCrowded fs) t (first_unmet (name_demands fs))
   items_stop t h =
@@ -29,7 +29,7 @@ module _ (fs gs : List ModuleField) (p : gs ≡ fs) where
   pub items_known : (k : IdContext) → k ≡ id_context (items gs) → k ≡ id_context (items fs)
   items_known k h = h ∙ ap (λ xs. id_context (items xs)) p
 
--- the name spaces, and what was read of the types behind them
+-- the index spaces, and the types after them
 pub scope_known : (fs : List ModuleField) (r names : Resolution) (types : List TypeShape) → known_of r ≡ id_context (items fs) → map read_shape types ≡ shapes_of_types fs → names ≡ with_types r types → scope_of names ≡ module_scope fs
 scope_known fs r names types k t is = ap scope_of is ∙ (λ i. record { known = k i; types = t i })
 
@@ -42,7 +42,7 @@ module _ (fs : List ModuleField) (c : Scope) (same : c ≡ module_scope fs) (met
   pub both_pass : first_unmet (site_demands c (in_module fs)) ≡ None → first_unmet (name_demands fs) ≡ None
   both_pass h = first_unmet-append (item_demands (items fs)) (site_demands (module_scope fs) (in_module fs)) met ∙ (ap (λ (c : Scope). first_unmet (site_demands c (in_module fs))) (sym same) ∙ h)
 
--- what is read of the types, once no two items and no two fields of a struct have one name; it may be refused
+-- what is read of the types, if no two items and no two fields of a struct have the same id; it may fail
 module _ (fs gs : List ModuleField) (p : gs ≡ fs) (met : first_unmet (item_demands (items fs)) ≡ None) where
   pub shapes_need : first_unmet (flat_map types_demands gs) ≡ None
   shapes_need = subst (λ (xs : List ModuleField). first_unmet (flat_map types_demands xs) ≡ None) (sym p) (types_met fs met)

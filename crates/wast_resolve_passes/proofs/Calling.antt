@@ -1,4 +1,4 @@
--- Calls on the indices of parts that stand one after the other.
+-- Calls on the indices of consecutive parts.
 use Rattle.std.proofs.Common.{◌≡◌, ℕ, List, [], ◌∷◌, ◌++◌, not, refl, sym, ap, ◌∙◌, append-nil, flat_map, Result, Ok, Err, Option, Some, None}
 use Rattle.std.proofs.lemmas.List.Elements.{Contains-append_left, Contains-append_right}
 use native.Mathlib.Omega.{arith}
@@ -36,7 +36,7 @@ module _ {C : Type 0} {called : C → Index → C → Index → Result ℕ Error
   pub first_refused : {a b : C} {xs ys : List Check} {e : Error} (zs : List Check) → CallsOn called a xs b ys (Err e) → CallsOn called a (xs ++ zs) b (ys ++ zs) (Err e)
   first_refused {xs = xs} {ys = ys} zs h = record { calls = rw (indices-append xs zs, indices-append ys zs) (calls_stop (indices_of zs) h.calls) }
 
-  -- an id of which nothing is asked, before what is
+  -- an id without a check, before other parts
   pub past_id : {a b : C} {xs ys : List Check} {result : Result (Unit {0}) Error} (id : Option Id) → CallsOn called a xs b ys result → CallsOn called a (if_there in_id id ++ xs) b (if_there in_id id ++ ys) result
   past_id None h = h
   past_id (Some id) h = record { calls = h.calls }
@@ -54,7 +54,7 @@ module _ {C : Type 0} {needs : C → Index → Type 0} where
   pub needs_kept : {a b : C} {xs : List Check} → ((i : Index) → needs a i → needs b i) → HasNeeds needs a xs → HasNeeds needs b xs
   needs_kept f h = record { each = λ i in_xs. f i (h.each i in_xs) }
 
--- what is asked in a type, but for its forms
+-- the checks of a type, without those of its constructs
 abbrev pub asked_in_def : TypeDef → List Check
 asked_in_def d = flat_map (in_index space.Ty) d.parents ++ (if_there (in_index space.Ty) d.descriptor ++ (if_there (in_index space.Ty) d.describes ++ in_inner d.kind))
 
@@ -65,7 +65,7 @@ descriptor_alike : (o : Option Index) → indices_of (if_there in_descriptor o) 
 descriptor_alike None = refl
 descriptor_alike (Some i) = refl
 
--- has the same indices
+-- they have the same indices
 def_alike : (d : TypeDef) → indices_of (in_def d) ≡ indices_of (asked_in_def d)
 def_alike d =
     let last : List Check = Covered form.Shared (not d.shared) ∷ [] in
@@ -75,7 +75,7 @@ def_alike d =
     (both_alike (if_there in_descriptor d.descriptor) (if_there in_descriptor d.describes ++ (in_inner d.kind ++ last)) (at d.descriptor) (at d.describes ++ in_inner d.kind) (descriptor_alike d.descriptor)
     (both_alike (if_there in_descriptor d.describes) (in_inner d.kind ++ last) (at d.describes) (in_inner d.kind) (descriptor_alike d.describes) (indices-append (in_inner d.kind) last ∙ append-nil (indices_of (in_inner d.kind)))))
 
--- so the calls on them are those, and so is what they need
+-- so the calls on the indices are the same, and so is their requirement
 pub calls_in_def : {C : Type 0} {called : C → Index → C → Index → Result ℕ Error → Type 0} {a b : C} {result : Result (Unit {0}) Error} (d e : TypeDef)
     → CallsOn called a (asked_in_def d) b (asked_in_def e) result → CallsOn called a (in_def d) b (in_def e) result
 calls_in_def d e h = record { calls = rw (def_alike d, def_alike e) h.calls }

@@ -1,4 +1,4 @@
--- Calls on the indices of each part of a list, in its place.
+-- The loop invariant of calls on the indices of each part of a list.
 use Rattle.std.proofs.Common.{◌≡◌, ℕ, suc, ◌+◌, ◌<◌, List, [], ◌∷◌, ◌++◌, refl, sym, ap, ◌∙◌, subst, length, map, get_or, drop, take, arith, add-one, Result, Ok, Err}
 use Rattle.std.proofs.Math.ListN.{set, length-set}
 use Rattle.std.proofs.Math.Seq.{drop-cons, take-suc}
@@ -11,7 +11,7 @@ use Rattle.wast_resolve_passes.specs.Tree.{Index}
 use Rattle.wast_resolve_rules.specs.CoreTypes.{CallsOn, HasNeeds}
 use Rattle.wast_resolve_passes.proofs.Calling.{calls_on_none, calls_on_both, first_refused, needs_first, needs_second, needs_kept}
 
--- the calls on the first i parts of olds are made, and nows is what there is then
+-- the calls on the first i parts of olds are done, and nows is the list after that
 pub record IsCalledOn {C X : Type 0} (needs : C → Index → Type 0) (called : C → Index → C → Index → Result ℕ Error → Type 0) (f : X → List Check) (w : X → X) (a : C) (olds : List X) (b : C) (nows : List X) (i : ℕ) : Type 0 where
   pub len : length nows ≡ length olds
   pub left : drop i nows ≡ drop i olds
@@ -26,7 +26,7 @@ module _ {C X : Type 0} {needs : C → Index → Type 0} {called : C → Index �
   pub begins : {a : C} {olds : List X} → IsCalledOn needs called f w a olds a olds 0
   begins = record { len = refl; left = refl; calls = calls_on_none; rest = refl; kept = λ k h. h }
 
-  -- the next part, which is as it was, and the lists about it
+  -- the next part, which is unchanged, and the lists around it
   same_part : {a b : C} {olds nows : List X} {i : ℕ} (x : X) → IsCalledOn needs called f w a olds b nows i → i < length olds → x ≡ get_or nows i x → get_or olds i x ≡ x
   same_part {olds = olds} {nows = nows} {i = i} x p lt is =
       let now : drop i nows ≡ get_or nows i x ∷ drop (suc i) nows = drop-cons nows i x (omega (arith, p.len)) in
@@ -51,7 +51,7 @@ module _ {C X : Type 0} {needs : C → Index → Type 0} {called : C → Index �
       sym (take-append-drop (i + 1) (set nows i y))
       ∙ (ap (λ zs. zs ++ drop (i + 1) (set nows i y)) front ∙ (ap (λ zs. (take i nows ++ y ∷ []) ++ zs) back ∙ append_assoc (take i nows) (y ∷ []) (drop (suc i) olds)))
 
-  -- the next part has what is needed
+  -- the next part has what the calls require
   pub next_needs : {a b : C} {olds nows : List X} {i : ℕ} {x : X} → IsCalledOn needs called f w a olds b nows i → i < length olds → x ≡ get_or nows i x → HasNeeds needs a (flat_map f olds) → HasNeeds needs b (f x)
   next_needs {a = a} {olds = olds} {i = i} {x = x} p lt is h =
       let about = ap (flat_map f) (before_is x p lt is) ∙ flat_map-append f (take i olds) (x ∷ drop (suc i) olds) in

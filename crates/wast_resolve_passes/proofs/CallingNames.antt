@@ -1,4 +1,4 @@
--- Calls that look indices up by what a module makes known number them, and answer the first demand that is not met.
+-- Calls that look up indices in an identifier context number them, and fail with the first check that fails.
 use Rattle.std.proofs.Common.{◌≡◌, ℕ, zero, suc, arith, Bool, true, false, ◌&&◌, List, [], ◌∷◌, ◌++◌, refl, sym, ap, ◌∙◌, subst, map, Result, Ok, Err, Some, None}
 use Rattle.std.specs.List.{flat_map, Contains}
 use Rattle.wast_base.specs.declared.faults.Error.{Error}
@@ -36,7 +36,7 @@ both_true : (a b : Bool) → (a && b) ≡ true → (a ≡ true) × (b ≡ true)
 both_true true b h = (refl, h)
 both_true false b h = absurd (cc h)
 
--- what is settled of asks is settled of each index among them
+-- a condition on checks holds for each index among them
 settled_each : (k : IdContext) (asks : List Check) → are_settled k (map as_type asks) ≡ true → (i : Index) → Contains (indices_of asks) i → IsSettledFor k space.Ty i
 settled_each k [] h i (n, lt, is) = absurd (omega (arith, lt))
 settled_each k (InnerIndex j ∷ asks) h i c = settled_each k asks h i c
@@ -73,7 +73,7 @@ module _ {C : Type 0} (known_by : C → IdContext) where
       second_fails (type_demand k) (i ∷ []) is ⊥ ⊥ (diagnostic_of e) (denoted_met k i n h.1.number) (subst (λ c. Answers ⊥ ⊥ (diagnostic_of e) (first_unmet (flat_map (type_demand (known_by c)) is))) h.0 (first_unknown t))
   first_unknown {a} {e = e} (refused {i = i} {is = is} h) = first_fails (type_demand (known_by a)) (i ∷ []) is ⊥ ⊥ (diagnostic_of e) h.1.refusal
 
-  -- and the resolver stays
+  -- and the resolver does not change
   kept : {a b : C} {is js : List Index} {result : Result (Unit {0}) Error} → Calls (LooksTypesUp known_by) a is b js result → b ≡ a
   kept none_left = refl
   kept (answered h t) = kept t ∙ h.0
@@ -82,7 +82,7 @@ module _ {C : Type 0} (known_by : C → IdContext) where
   pub calls_kept : {a b : C} {xs ys : List Check} {result : Result (Unit {0}) Error} → CallsOn (LooksTypesUp known_by) a xs b ys result → CallsOn (LooksTypesUp known_by) a xs a ys result
   calls_kept {a = a} {xs = xs} {ys = ys} {result = result} c = subst (λ b. CallsOn (LooksTypesUp known_by) a xs b ys result) (kept c.calls) c
 
-  -- so they walk over a part of a type
+  -- so they are a walk over a part of a type
   pub calls_walk : {T : Type 0} {asks : T → List Check} {changed : Indices → T → T} {a b : C} {x y : T} (result : Result (Unit {0}) Error) → IsTypePart asks changed
       → CallsOn (LooksTypesUp known_by) a (asks x) b (asks y) result → changed blank y ≡ changed blank x → Walks ⊥ ⊥ (ask_demands (known_by a) (asks x)) (changed (numbered_at (known_by a)) x) y result
   calls_walk {a = a} {x = x} {y = y} (Ok u) p c rest =

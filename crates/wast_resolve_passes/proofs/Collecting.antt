@@ -1,4 +1,4 @@
--- What is gathered of the items of each space, one after the other.
+-- The items that are collected for each space, one after another.
 use Rattle.std.proofs.Common.{◌≡◌, ℕ, ◌≤◌, List, [], ◌∷◌, ◌++◌, refl, sym, ap, ◌∙◌, subst, append-nil, append_assoc, arith, length, length-append}
 use Rattle.std.specs.Prelude.{Option, Result, Ok, Err}
 use Rattle.wast_base.specs.declared.faults.Error.{Error}
@@ -10,7 +10,7 @@ use Rattle.wast_tree_visit.specs.Visits.{TellsEach, Visits}
 use Rattle.wast_resolve_passes.specs.Tree.{Space}
 use Rattle.wast_resolve_passes.specs.Gathers.{Stops, Gathers, GathersItem, gathered_of}
 
--- what begins earlier and ends later stops for the same reason
+-- a part that begins earlier and ends later fails for the same reason
 pub stops_more : (t : Diagnostic) (a b n m : ℕ) → b ≤ a → n ≤ m → Stops t a n → Stops t b m
 stops_more t a b n m early late h = grind (arith)
 
@@ -40,7 +40,7 @@ gathered_each slots a b (x ∷ xs) h is =
     let rest = gathered_each slots h.0 b xs h.1.1 (one.slots ∙ is) in
     (rest.0, λ s. gathers_both (gathered_of (slots a) s) (gathered_of (slots h.0) s) (gathered_of (slots b) s) (name_in s x) (names_in s xs) (one.each is s) (rest.1 s))
 
--- all that a visitor gathered, of each space
+-- all that a visitor has collected, for each space
 pub gathered_told : {V : Type 0} (slots : V → List (Result (List (Option Name)) Error)) {a b : V} {xs : List Item} → Visits (λ old x new. GathersItem (slots old) x (slots new)) a xs b → length (slots a) ≡ 8
     → (length (slots b) ≡ 8) × ((s : Space) → Gathers (gathered_of (slots a) s) (names_in s xs) (gathered_of (slots b) s))
 gathered_told slots {a} {b} {xs} h is = gathered_each slots a b xs h.tells is

@@ -1,4 +1,4 @@
--- The names of parameters and locals, one after the other, and the first that is there already.
+-- The ids of parameters and locals, one after another, and the first duplicate.
 use Rattle.std.proofs.Common.{◌≡◌, ℕ, zero, suc, ◌+◌, ◌<◌, ◌≤◌, Bool, true, false, List, [], ◌∷◌, ◌++◌, map, length, get_or, drop, length-append, length-drop, append_assoc, Option, Some, None, refl, sym, ap, ◌∙◌, subst, arith}
 use Rattle.std.specs.Prelude.{not, cond, codes, slice_index_or}
 use Rattle.std.proofs.Math.Seq.{get_or-append_seam, take-append_seam, drop-cons}
@@ -18,7 +18,7 @@ use Rattle.wast_base.specs.declared.faults.Error.{Error}
 use Rattle.std.specs.Prelude.{Result}
 use Rattle.wast_resolve_passes.proofs.Collecting.{stops_more}
 
--- what is unmet first, by the position of the first clash
+-- the first check that fails, from the position of the first duplicate
 abbrev pub by_clash : List (Option Mark) → Option ℕ → Option (Cause × Span)
 by_clash ms None = None
 by_clash ms (Some p) = said_of (slice_index_or ms p None)
@@ -35,7 +35,7 @@ abbrev name_or : Name → Option Name → Name
 name_or d None = d
 name_or d (Some n) = n
 
--- the name of a clash stands before it
+-- the name of a duplicate occurs before it
 borne_here : (before rest : List (Option Name)) (q : Name) → IsClash (before ++ Some q ∷ rest) (length before) → is_borne q before ≡ true
 borne_here before rest q c =
     let same : Some c.name ≡ Some q = sym c.bears ∙ get_or-append_seam before (Some q) rest None in
@@ -99,7 +99,7 @@ stops_at f t a begun xs i x o lt is same whole h =
     let early : length begun ≤ length a = omega (arith, ap length whole, length-append a (map f (drop i xs)), length-append begun (map f xs), length-map (drop i xs) f, length-map xs f, length-drop i xs) in
     stops_more t (length a) (length begun) (length (a ++ o ∷ [])) (length (begun ++ map f xs)) early (omega (arith, long, length-append a (o ∷ []), length-append a (f x ∷ map f (drop (suc i) xs)))) h
 
--- the names of what is declared
+-- the names of declarations
 each_name : {X : Type 0} (h : X → Option Mark) (zs : List X) → map (λ x. name_if (h x)) zs ≡ names (map h zs)
 each_name h [] = refl
 each_name h (z ∷ zs) = ap (λ ns. name_if (h z) ∷ ns) (each_name h zs)
@@ -108,12 +108,12 @@ module _ {A B : Type 0} (f : A → Option Mark) (g : B → Option Mark) (xs : Li
   pub names_are : map (λ x. name_if (f x)) xs ++ map (λ y. name_if (g y)) ys ≡ names (marks f g xs ys)
   names_are = ap (λ ns. ns ++ map (λ y. name_if (g y)) ys) (each_name f xs) ∙ (ap (λ ns. names (map f xs) ++ ns) (each_name g ys) ∙ sym (map-append name_if (map f xs) (map g ys)))
 
--- nothing is unmet, or what is said of the first clash
+-- no check fails, or that of the first duplicate
 pub clash_answers : (c : Scope) (ms : List (Option Mark)) (o : Option ℕ) → HasFirstClash (names ms) o → first_unmet (site_demands c (declaration_sites [] ms)) ≡ by_clash ms o
 clash_answers c ms None h = free_names c ms h
 clash_answers c ms (Some p) h = first_name c ms p h
 
--- what a function declares in front of its body
+-- the declarations of a function before its body
 pub opening_is : (inline : Option FunctionType) (locals : List Local) (e : Expression) → body_declarations (param_marks inline) (func.Inline locals e) ≡ declaration_sites [] (marks (λ p. mark_of_option p.0) (λ l. mark_of_option l.id) (params_in inline) locals)
 opening_is None locals e = refl
 opening_is (Some t) locals e = refl
@@ -122,19 +122,19 @@ long_as : (inline : Option FunctionType) (locals : List Local) (e : Expression) 
 long_as None locals e = refl
 long_as (Some t) locals e = refl
 
--- what is said of one that has the name of an earlier one
+-- the error of a duplicate
 pub clash_told : (K M : Type 0) (c : Scope) (ms : List (Option Mark)) (at : ℕ) (m : Mark) (t : Diagnostic) → IsFirstClash (names ms) at → Some m ≡ slice_index_or ms at None → t ≡ At (Duplicate (codes "local")) m.1
     → Answers K M t (first_unmet (site_demands c (declaration_sites [] ms)))
 clash_told K M c ms at m t first here is =
     subst (λ t. Answers K M t (first_unmet (site_demands c (declaration_sites [] ms)))) (sym is) (first_name c ms at first ∙ ap said_of (sym here))
 
--- the same parameters under another name
+-- the same parameters in another form
 pub params_answer : {T : Type 0} (c : Scope) (n : ℕ) (ps qs : List (Option Id × Option NameAnnotation × ValType)) (ls : List Local) (r : Result T Error) → ps ≡ qs
     → NamesLocals c n (declaration_sites [] (marks_of ps ls)) (length (marks_of ps ls)) r → NamesLocals c n (declaration_sites [] (marks_of qs ls)) (length (marks_of qs ls)) r
 params_answer c n ps qs ls r same h =
     subst (λ (xs : List (Option Id × Option NameAnnotation × ValType)). NamesLocals c n (declaration_sites [] (marks_of xs ls)) (length (marks_of xs ls)) r) same h
 
--- an answer for the names of these parameters and locals is one for the function
+-- a result for these parameters and locals is one for the function
 pub names_answer : {T : Type 0} (c : Scope) (n m : ℕ) (inline : Option FunctionType) (ls : List Local) (e : Expression) (ps : List Local) (r : Result T Error) → n ≡ m → ps ≡ ls
     → NamesLocals c n (declaration_sites [] (marks_of (params_in inline) ps)) (length (marks_of (params_in inline) ps)) r
     → NamesLocals c m (body_declarations (param_marks inline) (func.Inline ls e)) (length (declared_ids inline (func.Inline ls e))) r

@@ -1,4 +1,4 @@
--- A walk over each item of a list, in its place.
+-- The loop invariant of a walk over each item of a list.
 use Rattle.std.proofs.Common.{◌≡◌, ℕ, suc, ◌+◌, ◌<◌, List, [], ◌∷◌, ◌++◌, ◌≤◌, None, sym, ◌∙◌, ap, length, map, get_or, drop, take, arith, add-one, subst}
 use Rattle.std.proofs.Math.ListN.{set, length-set}
 use Rattle.std.proofs.Math.Seq.{drop-cons, take-suc}
@@ -9,7 +9,7 @@ use Rattle.wast_base.specs.Faults.{Diagnostic}
 use Rattle.wast_resolve_rules.specs.Demands.{Demand, first_unmet, Answers}
 use Rattle.wast_resolve_passes.proofs.Parts.{both_met, first_fails, second_fails}
 
--- the first i items of olds are walked, and nows is what there is then
+-- the first i items of olds are walked, and nows is the list after that
 pub record IsHalfway {X A : Type 0} (g : A → List Demand) (f : X → List A) (w : X → X) (olds nows : List X) (i : ℕ) : Type 0 where
   pub len : length nows ≡ length olds
   pub left : drop i nows ≡ drop i olds
@@ -25,7 +25,7 @@ module _ {X A : Type 0} {g : A → List Demand} {f : X → List A} {w : X → X}
       let e : get_or olds i d ≡ get_or nows i d = cc in
       b ∙ ap (λ x. x ∷ drop (suc i) olds) e
 
-  -- the list about the item that is walked next
+  -- the list around the next item
   pub split : {B : Type 0} (e : X → List B) {nows : List X} {i : ℕ} {x : X} → IsHalfway g f w olds nows i → i < length olds → x ≡ get_or nows i x → flat_map e olds ≡ flat_map e (take i olds) ++ (e x ++ flat_map e (drop (suc i) olds))
   split e {nows} {i} {x} p lt is =
       let lt2 : i < length nows = omega (arith, p.len) in
@@ -47,11 +47,11 @@ module _ {X A : Type 0} {g : A → List Demand} {f : X → List A} {w : X → X}
         become = take_more_set nows i y lt2 ∙ (ap (λ zs. zs ++ y ∷ []) p.become ∙ (ap (λ z. map w (take i olds) ++ z ∷ []) new ∙ (sym (map-append w (take i olds) (x ∷ [])) ∙ ap (map w) (sym more))));
       }
 
-  -- one that was tried in vain
+  -- an item whose trial failed
   pub tried : {nows : List X} {i : ℕ} {x y : X} → IsHalfway g f w olds nows i → x ≡ get_or nows i x → y ≡ x → IsHalfway g f w olds (set nows i y) i
   tried {nows} {i} {x} {y} p is same = subst (λ ys. IsHalfway g f w olds ys i) (sym (ap (set nows i) (same ∙ is) ∙ set-get_or nows i x)) p
 
-  -- what is refused at an item, where K and M say what may be refused without a place
+  -- the error at an item, with the conditions K for E12 and M for E10
   pub stops_with : {nows : List X} {i : ℕ} {x : X} (K M : Type 0) (t : Diagnostic) → IsHalfway g f w olds nows i → i < length olds → x ≡ get_or nows i x → Answers K M t (first_unmet (flat_map g (f x)))
       → Answers K M t (first_unmet (flat_map g (flat_map f olds)))
   stops_with {nows} {i} {x} K M t p lt is failed =
@@ -62,7 +62,7 @@ module _ {X A : Type 0} {g : A → List Demand} {f : X → List A} {w : X → X}
   pub stops : {nows : List X} {i : ℕ} {x : X} (t : Diagnostic) → IsHalfway g f w olds nows i → i < length olds → x ≡ get_or nows i x → Answers ⊥ ⊥ t (first_unmet (flat_map g (f x))) → Answers ⊥ ⊥ t (first_unmet (flat_map g (flat_map f olds)))
   stops t p lt is failed = stops_with ⊥ ⊥ t p lt is failed
 
-  -- all of them are walked
+  -- all items are walked
   pub all_met : {nows : List X} {i : ℕ} → IsHalfway g f w olds nows i → length olds ≤ i → first_unmet (flat_map g (flat_map f olds)) ≡ None
   all_met {nows} {i} p le = subst (λ xs. first_unmet (flat_map g (flat_map f xs)) ≡ None) (take_all i olds le) p.met
 

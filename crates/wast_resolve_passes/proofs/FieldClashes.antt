@@ -1,4 +1,4 @@
--- The first clash among the fields of a struct is their first unmet demand.
+-- The first duplicate among the fields of a struct is their first check that fails.
 use Rattle.std.proofs.Common.{◌≡◌, ℕ, zero, suc, ◌+◌, List, [], ◌∷◌, ◌++◌, length, map, get_or, Option, Some, None, option_map, codes, refl, sym, ap, ◌∙◌, subst, subst₂, arith, append_assoc, append-nil}
 use Rattle.std.proofs.Math.ListN.{get_or-map}
 use Rattle.std.proofs.lemmas.List.{length-map, map-append, length-append}
@@ -15,11 +15,11 @@ use Rattle.wast_resolve_passes.proofs.Countdowns.{Ahead, from_start, still_free,
 abbrev field_fault : Name → Cause
 field_fault name = DuplicateField (codes "field") (text_of name)
 
--- what the demand of a field says where it is not met
+-- the error of a field whose check fails
 abbrev says : Option Mark → Option (Cause × Span)
 says id = option_map (λ m. (field_fault m.0, m.1)) id
 
--- what is unmet first, by how far the first clash is ahead
+-- the first check that fails, from how far the first duplicate is ahead
 abbrev unmet_at : List (Option Mark) → Option ℕ → Option (Cause × Span)
 unmet_at ids None = None
 unmet_at ids (Some n) = says (get_or ids n None)
@@ -64,15 +64,15 @@ unmet_after all before [] o is h =
 unmet_after all before (x ∷ rest) o is h =
     by_ahead all before x rest is o h (λ next k. unmet_after all (before ++ x ∷ []) rest next (is ∙ sym (append_assoc before (x ∷ []) rest)) k)
 
--- what is unmet first among the fields, by the first clash of their names
+-- the first check that fails among the fields, from the first duplicate of their names
 unmet_first : (ids : List (Option Mark)) (o : Option ℕ) → HasFirstClash (map name_if ids) o → first_unmet (field_demands ids) ≡ unmet_at ids o
 unmet_first ids o h = unmet_after ids [] ids o refl (from_start (map name_if ids) o h)
 
--- without a clash nothing is found
+-- without a duplicate nothing is found
 pub finds_none : (ids : List (Option Mark)) {names : List (Option Name)} → names ≡ map name_if ids → HasFirstClash names None → FindsAmong ids None
 finds_none ids is h = unmet_first ids None (subst (λ names. HasFirstClash names None) is h)
 
--- at the first clash its fault is found
+-- at the first duplicate its error is found
 pub finds_clash : (ids : List (Option Mark)) {names : List (Option Name)} {p : ℕ} {id : Option Mark} {found : Option Diagnostic} → names ≡ map name_if ids → HasFirstClash names (Some p) → id ≡ get_or ids p None → found ≡ field_clash_told id → FindsAmong ids found
 finds_clash ids {names} {p} {id} is h at seen = subst (FindsAmong ids) (sym seen) (by_id id (unmet_first ids (Some p) (subst (λ names. HasFirstClash names (Some p)) is h) ∙ sym (ap says at)))
   where
@@ -80,7 +80,7 @@ finds_clash ids {names} {p} {id} is h at seen = subst (FindsAmong ids) (sym seen
     by_id None h = h
     by_id (Some m) h = h
 
--- Where what the fields demand is met, none is the first clash.
+-- If the checks of the fields pass, there is no first duplicate.
 pub no_clash : (ids : List (Option Mark)) {names : List (Option Name)} {p : ℕ} → names ≡ map name_if ids → IsFirstClash names p → first_unmet (field_demands ids) ≡ None → ⊥
 no_clash ids {names} {p} is h met =
     let first = subst (λ names. IsFirstClash names p) is h in

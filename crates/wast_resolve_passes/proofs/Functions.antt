@@ -1,4 +1,4 @@
--- What a function demands, part by part, as it is walked.
+-- The checks of a function, part by part.
 use Rattle.std.specs.Prelude.{Option, Some, None, option_map}
 use Rattle.std.proofs.Common.{◌≡◌, ℕ, ◌+◌, ◌≤◌, ◌^◌, List, [], ◌∷◌, ◌++◌, length, refl, sym, ap, ◌∙◌, subst}
 use Rattle.std.proofs.lemmas.Grind.{flat_map-append}
@@ -22,11 +22,11 @@ use Rattle.wast_resolve_rules.proofs.Counted.{many_one, many_left, many_right}
 use Rattle.wast_resolve_rules.proofs.Numbering.{inline_keeps}
 use Rattle.wast_resolve_passes.proofs.Parts.{asking_demands}
 
--- where the body of a function stands
+-- the context of the body of a function
 abbrev pub inside : TypeUse FunctionType → FuncKind → BodyContext
 inside u k = initial_context (locals_in u k)
 
--- the types of the locals, the names of parameters and locals, and the body
+-- the types of the locals, the ids of parameters and locals, and the body
 pub kind_demands : (c : Scope) (u : TypeUse FunctionType) (k : FuncKind)
     → site_demands c (in_func_kind u k) ≡ ask_demands c.known (in_locals k) ++ (site_demands c (body_declarations (param_marks u.inline) k) ++ site_demands c (in_body (inside u k) k))
 kind_demands c u (func.Import import exact) = refl
@@ -37,7 +37,7 @@ kind_demands c u (func.Inline locals e) =
     flat_map-append (site_demand c) (check_sites types) (declaration_sites [] marks ++ body)
     ∙ (ap (λ ds. ds ++ site_demands c (declaration_sites [] marks ++ body)) (asking_demands c types) ∙ ap (λ ds. ask_demands c.known types ++ ds) (flat_map-append (site_demand c) (declaration_sites [] marks) body))
 
--- where there are too many blocks in the body, or too many parameters and locals
+-- too many blocks in the body, or too many parameters and locals
 body_many : (u : TypeUse FunctionType) (k : FuncKind) → HasMany (open_counts (in_body (inside u k) k)) → HasMany (open_counts (in_func_kind u k))
 body_many u (func.Import import exact) m = m
 body_many u (func.Inline locals e) m =
@@ -58,7 +58,7 @@ module _ (c : Scope) (u : TypeUse FunctionType) (k : FuncKind) where
       many_left (n ∷ []) (open_counts (in_func_kind u k)) (many_one n le)
 
 module _ (f : Change) where
-  -- the body, and what is declared, stay while the types of locals are walked
+  -- the body and the declarations do not change while the types of locals are walked
   pub body_stays : (h : BodyContext) (k : FuncKind) → in_body h (with_locals f k) ≡ in_body h k
   body_stays h (func.Import import exact) = refl
   body_stays h (func.Inline locals e) = refl
@@ -76,12 +76,12 @@ module _ (f : Change) where
   kind_becomes u (func.Import import exact) = refl
   kind_becomes u (func.Inline locals e) = refl
 
--- names denote the same among as many parameters without names, and the same names behind them
+-- names have the same numbers among as many unnamed parameters with the same names after them
 pub numbers_still : (c : Scope) (l m : Locals) (k : FuncKind) (s : LocalSpace) → implicit_param_count c l.owner ≡ implicit_param_count c m.owner → l.names ≡ m.names → NumbersIn c l k s → NumbersIn c m k s
 numbers_still c l m (func.Import import exact) s some same h = tt
 numbers_still c l m (func.Inline locals e) s some same h = λ name. h name ∙ (λ i. option_map (λ p. some i + p) (position_of name (same i)))
 
--- an index with its number denotes what it denoted
+-- an index and its number name the same item
 denoted_still : (number : Name → Option ℕ) (i : Index) → denoted number (resolved_index number i) ≡ denoted number i
 denoted_still number (index.Num n p) = refl
 denoted_still number (index.Id id) = by_number (number (name_of id)) refl
@@ -96,6 +96,6 @@ unsaid_still c index (Some t) = refl
 unsaid_still c None None = refl
 unsaid_still c (Some i) None = ap (λ o. params_of (type_at c.types o)) (denoted_still (c.known.number space.Ty) i)
 
--- a type use that is numbered says as much of the parameters
+-- a type use has the same parameters after it is numbered
 pub numbered_says : (c : Scope) (u v : TypeUse FunctionType) → v ≡ numbered_use c.known u → SaysAsMuch c u v
 numbered_says c u v is = subst (SaysAsMuch c u) (sym is) record { nameless = unsaid_still c u.index u.inline; marks = inline_keeps (numbered_at c.known) u.inline }

@@ -1,4 +1,4 @@
--- A guess that is compared tells what a name denotes.
+-- A cached position that is compared returns the number of the name.
 use Rattle.std.proofs.Common.{◌≡◌, ℕ, ◌<◌, List, length, get_or, Some, true, ap, sym, ◌∙◌, subst, T}
 use Rattle.std.specs.declared.cmp.Ordering.TheVariants.{Less, Equal}
 use Rattle.std.specs.FinMap.{FinMap, entries, entries_sorted, get, get-entries, find, is_sorted}
@@ -13,7 +13,7 @@ use Rattle.wast_resolve_namespace.proofs.Basics.{any_default}
 use Rattle.wast_resolve_namespace.proofs.Searches.{rises, find_at}
 use Rattle.wast_resolve_passes.specs.Guesses.{Bears}
 
--- a place where the id stands
+-- a position with the id
 pub bears : (es : List (Id × ℕ)) (id : Id) (at : ℕ) (e : Id × ℕ) → at < length es → same_id (get_or es at e).0 id ≡ true → Bears es id at
 bears es id at e lt h = record { within = lt; same = λ d. subst (λ (x : Id × ℕ). same_id x.0 id ≡ true) (any_default es at e d lt) h }
 

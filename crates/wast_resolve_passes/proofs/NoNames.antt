@@ -1,4 +1,4 @@
--- Where no item has a name, the name space of the items is empty.
+-- If no item has an id, the index space is empty.
 use Rattle.std.proofs.Common.{◌≡◌, ℕ, zero, suc, ◌+◌, List, [], ◌∷◌, length, map, get_or, Option, Some, None, option_map, false, true≢false, refl, sym, ap, ◌∙◌, arith}
 use Rattle.std.specs.Prelude.{◌||◌, is_some}
 use Rattle.std.specs.FinMap.{get-empty}
@@ -43,14 +43,14 @@ pub no_names : {A B : Type 0} (f : A → Option Mark) (g : B → Option Mark) (x
 no_names f g xs ys h k =
     ap (list_any is_some) (sym (names_are f g xs ys)) ∙ list_any-append is_some (map (λ x. name_if (f x)) xs) (map (λ y. name_if (g y)) ys) ∙ (λ i. h i || k i)
 
--- whether some field has an id
+-- whether a field has an id
 pub some_ids : (fields : List StructField) → list_any is_some (map name_if (field_ids fields)) ≡ list_any is_some (map (λ f. name_if (mark_of_option f.id)) fields)
 some_ids fields = ap (list_any is_some) (map-map name_if (λ f. mark_of_option f.id) fields)
 
--- without an id nothing is unmet
+-- without ids no check fails
 pub none_clashes : (ids : List (Option Mark)) → list_any is_some (map name_if ids) ≡ false → FindsAmong ids None
 none_clashes ids h = finds_none ids refl (λ p c. absurd (cc (sym (none_at (map name_if ids) p h) ∙ c.bears)))
 
--- how many parameters and locals there are
+-- the number of parameters and locals
 pub how_many : {A B : Type 0} (f : A → Option Mark) (g : B → Option Mark) (xs : List A) (ys : List B) → length xs + length ys ≡ length (marks f g xs ys)
 how_many f g xs ys = omega (arith, length-append (map f xs) (map g ys), length-map xs f, length-map ys g)

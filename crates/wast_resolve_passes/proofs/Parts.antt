@@ -1,4 +1,4 @@
--- What two parts demand, one after the other.
+-- The checks of two parts, one after another.
 use Rattle.std.proofs.Common.{◌≡◌, ap, ◌∙◌, sym, subst, List, [], ◌∷◌, ◌++◌, Option, Some, None, refl, Result, Ok, Err, append-nil}
 use Rattle.std.specs.List.{flat_map}
 use Rattle.std.proofs.lemmas.Grind.{flat_map-append}
@@ -28,7 +28,7 @@ module _ {A : Type 0} (f : A → List Demand) (xs ys : List A) where
   pub second_fails : (K M : Type 0) (t : Diagnostic) → first_unmet (flat_map f xs) ≡ None → Answers K M t (first_unmet (flat_map f ys)) → Answers K M t (first_unmet (flat_map f (xs ++ ys)))
   second_fails K M t met a = subst (λ ds. Answers K M t (first_unmet ds)) (sym demands-append) (answers_after t (flat_map f xs) (flat_map f ys) (λ x. x) (λ x. x) met a)
 
--- so where less is promised of the second part than of both, and nothing else of the first
+-- the same if the second part has weaker conditions than both, and the first has no others
 module _ (K M : Type 0) (c : Scope) (xs ys : List Site) (t : Diagnostic) where
   pub fails_first : Answers ⊥ ⊥ t (first_unmet (site_demands c xs)) → Answers K M t (first_unmet (site_demands c (xs ++ ys)))
   fails_first a = first_fails (site_demand c) xs ys K M t (answers_more t _ _ (λ l. absurd l) (λ m. absurd m) (λ f h. h) a)
@@ -36,7 +36,7 @@ module _ (K M : Type 0) (c : Scope) (xs ys : List Site) (t : Diagnostic) where
   pub fails_second : first_unmet (site_demands c xs) ≡ None → Answers K M t (first_unmet (site_demands c ys)) → Answers K M t (first_unmet (site_demands c (xs ++ ys)))
   fails_second met a = second_fails (site_demand c) xs ys K M t met a
 
--- and where nothing else is promised of the second part
+-- and if the second part has no other conditions
 module _ (K M : Type 0) (c : Scope) (xs ys : List Site) (t : Diagnostic) where
   pub fails_behind : first_unmet (site_demands c xs) ≡ None → Answers ⊥ ⊥ t (first_unmet (site_demands c ys)) → Answers K M t (first_unmet (site_demands c (xs ++ ys)))
   fails_behind met a = second_fails (site_demand c) xs ys K M t met (answers_more t _ _ (λ l. absurd l) (λ m. absurd m) (λ f h. h) a)
@@ -44,18 +44,18 @@ module _ (K M : Type 0) (c : Scope) (xs ys : List Site) (t : Diagnostic) where
 pub more_answers : (K M N : Type 0) (t : Diagnostic) (o : Option (Cause × Span)) → (M → N) → Answers K M t o → Answers K N t o
 more_answers K M N t o n a = answers_more t o o (λ l. l) n (λ f h. h) a
 
--- an id of which nothing is asked
+-- an id without a check
 pub id_met : (k : IdContext) (id : Option Id) → first_unmet (ask_demands k (if_there in_id id)) ≡ None
 id_met k None = refl
 id_met k (Some id) = refl
 
--- so is that of a signature that names share, where no item has it
+-- the same for the id of a shared signature that no item has
 pub shared_id_met : {N : Type 0} (k : IdContext) (names : List N) (id : Option Id) (f : Form) → ask_demands k (in_shared_id names id ++ uncovered_check f) ≡ []
 shared_id_met k [] None f = refl
 shared_id_met k [] (Some id) f = refl
 shared_id_met k (name ∷ names) id f = refl
 
--- what is asked of names alone
+-- checks of ids alone
 pub asking_demands : (c : Scope) (asks : List Check) → site_demands c (check_sites asks) ≡ ask_demands c.known asks
 asking_demands c [] = refl
 asking_demands c (a ∷ asks) = ap (λ ds. ask_demand c.known a ++ ds) (asking_demands c asks)
@@ -69,15 +69,15 @@ pub optional_demands : (c : Scope) (s : Space) (o : Option Index) → site_deman
 optional_demands c s None = refl
 optional_demands c s (Some i) = refl
 
--- what is asked behind it, and demands nothing
+-- checks after it that always pass
 pub all_but_asks : (c : Scope) (ss : List Site) (asks : List Check) → ask_demands c.known asks ≡ [] → site_demands c (ss ++ check_sites asks) ≡ site_demands c ss
 all_but_asks c ss asks none = flat_map-append (site_demand c) ss (check_sites asks) ∙ (ap (λ ds. site_demands c ss ++ ds) (asking_demands c asks ∙ none) ∙ append-nil (site_demands c ss))
 
--- whether what stands there is supported, or a clause holds, demands nothing
+-- whether a construct is supported, or a clause holds, is a check that passes
 pub all_but_last : (c : Scope) (ss : List Site) (last : Check) → ask_demand c.known last ≡ [] → site_demands c (ss ++ Asked last ∷ []) ≡ site_demands c ss
 all_but_last c ss last none = all_but_asks c ss (last ∷ []) (ap (λ ds. ds ++ []) none)
 
--- and opens nothing
+-- and it enters no block
 pub all_counts_but_last : (ss : List Site) (last : Check) → open_counts (ss ++ Asked last ∷ []) ≡ open_counts ss
 all_counts_but_last ss last = flat_map-append open_counts_at ss (Asked last ∷ []) ∙ append-nil (open_counts ss)
 
@@ -87,24 +87,24 @@ pub walks_as : {T U K L M N : Type 0} (l : K → L) (n : M → N) (ds es : List 
 walks_as l n ds es want new want2 new2 (Ok x) same h w = (sym same ∙ w.0, h w.1)
 walks_as l n ds es want new want2 new2 (Err e) same h w = answers_more (diagnostic_of e) (first_unmet ds) (first_unmet es) l n (λ f g. sym same ∙ g) w
 
--- a walk over what is asked of names alone
+-- a walk over checks of ids alone
 pub walks_asking : {T : Type 0} (c : Scope) (asks : List Check) (want new : T) (result : Result (Unit {0}) Error) → Walks ⊥ ⊥ (ask_demands c.known asks) want new result → Walks ⊥ ⊥ (site_demands c (check_sites asks)) want new result
 walks_asking c asks want new result walked =
     walks_as (λ l. l) (λ m. m) (ask_demands c.known asks) (site_demands c (check_sites asks)) want new want new result (ap first_unmet (sym (asking_demands c asks))) (λ h. h) walked
 
--- more may be refused
+-- more errors are permitted
 pub more_refused : {T : Type 0} (K M : Type 0) (ds : List Demand) (want new : T) (result : Result (Unit {0}) Error) → Walks ⊥ ⊥ ds want new result → Walks K M ds want new result
 more_refused K M ds want new result walked = walks_as {L = K} {N = M} (λ l. absurd l) (λ m. absurd m) ds ds want new want new result refl (λ h. h) walked
 
--- what is made of a part
+-- a value that is built of a part
 pub walks_in : {T U : Type 0} (K M : Type 0) (make : T → U) (ds : List Demand) (want new : T) (result : Result (Unit {0}) Error) → Walks K M ds want new result → Walks K M ds (make want) (make new) result
 walks_in K M make ds want new result walked = walks_as {L = K} {N = M} (λ l. l) (λ m. m) ds ds want new (make want) (make new) result refl (ap make) walked
 
--- what is made of a part, where more may be refused
+-- a value that is built of a part, with more errors permitted
 pub walks_made_in : {T U : Type 0} (K M : Type 0) (make : T → U) (ds : List Demand) (want new : T) (result : Result (Unit {0}) Error) → Walks ⊥ ⊥ ds want new result → Walks K M ds (make want) (make new) result
 walks_made_in K M make ds want new result walked = walks_as {L = K} {N = M} (λ l. absurd l) (λ m. absurd m) ds ds want new (make want) (make new) result refl (ap make) walked
 
--- and where behind it something is asked that demands nothing
+-- and with later checks that always pass
 pub walks_before_asks : {T U : Type 0} (K M : Type 0) (c : Scope) (ss : List Site) (asks : List Check) → ask_demands c.known asks ≡ [] → (make : T → U) (want new : T) (result : Result (Unit {0}) Error)
     → Walks ⊥ ⊥ (site_demands c ss) want new result → Walks K M (site_demands c (ss ++ check_sites asks)) (make want) (make new) result
 walks_before_asks K M c ss asks none make want new result walked =

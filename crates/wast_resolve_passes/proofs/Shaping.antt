@@ -1,4 +1,4 @@
--- No two fields of a struct have one name where what the items demand is met; and how many fields there are is counted of items.
+-- If the checks of items pass, no two fields of a struct have the same id. The number of fields is the same for items.
 use Rattle.std.proofs.Common.{◌≡◌, ℕ, ◌≤◌, ◌^◌, ◌⊎◌, inl, inr, List, [], ◌∷◌, ◌++◌, None, length, map, get_or, drop, take, refl, sym, ap, ◌∙◌, arith, subst}
 use Rattle.std.specs.Prelude.{⊤, ◌+◌, ◌<◌, Contains}
 use Rattle.std.specs.List.{flat_map}
@@ -19,7 +19,7 @@ use Rattle.wast_resolve_passes.specs.Shaping.{type_demands, types_demands, type_
 use Rattle.wast_resolve_rules.proofs.Counted.{many_one, many_left, many_right}
 use Rattle.wast_resolve_rules.proofs.Unmet.{met_parts, first_unmet-append, answers_more}
 
--- what is demanded of the fields of items
+-- the checks of the fields of items
 abbrev of_items : List Item → List Demand
 of_items xs = flat_map (λ x. field_demands x.fields) xs
 
@@ -70,16 +70,16 @@ types_many (x ∷ xs) h =
     either later (inl c) = many_left (field_counts (items_in x)) (field_counts (items xs)) (field_many x (h.0, (c, h.1.1)))
     either later (inr c) = many_right (field_counts (items_in x)) (field_counts (items xs)) (later c)
 
--- one of a list, and those that are to come
+-- one element of a list, and those after it
 module _ {T : Type 0} (xs : List T) (i : ℕ) (x : T) (lt : i < length xs) (at : x ≡ get_or xs i x) where
   from_here : drop i xs ≡ x ∷ drop (i + 1) xs
   from_here = drop_more xs i x lt ∙ ap (λ y. y ∷ drop (i + 1) xs) (sym at)
 
-  -- what is demanded of those to come is met of the one, and of those behind it
+  -- if the checks of the remaining elements pass, so do those of the first, and of the others
   pub next_met : (f : T → List Demand) → first_unmet (flat_map f (drop i xs)) ≡ None → (first_unmet (f x) ≡ None) × (first_unmet (flat_map f (drop (i + 1) xs)) ≡ None)
   next_met f h = met_parts (f x) (flat_map f (drop (i + 1) xs)) (ap (λ ys. first_unmet (flat_map f ys)) (sym from_here) ∙ h)
 
-  -- what is read of the one stands behind what was read
+  -- what is read of the element comes after what was read before
   pub next_read : {B : Type 0} (f : T → List B) (new old all : List B) → new ≡ old ++ f x → old ++ flat_map f (drop i xs) ≡ all → new ++ flat_map f (drop (i + 1) xs) ≡ all
   next_read f new old all is h =
       let rest = flat_map f (drop (i + 1) xs) in
@@ -90,7 +90,7 @@ module _ {T : Type 0} (xs : List T) (i : ℕ) (x : T) (lt : i < length xs) (at :
       let rest = map f (drop (i + 1) xs) in
       ap (λ ys. ys ++ rest) is ∙ (append_assoc old (f x ∷ []) rest ∙ (ap (λ ys. old ++ map f ys) (sym from_here) ∙ h))
 
-  -- so many of the one are so many in the list
+  -- a size of the element is a size in the list
   around : xs ≡ take i xs ++ x ∷ drop (i + 1) xs
   around = sym (take-append-drop i xs) ∙ ap (λ ys. take i xs ++ ys) from_here
 
@@ -104,11 +104,11 @@ module _ {T : Type 0} (xs : List T) (i : ℕ) (x : T) (lt : i < length xs) (at :
       let rest = drop (i + 1) xs in
       subst HasMany (sym (ap (map f) around ∙ map-append f (take i xs) (x ∷ rest))) (many_right (map f (take i xs)) (f x ∷ map f rest) (many_left (f x ∷ []) (map f rest) (many_one (f x) le)))
 
--- more may be refused
+-- more errors are permitted
 pub refused_more : {M N : Type 0} (e : Error) → (M → N) → IsRefused M e → IsRefused N e
 refused_more e f h = answers_more (diagnostic_of e) None None (λ l. l) f (λ g k. k) h
 
--- why gathering stopped, as a refusal
+-- the error of collecting, as an error of the call
 pub stops_refused : (t : Diagnostic) (b n m : ℕ) → n ≡ m → Stops t b n → Answers ⊤ (2 ^ 32 ≤ m) t None
 stops_refused (Nowhere Memory) b n m is h = tt
 stops_refused (Nowhere TooLarge) b n m is h = subst (λ k. 2 ^ 32 ≤ k) is h

@@ -1,4 +1,4 @@
--- Instructions of a body, one after the other, in their place.
+-- The loop invariant of a walk over the instructions of a body.
 use Rattle.std.proofs.Common.{◌≡◌, ℕ, suc, ◌+◌, ◌<◌, ◌≤◌, List, [], ◌∷◌, ◌++◌, None, refl, sym, ◌∙◌, ap, length, get_or, drop, take, arith, add-one, subst}
 use Rattle.std.proofs.Math.ListN.{set, length-set}
 use Rattle.std.proofs.Math.Seq.{drop-cons, take-suc}
@@ -23,18 +23,18 @@ module _ (f : Change) where
       ap (λ zs. mapped_instr f h x ∷ zs)
       (mapped-append (context_after h x) xs ys ∙ ap (λ g. mapped_instrs f (context_after h x) xs ++ mapped_instrs f g ys) (sym (after-append h (in_instr h x) (in_instrs (context_after h x) xs))))
 
--- the first i instructions are walked, and nows is what there is then
+-- the first i instructions are walked, and nows is the list after that
 pub record IsPartway (c : Scope) (f : Change) (start : BodyContext) (olds nows : List Instruction) (i : ℕ) : Type 0 where
   pub len : length nows ≡ length olds
   pub left : drop i nows ≡ drop i olds
   pub met : first_unmet (site_demands c (in_instrs start (take i olds))) ≡ None
   pub become : take i nows ≡ mapped_instrs f start (take i olds)
 
--- where the next one stands
+-- the context of the next instruction
 abbrev pub reached : BodyContext → List Instruction → ℕ → BodyContext
 reached start olds i = after_all start (in_instrs start (take i olds))
 
--- the instruction at a place where those from there on are as they were
+-- the instruction at a position from which on nothing has changed
 at_place : (olds nows : List Instruction) (i : ℕ) (x : Instruction) → length nows ≡ length olds → drop i nows ≡ drop i olds → i < length olds → x ≡ get_or nows i x → get_or olds i x ≡ x
 at_place olds nows i x len left lt is =
     let a : drop i nows ≡ get_or nows i x ∷ drop (suc i) nows = drop-cons nows i x (omega (arith, len)) in
@@ -54,7 +54,7 @@ sites_one_more start olds i x lt item =
     ap (in_instrs start) (one_more olds i x lt item)
     ∙ (instrs-append start (take i olds) (x ∷ []) ∙ ap (λ zs. in_instrs start (take i olds) ++ zs) (append-nil (in_instr (reached start olds i) x)))
 
--- the first i instructions are walked, and s are the open blocks before them and t those behind them
+-- the first i instructions are walked, with the enclosing blocks s before and t after them
 pub record IsAlong (s t : Blocks) (olds nows : List Instruction) (i : ℕ) : Type 0 where
   pub len : length nows ≡ length olds
   pub left : drop i nows ≡ drop i olds
@@ -117,7 +117,7 @@ module _ {c : Scope} {f : Change} {start : BodyContext} {olds nows : List Instru
       let rest = in_instrs (context_after (reached start olds i) x) (drop (suc i) olds) in
       many_sites (in_instrs start olds) before here rest sites_all many
 
--- all of them are walked
+-- all instructions are walked
 module _ {c : Scope} {f : Change} {start : BodyContext} {olds nows : List Instruction} {i : ℕ} (p : IsPartway c f start olds nows i) (le : length olds ≤ i) where
   pub all_met : first_unmet (site_demands c (in_instrs start olds)) ≡ None
   all_met = subst (λ is. first_unmet (site_demands c (in_instrs start is)) ≡ None) (take_all i olds le) p.met
@@ -125,11 +125,11 @@ module _ {c : Scope} {f : Change} {start : BodyContext} {olds nows : List Instru
   pub all_become : nows ≡ mapped_instrs f start olds
   all_become = sym (take_all i nows (omega (arith, p.len, le))) ∙ (p.become ∙ ap (mapped_instrs f start) (take_all i olds le))
 
--- what is put back as it was
+-- an instruction that is stored unchanged
 put_back : (nows : List Instruction) (i : ℕ) (x : Instruction) → x ≡ get_or nows i x → set nows i x ≡ nows
 put_back nows i x is = ap (set nows i) is ∙ set-get_or nows i x
 
--- so does one that was tried in vain
+-- the same after a trial that failed
 pub along_tried : {s t u : Blocks} {olds nows : List Instruction} {i : ℕ} {x y : Instruction} → IsAlong s t olds nows i → x ≡ get_or nows i x → y ≡ x → u ≡ t → IsAlong s u olds (set nows i y) i
 along_tried {s} {t} {u} {olds} {nows} {i} {x} {y} p is same still =
     let back : set nows i y ≡ nows = ap (set nows i) same ∙ put_back nows i x is in

@@ -1,4 +1,4 @@
--- Walks that are tried: over indices, labels, memory arguments and blocks.
+-- Trials: over indices, labels, memory arguments and blocks.
 use Rattle.std.proofs.Common.{◌≡◌, ℕ, List, [], ◌∷◌, ◌++◌, Bool, true, false, Option, Some, None, is_some, is_ok, codes, Result, Ok, Err, IsTrue, IsFalse, OnOk, OnErr, refl, sym, ap, ◌∙◌, subst, append-nil, arith}
 use Rattle.std.specs.List.{flat_map}
 use Rattle.std.proofs.lemmas.Bool.{eqb-true}
@@ -22,17 +22,17 @@ use Rattle.wast_resolve_passes.specs.Tree.index
 use Rattle.wast_resolve_passes.specs.Walking.{Tries}
 use Rattle.wast_resolve_passes.proofs.Within.{same_known, same_numbered, label_unmet, repeated_unmet}
 
--- what is not done changes nothing
+-- a trial that fails changes nothing
 pub tries_not : {T : Type 0} (ds : List Demand) (want old new : T) (b : Bool) → Tries ds want old new b → IsFalse b → new ≡ old
 tries_not ds want old new true w h = absurd (cc h)
 tries_not ds want old new false w h = w
 
--- a walk over a part of what is walked
+-- a trial over a part
 pub tries_in : {T U : Type 0} (make : T → U) (ds es : List Demand) (want old new : T) (b : Bool) → first_unmet ds ≡ first_unmet es → Tries ds want old new b → Tries es (make want) (make old) (make new) b
 tries_in make ds es want old new true same w = (sym same ∙ w.0, ap make w.1)
 tries_in make ds es want old new false same w = ap make w
 
--- an index by what names denote
+-- an index, from the numbers of names
 module _ (f : Name → Option ℕ) (word : List ℕ) where
   found : (id : Id) (new : Index) (o : Option ℕ) → new ≡ numbered_by o id → Tries (unknown_demand word (mark_of id) (is_some o)) (numbered_by o id) (index.Id id) new (is_some o)
   found id new None e = e
@@ -58,7 +58,7 @@ pub label_tried : (c : Scope) (blocks : Blocks) (i new : Index) (b : Bool) → (
 label_tried c blocks i new true met is stays = (sym (label_unmet blocks i) ∙ met refl, is refl)
 label_tried c blocks i new false met is stays = stays refl
 
--- where nothing moves
+-- if nothing changes
 pub still_steps : (s : Blocks) (sites : BodyContext → List Site) (b : Bool) → ((l : Locals) → after_all (context_of l s) (sites (context_of l s)) ≡ context_of l s) → Steps s sites s b
 still_steps s sites true h = λ l. ap (λ (g : BodyContext). g.blocks) (sym (h l))
 still_steps s sites false h = refl

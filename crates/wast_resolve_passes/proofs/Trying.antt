@@ -1,4 +1,4 @@
--- The spaces that were filled so far, by their ranks.
+-- The index spaces that are filled so far, by rank.
 use Rattle.std.proofs.Common.{◌≡◌, ℕ, ◌+◌, ◌<◌, ◌≤◌, ◌^◌, ◌⊎◌, inl, inr, List, [], ◌∷◌, ◌++◌, refl, sym, ap, ◌∙◌, subst, arith, length, map, get_or, length-append, append_assoc}
 use Rattle.std.specs.Prelude.{⊤, Option, Some, None, Result, Ok, Contains}
 use Rattle.std.specs.FinMap.{get-empty}
@@ -31,7 +31,7 @@ below_8 s = grind (arith)
 pub rank_at : (i : ℕ) (d : Space) → i < 8 → rank_of (get_or spaces i d) ≡ i
 rank_at i d lt = sym (get_or-map rank_of spaces i d) ∙ (get_or-range_with_len 0 8 i (rank_of d) lt ∙ omega arith)
 
--- what was gathered of the space of a rank
+-- what was collected for the space of a rank
 gathered_at : (names : Space → List (Option Name)) (all before rest : List (Result (List (Option Name)) Error)) (x : Result (List (Option Name)) Error) → ((s : Space) → Gathers (Ok []) (names s) (gathered_of all s))
     → before ++ x ∷ rest ≡ all → (s : Space) → rank_of s ≡ length before → Gathers (Ok []) (names s) x
 gathered_at names all before rest x h is s at =
@@ -39,7 +39,7 @@ gathered_at names all before rest x h is s at =
     subst (λ g. Gathers (Ok []) (names s) g)
     (ap (λ i. get_or all i nothing) at ∙ (ap (λ l. get_or l (length before) nothing) (sym is) ∙ get_or-append_seam before x rest nothing)) (h s)
 
--- the space whose turn it is, and what was gathered of it
+-- the next space, and what was collected for it
 pub gathered_next : (names : Space → List (Option Name)) (all before rest : List (Result (List (Option Name)) Error)) (x : Result (List (Option Name)) Error) → length all ≡ 8 → ((s : Space) → Gathers (Ok []) (names s) (gathered_of all s))
     → before ++ x ∷ rest ≡ all → (length before < 8) × Gathers (Ok []) (names (get_or spaces (length before) space.Func)) x
 gathered_next names all before rest x eight each whole =
@@ -90,7 +90,7 @@ module _ (names : Space → List (Option Name)) where
   pub all_clashes : (tried : List NameSpace) (clashes : List (Option ℕ)) → (i : ℕ) → 8 ≤ i → AreTried names tried clashes i → (s : Space) → HasFirstClash (names s) (get_or clashes (rank_of s) None)
   all_clashes tried clashes i le p s = tried_clash (names s) (get_or tried (rank_of s) (empty_from 0)) (get_or clashes (rank_of s) None) (p.each s (let b = below_8 s in omega arith))
 
-  -- where no space has a clash each name denotes the position that bears it
+  -- if no space has a duplicate, each name has its position as its number
   tried_number : (ns : List (Option Name)) (s : NameSpace) (o : Option ℕ) → IsTried ns s o → o ≡ None → (name : Name) → number_in s name ≡ position_of name ns
   tried_number ns s None h e = h.number
   tried_number ns s (Some p) h e = cc
@@ -102,7 +102,7 @@ module _ (names : Space → List (Option Name)) where
 pub known_by : (xs : List Item) (tried : List NameSpace) → ((s : Space) (name : Name) → (known_in tried).number s name ≡ position_of name (names_in s xs)) → known_in tried ≡ id_context xs
 known_by xs tried h = λ i. record { number = λ s name. h s name i }
 
--- no spaces know what no items make known
+-- without spaces the identifier context is that of no items
 pub nothing_known : known_in [] ≡ id_context []
 nothing_known = known_by [] [] (λ s name. get-empty key_cmp (key_of name))
 
@@ -115,7 +115,7 @@ many_items fields n c le = (n, (c, le))
 stops_one : (t : Diagnostic) (fields : List ModuleField) (o : Option (Cause × Span)) (begun n : ℕ) → Contains (item_counts (items fields)) n → Stops t begun n → Answers ⊤ (HasManyItems fields) t o
 stops_one t fields o begun n c h = grind (arith, many_items)
 
--- what stopped one space is an answer for all
+-- an error in one space is an error of the call
 pub stops_all : (t : Diagnostic) (fields : List ModuleField) (s : Space) (o : Option (Cause × Span)) → Stops t 0 (length (names_in s (items fields))) → Answers ⊤ (HasManyItems fields) t o
 stops_all t fields s o h =
     let xs = items fields in
@@ -130,7 +130,7 @@ many_after many before (x ∷ xs) h = (
   many_after many (before ++ x ∷ []) xs (λ n c le. h n (subst (λ (ys : List Item). Contains (field_counts ys) n) (append_assoc before (x ∷ []) xs) c) le),
 )
 
--- a struct of so many fields is one
+-- a struct with that many fields is an item with that many
 pub many_fields : (fields : List ModuleField) → AreMany (HasManyItems fields) (items fields)
 many_fields fields =
     let xs = items fields in

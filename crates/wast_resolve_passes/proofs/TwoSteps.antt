@@ -1,4 +1,4 @@
--- What is walked in two steps, and what is walked as a part of a field.
+-- Walks in two steps, and walks over a part of a field.
 use Rattle.std.specs.Prelude.{⊤}
 use Rattle.std.proofs.Common.{◌≡◌, ◌∙◌, ap, sym, subst, List, [], ◌∷◌, ◌++◌, append-nil, append_assoc, None, refl, Result}
 use Rattle.std.proofs.lemmas.Grind.{flat_map-append}
@@ -28,7 +28,7 @@ use Rattle.wast_resolve_rules.proofs.Unmet.{first_unmet-append, answers_first, a
 use Rattle.wast_resolve_passes.proofs.Parts.{all_but_last, all_counts_but_last, walks_as}
 use Rattle.wast_resolve_rules.proofs.Counted.{many_left, many_right}
 
--- What is asked at all sites is asked at those of two parts, and so many blocks are open in it.
+-- The sites are those of two parts, with the same enclosing blocks.
 pub record IsBoth (c : Scope) (all first second : List Site) : Type 0 where
   pub demands : site_demands c all ≡ site_demands c (first ++ second)
   pub counts : open_counts all ≡ open_counts (first ++ second)
@@ -46,12 +46,12 @@ module _ {c : Scope} {all first second : List Site} (parts : IsBoth c all first 
   many_second : (later : List Site) → later ≡ second → HasMany (open_counts later) → HasMany (open_counts all)
   many_second later same m = subst HasMany (sym two_counts) (many_right (open_counts first) (open_counts second) (subst (λ ss. HasMany (open_counts ss)) same m))
 
-  -- what the first part answers, where K and M say what may be refused without a place
+  -- the result of the first part, with the conditions K for E12 and M for E10
   first_answers : {K M : Type 0} (t : Diagnostic) → (K → ⊤) → (M → HasMany (open_counts all)) → Answers K M t (first_unmet (site_demands c first)) → Answers ⊤ (HasMany (open_counts all)) t (first_unmet (site_demands c all))
   first_answers t k m a =
       subst (λ ds. Answers ⊤ (HasMany (open_counts all)) t (first_unmet ds)) (sym two_demands) (answers_first t (site_demands c first) (site_demands c second) k m a)
 
-  -- and the second part, as it stands when the first is walked
+  -- the result of the second part after the first is walked
   second_answers : {K M : Type 0} (t : Diagnostic) → (K → ⊤) → (M → HasMany (open_counts all)) → (later : List Site) → later ≡ second → first_unmet (site_demands c first) ≡ None
       → Answers K M t (first_unmet (site_demands c later)) → Answers ⊤ (HasMany (open_counts all)) t (first_unmet (site_demands c all))
   second_answers {K} {M} t k m later same met a =
@@ -75,7 +75,7 @@ module _ {c : Scope} {all first second : List Site} (parts : IsBoth c all first 
   pub both_met : (later : List Site) → later ≡ second → first_unmet (site_demands c first) ≡ None → first_unmet (site_demands c later) ≡ None → first_unmet (site_demands c all) ≡ None
   both_met later same met then = ap first_unmet two_demands ∙ (first_unmet-append (site_demands c first) (site_demands c second) met ∙ (ap (λ ss. first_unmet (site_demands c ss)) (sym same) ∙ then))
 
--- the two parts alone, or with something of which nothing is demanded
+-- the two parts alone, or with a check that passes
 module _ (c : Scope) where
   pub as_both : (all first second : List Site) → all ≡ first ++ second → IsBoth c all first second
   as_both all first second is = record { demands = ap (site_demands c) is; counts = ap open_counts is }
@@ -162,12 +162,12 @@ module _ (f : Change) where
   data_becomes data_kind.Passive = refl
   data_becomes (data_kind.Active memory offset) = refl
 
--- a part of a field that is walked: the field is what it is with that part
+-- after a walk over a part, the field is the same with the new part
 pub of_field : {T : Type 0} (many : Type 0) (wrap : T → ModuleField) (c : Scope) (ss : List Site) (want new : T) (result : Result (Unit {0}) Error)
     → Walks ⊥ ⊥ (site_demands c ss) want new result → Walks ⊤ many (site_demands c ss) (wrap want) (wrap new) result
 of_field many wrap c ss want new result walked = walks_as (λ l. absurd l) (λ m. absurd m) (site_demands c ss) (site_demands c ss) want new (wrap want) (wrap new) result refl (ap wrap) walked
 
--- a handler of a resumption
+-- a `resume` handler
 pub handle_sites : (blocks : Blocks) (h : Handle) → in_handle blocks h ≡ in_handler_tag h ++ in_handler_label blocks h
 handle_sites blocks (handle.OnLabel e l) = refl
 handle_sites blocks (handle.OnSwitch e) = refl

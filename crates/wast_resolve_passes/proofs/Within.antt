@@ -1,4 +1,4 @@
--- Indices of what stands within a function: locals by the names of the function, and labels by the open blocks.
+-- Indices inside a function: locals by their ids, and labels by the enclosing blocks.
 use Rattle.std.proofs.Common.{◌≡◌, ℕ, List, [], ◌∷◌, ◌++◌, Option, Some, None, is_some, codes, Result, Ok, Err, refl, sym, ap, ◌∙◌, append-nil}
 use Rattle.std.specs.FinMap.{get-empty}
 use Rattle.std.specs.Prelude.{⊤, ◌+◌, option_map}
@@ -21,7 +21,7 @@ use Rattle.wast_resolve_passes.specs.Walking.{Walks}
 use Rattle.wast_resolve_rules.proofs.Unmet.{answers_more}
 use Rattle.wast_tree_nodes.specs.Sites.{Locals, LocalAt, Repeated, constant_context}
 
--- where names denote the same, indices do
+-- if names have the same numbers, indices do
 module _ (f g : Name → Option ℕ) (same : (name : Name) → f name ≡ g name) where
   pub same_known : (word : List ℕ) (i : Index) → known_index f word i ≡ known_index g word i
   same_known word (index.Num n p) = refl
@@ -41,7 +41,7 @@ local_walked M c l s i new (Err e) h unmet is =
     let all = append-nil (known_index (local_number c l) (codes "local") i) ∙ sym (same_known (local_in s) (local_number c l) h (codes "local") i) in
     answers_more (diagnostic_of e) _ _ (λ l. absurd l) (λ m. absurd m) (λ f g. ap first_unmet all ∙ g) unmet
 
--- a label that denotes no open block
+-- a label that no enclosing block has
 pub label_unmet : (blocks : Blocks) (i : Index) → first_unmet (known_index (number_among blocks) (codes "label") i) ≡ first_unmet (known_index (number_among blocks) (codes "label") i ++ [])
 label_unmet blocks i = ap first_unmet (sym (append-nil (known_index (number_among blocks) (codes "label") i)))
 
@@ -56,6 +56,6 @@ pub label_checked : (M : Type 0) (c : Scope) (blocks : Blocks) (o : Option Id) (
 label_checked M c blocks o (Ok x) h = (sym (repeated_unmet blocks (mark_of_option o)) ∙ h, refl)
 label_checked M c blocks o (Err e) h = answers_more (diagnostic_of e) _ _ (λ l. absurd l) (λ m. absurd m) (λ f g. sym (repeated_unmet blocks (mark_of_option o)) ∙ g) h
 
--- a constant expression has no names
+-- a constant expression has no locals
 pub none_numbers : (c : Scope) (s : LocalSpace) → s ≡ record { space = empty_from 0; nameless = 0 } → Numbers c constant_context.locals s
 none_numbers c s is name = ap (λ (s : LocalSpace). local_in s name) is ∙ ap (option_map (λ n. 0 + n)) (get-empty key_cmp (key_of name))

@@ -1,4 +1,7 @@
--- The name spaces of a module as a value, and what they make known (text format: indices, modules).
+-- The model of a `Resolver`: its index spaces and types, and the identifier context that they are (text format:
+-- indices, modules).
+--
+-- For `(module (func $f))` the identifier context has $f as function 0, and no other id.
 use Rattle.std.specs.Prelude.{◌≡◌, List, [], map, Option, Some, None, option_map, slice_index_or, refl}
 use Rattle.std.specs.Coded.{Coded, coded_list, code_by}
 use Rattle.wast_resolve_passes.specs.Tree.{Space}
@@ -12,7 +15,7 @@ use Rattle.wast_resolve_passes.specs.declared.resolver.Ns.TheVariants as ns
 use Rattle.wast_resolve_namespace.specs.Namespaces.{NameSpace, coded_space, empty_from, number_in}
 use Rattle.wast_resolve_rules.specs.Scopes.{Shape, Function, Struct, Other, Scope}
 
--- the index space of a name space
+-- the index space of an `Ns`
 abbrev pub space_of : Ns → Space
 space_of ns.Func = space.Func
 space_of ns.Table = space.Table
@@ -21,62 +24,62 @@ space_of ns.Memory = space.Memory
 space_of ns.Tag = space.Tag
 space_of ns.Ty = space.Ty
 
--- the spaces by their ranks; one that is not there has no names
+-- the index space in a list by rank; a missing one is empty
 abbrev pub space_in : List NameSpace → Space → NameSpace
 space_in spaces s = slice_index_or spaces (rank_of s) (empty_from 0)
 
--- what name spaces make known
+-- the identifier context of index spaces
 abbrev pub known_in : List NameSpace → IdContext
 known_in spaces = record { number = λ s name. number_in (space_in spaces s) name }
 
--- what is read of a type, by its signature and by the names of its fields
+-- what checks read of a type, from its signature and the ids of its fields
 abbrev pub shape_by : Option Signature → Option NameSpace → Shape
 shape_by None None = Other
 shape_by None (Some fields) = Struct (λ name. number_in fields name)
 shape_by (Some s) fields = Function s
 
--- the same of a type
+-- the same for the data of a type
 abbrev pub read_shape : TypeShape → Shape
 read_shape t = shape_by t.signature t.fields
 
--- what a resolver is seen as: the name spaces, and the types by position
+-- the model: the index spaces by rank, and the types by index
 pub record Resolution : Type 0 where
   pub spaces : List NameSpace
   pub types : List TypeShape
 
--- what a resolver makes known
+-- the identifier context of a resolver
 abbrev pub known_of : Resolution → IdContext
 known_of r = known_in r.spaces
 
--- what demands read of a resolver
+-- the data of a module that checks read, from a resolver
 abbrev pub scope_of : Resolution → Scope
 scope_of r = record { known = known_of r; types = map read_shape r.types }
 
--- with name spaces alone
+-- a resolver without types
 abbrev pub without_types : List NameSpace → Resolution
 without_types spaces = record { spaces = spaces; types = [] }
 
--- with the types by position
+-- a resolver with these types
 abbrev pub with_types : Resolution → List TypeShape → Resolution
 with_types r types = record { spaces = r.spaces; types = types }
 
--- what the names of a module are seen as
+-- the model of the names of a module
 pub record KnownNames : Type 0 where
   pub spaces : List NameSpace
 
--- names are given by their name spaces
+-- names are determined by their index spaces
 abbrev pub coded_names : Coded KnownNames
 coded_names = code_by (List NameSpace) (coded_list coded_space) (λ b. b.spaces) (λ spaces. record { spaces = spaces }) (λ _. refl)
 
--- no name in any space
+-- no id in any space
 abbrev pub no_names : KnownNames
 no_names = record { spaces = [] }
 
--- what the names make known
+-- the identifier context of names
 abbrev pub known_to : KnownNames → IdContext
 known_to names = known_in names.spaces
 
--- the names of the fields of a struct type, if a type is one with a named field
+-- the ids of the fields of a struct type, if a field has one
 abbrev pub IsFieldsOf : Option Shape → Option NameSpace → Type 0
 IsFieldsOf None names = names ≡ None
 IsFieldsOf (Some (Function s)) names = names ≡ None

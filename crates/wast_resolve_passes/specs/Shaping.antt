@@ -1,4 +1,7 @@
--- How the types of a module are read, where no two fields of a struct have one name. Private functions alone use this.
+-- Reading the types of a module, if no two fields of a struct have the same id. Only contracts of private functions use
+-- this.
+--
+-- For `(type (struct (field $x i32) (field $y i32)))` the ids $x and $y have the numbers 0 and 1.
 use Rattle.std.specs.Prelude.{⊤, ◌≡◌, ℕ, List, length, map, flat_map, Option, None}
 use Rattle.wast_base.specs.declared.faults.Error.{Error}
 use Rattle.wast_base.specs.Faults.{diagnostic_of}
@@ -11,26 +14,26 @@ use Rattle.wast_resolve_passes.specs.Tree.{ModuleField}
 use Rattle.wast_resolve_passes.specs.Tree.ty
 use Rattle.wast_resolve_rules.specs.Demands.{Demand, field_demands, Answers}
 
--- names denote the positions of the fields
+-- ids have the positions of their fields as numbers
 abbrev pub NamesFields : List (Option Mark) → NameSpace → Type 0
 NamesFields ids s = (name : Name) → number_in s name ≡ position_of name (map name_if ids)
 
--- what is demanded of the fields of a type
+-- the checks of the fields of a type
 abbrev pub type_demands : ty.«Type» → List Demand
 type_demands t = field_demands (field_ids (fields_of t.def.kind))
 
--- of those of the types of a field
+-- the checks of the fields of all types of a field
 abbrev pub types_demands : ModuleField → List Demand
 types_demands x = flat_map type_demands (types_of x)
 
--- how many fields a type has
+-- the number of fields of a type
 abbrev pub type_fields : ty.«Type» → ℕ
 type_fields t = length (field_ids (fields_of t.def.kind))
 
--- each of the types of a field
+-- the same for the types of a field
 abbrev pub types_fields : ModuleField → List ℕ
 types_fields x = map type_fields (types_of x)
 
--- Memory was refused, or there are too many of something.
+-- The error is E12, or E10 if there are too many.
 abbrev pub IsRefused : Type 0 → Error → Type 0
 IsRefused many e = Answers ⊤ many (diagnostic_of e) None

@@ -1,5 +1,7 @@
--- Where the instructions of a body stand: by its parameters and locals and by the open blocks. Private functions alone use
--- this.
+-- The context of an instruction: the parameters and locals, and the enclosing blocks. Only contracts of private
+-- functions use this.
+--
+-- In `block $a  br $a  end  nop` the enclosing blocks are $a at `br`, and none at `nop`.
 use Rattle.std.specs.Prelude.{◌≡◌, Bool, true, false, List, [], ◌∷◌, map, flat_map, Option, None, Result, OnOk}
 use Rattle.wast_base.specs.Blocks.{Blocks, without_innermost}
 use Rattle.wast_base.specs.Ids.{Mark, mark_of_option}
@@ -13,54 +15,54 @@ use Rattle.wast_resolve_rules.specs.Resolved.{resolved_use}
 use Rattle.wast_resolve_rules.specs.Scopes.{Scope}
 use Rattle.wast_resolve_passes.specs.Tree.{ValType, SelectTypes, FunctionType, TypeUse, BlockType}
 
--- where an instruction stands in a body with these parameters and locals, and with these open blocks
+-- the context with these parameters and locals, and these enclosing blocks
 abbrev pub context_of : Locals → Blocks → BodyContext
 context_of l blocks = record { locals = l; blocks = blocks }
 
--- where a body with these begins: no block is open
+-- the context at the start of a body, without enclosing blocks
 abbrev pub initial_context : Locals → BodyContext
 initial_context l = context_of l []
 
--- A walk over these sites leaves the blocks that are open behind them.
+-- A walk over these sites leaves the enclosing blocks after them.
 abbrev pub Moves : {T : Type 0} → Blocks → (BodyContext → List Site) → Blocks → Result T Error → Type 0
 Moves old sites new result = (l : Locals) → OnOk result (new ≡ (after_all (context_of l old) (sites (context_of l old))).blocks)
 
--- A walk over these sites that is tried leaves the blocks that are open behind them, or those that were open.
+-- A trial over these sites leaves the enclosing blocks after them, or those before if it fails.
 abbrev pub Steps : Blocks → (BodyContext → List Site) → Blocks → Bool → Type 0
 Steps old sites new true = (l : Locals) → new ≡ (after_all (context_of l old) (sites (context_of l old))).blocks
 Steps old sites new false = new ≡ old
 
--- Nothing is asked of a value type, and it stays.
+-- A value type has no checks and does not change: it is a number or vector type.
 pub record IsNumericType (t : ValType) : Type 0 where
   pub asks : in_val t ≡ []
   pub stays : (f : Indices) → mapped_val f t ≡ t
 
--- nor of types
+-- the same for a list of types
 pub record AreNumbers (ts : List ValType) : Type 0 where
   pub asks : flat_map in_val ts ≡ []
   pub stays : (f : Indices) → map (mapped_val f) ts ≡ ts
 
--- nor of those of a `select`
+-- the same for the types of a `select`
 pub record SelectsNumber (t : SelectTypes) : Type 0 where
   pub asks : in_select t ≡ []
   pub stays : (f : Indices) → mapped_select f t ≡ t
 
--- nor of a signature
+-- the same for a signature
 pub record HasNoNames (t : FunctionType) : Type 0 where
   pub asks : in_signature t ≡ []
   pub stays : (f : Indices) → mapped_signature f t ≡ t
 
--- The type of a block demands nothing, and stays.
+-- The type of a block passes its checks and does not change.
 pub record IsSettled (u : TypeUse FunctionType) : Type 0 where
   pub met : (c : Scope) → first_unmet (use_demand c u) ≡ None
   pub stays : (c : Scope) → resolved_use c.known OfBlock u ≡ u
 
--- A block whose type is settled is opened, or none is.
+-- A block with such a type is entered, or nothing changes.
 abbrev pub OpensBlock : BlockType → Blocks → Blocks → Bool → Type 0
 OpensBlock block old new true = IsSettled block.ty × (new ≡ name_if (mark_of_option block.label) ∷ old)
 OpensBlock block old new false = new ≡ old
 
--- The innermost block is closed at an `end` that may have this label, or none is.
+-- The innermost block is left at an `end` with this label, or nothing changes.
 abbrev pub ClosesBlock : Option Mark → Blocks → Blocks → Bool → Type 0
 ClosesBlock label old new true = (wrong_label old label ≡ None) × (new ≡ without_innermost old)
 ClosesBlock label old new false = new ≡ old

@@ -1,4 +1,6 @@
--- What a walk over a part of the tree does.
+-- The effect of a walk over a part of the tree.
+--
+-- For example, a walk over `call $f` returns `call 0` if $f is function 0, and else fails with E4 at $f.
 use Rattle.std.specs.Prelude.{⊤, ◌≡◌, Bool, true, false, List, None, Result, Ok, Err}
 use Rattle.wast_base.specs.declared.faults.Error.{Error}
 use Rattle.wast_base.specs.Faults.{diagnostic_of}
@@ -12,29 +14,29 @@ use Rattle.wast_resolve_passes.specs.Tree.{Index, RefType}
 use Rattle.wast_resolve_rules.specs.Resolved.{numbering_change}
 use Rattle.wast_resolve_passes.specs.Resolvers.{Resolution, known_of, scope_of}
 
--- Each demand is met and the part is now what was wanted, or the error is the first unmet demand; memory and many say
--- what else may be refused.
+-- Each check passes and the part is the expected one; or the walk fails. Its error is that of the first check that
+-- fails, or E12 or E10 if their conditions hold.
 abbrev pub Walks : {T : Type 0} → (memory many : Type 0) → List Demand → T → T → Result (Unit {0}) Error → Type 0
 Walks memory many ds want new (Ok x) = (first_unmet ds ≡ None) × (new ≡ want)
 Walks memory many ds want new (Err e) = Answers memory many (diagnostic_of e) (first_unmet ds)
 
--- of a part in which this is asked, by the names of a module: nothing else is refused
+-- for a part with these checks outside of bodies: no E10 and E12
 abbrev pub WalksAsks : {T : Type 0} → Resolution → (T → List Check) → (Change → T → T) → T → T → Result (Unit {0}) Error → Type 0
 WalksAsks names asked mapped old new result = Walks ⊥ ⊥ (ask_demands (known_of names) (asked old)) (mapped (numbering_change (scope_of names)) old) new result
 
--- of a part with these sites
+-- for a part with these sites
 abbrev pub WalksSites : {T : Type 0} → Resolution → (T → List Site) → (Change → T → T) → T → T → Result (Unit {0}) Error → Type 0
 WalksSites names sites mapped old new result = Walks ⊥ ⊥ (site_demands (scope_of names) (sites old)) (mapped (numbering_change (scope_of names)) old) new result
 
--- of a part with functions: the names of their locals take memory, and may be too many
+-- for a part with functions: E12, or E10 under a condition, since the ids of their locals are allocated
 abbrev pub WalksFunctions : {T : Type 0} → Type 0 → Resolution → (T → List Site) → (Change → T → T) → T → T → Result (Unit {0}) Error → Type 0
 WalksFunctions many names sites mapped old new result = Walks ⊤ many (site_demands (scope_of names) (sites old)) (mapped (numbering_change (scope_of names)) old) new result
 
--- of a part in which blocks may be opened: these take memory, and may be too many
+-- for a part with bodies: E12, or E10 if there are 2^32 enclosing blocks or more
 abbrev pub WalksBodies : {T : Type 0} → Resolution → (T → List Site) → (Change → T → T) → T → T → Result (Unit {0}) Error → Type 0
 WalksBodies names sites mapped old new result = WalksFunctions (HasMany (open_counts (sites old))) names sites mapped old new result
 
--- a branch on a cast: its label, the type that is cast to, and the type that is cast from, and what they become
+-- a branch on a cast: its label, the target type and the source type
 abbrev pub Cast : Type 0
 Cast = Index × (RefType × RefType)
 
@@ -43,11 +45,11 @@ WalksCast names blocks old new result =
     let f = numbering_change (scope_of names) in
     Walks ⊥ ⊥ (site_demands (scope_of names) (in_cast blocks old.0 old.1.0 old.1.1)) (f.label blocks old.0, (mapped_ref f.index old.1.0, mapped_ref f.index old.1.1)) new result
 
--- A walk is tried: each demand is met and the part is now what was wanted, or it stays as it was.
+-- A trial: each check passes and the part is the expected one, or nothing changes.
 abbrev pub Tries : {T : Type 0} → List Demand → T → T → T → Bool → Type 0
 Tries ds want old new true = (first_unmet ds ≡ None) × (new ≡ want)
 Tries ds want old new false = new ≡ old
 
--- over a part with these sites
+-- a trial over a part with these sites
 abbrev pub TriesSites : {T : Type 0} → Resolution → (T → List Site) → (Change → T → T) → T → T → Bool → Type 0
 TriesSites names sites mapped old new done = Tries (site_demands (scope_of names) (sites old)) (mapped (numbering_change (scope_of names)) old) old new done

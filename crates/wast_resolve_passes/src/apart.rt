@@ -1,4 +1,5 @@
-//! Walks over fields whose parts stand apart: what is asked outside of bodies, and type uses.
+//! Walks over fields whose parts do not depend on each other: indices outside of bodies, and type
+//! uses.
 #![tactic(auto, using(crate::proofs::Parts::both_met, crate::proofs::Parts::first_fails, crate::proofs::Parts::second_fails))]
 
 ghost use Rattle.std.specs.Prelude.{List, map, flat_map};
@@ -14,7 +15,7 @@ use wast_tree_nodes::{
     TypeUse,
 };
 
-/// Walks over a part of a field in which nothing stands in a body.
+/// Resolves a part of a field that has no body.
 pub(crate) fn walk_outside<'a, T: Walk<'a>>(
     names: &Resolver<'a>,
     part: &mut T,
@@ -24,7 +25,7 @@ pub(crate) fn walk_outside<'a, T: Walk<'a>>(
     part.walk(names)
 }
 
-/// Walks over an index of a field.
+/// Resolves an index of a field.
 pub(crate) fn walk_outside_index<'a>(
     names: &Resolver<'a>,
     space: Space,
@@ -35,15 +36,15 @@ pub(crate) fn walk_outside_index<'a>(
     walk_index(names, space, index)
 }
 
-/// A part of a field whose parts stand apart: none reads what another declares.
+/// A part of a field whose parts do not declare ids for each other.
 pub(crate) trait WalkApart<'a> {
-    /// What stands in it.
+    /// The sites in the part.
     ghost stands: { Self → List Site };
 
-    /// It, after a change.
+    /// The part of the tree that a change maps this one to.
     ghost mapped: { Change → Self → Self };
 
-    /// Walks over it. The error is the first demand that is not met.
+    /// Resolves the part. Fails with the first check that fails.
     fn walk_apart(&mut self, names: &Resolver<'a>) -> Result<(), Error<'a>>
         ensures { WalksSites names.now stands mapped self.old self.new result };
 }
@@ -99,7 +100,7 @@ impl<'a> WalkApart<'a> for ItemSig<'a> {
     }
 }
 
-/// An item of a group, behind its name.
+/// An item of an import group, with its name.
 impl<'a> WalkApart<'a> for (&'a str, ItemSig<'a>) {
     ghost stands = { λ p. in_sig p.1 };
 
@@ -111,7 +112,7 @@ impl<'a> WalkApart<'a> for (&'a str, ItemSig<'a>) {
     }
 }
 
-/// Walks over each part of a list, in order.
+/// Resolves each part of a list, in order.
 fn walk_each_apart<'a, T: WalkApart<'a>>(
     names: &Resolver<'a>,
     parts: &mut Seq<T>,

@@ -1,4 +1,4 @@
-//! The first clash of a module, where the first one of each space is known.
+//! The first duplicate id of a module, from the first duplicate of each index space.
 
 ghost use Rattle.std.specs.Prelude.{◌≡◌, ⊤, [], None, IfOk, IfErr, MatchOption, length, map, option_map, slice_index_or};
 ghost use Rattle.wast_base.specs.Ids.{mark_of_option};
@@ -18,18 +18,19 @@ use wast_base::{Error, Fault, Id, Space};
 use wast_tree_nodes::{ModuleField, StructField};
 use wast_tree_visit::{ItemVisitor, visit_items};
 
-/// Counts down to the first clash of each space, until it comes to one of them.
+/// A visitor that counts items until it comes to the first duplicate of a space.
 #[derive(Drop)]
 struct Finder<'a> {
     alloc: Global,
-    /// By the ranks of the spaces, how many items of the space come before its first clash, if one is ahead.
+    /// For each space, by rank: how many items come before its first duplicate, if there is one
+    /// ahead.
     ahead: [Option<u32>; 8],
-    /// The clash that it came to, or why it stopped.
+    /// The duplicate that was found, or the error that stopped the search.
     found: Option<Error<'a>>,
 }
 
 impl<'a> Finder<'a> {
-    /// One more item, without its fields.
+    /// Counts an item, without its fields.
     fn count_down(&mut self, space: Space, id: &Option<Id<'a>>)
         ensures { countdown self.new ≡ counted_down (countdown self.old) (item space id.now []) }
     {
@@ -56,7 +57,7 @@ impl<'a> ItemVisitor<'a> for Finder<'a> {
     }
 }
 
-/// E2 at the id of an item, if it bears one.
+/// Returns E2 at the id of an item, if it has one.
 fn clash<'a>(space: Space, id: &Option<Id<'a>>) -> Option<Error<'a>>
     ensures { option_map diagnostic_of result ≡ clash_told (item space id.now []) }
 {
@@ -66,9 +67,11 @@ fn clash<'a>(space: Space, id: &Option<Id<'a>>) -> Option<Error<'a>>
     }
 }
 
-/// The position of the first field of a struct whose id an earlier one bears, if there is one.
+/// Returns the position of the first field of a struct with the id of an earlier field, if there is
+/// one.
 ///
-/// It takes memory for the ids. Where it is refused, that is E12; where there are 2^32 fields or more, E10.
+/// Allocates for the ids. Fails with E12 if that fails, and with E10 if there are 2^32 fields or
+/// more.
 fn try_fields<'a>(alloc: Global, fields: &[StructField<'a>]) -> Result<Option<u32>, Error<'a>>
     ensures found { IfOk result (HasFirstClash (map name_if (field_ids fields.now))) }
     ensures stops { IfErr result (λ e. Stops (diagnostic_of e) 0 (length (map name_if (field_ids fields.now)))) }
@@ -77,10 +80,10 @@ fn try_fields<'a>(alloc: Global, fields: &[StructField<'a>]) -> Result<Option<u3
     Ok(gathering.first_clash(alloc)?)
 }
 
-/// E3 at the first field of a struct whose id an earlier one bears, if there is one.
+/// Returns E3 at the first field of a struct with the id of an earlier field, if there is one.
 ///
-/// It takes memory only where some field has an id: E12 where it is refused, and E10 only where there are 2^32 fields or
-/// more.
+/// Allocates only if a field has an id. Returns E12 if that fails, and E10 if there are 2^32 fields
+/// or more.
 fn clash_among<'a>(alloc: Global, fields: &[StructField<'a>]) -> Option<Error<'a>>
     ensures { FindsAmong (field_ids fields.now) (option_map diagnostic_of result) }
 {
@@ -93,7 +96,7 @@ fn clash_among<'a>(alloc: Global, fields: &[StructField<'a>]) -> Option<Error<'a
     }
 }
 
-/// E3 at the id of a field, if it bears one.
+/// Returns E3 at the id of a field, if it has one.
 fn field_clash<'a>(id: &Option<Id<'a>>) -> Option<Error<'a>>
     ensures { option_map diagnostic_of result ≡ field_clash_told (mark_of_option id.now) }
 {
@@ -103,12 +106,12 @@ fn field_clash<'a>(id: &Option<Id<'a>>) -> Option<Error<'a>>
     }
 }
 
-/// The first clash, in the order of the items: E2 at an item whose id an earlier item of its space bears, and then E3 at a
-/// field of it whose id an earlier field of the struct bears.
+/// Returns the first duplicate in the order of the items: E2 at an item, or then E3 at a field of
+/// its struct.
 ///
-/// It needs, by the ranks of the spaces, the position in each of the first item with a clash, if there is one. It takes
-/// memory only for structs of which some field has an id: E12 where it is refused, and E10 only where some struct has 2^32
-/// or more fields.
+/// Requires, for each space by rank, the position of the first item with an id of an earlier one.
+/// Allocates only for structs in which a field has an id. Returns E12 if that fails, and E10 if a
+/// struct has 2^32 fields or more.
 pub(crate) fn first_clash<'a>(
     alloc: Global,
     fields: &[ModuleField<'a>],

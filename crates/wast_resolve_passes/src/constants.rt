@@ -1,4 +1,4 @@
-//! Walks over fields in which constant expressions stand.
+//! Walks over fields with constant expressions.
 #![tactic(auto, using(crate::proofs::Parts::both_met, crate::proofs::Parts::first_fails, crate::proofs::Parts::second_fails))]
 
 ghost use Rattle.std.specs.Prelude.{List, map, flat_map, option_map};
@@ -18,7 +18,7 @@ use wast_tree_nodes::{
     Data, DataKind, Elem, ElemKind, ElemPayload, Expression, Global, GlobalKind, Table, TableKind,
 };
 
-/// Walks over an index of a field, if there is one.
+/// Resolves an index of a field, if there is one.
 fn walk_outside_optional<'a>(
     names: &Resolver<'a>,
     space: Space,
@@ -29,7 +29,7 @@ fn walk_outside_optional<'a>(
     walk_optional(names, space, index)
 }
 
-/// Walks over indices of a field, in order. No block is opened.
+/// Resolves indices of a field, in order. Enclosing blocks do not change.
 fn walk_outside_indices<'a>(
     names: &Resolver<'a>,
     space: Space,
@@ -40,16 +40,17 @@ fn walk_outside_indices<'a>(
     walk_indices(names, space, indices)
 }
 
-/// A part of a field in which constant expressions stand, each by itself.
+/// A part of a field that contains constant expressions, each independent of the others.
 pub(crate) trait WalkConstants<'a> {
-    /// What stands in it.
+    /// The sites in the part.
     ghost stands: { Self → List Site };
 
-    /// It, after a change.
+    /// The part of the tree that a change maps this one to.
     ghost mapped: { Change → Self → Self };
 
-    /// Walks over it. The error is the first demand that is not met; E12 where memory is refused for the blocks of an
-    /// expression, and E10 only where 2^32 of them or more would be open at once.
+    /// Resolves the part. Fails with the first check that fails, or without a position: E12 if
+    /// allocation for the blocks of an expression fails, E10 if it has 2^32 enclosing blocks or
+    /// more.
     fn walk_constants(
         &mut self,
         alloc: alloc::Global,
@@ -58,7 +59,7 @@ pub(crate) trait WalkConstants<'a> {
         ensures { WalksBodies names.now stands mapped self.old self.new result };
 }
 
-/// Walks over each part of a list, in order.
+/// Resolves each part of a list, in order.
 fn walk_each_constants<'a, T: WalkConstants<'a>>(
     alloc: alloc::Global,
     names: &Resolver<'a>,
@@ -105,7 +106,7 @@ impl<'a> WalkConstants<'a> for Option<Expression<'a>> {
     }
 }
 
-/// Walks over the type of a table, or of its elements in place.
+/// Resolves the type of a table, or of its inline elements.
 fn walk_table_type<'a>(names: &Resolver<'a>, kind: &mut TableKind<'a>) -> Result<(), Error<'a>>
     ensures { WalksSites names.now in_type_of_table with_table_type kind.old kind.new result }
 {
@@ -116,7 +117,7 @@ fn walk_table_type<'a>(names: &Resolver<'a>, kind: &mut TableKind<'a>) -> Result
     }
 }
 
-/// Walks over what the elements of a table are at first, or over those in place.
+/// Resolves the initial value of a table, or its inline elements.
 fn walk_init<'a>(
     alloc: alloc::Global,
     names: &Resolver<'a>,
@@ -147,7 +148,7 @@ impl<'a> WalkConstants<'a> for TableKind<'a> {
     }
 }
 
-/// Walks over the table of an element segment.
+/// Resolves the table of an element segment.
 fn walk_elem_table<'a>(names: &Resolver<'a>, kind: &mut ElemKind<'a>) -> Result<(), Error<'a>>
     ensures { WalksSites names.now in_elem_table with_elem_table kind.old kind.new result }
 {
@@ -158,7 +159,7 @@ fn walk_elem_table<'a>(names: &Resolver<'a>, kind: &mut ElemKind<'a>) -> Result<
     }
 }
 
-/// Walks over the offset of an element segment.
+/// Resolves the offset of an element segment.
 fn walk_elem_offset<'a>(
     alloc: alloc::Global,
     names: &Resolver<'a>,
@@ -189,7 +190,7 @@ impl<'a> WalkConstants<'a> for ElemKind<'a> {
     }
 }
 
-/// Walks over the elements of a segment.
+/// Resolves the elements of a segment.
 fn walk_elements<'a>(
     alloc: alloc::Global,
     names: &Resolver<'a>,
@@ -203,7 +204,7 @@ fn walk_elements<'a>(
     }
 }
 
-/// Walks over the type of the expressions of a segment.
+/// Resolves the type of the expressions of a segment.
 fn walk_element_type<'a>(
     names: &Resolver<'a>,
     payload: &mut ElemPayload<'a>,
@@ -232,7 +233,7 @@ impl<'a> WalkConstants<'a> for ElemPayload<'a> {
     }
 }
 
-/// Walks over the memory of a data segment.
+/// Resolves the memory of a data segment.
 fn walk_data_memory<'a>(names: &Resolver<'a>, kind: &mut DataKind<'a>) -> Result<(), Error<'a>>
     ensures { WalksSites names.now in_data_memory with_data_memory kind.old kind.new result }
 {
@@ -242,7 +243,7 @@ fn walk_data_memory<'a>(names: &Resolver<'a>, kind: &mut DataKind<'a>) -> Result
     }
 }
 
-/// Walks over the offset of a data segment.
+/// Resolves the offset of a data segment.
 fn walk_data_offset<'a>(
     alloc: alloc::Global,
     names: &Resolver<'a>,

@@ -1,4 +1,4 @@
-//! Types whose indices are resolved by a resolver of the caller's own.
+//! Resolves the indices in a type by a user-defined function.
 #![tactic(auto, using(crate::proofs::Calling::calls_on_none, crate::proofs::Calling::calls_on_both, crate::proofs::Calling::first_refused, crate::proofs::Calling::past_id, crate::proofs::Calling::needs_first, crate::proofs::Calling::needs_second, crate::proofs::Calling::needs_kept))]
 
 ghost use Rattle.std.specs.Prelude.{◌≡◌, ℕ, List, Result, flat_map, map, option_map};
@@ -18,26 +18,53 @@ use wast_tree_nodes::{
     StructType, Type, TypeDef, ValType,
 };
 
-/// A resolver of the indices of types.
+/// A user-defined function that resolves the indices in types.
+///
+/// # Example
+///
+///     let number = self.next;
+///     *name = Index::Num(number, name.span());
+///     self.next = number + 1;
+///     Ok(number)
 pub trait ResolveCoreType<'a> {
-    /// What it needs of an index.
+    /// The condition that a call requires of an index.
     ghost needs: { Self → Index → Type 0 };
 
-    /// What a call does: the resolver and the index before it, the two after it, and its answer.
+    /// The effect of a call: the resolver and the index before it, the two after it, and the
+    /// result.
     ghost called: { Self → Index → Self → Index → Result ℕ Error → Type 0 };
 
-    /// Resolves the index of a type, and answers its number.
+    /// Resolves the index of a type, and returns its number.
+    ///
+    /// For example, a [`Resolver`](crate::Resolver) replaces `$t` by 0 and returns 0, if `$t` is
+    /// type 0.
     fn resolve_type_name(&mut self, name: &mut Index<'a>) -> Result<u32, Error<'a>>
         requires { needs self.old name.old }
         ensures call { called self.old name.old self.new name.new result }
         ensures kept { (i : Index) → needs self.old i → needs self.new i };
 }
 
-/// Resolves each index in a type: the parents, the descriptor and what it describes come first, and then the
-/// composite type.
+/// Resolves each index in a type: supertypes, descriptor and describes first, then the composite
+/// type.
 ///
-/// It needs what the resolver needs of each index. It goes up to the first error of the resolver, which it answers; the
-/// indices behind that stay, and so does all that is no index. It takes no memory but what the resolver takes.
+/// Stops at the first error of the resolver. The indices after it are unchanged, and so is
+/// everything that is not an index. Allocates only if the resolver does.
+///
+/// For example, with a resolver that returns 0 for `$a`, `(type (sub $a (func (param (ref $a)))))`
+/// becomes `(type (sub 0 (func (param (ref 0)))))`.
+///
+/// # Requires
+///
+/// Each index in the type has what the resolver requires (`needs`).
+///
+/// # Errors
+///
+/// The first error of the resolver.
+///
+/// # Guarantees
+///
+/// - `calls`: the resolver is called on each index in order. `rest`: nothing but indices changes.
+/// - `kept`: an index that qualified (`needs`) before still qualifies.
 pub fn resolve_type<'a, C: ResolveCoreType<'a>>(
     cx: &mut C,
     ty: &mut Type<'a>,
@@ -51,9 +78,11 @@ pub fn resolve_type<'a, C: ResolveCoreType<'a>>(
     Ok(())
 }
 
-/// Resolves each index in what a type is defined as, in the order of `resolve_type`.
+/// Resolves each index in a type definition, in the order of [`resolve_type`], with the same
+/// requirements and errors.
 ///
-/// It needs, answers and leaves what `resolve_type` does.
+/// For example, with a resolver that returns 0 for `$a`, `(sub $a (func))` becomes
+/// `(sub 0 (func))`.
 pub fn resolve_type_def<'a, C: ResolveCoreType<'a>>(
     cx: &mut C,
     ty: &mut TypeDef<'a>,
@@ -67,9 +96,11 @@ pub fn resolve_type_def<'a, C: ResolveCoreType<'a>>(
     Ok(())
 }
 
-/// Resolves each index in a function type: the parameters come before the results.
+/// Resolves each index in a function type: parameters first, then results. Requirements and errors
+/// are those of [`resolve_type`].
 ///
-/// It needs, answers and leaves what `resolve_type` does.
+/// For example, with a resolver that returns 0 for `$a`, `(func (param (ref $a)))` becomes
+/// `(func (param (ref 0)))`.
 pub fn resolve_type_func<'a, C: ResolveCoreType<'a>>(
     cx: &mut C,
     ty: &mut FunctionType<'a>,
@@ -83,9 +114,11 @@ pub fn resolve_type_func<'a, C: ResolveCoreType<'a>>(
     Ok(())
 }
 
-/// Resolves each index in a value type.
+/// Resolves each index in a value type. Requirements and errors are those of [`resolve_type`].
 ///
-/// It needs, answers and leaves what `resolve_type` does.
+/// # Example
+///
+///     assert!(rt; resolve_valtype(&mut cx, &mut value) == Ok(()));
 pub fn resolve_valtype<'a, C: ResolveCoreType<'a>>(
     cx: &mut C,
     ty: &mut ValType<'a>,
@@ -99,9 +132,11 @@ pub fn resolve_valtype<'a, C: ResolveCoreType<'a>>(
     Ok(())
 }
 
-/// Resolves each index in a reference type.
+/// Resolves each index in a reference type. Requirements and errors are those of [`resolve_type`].
 ///
-/// It needs, answers and leaves what `resolve_type` does.
+/// # Example
+///
+///     assert!(rt; resolve_reftype(&mut cx, &mut reference) == Ok(()));
 pub fn resolve_reftype<'a, C: ResolveCoreType<'a>>(
     cx: &mut C,
     ty: &mut RefType<'a>,
@@ -115,9 +150,11 @@ pub fn resolve_reftype<'a, C: ResolveCoreType<'a>>(
     Ok(())
 }
 
-/// Resolves each index in a heap type.
+/// Resolves each index in a heap type. Requirements and errors are those of [`resolve_type`].
 ///
-/// It needs, answers and leaves what `resolve_type` does.
+/// # Example
+///
+///     assert!(rt; resolve_heaptype(&mut cx, &mut heap) == Ok(()));
 pub fn resolve_heaptype<'a, C: ResolveCoreType<'a>>(
     cx: &mut C,
     ty: &mut HeapType<'a>,
@@ -131,9 +168,12 @@ pub fn resolve_heaptype<'a, C: ResolveCoreType<'a>>(
     Ok(())
 }
 
-/// Resolves each index in what a field of a struct or an element of an array holds.
+/// Resolves each index in the storage type of a struct field or an array. Requirements and errors
+/// are those of [`resolve_type`].
 ///
-/// It needs, answers and leaves what `resolve_type` does.
+/// # Example
+///
+///     assert!(rt; resolve_storagetype(&mut cx, &mut storage) == Ok(()));
 pub fn resolve_storagetype<'a, C: ResolveCoreType<'a>>(
     cx: &mut C,
     ty: &mut StorageType<'a>,
@@ -157,15 +197,15 @@ impl<'a> ResolveCoreType<'a> for &Resolver<'a> {
     }
 }
 
-/// A part of a type in which indices of types may stand.
+/// A part of a type that can contain indices of types.
 trait CoreType<'a, C: ResolveCoreType<'a>> {
-    /// What stands in it.
+    /// The checks in the part.
     ghost asks: { Self → List Check };
 
-    /// It, with each index changed.
+    /// The part with each index changed.
     ghost changed: { Indices → Self → Self };
 
-    /// Resolves each index in it, in order, up to the first error.
+    /// Resolves each index in the part, in order, up to the first error.
     fn resolve_with(&mut self, cx: &mut C) -> Result<(), Error<'a>>
         requires { HasNeeds C.needs cx.old (asks self.old) }
         ensures calls { CallsOn C.called cx.old (asks self.old) cx.new (asks self.new) result }
@@ -184,7 +224,7 @@ impl<'a, C: ResolveCoreType<'a>> CoreType<'a, C> for Index<'a> {
     }
 }
 
-/// Resolves each index in the parts, in order, up to the first error.
+/// Resolves each index in the parts of a list, in order, up to the first error.
 fn resolve_each<'a, C: ResolveCoreType<'a>, T: CoreType<'a, C>>(
     cx: &mut C,
     parts: &mut Seq<T>,

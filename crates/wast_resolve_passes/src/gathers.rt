@@ -1,4 +1,4 @@
-//! The items of a space, gathered from the fields of a module, and the fields of a struct.
+//! Collects the items of each index space, and the fields of a struct.
 
 ghost use Rattle.std.specs.Prelude.{◌≡◌, [], ◌∷◌, is_some, length, map, All, IfOk, IfErr, Option as Maybe};
 ghost use Rattle.std.specs.List.{list_any};
@@ -16,7 +16,8 @@ use wast_resolve_namespace::NamespaceBuilder;
 use wast_tree_nodes::{Local, ModuleField, StructField, ValType};
 use wast_tree_visit::{ItemVisitor, visit_items};
 
-/// How many ids the items of each space have, by its rank; a guess where there are too many to be counted.
+/// The number of ids in each space, by rank. It is only a hint for the capacity, because it
+/// saturates.
 #[derive(Drop)]
 struct Counter {
     ids: [usize; 8],
@@ -33,7 +34,7 @@ impl<'a> ItemVisitor<'a> for Counter {
     }
 }
 
-/// The items of each space that it was told of, by its rank, or why it stopped there.
+/// The items of each space, by rank, or the error that stopped it.
 #[derive(Drop)]
 struct Gatherer<'a> {
     gathered: Vec<Result<NamespaceBuilder<'a>, Error<'a>>>,
@@ -50,7 +51,7 @@ impl<'a> ItemVisitor<'a> for Gatherer<'a> {
     }
 }
 
-/// One more item, unless it has stopped.
+/// Adds an item, unless there was an error.
 fn add_to<'a>(gathered: &mut Result<NamespaceBuilder<'a>, Error<'a>>, id: Option<Id<'a>>)
     ensures { Gathers gathered.old (name_if (mark_of_option id.entry) ∷ []) gathered.new }
 {
@@ -61,7 +62,7 @@ fn add_to<'a>(gathered: &mut Result<NamespaceBuilder<'a>, Error<'a>>, id: Option
     }
 }
 
-/// One more item: E10 where there would be 2^32, and else E12 where memory is refused.
+/// Adds an item. Fails with E10 if there are 2^32, and with E12 if allocation fails.
 fn add<'a>(gathering: &mut NamespaceBuilder<'a>, id: Option<Id<'a>>) -> Result<(), Error<'a>>
     ensures { Gathers (Ok gathering.old) (name_if (mark_of_option id.entry) ∷ []) (with_gathered result gathering.new) }
 {
@@ -72,14 +73,14 @@ fn add<'a>(gathering: &mut NamespaceBuilder<'a>, id: Option<Id<'a>>) -> Result<(
     Ok(())
 }
 
-/// Nothing, with room for so many ids; E12 where memory is refused.
+/// Returns an empty list with capacity for some ids. Fails with E12 if allocation fails.
 fn start<'a>(alloc: Global, ids: usize) -> Result<NamespaceBuilder<'a>, Error<'a>>
     ensures { Gathers (Ok []) [] result }
 {
     Ok(NamespaceBuilder::new(alloc, ids)?)
 }
 
-/// Nothing of each space, with room for so many ids, by its rank.
+/// Returns an empty list for each space, by rank, with capacity for its ids.
 fn start_each<'a>(
     alloc: Global,
     ids: [usize; 8],
@@ -96,10 +97,10 @@ fn start_each<'a>(
     Ok(gathered)
 }
 
-/// The items of each space, by its rank, or why it stopped there: E10 where the space has 2^32 items or more, and E12 where
-/// memory is refused.
+/// Returns the items of each space, by rank, or an error for the space: E10 if it has 2^32 items or
+/// more, E12 if allocation fails.
 ///
-/// It asks for memory once for each space, and once for all. Where that is refused, it is E12.
+/// Allocates once for each space, and once for all. If the latter fails, the call fails with E12.
 pub(crate) fn gather<'a>(
     alloc: Global,
     fields: &[ModuleField<'a>],
@@ -117,12 +118,12 @@ pub(crate) fn gather<'a>(
     Ok(gatherer.gathered)
 }
 
-/// What may have an id: a field of a struct, a parameter or a local.
+/// An element that can have an id: a field of a struct, a parameter or a local.
 pub(crate) trait HasId<'a> {
-    /// Its id, if it has one.
+    /// The id, if there is one.
     ghost mark: { Self → Maybe Mark };
 
-    /// Its id, if it has one.
+    /// Returns the id, if there is one.
     fn id(&self) -> Option<Id<'a>>
         ensures { mark_of_option result ≡ mark self.now };
 }
@@ -151,7 +152,7 @@ impl<'a> HasId<'a> for Local<'a> {
     }
 }
 
-/// Whether something in a list has an id.
+/// Returns whether an element of a list has an id.
 pub(crate) fn have_ids<'a, T: HasId<'a>>(items: &[T]) -> bool
     ensures { result ≡ list_any is_some (map (λ x. name_if (T.mark x)) items.now) }
 {
@@ -163,7 +164,7 @@ pub(crate) fn have_ids<'a, T: HasId<'a>>(items: &[T]) -> bool
     false
 }
 
-/// How many of a list have ids.
+/// Returns how many elements of a list have an id.
 pub(crate) fn count_ids<'a, T: HasId<'a>>(items: &[T]) -> usize {
     let mut ids: usize = 0;
     for item in items {
@@ -174,7 +175,8 @@ pub(crate) fn count_ids<'a, T: HasId<'a>>(items: &[T]) -> usize {
     ids
 }
 
-/// Takes in the names of a list, in order: E10 where there would be 2^32, E12 where memory is refused.
+/// Adds the ids of a list, in order. Fails with E10 if there are 2^32, and with E12 if allocation
+/// fails.
 pub(crate) fn gather_each<'a, T: HasId<'a>>(
     gathering: &mut NamespaceBuilder<'a>,
     items: &[T],
@@ -187,10 +189,10 @@ pub(crate) fn gather_each<'a, T: HasId<'a>>(
     Ok(())
 }
 
-/// The fields of a struct.
+/// Returns the ids of the fields of a struct.
 ///
-/// It asks for memory once, and only where some field has an id. Where it is refused, that is E12; where there are 2^32
-/// fields or more, E10.
+/// Allocates once, and only if a field has an id. Fails with E12 if that fails, and with E10 if
+/// there are 2^32 fields or more.
 #[inline(always)]
 pub(crate) fn gather_fields<'a>(
     alloc: Global,

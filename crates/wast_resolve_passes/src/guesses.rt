@@ -1,4 +1,5 @@
-//! Name spaces with guesses: tables of places, by which names are looked up among many.
+//! Index spaces with cached positions: hash tables that make look-ups of ids fast if there are
+//! many.
 
 ghost use Rattle.std.specs.Prelude.{◌≡◌, IfOk, IfSome};
 ghost use Rattle.std.specs.FinMap as finmap;
@@ -13,23 +14,23 @@ use std::marker::Model;
 use wast_base::{Id, Numbering};
 use wast_resolve_namespace::{Namespace, NamespaceBuilder, leading};
 
-/// Up to so many names are looked up without guesses.
+/// Up to this number of ids there is no hash table.
 const FEW: usize = 16;
 
-/// In how many slots a guess for a name may stand, from the name's own on.
+/// The number of slots that a name can use, starting with the slot of its hash.
 const TRIES: usize = 4;
 
-/// An odd number without a pattern: a multiple of it by a small number differs from others in its high bits.
+/// An odd multiplier for hashes: its small multiples differ in their high bits.
 const SPREAD: u64 = 0x9e37_79b9_7f4a_7c15;
 
-/// A name space, and beside it guesses where its names stand.
+/// An index space, with a hash table of positions.
 ///
-/// A guess is no promise: the name that stands there is compared, and where it is another one, or no guess is found, the
-/// name space looks the name up itself.
+/// A cached position is only a hint. The id at that position is compared, and if it differs or
+/// there is no position, the index space is searched.
 #[derive(Drop)]
 pub(crate) struct CachedNames<'a> {
     names: Namespace<'a>,
-    // places and one more, each in a slot of its name; 0 is an empty slot
+    // positions plus one, each in a slot of its name; 0 is an empty slot
     slots: Vec<u32>,
 }
 
@@ -44,14 +45,14 @@ impl<'a> Model for CachedNames<'a> {
 }
 
 impl<'a> CachedNames<'a> {
-    /// No names, and a count of 0. It takes no memory.
+    /// Returns an empty index space with count 0. Does not allocate.
     pub(crate) fn new(alloc: Global) -> Self
         ensures { result ≡ empty_from 0 }
     {
         CachedNames::with_count(alloc, 0)
     }
 
-    /// No names, and this count. It takes no memory.
+    /// Returns an index space without ids, with this count. Does not allocate.
     pub(crate) fn with_count(alloc: Global, count: u32) -> Self
         ensures { result ≡ empty_from count }
     {
@@ -61,7 +62,7 @@ impl<'a> CachedNames<'a> {
         }
     }
 
-    /// A name space, with guesses where its names are not few. It takes memory once, where they are not.
+    /// Adds a hash table to an index space. Allocates once, and only if there are many ids.
     fn of(alloc: Global, names: Namespace<'a>) -> Result<Self, AllocError>
         ensures { IfOk result (λ s. s ≡ names.entry) }
     {
@@ -69,7 +70,8 @@ impl<'a> CachedNames<'a> {
         Ok(CachedNames { names, slots })
     }
 
-    /// The number of an id, if the id is known; its place does not count. It takes no memory.
+    /// Returns the number of an id, if it is known. Its position does not matter. Does not
+    /// allocate.
     pub(crate) fn find(&self, id: &Id<'a>) -> Option<u32>
         ensures { result ≡ number_in self.now (name_of id.now) }
     {
@@ -80,7 +82,8 @@ impl<'a> CachedNames<'a> {
         self.names.find(id)
     }
 
-    /// The ids with their numbers, each once, as [`Namespace::pairs`] gives them. It takes no memory.
+    /// Returns the ids with their numbers, each once, as [`Namespace::pairs`] does. Does not
+    /// allocate.
     pub(crate) fn pairs(&self) -> &[(Id<'a>, u32)]
         ensures { entries_of result.now ≡ finmap.entries self.now.names }
     {
@@ -96,9 +99,10 @@ impl<'a> Numbering<'a> for CachedNames<'a> {
     }
 }
 
-/// The name space of gathered items with guesses, or the position of the first item that has the name of an earlier one.
+/// Returns the index space of collected items, or the position of the first item with an id of an
+/// earlier one.
 ///
-/// It takes memory only where there are more than 16 ids: for guesses, and to sort more than 20.
+/// Allocates only for more than 16 ids: for the hash table, and to sort more than 20.
 pub(crate) fn filled<'a>(
     gathering: NamespaceBuilder<'a>,
     alloc: Global,
@@ -114,7 +118,7 @@ pub(crate) fn filled<'a>(
     }
 }
 
-/// Slots with guesses for these names, or none where they are few.
+/// Returns a hash table for these ids, or an empty one if there are few.
 fn slots_of<'a>(alloc: Global, names: &[(Id<'a>, u32)]) -> Result<Vec<u32>, AllocError> {
     if names.len() <= FEW {
         return Ok(Vec::new(alloc));
@@ -129,7 +133,7 @@ fn slots_of<'a>(alloc: Global, names: &[(Id<'a>, u32)]) -> Result<Vec<u32>, Allo
     Ok(slots)
 }
 
-/// Leaves a guess in the first empty one of the slots of a name, if one is empty.
+/// Stores a position in the first empty slot of a name, if there is one.
 fn leave(slots: &mut [u32], first: usize, guess: u32) {
     for i in 0..TRIES {
         let slot = first.wrapping_add(i);
@@ -140,7 +144,7 @@ fn leave(slots: &mut [u32], first: usize, guess: u32) {
     }
 }
 
-/// A place where an id of this name stands, if a guess tells it.
+/// Returns a position at which the id occurs, if the hash table has one.
 fn guess<'a>(slots: &[u32], names: &[(Id<'a>, u32)], id: &Id<'a>) -> Option<usize>
     ensures { IfSome result (Bears names.now id.now) }
 {
@@ -158,7 +162,7 @@ fn guess<'a>(slots: &[u32], names: &[(Id<'a>, u32)], id: &Id<'a>) -> Option<usiz
     None
 }
 
-/// The first slot of a name among so many.
+/// Returns the first slot of a name.
 #[inline(always)]
 fn slot<'a>(id: &Id<'a>, slots: usize) -> usize {
     let hash = if id.is_gensym() {
@@ -169,7 +173,7 @@ fn slot<'a>(id: &Id<'a>, slots: usize) -> usize {
     ((hash >> 32).wrapping_mul(slots as u64) >> 32) as usize
 }
 
-/// A number by whose high bits most texts are told apart.
+/// Returns a hash whose high bits differ for most texts.
 #[inline(always)]
 fn hash(text: &[u8]) -> u64 {
     let mut hash = spread(text.len() as u64, leading(text));
@@ -181,11 +185,11 @@ fn hash(text: &[u8]) -> u64 {
         hash = spread(hash, leading(rest));
         rest = &rest[8..];
     }
-    // the last eight bytes, of which some may be in already
+    // the last eight bytes, some of which may be included already
     spread(hash, leading(&text[text.len() - 8..]))
 }
 
-/// A hash with one more word.
+/// Adds a word to a hash.
 fn spread(hash: u64, word: u64) -> u64 {
     (hash.rotate_left(29) ^ word).wrapping_mul(SPREAD)
 }

@@ -1,4 +1,4 @@
-//! The order of imports: each stands before what the module defines.
+//! The order of imports: each must come before definitions.
 
 ghost use Rattle.std.specs.Prelude.{◌≡◌, None, IfOk, IfErr, OnOk};
 ghost use Rattle.wast_base.specs.Faults.{diagnostic_of};
@@ -12,7 +12,7 @@ ghost use Rattle.wast_resolve_rules.specs.Demands.{order_demands};
 use wast_base::{Error, Fault, Seq, Space, Span};
 use wast_tree_nodes::{FieldItems, ModuleField, discard_fields, profile_of};
 
-/// The place of a field, where its item is imported in place.
+/// Returns the span of a field, if its import is inline.
 fn imported_at(span: Span, imported: Option<bool>) -> Option<Span>
     ensures { result ≡ imported_at span imported }
 {
@@ -22,7 +22,7 @@ fn imported_at(span: Span, imported: Option<bool>) -> Option<Span>
     }
 }
 
-/// The place of a field that is an import, by what it defines.
+/// Returns the span of a field, if it is an import.
 fn import_at(span: Span, items: FieldItems<'_, '_>) -> Option<Span>
     ensures { result ≡ import_at span (items_read items.entry) }
 {
@@ -33,7 +33,7 @@ fn import_at(span: Span, items: FieldItems<'_, '_>) -> Option<Span>
     }
 }
 
-/// The place of a field that is an import, or whose item is imported in place.
+/// Returns the span of a field, if it is an import or has an inline import.
 fn import_place(field: &ModuleField<'_>) -> Option<Span>
     ensures { result ≡ import_place field.now }
 {
@@ -41,7 +41,7 @@ fn import_place(field: &ModuleField<'_>) -> Option<Span>
     import_at(profile.span, profile.items)
 }
 
-/// The space of what a field defines, if that can be imported.
+/// Returns the index space of the item that a field defines, if such items can be imported.
 fn importable_space(items: FieldItems<'_, '_>) -> Option<Space>
     ensures { result ≡ importable_space (items_read items.entry) }
 {
@@ -52,14 +52,14 @@ fn importable_space(items: FieldItems<'_, '_>) -> Option<Space>
     }
 }
 
-/// The space of a field that is a function, table, memory, global or tag.
+/// Returns the index space of a field, if it is a function, table, memory, global or tag.
 fn defined_space(field: &ModuleField<'_>) -> Option<Space>
     ensures { result ≡ defined_space field.now }
 {
     importable_space(profile_of(field).items)
 }
 
-/// The same, unless its item is imported in place: an import defines nothing.
+/// Does the same, except for a field with an inline import, which defines nothing.
 fn defines(field: &ModuleField<'_>) -> Option<Space>
     ensures { result ≡ defines field.now }
 {
@@ -69,7 +69,7 @@ fn defines(field: &ModuleField<'_>) -> Option<Space>
     }
 }
 
-/// What stands in a space, in a word.
+/// Returns the kind of item in an index space, as a word for the message.
 fn defined_word(space: Space) -> &'static str
     ensures { result.now ≡ defined_word space }
 {
@@ -85,7 +85,7 @@ fn defined_word(space: Space) -> &'static str
     }
 }
 
-/// Nothing, where a field is no import or nothing is defined before it; else E1 at its place.
+/// Fails with E1 at a field that is an import, if a definition comes before it.
 fn check_import<'e>(field: &ModuleField<'_>, last: Option<Space>) -> Result<(), Error<'e>>
     ensures { Outcome ⊥ ⊥ (first_unmet (nothing_defined last (import_place field.now))) result }
 {
@@ -99,7 +99,13 @@ fn check_import<'e>(field: &ModuleField<'_>, last: Option<Space>) -> Result<(), 
     }
 }
 
-/// Whether each import stands before what is defined: E1 at the first that does not. It takes no memory.
+/// Checks that each import comes before all definitions. Does not allocate.
+///
+/// For example, `(func) (import "" "" (func))` fails at the import.
+///
+/// # Errors
+///
+/// E1 at the first import that comes after a definition.
 pub fn check_order<'e>(fields: &[ModuleField<'_>]) -> Result<(), Error<'e>>
     ensures { Outcome ⊥ ⊥ (first_unmet (order_demands fields.now)) result }
 {
@@ -111,8 +117,10 @@ pub fn check_order<'e>(fields: &[ModuleField<'_>]) -> Result<(), Error<'e>>
     Ok(())
 }
 
-/// The same of a list. It is lent to be changed, and stays: where it was lent to be read, the prover would compare the type of
-/// the whole tree with itself.
+/// Checks a list, and leaves it unchanged.
+///
+/// It borrows the list mutably. With a shared borrow the prover would compare the type of the whole
+/// tree with itself.
 fn check_list<'a, 'e>(fields: &mut Seq<ModuleField<'a>>) -> Result<(), Error<'e>>
     ensures outcome { Outcome ⊥ ⊥ (first_unmet (order_demands fields.old)) result }
     ensures stays { fields.new ≡ fields.old }
@@ -120,8 +128,19 @@ fn check_list<'a, 'e>(fields: &mut Seq<ModuleField<'a>>) -> Result<(), Error<'e>
     check_order(fields.as_slice())
 }
 
-/// The fields, where each import stands before what is defined; else E1 at the first that does not, and the fields are
-/// dropped. It takes no memory.
+/// Returns the fields, if each import comes before all definitions. Does not allocate.
+///
+/// For example, `(import "" "" (func)) (func)` is returned, and `(func) (import "" "" (func))`
+/// fails at the import.
+///
+/// # Errors
+///
+/// E1 at the first import that comes after a definition. The fields are dropped.
+///
+/// # Guarantees
+///
+/// - `met`, `list`: on success the check passes, and the fields are unchanged. `refusal`: the error
+///   is E1.
 pub fn in_order<'a>(fields: Seq<ModuleField<'a>>) -> Result<Seq<ModuleField<'a>>, Error<'a>>
     ensures met { OnOk result (first_unmet (order_demands fields.entry) ≡ None) }
     ensures list { IfOk result (λ r. r ≡ fields.entry) }

@@ -1,4 +1,5 @@
-//! Walks over bodies: each instruction by the names of the module and of the function, and by the open blocks.
+//! Walks over bodies, with the ids of the module, the parameters and locals, and the enclosing
+//! blocks.
 #![tactic(auto, using(crate::proofs::Parts::both_met, crate::proofs::Parts::first_fails, crate::proofs::Parts::second_fails))]
 
 ghost use Rattle.std.specs.Prelude.{◌≡◌, ◌++◌, ◌∷◌, [], map, flat_map, IsTrue, IsFalse, IfOk, OnOk};
@@ -28,7 +29,7 @@ use wast_tree_nodes::{
     StructAccess, TryTable, TryTableCatch, TryTableCatchKind, TypeUse, ValType,
 };
 
-/// Walks over an index of a space. No block is opened.
+/// Resolves an index of a space. Enclosing blocks do not change.
 fn walk_number<'a>(
     names: &Resolver<'a>,
     space: Space,
@@ -39,14 +40,14 @@ fn walk_number<'a>(
     walk_outside_index(names, space, index)
 }
 
-/// Walks over a part of an instruction in which only names of the module are asked for.
+/// Resolves a part of an instruction that only has indices of the module.
 fn walk_part<'a, T: Walk<'a>>(names: &Resolver<'a>, part: &mut T) -> Result<(), Error<'a>>
     ensures { WalksBodies names.now (λ part. check_sites (T.asks part)) T.mapped part.old part.new result }
 {
     walk_outside(names, part)
 }
 
-/// Walks over the index of a local: E4 at an id that denotes none.
+/// Resolves the index of a local. Fails with E4 at an unknown id.
 fn walk_local<'a>(locals: &LocalNames<'a>, index: &mut Index<'a>) -> Result<(), Error<'a>>
     ensures { (names : Resolution) (l : Locals) → Numbers (scope_of names) l locals.now →
         WalksBodies names (λ i. LocalAt l i ∷ []) (λ f. f.local l) index.old index.new result }
@@ -54,7 +55,7 @@ fn walk_local<'a>(locals: &LocalNames<'a>, index: &mut Index<'a>) -> Result<(), 
     locals.number(index)
 }
 
-/// Walks over a label: E4 at an id that no open block has.
+/// Resolves a label to its depth. Fails with E4 at an id that no enclosing block has.
 fn walk_label<'a>(labels: &Labels<'a>, label: &mut Index<'a>) -> Result<(), Error<'a>>
     ensures { (names : Resolution) →
         WalksSites names (at_label labels.now) (λ f. f.label labels.now) label.old label.new result }
@@ -63,7 +64,7 @@ fn walk_label<'a>(labels: &Labels<'a>, label: &mut Index<'a>) -> Result<(), Erro
     Ok(())
 }
 
-/// Walks over the label of a branch. No block is opened.
+/// Resolves the label of a branch. Enclosing blocks do not change.
 fn walk_branch<'a>(labels: &Labels<'a>, label: &mut Index<'a>) -> Result<(), Error<'a>>
     ensures { (names : Resolution) →
         WalksBodies names (at_label labels.now) (λ f. f.label labels.now) label.old label.new result }
@@ -71,7 +72,7 @@ fn walk_branch<'a>(labels: &Labels<'a>, label: &mut Index<'a>) -> Result<(), Err
     walk_label(labels, label)
 }
 
-/// Walks over labels, in order.
+/// Resolves labels, in order.
 fn walk_labels<'a>(labels: &Labels<'a>, indices: &mut Seq<Index<'a>>) -> Result<(), Error<'a>>
     ensures { (names : Resolution) →
         WalksSites names (flat_map (at_label labels.now)) (λ f. map (f.label labels.now)) indices.old indices.new result }
@@ -85,7 +86,7 @@ fn walk_labels<'a>(labels: &Labels<'a>, indices: &mut Seq<Index<'a>>) -> Result<
     Ok(())
 }
 
-/// Walks over the labels that a number chooses from, and then the one for all others.
+/// Resolves the labels of `br_table`, and then its default label.
 fn walk_br_table<'a>(labels: &Labels<'a>, table: &mut BrTableIndices<'a>) -> Result<(), Error<'a>>
     ensures { (names : Resolution) →
         WalksBodies names (in_br_table labels.now) (λ f. mapped_br_table f labels.now) table.old table.new result }
@@ -95,7 +96,7 @@ fn walk_br_table<'a>(labels: &Labels<'a>, table: &mut BrTableIndices<'a>) -> Res
     Ok(())
 }
 
-/// Walks over an indirect call: its table, and then its type.
+/// Resolves an indirect call: its table, then its type.
 fn walk_indirect<'a>(names: &Resolver<'a>, call: &mut CallIndirect<'a>) -> Result<(), Error<'a>>
     ensures { WalksBodies names.now in_indirect mapped_indirect call.old call.new result }
 {
@@ -104,7 +105,7 @@ fn walk_indirect<'a>(names: &Resolver<'a>, call: &mut CallIndirect<'a>) -> Resul
     Ok(())
 }
 
-/// Walks over an indirect call in memory of its own.
+/// Resolves a boxed indirect call.
 fn walk_boxed_call<'a>(
     names: &Resolver<'a>,
     call: &mut Boxed<CallIndirect<'a>>,
@@ -114,7 +115,8 @@ fn walk_boxed_call<'a>(
     walk_indirect(names, call.get_mut())
 }
 
-/// Opens a block: E10 where 4,294,967,295 are open, E12 where memory is refused.
+/// Enters a block. Fails with E10 if there are 4,294,967,295 already, and with E12 if allocation
+/// fails.
 fn open_label<'a>(labels: &mut Labels<'a>, label: Option<Id<'a>>) -> Result<(), Error<'a>>
     ensures walks { (names : Resolution) →
         WalksBodies names (λ o. Begins labels.old (mark_of_option o) ∷ []) (λ f o. o) label.entry label.entry result }
@@ -127,7 +129,7 @@ fn open_label<'a>(labels: &mut Labels<'a>, label: Option<Id<'a>>) -> Result<(), 
     Ok(())
 }
 
-/// Walks over the type of a block.
+/// Resolves the type of a block.
 fn walk_block_type<'a>(
     names: &Resolver<'a>,
     block: &mut Boxed<BlockType<'a>>,
@@ -138,7 +140,7 @@ fn walk_block_type<'a>(
     Ok(())
 }
 
-/// Walks over a block: its type, and then it is opened.
+/// Resolves the type of a block, and then enters it.
 fn walk_block<'a>(
     names: &Resolver<'a>,
     labels: &mut Labels<'a>,
@@ -152,7 +154,7 @@ fn walk_block<'a>(
     Ok(())
 }
 
-/// Walks over what a clause of `try_table` catches.
+/// Resolves the tag of a `try_table` clause.
 fn walk_caught<'a>(names: &Resolver<'a>, kind: &mut TryTableCatchKind<'a>) -> Result<(), Error<'a>>
     ensures { WalksAsks names.now in_caught (λ f. mapped_caught f.index) kind.old kind.new result }
 {
@@ -164,7 +166,7 @@ fn walk_caught<'a>(names: &Resolver<'a>, kind: &mut TryTableCatchKind<'a>) -> Re
     }
 }
 
-/// Walks over a clause of `try_table`: what it catches, and then its label.
+/// Resolves a `try_table` clause: its tag, then its label.
 fn walk_catch<'a>(
     names: &Resolver<'a>,
     labels: &Labels<'a>,
@@ -177,7 +179,7 @@ fn walk_catch<'a>(
     Ok(())
 }
 
-/// Walks over the clauses of `try_table`, in order.
+/// Resolves the clauses of `try_table`, in order.
 fn walk_catches<'a>(
     names: &Resolver<'a>,
     labels: &Labels<'a>,
@@ -192,7 +194,7 @@ fn walk_catches<'a>(
     Ok(())
 }
 
-/// Walks over a block that catches: its type, what it catches, and then it is opened.
+/// Resolves a `try_table`: its type, its clauses, and then enters it.
 fn walk_try_table<'a>(
     names: &Resolver<'a>,
     labels: &mut Labels<'a>,
@@ -208,7 +210,7 @@ fn walk_try_table<'a>(
     Ok(())
 }
 
-/// Walks over the label at an `else`: E8 where it is not that of the innermost open block.
+/// Checks the label at an `else`. Fails with E8 if it is not that of the innermost block.
 fn walk_else<'a>(labels: &Labels<'a>, label: &Option<Id<'a>>) -> Result<(), Error<'a>>
     ensures { (names : Resolution) →
         WalksBodies names (λ o. Repeated labels.now (mark_of_option o) ∷ []) (λ f o. o) label.now label.now result }
@@ -216,7 +218,7 @@ fn walk_else<'a>(labels: &Labels<'a>, label: &Option<Id<'a>>) -> Result<(), Erro
     labels.check(*label)
 }
 
-/// Walks over the label at an `end`: E8 where it is not that of the innermost open block, which is closed then.
+/// Checks the label at an `end` like at an `else`, and then leaves the innermost block.
 fn walk_end<'a>(labels: &mut Labels<'a>, label: &Option<Id<'a>>) -> Result<(), Error<'a>>
     ensures walks { (names : Resolution) →
         WalksBodies names (λ o. Repeated labels.old (mark_of_option o) ∷ Ends ∷ []) (λ f o. o) label.now label.now result }
@@ -227,7 +229,7 @@ fn walk_end<'a>(labels: &mut Labels<'a>, label: &Option<Id<'a>>) -> Result<(), E
     Ok(())
 }
 
-/// Closes the innermost open block, and then walks over the label of `delegate`.
+/// Leaves the innermost block, and then resolves the label of `delegate`.
 fn walk_delegate<'a>(labels: &mut Labels<'a>, label: &mut Index<'a>) -> Result<(), Error<'a>>
     ensures walks { (names : Resolution) →
         WalksBodies names (λ l. Ends ∷ at_label (without_innermost labels.old) l)
@@ -239,14 +241,14 @@ fn walk_delegate<'a>(labels: &mut Labels<'a>, label: &mut Index<'a>) -> Result<(
     Ok(())
 }
 
-/// Walks over an access to a field of a struct: the type of the struct, and then the field.
+/// Resolves a struct field access: the type of the struct, then the field.
 fn walk_access<'a>(names: &Resolver<'a>, access: &mut StructAccess<'a>) -> Result<(), Error<'a>>
     ensures { WalksBodies names.now in_access mapped_access access.old access.new result }
 {
     names.number_access(access)
 }
 
-/// Walks over an array that is filled from a segment of a space: its type, and then the segment.
+/// Resolves an array instruction with a segment: its type, then the segment.
 fn walk_array_init<'a>(
     names: &Resolver<'a>,
     segments: Space,
@@ -260,7 +262,7 @@ fn walk_array_init<'a>(
     Ok(())
 }
 
-/// Walks over a branch on a cast: its label, the type that is cast to, and the type that is cast from.
+/// Resolves a branch on a cast: its label, the target type, then the source type.
 fn walk_cast<'a>(
     names: &Resolver<'a>,
     labels: &Labels<'a>,
@@ -276,7 +278,7 @@ fn walk_cast<'a>(
     Ok(())
 }
 
-/// Walks over the label and the types of `br_on_cast`.
+/// Resolves the label and the types of `br_on_cast`.
 fn walk_br_on_cast<'a>(
     names: &Resolver<'a>,
     labels: &Labels<'a>,
@@ -295,7 +297,7 @@ fn walk_br_on_cast<'a>(
     )
 }
 
-/// Walks over the label and the types of `br_on_cast_fail`.
+/// Resolves the label and the types of `br_on_cast_fail`.
 fn walk_br_on_cast_fail<'a>(
     names: &Resolver<'a>,
     labels: &Labels<'a>,
@@ -314,7 +316,7 @@ fn walk_br_on_cast_fail<'a>(
     )
 }
 
-/// Walks over the label and the types of `br_on_cast_desc_eq`.
+/// Resolves the label and the types of `br_on_cast_desc_eq`.
 fn walk_br_on_cast_desc_eq<'a>(
     names: &Resolver<'a>,
     labels: &Labels<'a>,
@@ -333,7 +335,7 @@ fn walk_br_on_cast_desc_eq<'a>(
     )
 }
 
-/// Walks over the label and the types of `br_on_cast_desc_eq_fail`.
+/// Resolves the label and the types of `br_on_cast_desc_eq_fail`.
 fn walk_br_on_cast_desc_eq_fail<'a>(
     names: &Resolver<'a>,
     labels: &Labels<'a>,
@@ -352,7 +354,7 @@ fn walk_br_on_cast_desc_eq_fail<'a>(
     )
 }
 
-/// Walks over the tag of a handler of a resumption.
+/// Resolves the tag of a `resume` handler.
 fn walk_handler_tag<'a>(names: &Resolver<'a>, handle: &mut Handle<'a>) -> Result<(), Error<'a>>
     ensures { WalksSites names.now in_handler_tag with_handler_tag handle.old handle.new result }
 {
@@ -362,7 +364,7 @@ fn walk_handler_tag<'a>(names: &Resolver<'a>, handle: &mut Handle<'a>) -> Result
     }
 }
 
-/// Walks over the label of a handler of a resumption, if it has one.
+/// Resolves the label of a `resume` handler, if it has one.
 fn walk_handler_label<'a>(labels: &Labels<'a>, handle: &mut Handle<'a>) -> Result<(), Error<'a>>
     ensures { (names : Resolution) → WalksSites names (in_handler_label labels.now)
         (λ f. with_handler_label f labels.now) handle.old handle.new result }
@@ -373,7 +375,7 @@ fn walk_handler_label<'a>(labels: &Labels<'a>, handle: &mut Handle<'a>) -> Resul
     }
 }
 
-/// Walks over a handler of a resumption: its tag, and then its label if it has one.
+/// Resolves a `resume` handler: its tag, then its label if it has one.
 fn walk_handle<'a>(
     names: &Resolver<'a>,
     labels: &Labels<'a>,
@@ -386,7 +388,7 @@ fn walk_handle<'a>(
     Ok(())
 }
 
-/// Walks over handlers, in order.
+/// Resolves handlers, in order.
 fn walk_handles<'a>(
     names: &Resolver<'a>,
     labels: &Labels<'a>,
@@ -401,7 +403,7 @@ fn walk_handles<'a>(
     Ok(())
 }
 
-/// Walks over the handlers of a resumption.
+/// Resolves the handlers of a table.
 fn walk_handlers<'a>(
     names: &Resolver<'a>,
     labels: &Labels<'a>,
@@ -413,7 +415,7 @@ fn walk_handlers<'a>(
     Ok(())
 }
 
-/// Walks over a resumption: its type, and then its handlers.
+/// Resolves a `resume`: its type, then its handlers.
 fn walk_resume<'a>(
     names: &Resolver<'a>,
     labels: &Labels<'a>,
@@ -427,7 +429,7 @@ fn walk_resume<'a>(
     Ok(())
 }
 
-/// Walks over a resumption that throws: its type, its tag, and then its handlers.
+/// Resolves a `resume_throw`: its type, its tag, then its handlers.
 fn walk_resume_throw<'a>(
     names: &Resolver<'a>,
     labels: &Labels<'a>,
@@ -443,7 +445,7 @@ fn walk_resume_throw<'a>(
     Ok(())
 }
 
-/// Walks over a resumption that throws, in memory of its own.
+/// Resolves a boxed `resume_throw`.
 fn walk_boxed_throw<'a>(
     names: &Resolver<'a>,
     labels: &Labels<'a>,
@@ -456,7 +458,7 @@ fn walk_boxed_throw<'a>(
     walk_resume_throw(names, labels, resume.get_mut())
 }
 
-/// Walks over a resumption that throws what is referred to: its type, and then its handlers.
+/// Resolves a `resume_throw_ref`: its type, then its handlers.
 fn walk_resume_throw_ref<'a>(
     names: &Resolver<'a>,
     labels: &Labels<'a>,
@@ -470,7 +472,7 @@ fn walk_resume_throw_ref<'a>(
     Ok(())
 }
 
-/// Walks over an instruction. A block that it opens or closes is opened or closed then.
+/// Resolves an instruction, and enters or leaves the block that it starts or ends.
 fn walk_instr<'a>(
     names: &Resolver<'a>,
     locals: &LocalNames<'a>,
@@ -588,14 +590,14 @@ fn walk_instr<'a>(
     }
 }
 
-/// Numbers an index of a space, if it is a number or an id that is known.
+/// Resolves an index of a space, and returns whether it is known.
 fn try_index<'a>(names: &Resolver<'a>, space: Space, index: &mut Index<'a>) -> bool
     ensures { TriesSites names.now (at_index space) (λ f. f.index space) index.old index.new result }
 {
     names.try_number(index, space)
 }
 
-/// Numbers the index of a local, if it is a number or an id that is known.
+/// Resolves the index of a local, and returns whether it is known.
 fn try_local<'a>(locals: &LocalNames<'a>, index: &mut Index<'a>) -> bool
     ensures walks { (names : Resolution) (l : Locals) → Numbers (scope_of names) l locals.now →
         TriesSites names (λ i. LocalAt l i ∷ []) (λ f. f.local l) index.old index.new result }
@@ -604,7 +606,8 @@ fn try_local<'a>(locals: &LocalNames<'a>, index: &mut Index<'a>) -> bool
     locals.try_number(index)
 }
 
-/// Numbers a label, if it is a number or one of the innermost open blocks has it.
+/// Resolves a label, and returns whether it is a number or the label of one of the innermost
+/// blocks.
 fn try_label<'a>(labels: &Labels<'a>, label: &mut Index<'a>) -> bool
     ensures { (names : Resolution) →
         TriesSites names (at_label labels.now) (λ f. f.label labels.now) label.old label.new result }
@@ -612,7 +615,7 @@ fn try_label<'a>(labels: &Labels<'a>, label: &mut Index<'a>) -> bool
     labels.try_number(label)
 }
 
-/// Numbers the memory of a memory argument, if it is a number or an id that is known.
+/// Resolves the memory of a memory argument, and returns whether it is known.
 fn try_mem_arg<'a>(names: &Resolver<'a>, arg: &mut MemArg<'a>) -> bool
     ensures { TriesSites names.now (λ a. check_sites (in_mem_arg a)) (λ f. mapped_mem_arg f.index) arg.old arg.new result }
 {
@@ -622,7 +625,7 @@ fn try_mem_arg<'a>(names: &Resolver<'a>, arg: &mut MemArg<'a>) -> bool
     }
 }
 
-/// Whether a value type is a number or a vector.
+/// Returns whether a value type is a number or vector type.
 fn is_number(ty: &ValType) -> bool
     ensures { IsTrue result → IsNumericType ty.now }
 {
@@ -636,7 +639,7 @@ fn is_number(ty: &ValType) -> bool
     }
 }
 
-/// Whether types are none, or one number or vector.
+/// Returns whether a list is empty, or has one number or vector type.
 fn are_numbers(types: &[ValType]) -> bool
     ensures { IsTrue result → AreNumbers types.now }
 {
@@ -647,14 +650,15 @@ fn are_numbers(types: &[ValType]) -> bool
     }
 }
 
-/// Whether an inline type takes nothing and gives nothing, or one number.
+/// Returns whether an inline type has no parameters, and no result or one number.
 fn gives_number(ty: &FunctionType) -> bool
     ensures { IsTrue result → HasNoNames ty.now }
 {
     ty.params.is_empty() && are_numbers(ty.results.as_slice())
 }
 
-/// Whether nothing is looked up in the types of a `select`. It may say no of such ones too.
+/// Returns whether the types of a `select` have nothing to resolve. May return `false` for such
+/// types too.
 fn selects_number(types: &SelectTypes) -> bool
     ensures { IsTrue result → SelectsNumber types.now }
 {
@@ -664,7 +668,8 @@ fn selects_number(types: &SelectTypes) -> bool
     }
 }
 
-/// Whether nothing is looked up in the type of a block. It may say no of such a one too.
+/// Returns whether the type of a block has nothing to resolve. May return `false` for such a type
+/// too.
 fn is_settled<'a>(ty: &TypeUse<'a, FunctionType<'a>>) -> bool
     ensures { IsTrue result → IsSettled ty.now }
 {
@@ -676,7 +681,8 @@ fn is_settled<'a>(ty: &TypeUse<'a, FunctionType<'a>>) -> bool
     }
 }
 
-/// Opens a block, if nothing is looked up in its type, fewer than 4,294,967,295 are open, and memory is not refused.
+/// Enters a block and returns `true`, if its type has nothing to resolve, there are fewer than
+/// 4,294,967,295 blocks, and allocation succeeds.
 fn try_block<'a>(labels: &mut Labels<'a>, block: &Boxed<BlockType<'a>>) -> bool
     ensures { OpensBlock block.now labels.old labels.new result }
 {
@@ -687,7 +693,7 @@ fn try_block<'a>(labels: &mut Labels<'a>, block: &Boxed<BlockType<'a>>) -> bool
     labels.open(block.label).is_ok()
 }
 
-/// Closes the innermost open block, if it has the label at an `end`.
+/// Leaves the innermost block and returns `true`, if the label at an `end` is right.
 fn try_end<'a>(labels: &mut Labels<'a>, label: &Option<Id<'a>>) -> bool
     ensures { ClosesBlock (mark_of_option label.now) labels.old labels.new result }
 {
@@ -698,8 +704,8 @@ fn try_end<'a>(labels: &mut Labels<'a>, label: &Option<Id<'a>>) -> bool
     true
 }
 
-/// Walks over an instruction of the most frequent kinds, where each index in it is found at once and each demand is met. Whether
-/// it did; else nothing changes.
+/// Resolves an instruction of the most frequent kinds, and returns whether every index was found at
+/// once and every check passed. If not, nothing changes.
 fn try_instr<'a>(
     names: &Resolver<'a>,
     locals: &LocalNames<'a>,
@@ -740,7 +746,7 @@ fn try_instr<'a>(
     }
 }
 
-/// Sees to it that the labels that are looked up in an instruction are found in few steps.
+/// Prepares the look-ups of the labels of an instruction, so that each takes few steps.
 fn reach_labels<'a>(labels: &mut Labels<'a>, instr: &Instruction<'a>) -> Result<(), AllocError>
     ensures { labels.new ≡ labels.old }
 {
@@ -748,7 +754,7 @@ fn reach_labels<'a>(labels: &mut Labels<'a>, instr: &Instruction<'a>) -> Result<
         return Ok(());
     }
     match instr {
-        // of these it is known that none of the innermost blocks has the label
+        // the innermost blocks are known not to have the label
         Instruction::br(_) | Instruction::br_if(_) => labels.reach_all(),
         Instruction::br_on_null(label)
         | Instruction::br_on_non_null(label)
@@ -767,7 +773,7 @@ fn reach_labels<'a>(labels: &mut Labels<'a>, instr: &Instruction<'a>) -> Result<
     }
 }
 
-/// The same of the labels that a number chooses from, and of the one for all others.
+/// Does the same for the labels of `br_table`.
 fn reach_all<'a>(labels: &mut Labels<'a>, table: &BrTableIndices<'a>) -> Result<(), AllocError>
     ensures { labels.new ≡ labels.old }
 {
@@ -777,7 +783,7 @@ fn reach_all<'a>(labels: &mut Labels<'a>, table: &BrTableIndices<'a>) -> Result<
     labels.reach(&table.default)
 }
 
-/// The same of the labels of clauses of `try_table`.
+/// Does the same for the labels of `try_table` clauses.
 fn reach_caught<'a>(
     labels: &mut Labels<'a>,
     catches: &Seq<TryTableCatch<'a>>,
@@ -790,7 +796,7 @@ fn reach_caught<'a>(
     Ok(())
 }
 
-/// The same of the labels of handlers of a resumption.
+/// Does the same for the labels of `resume` handlers.
 fn reach_handled<'a>(labels: &mut Labels<'a>, table: &ResumeTable<'a>) -> Result<(), AllocError>
     ensures { labels.new ≡ labels.old }
 {
@@ -802,7 +808,7 @@ fn reach_handled<'a>(labels: &mut Labels<'a>, table: &ResumeTable<'a>) -> Result
     Ok(())
 }
 
-/// Walks over instructions, in order.
+/// Resolves instructions, in order.
 fn walk_instrs<'a>(
     names: &Resolver<'a>,
     locals: &LocalNames<'a>,
@@ -822,10 +828,10 @@ fn walk_instrs<'a>(
     Ok(())
 }
 
-/// Walks over the instructions of an expression, in a function whose parameters and locals have these names.
+/// Resolves the instructions of an expression, in a function with these parameters and locals.
 ///
-/// It takes memory for the open blocks: E12 where it is refused, and E10 only where
-/// 2^32 blocks or more would be open at once.
+/// Allocates for enclosing blocks. Fails with E12 if that fails, and with E10 if there are 2^32 of
+/// them or more.
 pub(crate) fn walk_expression<'a>(
     alloc: Global,
     names: &Resolver<'a>,

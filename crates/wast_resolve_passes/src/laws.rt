@@ -1,14 +1,25 @@
-//! Laws for callers to cite, of types that the resolver of a module resolves.
+//! Theorems about types that are resolved with the resolver of a module.
 
 ghost use Rattle.wast_tree_nodes.specs.Sites.{in_heap, in_ref, in_val, in_storage, in_signature, in_def, in_type};
 ghost use Rattle.wast_tree_map.specs.Mapped.{mapped_heap, mapped_ref, mapped_val, mapped_storage, mapped_signature, mapped_def};
 ghost use Rattle.wast_resolve_rules.specs.CoreTypes.{with_def};
 ghost use Rattle.wast_resolve_passes.specs.Laws.{ByResolver, NeedsOfResolver};
 
-/// What the functions over [`ResolveCoreType`](crate::ResolveCoreType) promise of a type is, by the resolver of a module,
-/// that the type has its numbers where each of its ids denotes a type, and that the error is E4 at the first that does not.
-/// The resolver has what it needs of a type where the generated ids in it are those of types, as in well formed fields. It
-/// does nothing.
+/// States theorems about the calls of [`ResolveCoreType`](crate::ResolveCoreType) with a
+/// [`Resolver`](crate::Resolver).
+///
+/// The function does nothing. A proof calls it to obtain its clauses.
+///
+/// For example, if each id in `(func (param (ref $a)))` is defined, `resolve_type_func` returns it
+/// with numbers.
+///
+/// # Guarantees
+///
+/// - `types`, `defs`, `functions`, `values`, `references`, `heaps`, `storages`: if each id in the
+///   part is a type of the module, the part gets its numbers. Otherwise the error is E4 at the
+///   first that is not.
+/// - `types_needs` and the like: the call's requirement holds if each generated id in the part is
+///   that of a type, as in well-formed fields.
 #[tactic(auto, using(crate::proofs::CallingNames::by_resolver, crate::proofs::CallingNames::needs_of_resolver, wast_resolve_rules::proofs::PartsOfTypes::heap_part, wast_resolve_rules::proofs::PartsOfTypes::ref_part, wast_resolve_rules::proofs::PartsOfTypes::val_part, wast_resolve_rules::proofs::PartsOfTypes::storage_part))]
 pub fn core_type_laws()
     ensures types { ByResolver in_type with_def }

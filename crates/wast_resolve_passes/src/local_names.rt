@@ -1,4 +1,4 @@
-//! What the names of parameters and locals denote.
+//! The numbers of parameters and locals.
 
 ghost use Rattle.std.specs.Prelude.{◌≡◌, codes};
 ghost use Rattle.wast_base.specs.Ids.{name_of};
@@ -14,12 +14,13 @@ use std::alloc::Global;
 use std::marker::Model;
 use wast_base::{Error, Id, Index, Numbering, number_index, try_number};
 
-/// The names of the parameters and locals of a function, and what they denote (text format, indices: locals).
+/// The ids of the parameters and locals of a function, with their numbers (text format, indices:
+/// locals).
 #[derive(Drop)]
 pub(crate) struct LocalNames<'a> {
-    // by their positions among the parameters and locals that can have names
+    // by position among the parameters and locals that are listed
     space: CachedNames<'a>,
-    // how many stand before those, of which no name is written
+    // the number of parameters before them, which are not listed and have no ids
     nameless: u32,
 }
 
@@ -38,7 +39,7 @@ impl<'a> Model for LocalNames<'a> {
 }
 
 impl<'a> LocalNames<'a> {
-    /// No names. It takes no memory.
+    /// Returns an empty list. Does not allocate.
     pub(crate) fn none(alloc: Global) -> Self
         ensures { result ≡ record { space = empty_from 0; nameless = 0 } }
     {
@@ -48,7 +49,7 @@ impl<'a> LocalNames<'a> {
         }
     }
 
-    /// These names, behind parameters of which no name is written.
+    /// Returns these ids after some unnamed parameters.
     pub(crate) fn behind(nameless: u32, space: CachedNames<'a>) -> Self
         requires { AreFew (record { space = space; nameless = nameless }) }
         ensures { result ≡ record { space = space.entry; nameless = nameless } }
@@ -56,7 +57,7 @@ impl<'a> LocalNames<'a> {
         LocalNames { space, nameless }
     }
 
-    /// The number that an id denotes, if it denotes one.
+    /// Returns the number of an id, if it is known.
     fn find(&self, id: &Id<'a>) -> Option<u32>
         ensures { result ≡ local_in self.now (name_of id.now) }
     {
@@ -66,8 +67,7 @@ impl<'a> LocalNames<'a> {
         }
     }
 
-    /// Numbers the index of a local: a number passes, and an id that is known is replaced by its number, at the id's place;
-    /// E4 at the place of an unknown one, and then the index stays.
+    /// Resolves the index of a local. Fails with E4 at an unknown id, which is then unchanged.
     pub(crate) fn number(&self, idx: &mut Index<'a>) -> Result<(), Error<'a>>
         ensures answer { Outcome ⊥ ⊥ (first_unmet (known_index (local_in self.now) (codes "local") idx.old)) result }
         ensures index { idx.new ≡ resolved_index (local_in self.now) idx.old }
@@ -76,7 +76,7 @@ impl<'a> LocalNames<'a> {
         Ok(())
     }
 
-    /// Numbers the index of a local, if that is a number or an id that is known. Whether it is; else the index stays.
+    /// Resolves the index of a local, and returns whether it is known. An unknown id is unchanged.
     pub(crate) fn try_number(&self, idx: &mut Index<'a>) -> bool
         ensures { Tries (known_index (local_in self.now) (codes "local") idx.old)
             (resolved_index (local_in self.now) idx.old) idx.old idx.new result }

@@ -1,4 +1,4 @@
-//! The names of the parameters and locals of a function.
+//! The ids of the parameters and locals of a function.
 
 ghost use Rattle.std.specs.Prelude.{◌≡◌, ◌<◌, ◌≤◌, ◌^◌, ◌+◌, ◌↔◌, [], length, slice_index_or, None, Some, IsTrue, IfOk, IfErr};
 ghost use Rattle.wast_base.specs.Ids.{mark_of_option};
@@ -23,7 +23,8 @@ use wast_tree_nodes::{FuncKind, FunctionType, Local, TypeUse, ValType};
 /// A parameter: its id, its name annotation and its type.
 type Param<'a> = (Option<Id<'a>>, Option<NameAnnotation<'a>>, ValType<'a>);
 
-/// The names of parameters and of locals. It asks for memory once: E12 where it is refused, E10 where there are 2^32.
+/// Collects the ids of parameters and locals. Allocates once: E12 if that fails, E10 if there are
+/// 2^32 of them.
 fn gather_locals<'a>(
     alloc: Global,
     params: &[Param<'a>],
@@ -38,7 +39,7 @@ fn gather_locals<'a>(
     Ok(gathering)
 }
 
-/// The id at a position among parameters and locals.
+/// Returns the id at a position among parameters and locals.
 fn id_at<'a>(params: &[Param<'a>], locals: &[Local<'a>], at: usize) -> Option<Id<'a>>
     ensures { mark_of_option result ≡ slice_index_or (marks_of params.now locals.now) at None }
 {
@@ -53,8 +54,8 @@ fn id_at<'a>(params: &[Param<'a>], locals: &[Local<'a>], at: usize) -> Option<Id
     }
 }
 
-/// The name space of parameters and locals, or the position of the first that has the name of an earlier one. It takes
-/// memory only where some of them has an id.
+/// Returns the ids with their positions, or the position of the first duplicate. Allocates only if
+/// there is an id.
 fn try_names<'a>(
     alloc: Global,
     params: &[Param<'a>],
@@ -72,7 +73,7 @@ fn try_names<'a>(
     Ok(filled(gathering, alloc)?)
 }
 
-/// Whether there are 2^32 parameters and locals or more, with those of which no name is written.
+/// Returns whether there are 2^32 parameters and locals or more, unnamed ones included.
 fn are_many<'a>(nameless: usize, params: &[Param<'a>], locals: &[Local<'a>]) -> bool
     ensures { IsTrue result ↔ (2 ^ 32 ≤ nameless + length (marks_of params.now locals.now)) }
 {
@@ -80,8 +81,8 @@ fn are_many<'a>(nameless: usize, params: &[Param<'a>], locals: &[Local<'a>]) -> 
     nameless.saturating_add(named) > u32::MAX as usize
 }
 
-/// The names of parameters and locals, behind those of which no name is written: E2 at the first that has the name of an
-/// earlier one.
+/// Returns the ids of parameters and locals after some unnamed ones. Fails with E2 at the first
+/// duplicate.
 fn name_each<'a>(
     alloc: Global,
     nameless: usize,
@@ -104,7 +105,8 @@ fn name_each<'a>(
     }
 }
 
-/// The names of the parameters of an inline type and of locals, behind parameters of which no name is written.
+/// Returns the ids of the parameters of an inline type and of locals, after some unnamed
+/// parameters.
 fn name_declared<'a>(
     alloc: Global,
     nameless: usize,
@@ -121,11 +123,13 @@ fn name_declared<'a>(
     }
 }
 
-/// The names of the parameters and locals of a function, behind the parameters of the type at its index where no inline type
-/// is written: E2 at the first that has the name of an earlier one. One that is imported in place has no body in which they
-/// would be looked up.
+/// Returns the ids of the parameters and locals of a function. Fails with E2 at the first
+/// duplicate.
 ///
-/// It takes memory for the ids. Where it is refused, that is E12; where there are 2^32 parameters and locals or more, E10.
+/// Without an inline type, the parameters of the type at the index come first, and they have no
+/// ids. A function with an inline import has no body, so nothing is looked up in it.
+///
+/// Allocates for the ids: E12 if that fails, E10 if there are 2^32 parameters and locals or more.
 pub(crate) fn name_locals<'a>(
     alloc: Global,
     names: &Resolver<'a>,

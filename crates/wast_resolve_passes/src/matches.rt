@@ -1,4 +1,4 @@
-//! Whether an inline type is that of the index beside it.
+//! When an inline type matches the type at the index beside it.
 
 ghost use Rattle.std.specs.Prelude.{◌≡◌, List, None, map, IsTrue, OnOk, IfErr};
 ghost use Rattle.wast_base.specs.Ids.{is_number};
@@ -22,7 +22,7 @@ use wast_base::{Error, Id, Index, NameAnnotation};
 use wast_expand_types::FuncKey;
 use wast_tree_nodes::{FunctionType, HeapType, RefType, ValType};
 
-/// Whether two heap types are one.
+/// Returns whether two heap types are equal.
 fn same_heap<'a>(cx: &Resolver<'a>, a: &HeapType<'a>, b: &HeapType<'a>) -> bool
     ensures { result ≡ same_heap_by (same_type (known_of cx.now)) a.now b.now }
 {
@@ -38,14 +38,14 @@ fn same_heap<'a>(cx: &Resolver<'a>, a: &HeapType<'a>, b: &HeapType<'a>) -> bool
     }
 }
 
-/// Whether two reference types are one.
+/// Returns whether two reference types are equal.
 fn same_ref<'a>(cx: &Resolver<'a>, a: &RefType<'a>, b: &RefType<'a>) -> bool
     ensures { result ≡ same_ref_by (same_type (known_of cx.now)) a.now b.now }
 {
     a.nullable == b.nullable && same_heap(cx, &a.heap, &b.heap)
 }
 
-/// Whether two value types are one.
+/// Returns whether two value types are equal.
 fn same_value<'a>(cx: &Resolver<'a>, a: &ValType<'a>, b: &ValType<'a>) -> bool
     ensures { result ≡ same_value_by (same_type (known_of cx.now)) a.now b.now }
 {
@@ -60,12 +60,12 @@ fn same_value<'a>(cx: &Resolver<'a>, a: &ValType<'a>, b: &ValType<'a>) -> bool
     }
 }
 
-/// What has a value type: the type itself, or a parameter.
+/// An element with a value type: the type itself, or a parameter.
 trait Typed<'a> {
-    /// Its value type.
+    /// The value type.
     ghost type_in: { Self → ValType };
 
-    /// Its value type.
+    /// Returns the value type.
     fn val_type(&self) -> ValType<'a>
         ensures { result ≡ type_in self.now };
 }
@@ -86,7 +86,7 @@ impl<'a> Typed<'a> for (Option<Id<'a>>, Option<NameAnnotation<'a>>, ValType<'a>)
     }
 }
 
-/// Whether there are as many types here as there, each the same as the one in its place.
+/// Returns whether two lists have equal types, in order.
 fn same_values<'a, T: Typed<'a>>(cx: &Resolver<'a>, here: &[T], there: &[ValType<'a>]) -> bool
     ensures { result ≡ same_values_by (same_type (known_of cx.now)) (map T.type_in here.now) there.now }
 {
@@ -101,7 +101,8 @@ fn same_values<'a, T: Typed<'a>>(cx: &Resolver<'a>, here: &[T], there: &[ValType
     true
 }
 
-/// Whether an inline type has a signature, once each index is what it denotes.
+/// Returns whether an inline type has a signature, with indices compared by the type that they
+/// name.
 pub(crate) fn has_signature<'a>(cx: &Resolver<'a>, ty: &FunctionType<'a>, key: &FuncKey<'a>) -> bool
     ensures { result ≡ signatures_match (known_of cx.now) ty.now key.now }
 {
@@ -109,32 +110,60 @@ pub(crate) fn has_signature<'a>(cx: &Resolver<'a>, ty: &FunctionType<'a>, key: &
         && same_values(cx, ty.results.as_slice(), key.1.as_slice())
 }
 
-/// A type that a type use may write out in place, beside an index (text format, type uses).
+/// A type that a type use can have inline beside an index (text format: type uses).
+///
+/// # Example
+///
+///     let idx = Index::Num(number, at(3));
+///     assert!(rt;
+///         function.check_matches(&idx, &cx) == answer,
+///         "type {number}"
+///     );
 pub trait TypeReference<'a> {
-    /// What is asked in it.
+    /// The checks in the type.
     ghost asks: { Self → List Check };
 
-    /// It, with each index changed.
+    /// The type with each index changed.
     ghost changed: { Indices → Self → Self };
 
-    /// What is demanded where it stands beside an index.
+    /// The checks of the type beside an index.
     ghost matched: { Scope → Index → Self → List Demand };
 
-    /// Nothing, where the index is that of a type of the same kind and signature: two indices are the same where they
-    /// denote one type, and an id that denotes nothing is the same as nothing.
+    /// Checks that the type at an index has the same kind and signature. Does not allocate, and
+    /// changes nothing.
     ///
-    /// It needs a number as the index. It answers E6 where no type has the number, E5 where the type is no function type,
-    /// and E7 where the signatures differ, each at the place of the index. It takes no memory and changes nothing.
+    /// For example, `(param i32)` beside the index of `(type (func))` fails with E7.
+    ///
+    /// Indices are compared by the type that they name. An unknown id equals nothing.
+    ///
+    /// # Requires
+    ///
+    /// The index is a number.
+    ///
+    /// # Errors
+    ///
+    /// At the position of the index: E6 no type has the number; E5 the type is not a function type;
+    /// E7 the signatures differ.
     fn check_matches(&mut self, idx: &Index<'a>, cx: &Resolver<'a>) -> Result<(), Error<'a>>
         requires { IsTrue (is_number idx.now) }
         ensures answer { Outcome ⊥ ⊥ (first_unmet (matched (scope_of cx.now) idx.now self.old)) result }
         ensures unchanged { self.new ≡ self.old };
 
-    /// Replaces each id of a type in it by its number, at the id's place: of the parameters, and then of the results, as
-    /// [`resolve_type_func`](crate::resolve_type_func) does over the resolver.
+    /// Replaces each id of a type in it by its index: those of the parameters, then those of the
+    /// results. Does not allocate.
     ///
-    /// It needs that a generated id is known. The error is E4 at the first id that is not known: what stands before it has
-    /// its numbers then, and it and what stands behind it stay. It takes no memory.
+    /// # Example
+    ///
+    ///     assert!(rt; names::TypeReference::resolve(&mut function, &cx) == Ok(()));
+    ///
+    /// # Requires
+    ///
+    /// A generated id must be one that the resolver has.
+    ///
+    /// # Errors
+    ///
+    /// E4 at the first id that is unknown. The ids before it have been replaced. It and those after
+    /// it are unchanged.
     fn resolve(&mut self, cx: &Resolver<'a>) -> Result<(), Error<'a>>
         requires { IsTrue (are_settled (known_of cx.now) (asks self.old)) }
         ensures met { OnOk result (first_unmet (ask_demands (known_of cx.now) (asks self.old)) ≡ None) }

@@ -1,4 +1,4 @@
-//! The two passes over the fields of a module: the items of all fields are numbered, and then each index becomes its number.
+//! Collects the ids of all items of the fields, and then replaces each id by its index.
 
 ghost use Rattle.std.specs.Prelude.{◌≡◌, None, IfOk, IfErr, OnOk};
 ghost use Rattle.wast_tree_nodes.specs.Items.{items};
@@ -16,20 +16,46 @@ use std::alloc::Global;
 use wast_base::{Error, Seq};
 use wast_tree_nodes::{ModuleField, discard_fields};
 
-/// Numbers the items of the fields, and replaces each id where an index is wanted by its number, at the id's place (text
-/// format, indices).
+/// Replaces each id in the fields by its index, and returns the ids with their indices (text
+/// format: indices).
 ///
-/// It gives the fields, and what their ids denote and which function types they have. It needs nothing of the fields: what
-/// stands in place stays there, and a type use without an index has none afterwards ([`wast_expand_types::types::expand`] gives
-/// each one an index that wants one). The error is the first demand that is not met: in the order of the fields E2 at the
-/// second bearer of an id in a space, and directly after a type E3 at the second bearer of an id among the fields of its
-/// struct; after all of these, field by field, E4 at an id that denotes nothing, labels and locals of the body in which it
-/// stands and fields of a struct among them; E9 where a field is named of a type that is no struct with a named field; E6, E5
-/// or E7 at an index whose type is not the inline type beside it; E2 at the second of two parameters and locals of one id; and
-/// E8 at a label of an `else` or an `end` that is not that of the innermost open block.
-/// It is E12 where memory was refused, and E10 only where some space has 2^32 or more items, or some struct as many fields;
-/// or, where no items clash, where a function has as many parameters and locals, those without names too, or where as many
-/// blocks would be open at once. On an error the fields are dropped.
+/// The new indices keep the positions of the ids. Any fields are accepted. Inline exports, imports,
+/// elements and data are unchanged. A type use without an index stays without one, because
+/// [`wast_expand_types::types::expand`] adds them.
+///
+/// # Example
+///
+///     let (fields, resolver) = names::resolve(alloc, fields).expect(rt, "memory");
+///     discard_fields(fields);
+///
+/// # Errors
+///
+/// The first check that fails, with its position. First, in the order of the items:
+///
+/// - E2: two items of an index space have the same id. After each struct, E3: two of its fields do.
+///
+/// Then, field by field:
+///
+/// - E4: an id is not defined, also one of a label, a local or a struct field.
+/// - E9: a field is named of a type that is not a struct with named fields.
+/// - E5, E6, E7: an inline type does not match the index beside it.
+/// - E2: two parameters or locals of a function have the same id.
+/// - E8: the label at an `else` or `end` is not that of its block.
+///
+/// Two errors have no position:
+///
+/// - E10: an index space has 2^32 items or more, or a struct as many fields. If no two items have
+///   the same id, also: a function has as many parameters and locals, or a body as many enclosing
+///   blocks.
+/// - E12: allocation failed.
+///
+/// After an error the fields are dropped.
+///
+/// # Guarantees
+///
+/// - `met`: on success all these checks pass. `list`: the fields are `resolved_fields`.
+/// - `names`, `scope`: the resolver has exactly the ids and types of the fields.
+/// - `refusal`: the errors are those above.
 pub fn resolve<'a>(
     alloc: Global,
     fields: Seq<ModuleField<'a>>,
@@ -50,7 +76,7 @@ pub fn resolve<'a>(
     }
 }
 
-/// Both passes, over the fields in their place.
+/// Resolves the fields in their list.
 fn resolve_fields<'a>(
     alloc: Global,
     fields: &mut Seq<ModuleField<'a>>,

@@ -1,4 +1,4 @@
-//! The name spaces of a module.
+//! The index spaces and types of a module.
 
 ghost use Rattle.std.specs.Prelude.{◌≡◌, Some, [], option_map, IfOk, IfErr};
 ghost use Rattle.wast_base.specs.Ids.{name_of};
@@ -27,7 +27,9 @@ use wast_base::{
 use wast_expand_types::FuncKey;
 use wast_tree_nodes::{FunctionType, StructAccess, TypeUse};
 
-/// A space of items that an index can stand for (text format, indices).
+/// An index space in which an index can be looked up (text format: indices).
+///
+/// For example, the index in `(export "a" (func $f))` is in `Ns::Func`.
 #[derive(Clone, Copy, Debug, PartialEq, Eq, Hash)]
 pub enum Ns {
     /// Functions.
@@ -45,7 +47,7 @@ pub enum Ns {
 }
 
 impl Ns {
-    /// The index space that it stands for.
+    /// Returns the index space as a `Space`.
     fn space(self) -> Space
         ensures { result ≡ space_of self }
     {
@@ -60,8 +62,8 @@ impl Ns {
     }
 }
 
-/// What is read of a type: of a function type its signature as it is written, of a struct type what the ids of its fields
-/// denote, if some field has one, and nothing of another type.
+/// What checks read of a type: the signature of a function type, or the ids of the fields of a
+/// struct if one has an id.
 #[derive(Drop)]
 pub(crate) struct TypeShape<'a> {
     signature: Option<FuncKey<'a>>,
@@ -69,7 +71,7 @@ pub(crate) struct TypeShape<'a> {
 }
 
 impl<'a> TypeShape<'a> {
-    /// Of a type of which nothing is read.
+    /// Returns the data of a type that is neither.
     pub(crate) fn other() -> Self
         ensures { read_shape result ≡ Other }
     {
@@ -79,7 +81,7 @@ impl<'a> TypeShape<'a> {
         }
     }
 
-    /// Of a function type of this signature.
+    /// Returns the data of a function type with this signature.
     pub(crate) fn of_func(key: FuncKey<'a>) -> Self
         ensures { read_shape result ≡ Function key.entry }
     {
@@ -89,7 +91,7 @@ impl<'a> TypeShape<'a> {
         }
     }
 
-    /// The names of the fields, if it is of a struct type with a named field.
+    /// Returns the ids of the fields, if it is a struct in which a field has an id.
     fn fields(&self) -> Option<&CachedNames<'a>>
         ensures { IsFieldsOf (Some (read_shape self.now)) (option_map (λ names. names.now) result) }
     {
@@ -99,7 +101,7 @@ impl<'a> TypeShape<'a> {
         }
     }
 
-    /// Of a struct type whose fields have these names.
+    /// Returns the data of a struct whose fields have these ids.
     pub(crate) fn of_struct(names: CachedNames<'a>) -> Self
         ensures { read_shape result ≡ Struct (λ name. number_in names.entry name) }
     {
@@ -110,11 +112,16 @@ impl<'a> TypeShape<'a> {
     }
 }
 
-/// What the ids of a module denote in each space, and its types (text format, indices and types).
+/// The ids of a module with their indices, and its types (text format: indices, types).
+///
+/// # Example
+///
+///     let (fields, resolver) = names::resolve(alloc, fields).expect(rt, "memory");
+///     discard_fields(fields);
 #[derive(Drop)]
 pub struct Resolver<'a> {
     spaces: Vec<CachedNames<'a>>,
-    // by their positions
+    // by index
     types: Vec<TypeShape<'a>>,
 }
 
@@ -131,14 +138,17 @@ impl<'a> Model for Resolver<'a> {
 }
 
 impl<'a> Resolver<'a> {
-    /// No names and no types. It takes no memory.
+    /// Returns a resolver without ids and types. Does not allocate.
+    ///
+    /// For example, a look-up of `$f` in it fails with E4.
     pub fn empty(alloc: Global) -> Self
         ensures { result ≡ without_types [] }
     {
         Resolver::new(alloc, Vec::new(alloc))
     }
 
-    /// These name spaces, by their ranks, and no types. It takes no memory.
+    /// Returns a resolver with these index spaces, in the order of their ranks, and without types.
+    /// Does not allocate.
     pub(crate) fn new(alloc: Global, spaces: Vec<CachedNames<'a>>) -> Self
         ensures { result ≡ without_types spaces.entry.items }
     {
@@ -148,7 +158,7 @@ impl<'a> Resolver<'a> {
         }
     }
 
-    /// The same name spaces, and these types. It takes no memory.
+    /// Returns the same index spaces with these types. Does not allocate.
     pub(crate) fn with_types(self, types: Vec<TypeShape<'a>>) -> Self
         ensures { result ≡ with_types self.entry types.entry.items }
     {
@@ -158,11 +168,24 @@ impl<'a> Resolver<'a> {
         }
     }
 
-    /// The number of an index in a space: a number is its own, and an id that is known is replaced by its number, at the
-    /// id's place.
+    /// Replaces an id by its index, and returns the number. A number is unchanged.
     ///
-    /// It needs that a generated id is known. An unknown id is E4 at its place, and then the index stays. It takes no
-    /// memory.
+    /// The new index keeps the position of the id. Does not allocate.
+    ///
+    /// For example, in `(module (func $f) (func $g))` the index `$g` of `Ns::Func` becomes 1.
+    ///
+    /// # Requires
+    ///
+    /// A generated id must be one that the resolver has. Numbers and source ids always qualify.
+    ///
+    /// # Errors
+    ///
+    /// E4 at the position of the id, if no item has it. The index is then unchanged.
+    ///
+    /// # Guarantees
+    ///
+    /// - `number`: the number is that of the item. `refusal`: the error is E4. `index`: the new
+    ///   value of `idx`.
     pub fn resolve(&self, idx: &mut Index<'a>, ns: Ns) -> Result<u32, Error<'a>>
         requires { IsSettledFor (known_of self.now) (space_of ns) idx.old }
         ensures number { IfOk result (λ n. denoted ((known_of self.now).number (space_of ns)) idx.old ≡ Some n) }
@@ -172,8 +195,19 @@ impl<'a> Resolver<'a> {
         self.number(idx, ns.space())
     }
 
-    /// The number of an index in a space, which is put in the place of a known id; E4 at the place of an unknown one, and then
-    /// the index stays. It needs nothing of generated ids, and takes no memory.
+    /// Replaces an id by its index, and returns the number. Generated ids need not be known. Does
+    /// not allocate.
+    ///
+    /// For example, in `(module (func $f) (func $g))` the index `$g` of `Space::Func` becomes 1.
+    ///
+    /// # Errors
+    ///
+    /// E4 at the position of the id, if no item has it. The index is then unchanged.
+    ///
+    /// # Guarantees
+    ///
+    /// - `number`: the number is that of the item. `refusal`: the error is E4. `index`: the new
+    ///   value of `idx`.
     pub fn number(&self, idx: &mut Index<'a>, space: Space) -> Result<u32, Error<'a>>
         ensures number { IfOk result (λ n. denoted ((known_of self.now).number space) idx.old ≡ Some n) }
         ensures refusal { IfErr result (AnswersFor (known_of self.now) space idx.old) }
@@ -186,7 +220,7 @@ impl<'a> Resolver<'a> {
         number_index(&names, idx, space.word())
     }
 
-    /// Numbers an index in a space, if it is a number or an id that is known. Whether it is; else the index stays.
+    /// Replaces an id by its index, and returns whether it is known. An unknown id is unchanged.
     pub(crate) fn try_number(&self, idx: &mut Index<'a>, space: Space) -> bool
         ensures { Tries (ask_demands (known_of self.now) (in_index space idx.old))
             (numbered_at (known_of self.now) space idx.old) idx.old idx.new result }
@@ -198,7 +232,7 @@ impl<'a> Resolver<'a> {
         try_number(&names, idx).is_some()
     }
 
-    /// The number that an index denotes in a space, if it denotes one.
+    /// Returns the number of an index in a space, if it is known.
     fn denoted(&self, space: Space, idx: &Index<'a>) -> Option<u32>
         ensures { result ≡ denoted ((known_of self.now).number space) idx.now }
     {
@@ -209,7 +243,7 @@ impl<'a> Resolver<'a> {
         denoted_number(&names, idx)
     }
 
-    /// Whether two indices denote one type.
+    /// Returns whether two indices name the same type.
     pub(crate) fn same_type(&self, a: &Index<'a>, b: &Index<'a>) -> bool
         ensures { result ≡ same_type (known_of self.now) a.now b.now }
     {
@@ -221,7 +255,7 @@ impl<'a> Resolver<'a> {
         }
     }
 
-    /// Nothing, where an index denotes a function type of the signature of an inline type; else E6, E5 or E7 at the index.
+    /// Checks an inline type against the type at an index. Fails with E6, E5 or E7 at the index.
     pub(crate) fn check_match(
         &self,
         idx: &Index<'a>,
@@ -245,11 +279,10 @@ impl<'a> Resolver<'a> {
         }
     }
 
-    /// Numbers an access to a field of a struct: the index of its type, and then that of the field; a number passes, and an id
-    /// that is known is replaced by its number, at the id's place.
+    /// Resolves a struct field access: the index of the type, then that of the field.
     ///
-    /// An unknown id of a type is E4 at its place. An id of a field is E9 at its place where the type is no struct with a named
-    /// field, or where there is none, and else E4 where it is unknown.
+    /// Fails with E4 at an unknown id of a type. An id of a field fails with E9 if the type is not
+    /// a struct with named fields, and with E4 if it is unknown.
     pub(crate) fn number_access(&self, access: &mut StructAccess<'a>) -> Result<(), Error<'a>>
         ensures { Walks ⊥ ⊥ (access_demand (scope_of self.now) access.old.owner access.old.field)
             (mapped_access (numbering_change (scope_of self.now)) access.old) access.new result }
@@ -259,8 +292,8 @@ impl<'a> Resolver<'a> {
         Ok(())
     }
 
-    /// Numbers the index of a field of the struct type of this number: E9 at an id where that is no struct type with a named
-    /// field, and else E4 at one that is unknown.
+    /// Resolves the index of a field of the struct type with this number. Fails with E9 or E4 at an
+    /// id.
     fn number_field(&self, owner: u32, field: &mut Index<'a>) -> Result<(), Error<'a>>
         ensures { Walks ⊥ ⊥ (field_at (scope_of self.now).types (Some owner) field.old)
             (resolved_index (field_in (type_at (scope_of self.now).types (Some owner))) field.old) field.new result }
@@ -276,7 +309,7 @@ impl<'a> Resolver<'a> {
         Ok(())
     }
 
-    /// The names of the fields of the struct type of this number, if it is one with a named field.
+    /// Returns the ids of the fields of the struct type with this number, if a field has one.
     fn fields_of(&self, owner: u32) -> Option<&CachedNames<'a>>
         ensures { IsFieldsOf (type_at (scope_of self.now).types (Some owner)) (option_map (λ names. names.now) result) }
     {
@@ -286,7 +319,7 @@ impl<'a> Resolver<'a> {
         }
     }
 
-    /// How many parameters a function has that no inline type says: those of the type at its index.
+    /// Returns how many parameters a function has by its index alone. With an inline type it is 0.
     pub(crate) fn unsaid_params(&self, ty: &TypeUse<'a, FunctionType<'a>>) -> usize
         ensures { result ≡ implicit_param_count (scope_of self.now) (Some ty.now) }
     {
@@ -298,7 +331,7 @@ impl<'a> Resolver<'a> {
         }
     }
 
-    /// How many parameters the function type has that an index denotes; another type has none.
+    /// Returns the number of parameters of the function type at an index, or 0.
     fn params_at(&self, idx: &Index<'a>) -> usize
         ensures { result ≡ params_of (type_at (scope_of self.now).types (denoted ((known_of self.now).number space.Ty) idx.now)) }
     {
@@ -314,7 +347,7 @@ impl<'a> Resolver<'a> {
         }
     }
 
-    /// The number that an id denotes in a space.
+    /// Returns the number of an id in a space.
     fn find(&self, space: Space, id: &Id<'a>) -> Option<u32>
         ensures { result ≡ number_in (space_in self.now.spaces space) (name_of id.now) }
     {
@@ -326,7 +359,11 @@ impl<'a> Resolver<'a> {
         }
     }
 
-    /// The ids of a space with their numbers, each once, in the order of [`Namespace::pairs`]. It takes no memory.
+    /// Returns the ids of a space with their numbers, each once, in the order of
+    /// [`Namespace::pairs`]. Does not allocate.
+    ///
+    /// For example, for `(module (func $a) (func) (func $b))` the pairs of `Space::Func` are `$a`
+    /// with 0 and `$b` with 2.
     pub fn pairs(&self, space: Space) -> &[(Id<'a>, u32)]
         ensures { entries_of result.now ≡ finmap.entries (space_in self.now.spaces space).names }
     {
@@ -339,7 +376,7 @@ impl<'a> Resolver<'a> {
     }
 }
 
-/// What ids denote in a space of a module.
+/// The look-up of ids in one space of a module.
 #[derive(Drop)]
 struct NamesIn<'r, 'a> {
     resolver: &'r Resolver<'a>,

@@ -1,4 +1,4 @@
-//! What is read of the types of a module, by their positions.
+//! The data that checks read of the types of a module, by index.
 
 ghost use Rattle.std.specs.Prelude.{◌≡◌, ◌≤◌, ◌^◌, None, [], ◌∷◌, ◌++◌, length, map, flat_map, IfOk, IfErr, OnOk};
 ghost use Rattle.wast_base.specs.Faults.{out_of_memory};
@@ -19,9 +19,10 @@ use wast_base::Error;
 use wast_expand_types::{Expander, TypeReference};
 use wast_tree_nodes::{FunctionType, InnerTypeKind, ModuleField, StructField, Type};
 
-/// What the ids of the fields of a struct denote; no two are the same.
+/// Returns the ids of the fields of a struct with their numbers. No two are the same.
 ///
-/// It takes memory for the ids. Where it is refused, that is E12; where there are 2^32 fields or more, E10.
+/// Allocates for the ids. Fails with E12 if that fails, and with E10 if there are 2^32 fields or
+/// more.
 fn field_names<'a>(alloc: Global, fields: &[StructField<'a>]) -> Result<CachedNames<'a>, Error<'a>>
     requires { first_unmet (field_demands (field_ids fields.now)) ≡ None }
     ensures names { IfOk result (NamesFields (field_ids fields.now)) }
@@ -33,7 +34,7 @@ fn field_names<'a>(alloc: Global, fields: &[StructField<'a>]) -> Result<CachedNa
     }
 }
 
-/// What is read of a struct type. It takes memory only where some field has an id.
+/// Returns the data of a struct type. Allocates only if a field has an id.
 fn struct_shape<'a>(alloc: Global, fields: &[StructField<'a>]) -> Result<TypeShape<'a>, Error<'a>>
     requires { first_unmet (field_demands (field_ids fields.now)) ≡ None }
     ensures shape { IfOk result (λ t. read_shape t ≡ struct_shape (map name_if (field_ids fields.now))) }
@@ -46,7 +47,7 @@ fn struct_shape<'a>(alloc: Global, fields: &[StructField<'a>]) -> Result<TypeSha
     Ok(TypeShape::of_struct(names))
 }
 
-/// What is read of a function type, as it is written.
+/// Returns the data of a function type.
 fn func_shape<'a>(alloc: Global, ty: &FunctionType<'a>) -> Result<TypeShape<'a>, Error<'a>>
     ensures shape { IfOk result (λ t. read_shape t ≡ Function (signature_of ty.now)) }
     ensures refusal { IfErr result (λ e. e ≡ out_of_memory) }
@@ -56,7 +57,7 @@ fn func_shape<'a>(alloc: Global, ty: &FunctionType<'a>) -> Result<TypeShape<'a>,
     Ok(TypeShape::of_func(key))
 }
 
-/// What is read of a composite type.
+/// Returns the data of a composite type.
 fn kind_shape<'a>(alloc: Global, kind: &InnerTypeKind<'a>) -> Result<TypeShape<'a>, Error<'a>>
     requires { first_unmet (field_demands (field_ids (fields_of kind.now))) ≡ None }
     ensures shape { IfOk result (λ t. read_shape t ≡ shape_of kind.now) }
@@ -70,7 +71,7 @@ fn kind_shape<'a>(alloc: Global, kind: &InnerTypeKind<'a>) -> Result<TypeShape<'
     }
 }
 
-/// One more type.
+/// Adds a type.
 fn add_type<'a>(
     alloc: Global,
     ty: &Type<'a>,
@@ -85,7 +86,7 @@ fn add_type<'a>(
     Ok(())
 }
 
-/// The types of a group, one by one.
+/// Adds the types of a group, one by one.
 fn add_types<'a>(
     alloc: Global,
     types: &[Type<'a>],
@@ -101,7 +102,7 @@ fn add_types<'a>(
     Ok(())
 }
 
-/// The types of a field.
+/// Adds the types of a field.
 fn add_field<'a>(
     alloc: Global,
     field: &ModuleField<'a>,
@@ -128,10 +129,11 @@ fn add_field<'a>(
     }
 }
 
-/// What is read of the types of a module, by their positions; no two fields of a struct have the same id.
+/// Returns the data of the types of a module, by index. Requires that no two fields of a struct
+/// have the same id.
 ///
-/// It takes memory for each function type, and for each struct type of which some field has an id. Where it is refused, that
-/// is E12; where such a struct has 2^32 fields or more, E10.
+/// Allocates for each function type, and for each struct in which a field has an id. Fails with E12
+/// if that fails, and with E10 if such a struct has 2^32 fields or more.
 pub(crate) fn type_shapes<'a>(
     alloc: Global,
     fields: &[ModuleField<'a>],

@@ -1,4 +1,4 @@
-//! The name spaces of a module, filled from its fields.
+//! The index spaces of a module, filled from its fields.
 
 ghost use Rattle.std.specs.Prelude.{◌≡◌, ⊤, List, [], Option as Maybe, None, IfOk, IfErr, OnOk, length};
 ghost use Rattle.wast_base.specs.Faults.{diagnostic_of};
@@ -19,7 +19,8 @@ use wast_base::Error;
 use wast_resolve_namespace::NamespaceBuilder;
 use wast_tree_nodes::ModuleField;
 
-/// The name space of a space and no clash, or the position of the first item whose id an earlier one bears.
+/// Returns an index space, and the position of its first item with the id of an earlier one, if
+/// there is one.
 fn try_space<'a>(
     alloc: Global,
     gathered: Result<NamespaceBuilder<'a>, Error<'a>>,
@@ -35,11 +36,24 @@ fn try_space<'a>(
     }
 }
 
-/// The name spaces of the fields.
+/// Returns the ids of all items of the fields with their indices.
 ///
-/// The error is the first of these, in the order of the fields: E2 at an item whose id an earlier one of its space bears,
-/// and directly after it E3 at a field of its struct whose id an earlier field bears. It is E12 where memory was refused,
-/// and E10 only where some space has 2^32 or more items, or some struct as many fields.
+/// For example, for `(module (func $f) (type $t (func)))` it has `$f` as function 0 and `$t` as
+/// type 0.
+///
+/// # Errors
+///
+/// The first duplicate in the order of the fields, or an error without a position:
+///
+/// - E2: an item has the id of an earlier one in its space. After each struct, E3: a field has the
+///   id of an earlier one.
+/// - E10: an index space has 2^32 items or more, or a struct as many fields.
+/// - E12: allocation failed.
+///
+/// # Guarantees
+///
+/// - `met`: on success no such duplicate exists. `names`: the ids and indices are those of the
+///   fields. `refusal`: the errors are those above.
 pub fn name_spaces<'a>(alloc: Global, fields: &[ModuleField<'a>]) -> Result<Resolver<'a>, Error<'a>>
     ensures met { OnOk result (first_unmet (item_demands (items fields.now)) ≡ None) }
     ensures names { IfOk result (λ r. known_of r ≡ id_context (items fields.now)) }

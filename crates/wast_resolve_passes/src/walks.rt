@@ -1,4 +1,4 @@
-//! Walks over the tree in its place: each id where an index is wanted becomes the number that it denotes.
+//! Walks over the parts of the tree outside of bodies, which replace each id by its index.
 #![tactic(auto, using(crate::proofs::Parts::both_met, crate::proofs::Parts::first_fails, crate::proofs::Parts::second_fails, crate::proofs::Parts::id_met))]
 
 ghost use Rattle.std.specs.Prelude.{⊤, List, map, flat_map, option_map};
@@ -35,7 +35,7 @@ use wast_tree_nodes::{
     ValType, discard_said_inline,
 };
 
-/// Walks over an index of a space. The error is E4 at an id that denotes nothing.
+/// Resolves an index of a space. Fails with E4 at an unknown id.
 pub(crate) fn walk_index<'a>(
     names: &Resolver<'a>,
     space: Space,
@@ -43,7 +43,7 @@ pub(crate) fn walk_index<'a>(
 ) -> Result<(), Error<'a>>
     ensures { WalksAsks names.now (in_index space) (λ f. f.index space) index.old index.new result }
 {
-    // A second walk meets numbers alone.
+    // In a second walk all indices are numbers.
     if let Index::Num(_, _) = index {
         return Ok(());
     }
@@ -51,7 +51,7 @@ pub(crate) fn walk_index<'a>(
     Ok(())
 }
 
-/// Walks over an index of a space, if there is one.
+/// Resolves an index of a space, if there is one.
 pub(crate) fn walk_optional<'a>(
     names: &Resolver<'a>,
     space: Space,
@@ -65,7 +65,7 @@ pub(crate) fn walk_optional<'a>(
     }
 }
 
-/// Walks over indices of a space, in order.
+/// Resolves indices of a space, in order.
 pub(crate) fn walk_indices<'a>(
     names: &Resolver<'a>,
     space: Space,
@@ -79,7 +79,7 @@ pub(crate) fn walk_indices<'a>(
     Ok(())
 }
 
-/// The names of a module as a resolver of the indices of types, which needs nothing of them.
+/// The ids of a module as a resolver for the generic calls on types, which requires nothing.
 #[derive(Drop)]
 struct ByNames<'r, 'a> {
     names: &'r Resolver<'a>,
@@ -95,20 +95,20 @@ impl<'r, 'a> ResolveCoreType<'a> for ByNames<'r, 'a> {
     }
 }
 
-/// A part of the tree, outside of bodies, in which indices may stand.
+/// A part of the tree, outside of bodies, that can contain indices.
 pub(crate) trait Walk<'a> {
-    /// What stands in it.
+    /// The checks in the part.
     ghost asks: { Self → List Check };
 
-    /// It, after a change.
+    /// The part of the tree that a change maps this one to.
     ghost mapped: { Change → Self → Self };
 
-    /// Walks over it. The error is E4 at an id that denotes nothing.
+    /// Resolves the indices in the part. Fails with E4 at an unknown id.
     fn walk(&mut self, names: &Resolver<'a>) -> Result<(), Error<'a>>
         ensures { WalksAsks names.now asks mapped_field self.old self.new result };
 }
 
-/// Walks over each part of a list, in order.
+/// Resolves each part of a list, in order.
 pub(crate) fn walk_each<'a, T: Walk<'a>>(
     names: &Resolver<'a>,
     parts: &mut Seq<T>,
@@ -401,7 +401,8 @@ impl<'a> Walk<'a> for Switch<'a> {
     }
 }
 
-/// Whether the inline type of a type use is that of the index beside it: E6, E5 or E7 at the index.
+/// Checks the inline type of a type use against the type at its index. Fails with E6, E5 or E7 at
+/// the index.
 fn check_type_use<'a>(
     names: &Resolver<'a>,
     ty: &TypeUse<'a, FunctionType<'a>>,
@@ -416,7 +417,7 @@ fn check_type_use<'a>(
     }
 }
 
-/// Walks over a type use: the index, the names of the inline type, and then whether the two match.
+/// Resolves a type use: the index, then the ids in the inline type. Then it checks that both match.
 pub(crate) fn walk_type_use<'a>(
     names: &Resolver<'a>,
     ty: &mut TypeUse<'a, FunctionType<'a>>,
@@ -428,7 +429,8 @@ pub(crate) fn walk_type_use<'a>(
     Ok(())
 }
 
-/// Walks over the type use of an indirect call or a block: where it has an index, its inline type is dropped at the end.
+/// Resolves the type use of an indirect call or a block. Removes the inline type if there is an
+/// index.
 pub(crate) fn walk_body_type<'a>(
     names: &Resolver<'a>,
     ty: &mut TypeUse<'a, FunctionType<'a>>,
@@ -441,7 +443,7 @@ pub(crate) fn walk_body_type<'a>(
     Ok(())
 }
 
-/// Walks over the types of the locals of a function.
+/// Resolves the types of the locals of a function.
 fn walk_locals<'a>(names: &Resolver<'a>, kind: &mut FuncKind<'a>) -> Result<(), Error<'a>>
     ensures { WalksAsks names.now in_locals with_locals kind.old kind.new result }
 {
@@ -451,7 +453,7 @@ fn walk_locals<'a>(names: &Resolver<'a>, kind: &mut FuncKind<'a>) -> Result<(), 
     }
 }
 
-/// Walks over the body of a function, whose parameters and locals have these names.
+/// Resolves the body of a function with these parameters and locals.
 fn walk_body<'a>(
     alloc: Global,
     names: &Resolver<'a>,
@@ -467,8 +469,8 @@ fn walk_body<'a>(
     }
 }
 
-/// Walks over what a function of a type use is made of: the types of the locals, whether the names of parameters and locals
-/// differ, and then the body. The type use has been walked over before, and says as much as before of the parameters.
+/// Resolves the contents of a function: the types of its locals, duplicate ids of parameters and
+/// locals, and the body. The type use has been resolved before, and has the same parameters.
 fn walk_kind<'a>(
     alloc: Global,
     names: &Resolver<'a>,
@@ -485,7 +487,7 @@ fn walk_kind<'a>(
     Ok(())
 }
 
-/// Walks over a function: its type use, and then what it is made of.
+/// Resolves a function: its type use, then its contents.
 fn walk_func<'a>(alloc: Global, names: &Resolver<'a>, func: &mut Func<'a>) -> Result<(), Error<'a>>
     ensures { WalksFunctions (HasMany (body_counts_in (scope_of names.now) (field.Func func.old)))
         names.now in_func mapped_func func.old func.new result }
@@ -495,7 +497,7 @@ fn walk_func<'a>(alloc: Global, names: &Resolver<'a>, func: &mut Func<'a>) -> Re
     Ok(())
 }
 
-/// Walks over a field.
+/// Resolves a field.
 fn walk_field<'a>(
     alloc: Global,
     names: &Resolver<'a>,
@@ -521,10 +523,11 @@ fn walk_field<'a>(
     }
 }
 
-/// Walks over the fields, in order.
+/// Resolves the fields, in order.
 ///
-/// It takes memory for the names of parameters and locals and for open blocks: E12 where it is refused, and E10 only where a
-/// function has 2^32 parameters and locals or more, or where as many blocks would be open at once.
+/// Allocates for the ids of parameters and locals, and for enclosing blocks. Fails with E12 if
+/// allocation fails, and with E10 if a function has 2^32 parameters and locals, or an expression as
+/// many enclosing blocks.
 pub(crate) fn walk_fields<'a>(
     alloc: Global,
     names: &Resolver<'a>,

@@ -1,4 +1,4 @@
--- Where one of many numbers is 2^32 or more.
+-- One of many numbers is 2^32 or more.
 use Rattle.std.proofs.Common.{◌≡◌, ℕ, List, [], ◌∷◌, ◌++◌, ◌≤◌, ◌^◌, refl, sym, ap, ◌∙◌, subst, arith}
 use Rattle.std.proofs.lemmas.List.Elements.{Contains-append_left, Contains-append_right}
 use Rattle.std.proofs.lemmas.Grind.{flat_map-append}
@@ -14,11 +14,11 @@ many_left ms ns h = (h.0, (Contains-append_left ms ns h.0 h.1.0, h.1.1))
 pub many_right : (ms ns : List ℕ) → HasMany ns → HasMany (ms ++ ns)
 many_right ms ns h = (h.0, (Contains-append_right ms ns h.0 h.1.0, h.1.1))
 
--- among those before and behind them
+-- among the numbers with others before and after them
 pub many_at : (all before ms behind : List ℕ) → all ≡ before ++ (ms ++ behind) → HasMany ms → HasMany all
 many_at all before ms behind is h = subst HasMany (sym is) (many_right before (ms ++ behind) (many_left ms behind h))
 
--- among the blocks that are open at some sites
+-- among the enclosing blocks at some sites
 pub many_sites : (all before here behind : List Site) → all ≡ before ++ (here ++ behind) → HasMany (open_counts here) → HasMany (open_counts all)
 many_sites all before here behind is h =
     many_at (open_counts all) (open_counts before) (open_counts here) (open_counts behind)

@@ -1,4 +1,4 @@
--- Nothing is demanded of a custom section.
+-- A custom section has no checks.
 use Rattle.std.proofs.Common.{◌≡◌, List, [], ◌∷◌, refl}
 use Rattle.std.specs.List.{flat_map}
 use Rattle.wast_tree_nodes.specs.Sites.{check_sites, in_subsection, in_custom}

@@ -1,4 +1,4 @@
--- An inline type matches what it matched before its indices were numbered.
+-- An inline type matches the same types before and after its indices are numbered.
 use Rattle.std.proofs.Common.{◌≡◌, ℕ, ◌&&◌, List, [], ◌∷◌, map, Option, Some, None, option_map, refl, ap, ◌∙◌}
 use Rattle.std.specs.Bool.{beq}
 use Rattle.wast_base.specs.Ids.{Name, name_of, span_of_index}
@@ -15,7 +15,7 @@ use Rattle.wast_resolve_rules.specs.Matches.{same_number, same_type, signatures_
 use Rattle.wast_resolve_rules.specs.Demands.{match_with, match_demands, match_if}
 use Rattle.wast_resolve_rules.specs.Resolved.{numbered_by, resolved_index, numbered_at, numbered_use}
 
--- a numbered index denotes what it denoted, at its place
+-- an index and its number name the same item
 denoted_by : (number : Name → Option ℕ) (id : Id) (o : Option ℕ) → number (name_of id) ≡ o → denoted number (numbered_by o id) ≡ o
 denoted_by number id None e = e
 denoted_by number id (Some n) e = refl
@@ -81,7 +81,7 @@ module _ (c : Scope) where
       ap (λ o. match_with (signatures_match c.known (mapped_signature (numbered_at c.known) t)) (span_of_index (numbered_at c.known space.Ty i)) (type_at c.types o)) (denoted_still (c.known.number space.Ty) i)
       ∙ with_still t i (type_at c.types (denoted (c.known.number space.Ty) i))
 
-  -- so of a type use
+  -- the same for a type use
   pub matched_still : (u : TypeUse FunctionType) → match_if c (numbered_use c.known u).index (numbered_use c.known u).inline ≡ match_if c u.index u.inline
   matched_still u = by_parts u.index u.inline
     where

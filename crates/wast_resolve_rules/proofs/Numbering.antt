@@ -1,4 +1,4 @@
--- Numbering the indices of a module keeps the ids of the parameters in a type use, and those within items.
+-- Numbering indices keeps the ids of the parameters in a type use, and those inside items.
 use Rattle.std.proofs.Common.{◌≡◌, List, [], ◌∷◌, refl, ap, map, Option, Some, None, option_map}
 use Rattle.wast_base.specs.Ids.{mark_of_option}
 use Rattle.wast_tree_nodes.specs.Sites.{param_marks}

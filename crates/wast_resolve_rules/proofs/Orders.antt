@@ -1,11 +1,11 @@
--- The order of imports by what was defined last.
+-- The order of imports by the last definition.
 use Rattle.std.proofs.Common.{◌≡◌, List, [], ◌∷◌, ◌++◌, Option, Some, None, refl, ap, ◌∙◌}
 use Rattle.std.specs.Option.{option_or}
 use Rattle.wast_resolve_rules.specs.Tree.{Space, ModuleField}
 use Rattle.wast_resolve_rules.specs.ImportOrder.{import_place, defines, last_defined, nothing_defined, order_demand}
 use Rattle.wast_resolve_rules.specs.Demands.{Demand, order_demands, each_after}
 
--- what fields demand, behind what was defined last
+-- the checks of fields after a last definition
 abbrev pub orders_from : Option Space → List ModuleField → List Demand
 orders_from last [] = []
 orders_from last (x ∷ xs) = nothing_defined last (import_place x) ++ orders_from (option_or (defines x) last) xs

@@ -1,4 +1,4 @@
--- Each part of a type is given by the indices that stand in it, and by the rest of it.
+-- Each part of a type is determined by its indices and the rest of it.
 use Rattle.std.proofs.Common.{◌≡◌, refl, length, map, arith, Option}
 use Rattle.std.specs.Prelude.{Bool, not}
 use Rattle.std.proofs.lemmas.Grind.{common_steps}

@@ -1,4 +1,4 @@
--- Parts that are given by the indices that stand in them and by the rest of them, and how they are put together.
+-- Parts of types as their indices and the rest, and how to combine them.
 use Rattle.std.proofs.Common.{◌≡◌, List, [], ◌∷◌, ◌++◌, refl, sym, ap, ◌∙◌, length, map, arith, Option, Some, None}
 use Rattle.std.specs.Prelude.{Bool, true, option_map}
 use Rattle.std.specs.List.{flat_map}
@@ -13,7 +13,7 @@ use Rattle.wast_resolve_rules.specs.CoreTypes.{index_asked, indices_of, blank}
 pub indices-append : (xs ys : List Check) → indices_of (xs ++ ys) ≡ indices_of xs ++ indices_of ys
 indices-append xs ys = flat_map-append index_asked xs ys
 
--- what is asked, of types
+-- a check as one of a type
 abbrev pub as_type : Check → Check
 as_type (ItemIndex s i) = ItemIndex space.Ty i
 as_type (InnerIndex i) = Clause 0 true
@@ -35,7 +35,7 @@ split f (a ∷ us) bs (c ∷ cs) ds n h =
     let tail : cs ++ ds ≡ map f (us ++ bs) = cc in
     let rest = split f us bs cs ds (omega (arith, n)) tail in (λ i. head i ∷ rest.0 i, rest.1)
 
--- what stands in one part after the other
+-- the checks of consecutive parts
 pub both_typed : (us bs : List Check) → map as_type us ≡ us → map as_type bs ≡ bs → map as_type (us ++ bs) ≡ us ++ bs
 both_typed us bs p q = map-append as_type us bs ∙ (ap (λ zs. zs ++ map as_type bs) p ∙ ap (λ zs. us ++ zs) q)
 
@@ -47,7 +47,7 @@ both_changed : (f : Index → Index) (us bs cs ds : List Check) → length (indi
 both_changed f us bs cs ds n h =
     split f (indices_of us) (indices_of bs) (indices_of cs) (indices_of ds) n (sym (indices-append cs ds) ∙ (h ∙ ap (map f) (indices-append us bs)))
 
--- the ways to put parts together
+-- the ways to combine parts
 pub const_part : {T : Type 0} → IsTypePart {T = T} (λ x. []) (λ f x. x)
 const_part = record { typed = λ x. refl; many = λ x y h. refl; same = λ f x y h k. h }
 
@@ -67,7 +67,7 @@ index_part = record { typed = λ x. refl; many = λ x y h. refl; same = λ f x y
 pub descriptor_part : IsTypePart in_descriptor (λ f i. f space.Ty i)
 descriptor_part = record { typed = λ x. refl; many = λ x y h. refl; same = λ f x y h k. only_index (f space.Ty x) y k }
 
--- a form, and whether what stands here is without it
+-- a form, and whether the part is without it
 pub form_part : {T : Type 0} (form : Form) (holds : T → Bool) → IsTypePart (λ x. Covered form (holds x) ∷ []) (λ f x. x)
 form_part form holds = record { typed = λ x. refl; many = λ x y h. refl; same = λ f x y h k. h }
 
@@ -80,7 +80,7 @@ both_part {A} {B} {p} {v} {q} {w} a b = record {
       λ i. (a.same f x.0 y.0 (ap (λ z. z.0) h) s.0 i, b.same f x.1 y.1 (ap (λ z. z.1) h) s.1 i);
 }
 
--- a part that is given by another
+-- a part that is determined by another
 pub part_as : {T U : Type 0} {p : U → List Check} {v : Indices → U → U} (to : T → U) (w : Indices → T → T) → IsTypePart p v → ((f : Indices) (x : T) → to (w f x) ≡ v f (to x)) → ((x y : T) → to x ≡ to y → x ≡ y)
     → IsTypePart (λ x. p (to x)) w
 part_as to w a moves one = record {

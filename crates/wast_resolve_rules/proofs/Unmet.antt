@@ -1,4 +1,4 @@
--- The first unmet demand of demands one after the other, and what an error answers of it.
+-- The first check that fails in consecutive lists of checks, and the errors that this allows.
 use Rattle.std.proofs.Common.{◌≡◌, refl, sym, ap, ◌∙◌, List, [], ◌∷◌, ◌++◌, Option, Some, None, Bool, true, false, cond}
 use native.Mathlib.Omega.{arith}
 use Rattle.std.specs.Option.{option_or}
@@ -10,12 +10,12 @@ more_unmet : (b : Bool) (f : Cause × Span) (r s t : Option (Cause × Span)) →
 more_unmet true f r s t h e = h e
 more_unmet false f r s t h e = cc
 
--- demands that are met leave what comes after them
+-- if the first list passes, the second decides
 pub first_unmet-append : (ds es : List Demand) → first_unmet ds ≡ None → first_unmet (ds ++ es) ≡ first_unmet es
 first_unmet-append [] es h = refl
 first_unmet-append (d ∷ ds) es h = more_unmet d.met (d.fault, d.place) (first_unmet ds) (first_unmet (ds ++ es)) (first_unmet es) (first_unmet-append ds es) h
 
--- what is unmet first is among the first, or else among those after them
+-- the first failure is in the first list, or else in the second
 pub first_unmet-or : (ds es : List Demand) → first_unmet (ds ++ es) ≡ option_or (first_unmet ds) (first_unmet es)
 first_unmet-or [] es = refl
 first_unmet-or (d ∷ ds) es = by_met d.met (d.fault, d.place) (first_unmet ds) (first_unmet es) (first_unmet (ds ++ es)) (first_unmet-or ds es)
@@ -24,7 +24,7 @@ first_unmet-or (d ∷ ds) es = by_met d.met (d.fault, d.place) (first_unmet ds) 
     by_met true f r s all h = h
     by_met false f r s all h = refl
 
--- Demands that answer alike do so with others after them that do where the first are met.
+-- Two lists with the same first failure still have it if lists with the same first failure are appended.
 pub alike_behind : (ds es more others : List Demand) → first_unmet ds ≡ first_unmet es → (first_unmet ds ≡ None → first_unmet more ≡ first_unmet others) → first_unmet (ds ++ more) ≡ first_unmet (es ++ others)
 alike_behind ds es more others h k = first_unmet-or ds more ∙ (by_first (first_unmet ds) (first_unmet es) (first_unmet more) (first_unmet others) h k ∙ sym (first_unmet-or es others))
   where
@@ -36,12 +36,12 @@ still_unmet : (b : Bool) (f g : Cause × Span) (r s : Option (Cause × Span)) �
 still_unmet true f g r s h e = h e
 still_unmet false f g r s h e = e
 
--- a demand that is not met hides what comes after it
+-- a check that fails hides those after it
 pub unmet_append : (ds es : List Demand) (f : Cause × Span) → first_unmet ds ≡ Some f → first_unmet (ds ++ es) ≡ Some f
 unmet_append [] es f h = cc
 unmet_append (d ∷ ds) es f h = still_unmet d.met (d.fault, d.place) f (first_unmet ds) (first_unmet (ds ++ es)) (unmet_append ds es f) h
 
--- what is answered of some demands, under less, is answered of others, under more
+-- errors of one list are errors of another if its conditions follow from those of the first
 pub answers_more : {K L M N : Type 0} (t : Diagnostic) (o p : Option (Cause × Span)) → (K → L) → (M → N) → ((f : Cause × Span) → o ≡ Some f → p ≡ Some f) → Answers K M t o → Answers L N t p
 answers_more t o p l m h a = grind (arith, l, m, h)
 
@@ -52,7 +52,7 @@ module _ {K L M N : Type 0} (t : Diagnostic) (ds es : List Demand) (l : K → L)
   pub answers_after : first_unmet ds ≡ None → Answers K M t (first_unmet es) → Answers L N t (first_unmet (ds ++ es))
   answers_after met a = answers_more t (first_unmet es) (first_unmet (ds ++ es)) l m (λ f h. first_unmet-append ds es met ∙ h) a
 
--- demands that are met one after the other are met each
+-- if consecutive lists pass, each passes
 pub met_parts : (ds es : List Demand) → first_unmet (ds ++ es) ≡ None → (first_unmet ds ≡ None) × (first_unmet es ≡ None)
 met_parts [] es h = (refl, h)
 met_parts (d ∷ ds) es h = by_met d.met (first_unmet ds) (first_unmet es) (first_unmet (ds ++ es)) (d.fault, d.place) (met_parts ds es) h

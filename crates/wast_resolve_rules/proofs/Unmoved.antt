@@ -1,4 +1,4 @@
--- Sites behind which the same blocks are open as before them.
+-- Sites after which the enclosing blocks are the same as before.
 use Rattle.std.proofs.Common.{◌≡◌, List, [], ◌∷◌, ◌++◌, refl, ap, ◌∙◌}
 use Rattle.std.specs.List.{flat_map}
 use Rattle.wast_base.specs.Blocks.{Blocks}
@@ -9,7 +9,7 @@ use Rattle.wast_resolve_rules.specs.Tree.caught
 use Rattle.wast_resolve_rules.specs.Tree.handle
 use Rattle.wast_resolve_rules.specs.Tree.form
 
--- what a clause of `try_table` catches, and its label, open and close nothing
+-- a catch clause and its label open and close no block
 catch_stays : (h : BodyContext) (blocks : Blocks) (k : TryTableCatchKind) (l : Index) → after_all h (in_catch blocks (record { kind = k; label = l })) ≡ h
 catch_stays h blocks (caught.Catch e) l = refl
 catch_stays h blocks (caught.CatchRef e) l = refl
@@ -22,7 +22,7 @@ catches_stay h blocks (c ∷ cs) =
     after-append h (in_catch blocks c) (flat_map (in_catch blocks) cs)
     ∙ (ap (λ g. after_all g (flat_map (in_catch blocks) cs)) (catch_stays h blocks c.kind c.label) ∙ catches_stay h blocks cs)
 
--- what is asked of names alone does so too, and labels
+-- neither do look-ups and labels
 pub asking_stays : (h : BodyContext) (asks : List Check) → after_all h (check_sites asks) ≡ h
 asking_stays h [] = refl
 asking_stays h (a ∷ asks) = asking_stays h asks

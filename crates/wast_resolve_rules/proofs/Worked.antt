@@ -1,4 +1,4 @@
--- The worked modules, computed.
+-- Computes the example modules.
 use Rattle.std.proofs.Common.{refl}
 use Rattle.wast_resolve_rules.specs.WorkedAnswers.{Row27, Row31, Row32, Row2, Row7, Row8, Row24, TwoFunctions, ClashOfTypes, FieldsOfOneStruct, FieldsOfTwoStructs, ClashesInOrder, Row14, Row22, Row23, UnknownNames, MatchedByNumber, Row17, IndirectCalls}
 use Rattle.wast_resolve_rules.specs.WorkedBodies.{NestedLabels, InnermostOfTwo, CaughtOutside, CaughtInItself, DelegatedOutside, DelegatedToItself, LabelsAtEnds, BlockOfTwo, BehindNameless}

@@ -1,4 +1,13 @@
--- What a module demands of its imports and names, in the order in which it is answered (text format: identifiers, indices, modules).
+-- The checks of resolving, E1 to E9, as one list in the order in which they are reported (text format: identifiers,
+-- indices, modules).
+--
+-- Each check is an error with its position, and whether it passes. Resolving fails with the first that does not. The
+-- order is: imports (E1); duplicate ids of items, and after each struct those of its fields (E2, E3); then everything
+-- else, field by field. It is one list, so that "first" needs no further definition.
+--
+--   (module (start $x) (func $a) (func $a))     E2 at the second $a, not E4 at $x: duplicates come before uses
+--
+-- Examples that compute: WorkedAnswers, WorkedBodies, WorkedEarly, WorkedFields, WorkedImports, WorkedUnknowns.
 use Rattle.std.specs.Prelude.{◌≡◌, ⊤, ℕ, ◌+◌, ◌≤◌, ◌^◌, ◌⊎◌, Bool, false, not, is_some, List, [], ◌∷◌, ◌++◌, length, map, flat_map, Option, Some, None, slice_get, codes, Contains, IsTrue}
 use Rattle.std.specs.List.{list_any}
 use Rattle.wast_resolve_rules.specs.Tree.{Span, Index, FunctionType, TypeUse, FuncKind, ModuleField}
@@ -23,45 +32,45 @@ use Rattle.wast_resolve_rules.specs.ImportOrder.{order_demand}
 use Rattle.wast_resolve_rules.specs.Scopes.{Shape, Function, Struct, Other, Scope, module_scope, denoted, type_at, implicit_param_count, local_number}
 use Rattle.wast_resolve_rules.specs.Matches.{signatures_match}
 
--- what each demands, after those before it
+-- runs a check on each element, given the elements before it
 abbrev pub each_after : {A : Type 0} → (List A → A → List Demand) → List A → List A → List Demand
 each_after f before [] = []
 each_after f before (x ∷ xs) = f before x ++ each_after f (before ++ x ∷ []) xs
 
--- The name of an id is none of the earlier ones; where it is, this is the fault.
+-- The check that an id is not among earlier names, with the error if it is.
 abbrev pub new_name_by : (Name → Cause) → List (Option Name) → Option Mark → List Demand
 new_name_by fault earlier None = []
 new_name_by fault earlier (Some m) = one_demand (fault m.0) m.1 (not (is_borne m.0 earlier))
 
--- E2, for what is called by this word
+-- E2 for this kind of item
 abbrev pub new_name_in : List ℕ → List (Option Name) → Option Mark → List Demand
 new_name_in word earlier id = new_name_by (λ name. Duplicate word) earlier id
 
--- E3, for what is called by this word
+-- E3 for this kind of field
 abbrev pub new_field_name_in : List ℕ → List (Option Name) → Option Mark → List Demand
 new_field_name_in word earlier id = new_name_by (λ name. DuplicateField word (text_of name)) earlier id
 
--- No earlier item of its space bears an item's id.
+-- The check that no earlier item of the same index space has the id (E2).
 abbrev pub own_demand : List Item → Item → List Demand
 own_demand before x = new_name_in (word_of x.space) (names_in x.space before) x.id
 
--- No earlier field of its struct bears a field's id.
+-- The check that no earlier field of the struct has the id (E3).
 abbrev pub field_demand : List (Option Mark) → Option Mark → List Demand
 field_demand before id = new_field_name_in (codes "field") (map name_if before) id
 
--- those of all fields of a struct
+-- the checks of all fields of a struct
 abbrev pub field_demands : List (Option Mark) → List Demand
 field_demands ids = each_after field_demand [] ids
 
--- an item, and directly after it its fields
+-- the check of an item, then those of its fields
 abbrev pub item_demand : List Item → Item → List Demand
 item_demand before x = own_demand before x ++ field_demands x.fields
 
--- those of all items
+-- the checks of all items
 abbrev pub item_demands : List Item → List Demand
 item_demands xs = each_after item_demand [] xs
 
--- An id where an index is wanted denotes an item of the space.
+-- The check that an id names an item of its index space (E4). Numbers are not checked.
 abbrev pub ask_demand : IdContext → Check → List Demand
 ask_demand k (ItemIndex s i) = known_index (k.number s) (word_of s) i
 ask_demand k (InnerIndex i) = []
@@ -69,56 +78,56 @@ ask_demand k (PlainId m) = []
 ask_demand k (Clause n holds) = []
 ask_demand k (Covered form holds) = []
 
--- those of all that is asked
+-- the checks of a list of look-ups
 abbrev pub ask_demands : IdContext → List Check → List Demand
 ask_demands k asks = flat_map (ask_demand k) asks
 
--- An inline type matches what the index beside it denotes: a type, of a function, of the same signature.
+-- The check that an inline type matches the type at the index beside it: there is one (E6), it is a function type (E5),
+-- and its signature is equal (E7).
 abbrev pub match_with : (Signature → Bool) → Span → Option Shape → List Demand
 match_with same place None = one_demand OutOfBounds place false
 match_with same place (Some (Function s)) = one_demand NoMatch place (same s)
 match_with same place (Some (Struct number)) = one_demand NotFunc place false
 match_with same place (Some Other) = one_demand NotFunc place false
 
--- of an inline type, and of the index beside it
+-- the same for an inline type and an index
 abbrev pub match_demands : Scope → Index → FunctionType → List Demand
 match_demands c i t = match_with (signatures_match c.known t) (span_of_index i) (type_at c.types (denoted (c.known.number space.Ty) i))
 
--- where both are there
+-- the same if there are both
 abbrev pub match_if : Scope → Option Index → Option FunctionType → List Demand
 match_if c None None = []
 match_if c None (Some t) = []
 match_if c (Some i) None = []
 match_if c (Some i) (Some t) = match_demands c i t
 
--- of a type use: its index, its inline type, and that the two match
+-- the checks of a type use: its index, its inline type, and that both match
 abbrev pub use_demand : Scope → TypeUse FunctionType → List Demand
 use_demand c u = ask_demands c.known (in_type_use u) ++ match_if c u.index u.inline
 
--- A name of a field is asked of a type with this number: it is that of a struct with a named field, and one of its fields has
--- the name.
+-- The check that a type is a struct with named fields (E9), and that one of its fields has the id (E4).
 abbrev pub named_field : ℕ → Option Shape → Mark → List Demand
 named_field n None m = one_demand (NoNamedFields (text_of m.0) n) m.1 false
 named_field n (Some (Function s)) m = one_demand (NoNamedFields (text_of m.0) n) m.1 false
 named_field n (Some (Struct number)) m = unknown_demand (codes "field") m (is_some (number m.0))
 named_field n (Some Other) m = one_demand (NoNamedFields (text_of m.0) n) m.1 false
 
--- of the type that an index denotes; where it denotes none, that is a fault of the index
+-- the same for the type at an index; if it is unknown, the check of that index has failed already
 abbrev pub field_at : List Shape → Option ℕ → Index → List Demand
 field_at types None i = []
 field_at types (Some n) (index.Num m place) = []
 field_at types (Some n) (index.Id id) = named_field n (slice_get types n) (mark_of id)
 
--- of an access to a field: the index of the struct type, and then the field
+-- the checks of a field access: the index of the struct type, then the field
 abbrev pub access_demand : Scope → (owner i : Index) → List Demand
 access_demand c owner i = ask_demand c.known (ItemIndex space.Ty owner) ++ field_at c.types (denoted (c.known.number space.Ty) owner) i
 
--- A label at an `else` or an `end` is that of the innermost open block, where a block is open.
+-- The check that a label at `else` or `end` is that of the innermost block (E8). Without an enclosing block it passes.
 abbrev pub repeated_demand : Blocks → Option Mark → List Demand
 repeated_demand blocks None = []
 repeated_demand blocks (Some m) = one_demand Labels m.1 (is_expected_label (Some m.0) blocks)
 
--- No earlier parameter or local has the name of one that is declared; an id of a local or a label denotes one.
+-- The checks at a site: duplicate ids of parameters and locals (E2), and unknown ids of locals, fields and labels (E4).
 abbrev pub site_demand : Scope → Site → List Demand
 site_demand c (Asked a) = ask_demand c.known a
 site_demand c (Used w u) = use_demand c u
@@ -130,90 +139,88 @@ site_demand c (Repeated blocks m) = repeated_demand blocks m
 site_demand c (Begins blocks m) = []
 site_demand c Ends = []
 
--- those of all sites
+-- the checks at all sites
 abbrev pub site_demands : Scope → List Site → List Demand
 site_demands c sites = flat_map (site_demand c) sites
 
--- of names: first those of all items, and then those of what stands beside them
+-- all checks but the order of imports: first those of items, then those of sites
 abbrev pub name_demands : List ModuleField → List Demand
 name_demands fields = item_demands (items fields) ++ site_demands (module_scope fields) (in_module fields)
 
--- of each import, by the fields before it
+-- the check of each import, given the fields before it
 abbrev pub order_demands : List ModuleField → List Demand
 order_demands fields = each_after order_demand [] fields
 
--- first the order of imports, and then names
+-- all checks: the order of imports comes first
 abbrev pub demands : List ModuleField → List Demand
 demands fields = order_demands fields ++ name_demands fields
 
--- How many there are of all that is counted: the items of each space, the fields of each item, and, of bodies, the parameters
--- and locals of each function and the open blocks wherever one begins.
+-- The sizes that permit E10 from 2^32 on: items of each index space, fields of each struct, parameters and locals of
+-- each function, and enclosing blocks. This definition counts the items.
 abbrev pub space_counts : List Item → List ℕ
 space_counts xs = map (λ s. length (names_in s xs)) spaces
 
--- the fields of each item
+-- the number of fields of each item
 abbrev pub field_counts : List Item → List ℕ
 field_counts xs = map (λ x. length x.fields) xs
 
--- of each space, and of each item
+-- both for all items
 abbrev pub item_counts : List Item → List ℕ
 item_counts xs = space_counts xs ++ field_counts xs
 
--- the ids of the locals; what is imported in place has none
+-- the ids of the locals of a function; an inline import has none
 abbrev pub kind_marks : FuncKind → List (Option Mark)
 kind_marks (func.Import import exact) = []
 kind_marks (func.Inline locals e) = local_marks locals
 
--- the ids of the parameters of an inline type, and of the locals after them
+-- the ids of the parameters of an inline type, then those of the locals
 abbrev pub declared_ids : Option FunctionType → FuncKind → List (Option Mark)
 declared_ids inline k = param_marks inline ++ kind_marks k
 
--- the parameters and locals of a function, those without names too
+-- the number of parameters and locals of a function, unnamed ones included
 abbrev pub local_counts_in : Scope → ModuleField → List ℕ
 local_counts_in c (field.Func f) = (implicit_param_count c (Some f.ty) + length (declared_ids f.ty.inline f.kind)) ∷ []
 local_counts_in c x = []
 
--- where a block begins, the open blocks with it
+-- the number of enclosing blocks at the start of a block, itself included
 abbrev pub open_counts_at : Site → List ℕ
 open_counts_at (Begins blocks m) = (length blocks + 1) ∷ []
 open_counts_at s = []
 
--- at all sites of a list
+-- the same for all sites of a list
 abbrev pub open_counts : List Site → List ℕ
 open_counts sites = flat_map open_counts_at sites
 
--- of a field: its parameters and locals, and the open blocks in it
+-- the sizes in a field: its parameters and locals, and its enclosing blocks
 abbrev pub body_counts_in : Scope → ModuleField → List ℕ
 body_counts_in c x = local_counts_in c x ++ open_counts (in_field x)
 
--- of each field
+-- the sizes in all fields
 abbrev pub body_counts : List ModuleField → List ℕ
 body_counts fields = flat_map (body_counts_in (module_scope fields)) fields
 
--- One of some numbers is 2^32 or more.
+-- One of the numbers is 2^32 or more.
 abbrev pub HasMany : List ℕ → Type 0
 HasMany ns = (n : ℕ) × (Contains ns n × (2 ^ 32 ≤ n))
 
--- There are 2^32 or more items of some space, or fields of some struct.
+-- There are 2^32 items or more in an index space, or as many fields in a struct.
 abbrev pub HasManyItems : List ModuleField → Type 0
 HasManyItems fields = HasMany (item_counts (items fields))
 
--- There are 2^32 or more of something: of items or of fields of a struct; or, where no two of these have one name, of something
--- in a body.
+-- The same; or, if no two items have the same id, as many locals in a function or enclosing blocks.
 abbrev pub IsCrowded : List ModuleField → Type 0
 IsCrowded fields = HasManyItems fields ⊎ ((first_unmet (item_demands (items fields)) ≡ None) × HasMany (body_counts fields))
 
--- Why numbering the fields is refused: by the first unmet demand, at its place; or memory was refused, or there are too
--- many of something.
+-- The errors of numbering: the first check that fails, at its position; E12; or E10 if a size is 2^32 or more.
 abbrev pub IsUnnumbered : List ModuleField → Error → Type 0
 IsUnnumbered fields e = Answers ⊤ (IsCrowded fields) (diagnostic_of e) (first_unmet (name_demands fields))
 
--- Once nothing is left out, there are too many of something; the counter that gives ids would pass 64 bits; or the bytes
--- that stand in place in a memory are 2^32 or more.
+-- The condition for E10: a size is 2^32 or more after expansion, the counter would overflow a `u64`, or the inline data
+-- of a memory has 2^32 bytes or more.
 abbrev pub IsTooLarge : ℕ → List ModuleField → Type 0
 IsTooLarge n fields = IsCrowded (explicit_fields fields) ⊎ ((2 ^ 64 ≤ n + generated_id_count fields) ⊎ IsTrue (list_any has_oversized_data fields))
 
--- Why resolving the fields is refused, from a counter: by the first unmet demand of the list in which nothing is left out
--- and no id is made; or memory was refused, or something is too large.
+-- The errors of resolving from a counter: the first check that fails on the expanded fields without generated ids; E12;
+-- or E10 if something is too large.
 abbrev pub IsUnresolved : ℕ → List ModuleField → Error → Type 0
 IsUnresolved n fields e = Answers ⊤ (IsTooLarge n fields) (diagnostic_of e) (first_unmet (demands (explicit_fields fields)))

@@ -1,4 +1,4 @@
--- What worked modules with blocks, labels and locals answer, computed. A text may lie anywhere in memory.
+-- Example modules with blocks, labels and locals, with the error or the result. Names may be at any address.
 use Rattle.std.specs.Prelude.{◌≡◌, ℕ, ◌+◌, List, [], ◌∷◌, ◌++◌, Option, Some, None, codes}
 use Rattle.wast_base.specs.Ids.{gensym_id}
 use Rattle.wast_base.specs.Faults.{Unknown, Labels}
@@ -20,7 +20,7 @@ use Rattle.wast_resolve_rules.specs.Tree.field
 use Rattle.wast_resolve_rules.specs.Demands.{first_unmet, demands, body_counts}
 use Rattle.wast_resolve_rules.specs.Finished.{resolved_fields_from}
 
--- type uses: nothing is written; the number of a type that is implied; and an inline type alone
+-- type uses: empty; the number of an appended type; and an inline type alone
 abbrev pub not_said : TypeUse FunctionType
 not_said = record { index = None; inline = None }
 
@@ -30,7 +30,7 @@ of_type k = record { index = Some (by_number k 0); inline = None }
 abbrev pub in_place : FunctionType → TypeUse FunctionType
 in_place t = record { index = None; inline = Some t }
 
--- `(func ..)`, which begins at n, with its locals and instructions; alone in a module it begins at 8
+-- `(func ..)` at position n, with locals and instructions; as the only field it is at 8
 abbrev pub func_of : ℕ → TypeUse FunctionType → List Local → List Instruction → ModuleField
 func_of n u locals instrs = field.Func (record {
   span = place (n + 1);
@@ -44,11 +44,11 @@ func_of n u locals instrs = field.Func (record {
 abbrev pub body : TypeUse FunctionType → List Instruction → List ModuleField
 body u instrs = func_of 8 u [] instrs ∷ []
 
--- a block with its label and its type
+-- a block with a label and a type
 abbrev pub labelled : Option Id → TypeUse FunctionType → BlockType
 labelled label u = record { label = label; label_name = None; ty = u }
 
--- `(module (func block $a block $b br $a br $b end end))`: labels count from the innermost block.
+-- `(module (func block $a block $b br $a br $b end end))`: depths count from the innermost block.
 abbrev pub nested_with : (a b : Address) → (u v : TypeUse FunctionType) → Index → Index → List ModuleField
 nested_with a b u v i j =
     body u
@@ -58,7 +58,7 @@ nested_with a b u v i j =
 abbrev pub nested : (a b c d : Address) → List ModuleField
 nested a b c d = nested_with a b not_said not_said (by_id c (codes "a") 35) (by_id d (codes "b") 41)
 
--- One function without parameters and locals has two blocks, and both are open where the second begins.
+-- One function without locals has two blocks, and the second starts inside the first.
 abbrev pub NestedLabels : Type 0
 NestedLabels = (a b c d : Address) →
     (first_unmet (demands (fields_with_implied_types (nested a b c d))) ≡ None)
@@ -80,7 +80,7 @@ InnermostOfTwo = (a b c d : Address) →
     (first_unmet (demands (fields_with_implied_types (same_label a b c d))) ≡ None)
     × (resolved_fields_from 5 (same_label a b c d) ≡ same_label_with a b (of_type 0) (in_place empty_type) (by_number 0 35) (by_number 0 45) ++ implied_types 5 (empty_signature ∷ []))
 
--- `(module (tag $e) (func block $h try_table (catch $e $h) end end))`: a clause is read outside of its block.
+-- `(module (tag $e) (func block $h try_table (catch $e $h) end end))`: a catch clause is outside its block.
 abbrev pub catching_with : (a b : Address) → (u v : TypeUse FunctionType) → Index → Index → List ModuleField
 catching_with a b u v e label =
     field.Tag (record { span = place 9; id = Some (id_at a (codes "e") 13); name = None; exports = record { names = [] }; ty = tag.Exception u; kind = tag_kind.Inline })
@@ -98,7 +98,7 @@ CaughtOutside = (a b c d : Address) →
     (first_unmet (demands (fields_with_implied_types (catching a b c d))) ≡ None)
     × (resolved_fields_from 5 (catching a b c d) ≡ catching_with a b (of_type 0) (in_place empty_type) (by_number 0 49) (by_number 0 52) ++ implied_types 5 (empty_signature ∷ []))
 
--- `(module (func try_table $h (catch_all $h) end))`: nor is its own label known there.
+-- `(module (func try_table $h (catch_all $h) end))`: so the block's own label is unknown in it.
 abbrev pub CaughtInItself : Type 0
 CaughtInItself = (a b : Address) →
     first_unmet (demands (fields_with_implied_types (body not_said
@@ -106,7 +106,7 @@ CaughtInItself = (a b : Address) →
     ∷ instr.end_ None ∷ []))))
     ≡ Some (Unknown (codes "label") (codes "h"), place 38)
 
--- `(module (func try $a try delegate $a end))`: what `delegate` names is read once its block has ended.
+-- `(module (func try $a try delegate $a end))`: the label of `delegate` is looked up after the block has ended.
 abbrev pub delegating_with : Address → (u v : TypeUse FunctionType) → Index → List ModuleField
 delegating_with a u v label =
     body u (instr.try_ (labelled (Some (id_at a (codes "a") 18)) v) ∷ instr.try_ (labelled None v) ∷ instr.delegate label ∷ instr.end_ None ∷ [])
@@ -119,22 +119,22 @@ DelegatedOutside = (a b : Address) →
     (first_unmet (demands (fields_with_implied_types (delegating a b))) ≡ None)
     × (resolved_fields_from 5 (delegating a b) ≡ delegating_with a (of_type 0) (in_place empty_type) (by_number 0 34) ++ implied_types 5 (empty_signature ∷ []))
 
--- `(module (func try $a delegate $a))`: then its own label is not known.
+-- `(module (func try $a delegate $a))`: so the block's own label is unknown in it.
 abbrev pub DelegatedToItself : Type 0
 DelegatedToItself = (a b : Address) →
     first_unmet (demands (fields_with_implied_types (body not_said (instr.try_ (labelled (Some (id_at a (codes "a") 18)) not_said) ∷ instr.delegate (by_id b (codes "a") 30) ∷ []))))
     ≡ Some (Unknown (codes "label") (codes "a"), place 30)
 
--- `(module (func block $l end $m))`: the label at an `end` is not that of its block; and `(module (func end $m))`: where no
--- block is open nothing is asked of it.
+-- `(module (func block $l end $m))`: the label at the `end` is not that of its block. In `(module (func end $m))` it is
+-- not checked, because there is no enclosing block.
 abbrev pub LabelsAtEnds : Type 0
 LabelsAtEnds = (a b : Address) →
     (first_unmet (demands (fields_with_implied_types (body not_said (instr.block (labelled (Some (id_at a (codes "l") 20)) not_said) ∷ instr.end_ (Some (id_at b (codes "m") 27)) ∷ []))))
     ≡ Some (Labels, place 27))
     × (first_unmet (demands (fields_with_implied_types (body not_said (instr.end_ (Some (id_at b (codes "m") 18)) ∷ [])))) ≡ None)
 
--- `(module (func block (result i32 i32) unreachable end drop drop))`: a block that gives two values needs a type, behind that of
--- its function, and then has no inline type.
+-- `(module (func block (result i32 i32) unreachable end drop drop))`: a block with two results needs a type, which
+-- comes after that of its function. Then it has no inline type.
 abbrev pub two_results : FunctionType
 two_results = function_type [] (value.I32 ∷ value.I32 ∷ [])
 
@@ -149,7 +149,7 @@ BlockOfTwo =
     × (resolved_fields_from 5 (block_of_two not_said (in_place two_results))
     ≡ block_of_two (of_type 0) (of_type 1) ++ implied_types 5 (empty_signature ∷ ([], value.I32 ∷ value.I32 ∷ []) ∷ []))
 
--- `(module (type (func (param i32))) (func (type 0) (local $l i32) local.get $l))`: a parameter without a name comes first.
+-- `(module (type (func (param i32))) (func (type 0) (local $l i32) local.get $l))`: the unnamed parameter is number 0.
 abbrev pub behind_with : Address → Option Id → Index → List ModuleField
 behind_with a id x =
     type_at id 8 (function_type (value.I32 ∷ []) [])

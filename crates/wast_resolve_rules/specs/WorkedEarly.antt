@@ -1,4 +1,4 @@
--- What worked modules answer as they stand, computed. A text may lie anywhere in memory.
+-- Example modules with the error that the checks before resolving report. Names may be at any address.
 use Rattle.std.specs.Prelude.{◌≡◌, ℕ, ◌+◌, false, [], ◌∷◌, Option, Some, None, codes}
 use Rattle.wast_base.specs.Faults.{ImportAfter, Duplicate}
 use Rattle.wast_tree_nodes.specs.WorkedModules.{Address, text, place, id_at, by_id, row32}
@@ -10,8 +10,8 @@ use Rattle.wast_resolve_rules.specs.Demands.{first_unmet}
 use Rattle.wast_resolve_rules.specs.Early.{early_demands}
 use Rattle.wast_resolve_rules.specs.WorkedImports.{no_use, import_at, tag_at, named_func}
 
--- rows 12 and 21: E1 at the import; row 13: E2 at the second function, whatever the start function denotes; row 32: E2 at the
--- second type
+-- rows 12 and 21: E1 at the import; row 13: E2 at the second function, although the start function is unknown; row 32:
+-- E2 at the second type
 abbrev pub RowsEarly : Type 0
 RowsEarly = (a b c : Address) →
     (first_unmet (early_demands (func_at 8 None None ∷ import_at a b 15 None ∷ [])) ≡ Some (ImportAfter (codes "function"), place 16))
@@ -19,7 +19,7 @@ RowsEarly = (a b c : Address) →
     × (first_unmet (early_demands (field.Start (by_id a (codes "x") 15) ∷ named_func b 19 ∷ named_func c 29 ∷ [])) ≡ Some (Duplicate (codes "func"), place 35))
     × (first_unmet (early_demands (row32 a b)) ≡ Some (Duplicate (codes "type"), place 31))
 
--- `(func .. (import "" ""))`, which begins at n
+-- `(func .. (import "" ""))` at position n
 abbrev pub imported_func : (a b : Address) → ℕ → Option Id → ModuleField
 imported_func a b n id = field.Func (record {
   span = place (n + 1);
@@ -30,8 +30,8 @@ imported_func a b n id = field.Func (record {
   ty = no_use;
 })
 
--- `(module (func) (func (import "" "")))`: E1 at the second; and `(module (func $a (import "" "")) (func $a (import "" "")))`,
--- in which nothing is defined: E2 at the second.
+-- `(module (func) (func (import "" "")))`: E1 at the second.
+-- `(module (func $a (import "" "")) (func $a (import "" "")))` has no definition: E2 at the second.
 abbrev pub ImportedInPlace : Type 0
 ImportedInPlace = (a b c d e f : Address) →
     (first_unmet (early_demands (func_at 8 None None ∷ imported_func a b 15 None ∷ [])) ≡ Some (ImportAfter (codes "function"), place 16))

@@ -1,4 +1,4 @@
--- What worked modules with imports answer, computed. A text may lie anywhere in memory.
+-- Example modules with imports, with the error. Names may be at any address.
 use Rattle.std.specs.Prelude.{◌≡◌, ℕ, ◌+◌, false, List, [], ◌∷◌, Option, Some, None, codes}
 use Rattle.wast_base.specs.Faults.{ImportAfter, Duplicate, Unknown}
 use Rattle.wast_tree_nodes.specs.WorkedModules.{Address, text, place, id_at, by_id}
@@ -14,18 +14,18 @@ use Rattle.wast_resolve_rules.specs.Tree.import_items
 use Rattle.wast_resolve_rules.specs.Tree.field
 use Rattle.wast_resolve_rules.specs.Demands.{first_unmet, demands}
 
--- a type use of which nothing is written
+-- an empty type use
 abbrev pub no_use : TypeUse FunctionType
 no_use = record { index = None; inline = None }
 
--- `(import "" "" (func ..))`, which begins at n
+-- `(import "" "" (func ..))` at position n
 abbrev pub import_at : (a b : Address) → ℕ → Option Id → ModuleField
 import_at a b n id = field.Import (record {
   span = place (n + 1);
   items = import_items.Single (text a []) (text b []) (record { span = place (n + 15); id = id; name = None; kind = kind.Func no_use });
 })
 
--- `(memory 1)` and `(tag)`, which begin at n
+-- `(memory 1)` and `(tag)` at position n
 abbrev pub one_page : MemoryType
 one_page = record { limits = record { is64 = false; min = 1; max = None }; shared = false; page_size_log2 = None }
 
@@ -46,14 +46,14 @@ Row21 = (a b : Address) → first_unmet (demands (fields_with_implied_types (tag
 abbrev pub BehindAMemory : Type 0
 BehindAMemory = (a b : Address) → first_unmet (demands (fields_with_implied_types (memory_at 8 ∷ import_at a b 19 None ∷ []))) ≡ Some (ImportAfter (codes "memory"), place 20)
 
--- `(module (memory 1) (tag) (import "" "" (func)) (import "" "" (func)))`: the first import, by what is defined last; and
--- `(module (import "" "" (func)) (memory 1))`: the import stands before.
+-- `(module (memory 1) (tag) (import "" "" (func)) (import "" "" (func)))`: E1 at the first import, after a tag. And
+-- `(module (import "" "" (func)) (memory 1))`: no error.
 abbrev pub ImportsInOrder : Type 0
 ImportsInOrder = (a b c d : Address) →
     (first_unmet (demands (fields_with_implied_types (memory_at 8 ∷ tag_at 19 ∷ import_at a b 25 None ∷ import_at c d 47 None ∷ []))) ≡ Some (ImportAfter (codes "tag"), place 26))
     × (first_unmet (demands (fields_with_implied_types (import_at a b 8 None ∷ memory_at 30 ∷ []))) ≡ None)
 
--- `(module (import "" "" (func $f)) (import "" "" (func $f)))`: E2 at the second; and behind `(memory 1)` first of all E1.
+-- `(module (import "" "" (func $f)) (import "" "" (func $f)))`: E2 at the second. After `(memory 1)` it is E1.
 abbrev pub twice_imported : (a b c d e f : Address) → ℕ → List ModuleField
 twice_imported a b c d e f n = import_at a b n (Some (id_at c (codes "f") (n + 20))) ∷ import_at d e (n + 25) (Some (id_at f (codes "f") (n + 45))) ∷ []
 
@@ -66,7 +66,7 @@ ImportedTwice = (a b c d e f : Address) →
 abbrev pub UnknownStart : Type 0
 UnknownStart = (a : Address) → first_unmet (demands (fields_with_implied_types (field.Start (by_id a (codes "f") 15) ∷ []))) ≡ Some (Unknown (codes "func") (codes "f"), place 15)
 
--- `(func $a)`, which begins at n
+-- `(func $a)` at position n
 abbrev pub named_func : Address → ℕ → ModuleField
 named_func a n = field.Func (record {
   span = place (n + 1);
@@ -77,6 +77,6 @@ named_func a n = field.Func (record {
   ty = no_use;
 })
 
--- `(module (start $x) (func $a) (func $a))`: E2 at the second function, before what the start function denotes.
+-- `(module (start $x) (func $a) (func $a))`: E2 at the second function, before E4 at `$x`.
 abbrev pub Row13 : Type 0
 Row13 = (a b c : Address) → first_unmet (demands (fields_with_implied_types (field.Start (by_id a (codes "x") 15) ∷ named_func b 19 ∷ named_func c 29 ∷ []))) ≡ Some (Duplicate (codes "func"), place 35)

@@ -1,4 +1,4 @@
-//! Keys of signatures, by the traits alone, and types that uses take.
+//! Keys of signatures, used through the traits alone, and which types a type use matches.
 
 use std::alloc::Global;
 use std::hash::{DefaultHasher, Hash, Hasher};
@@ -13,7 +13,7 @@ fn at(offset: usize) -> Span {
     Span { offset }
 }
 
-/// A list of value types.
+/// Returns a list of value types.
 fn list_of<'a>(rt: &impl Abort, alloc: Global, types: &[ValType<'a>]) -> Seq<ValType<'a>> {
     let mut list = Seq::new(alloc);
     for ty in types {
@@ -31,7 +31,7 @@ fn key<'a>(
     FuncKey(list_of(rt, alloc, params), list_of(rt, alloc, results))
 }
 
-/// A function type whose first parameter is called `$p`.
+/// Returns a function type whose first parameter has the id `$p`.
 fn signature(
     rt: &impl Abort,
     alloc: Global,
@@ -50,7 +50,7 @@ fn signature(
     }
 }
 
-/// The function type that a type is.
+/// Returns the function type in a type definition.
 fn function_in<'k, 'a>(kind: &'k InnerTypeKind<'a>) -> Option<&'k FunctionType<'a>> {
     match kind {
         InnerTypeKind::Func(function) => Some(function),
@@ -64,7 +64,7 @@ fn hash_of<T: Hash>(value: &T) -> u64 {
     state.finish()
 }
 
-/// The key of a type, and what stands where none is written, by the traits alone.
+/// Returns the key of a type, and that of an omitted type, through the traits alone.
 fn keys_of<'a, T: TypeReference<'a> + Drop>(
     rt: &impl Abort,
     alloc: Global,
@@ -76,7 +76,7 @@ fn keys_of<'a, T: TypeReference<'a> + Drop>(
     (ty.key(&cx).expect(rt, "memory"), empty)
 }
 
-/// What a key is bound to, before and after it is bound to one index and then to another.
+/// Returns the index of a key before the first `insert`, after it, and after a second one.
 fn bound_to<'a, K: TypeKey<'a>>(
     rt: &impl Abort,
     key: &K,
@@ -91,7 +91,7 @@ fn bound_to<'a, K: TypeKey<'a>>(
 }
 
 #[test]
-fn keys_are_signatures(rt: HostRuntime) {
+fn key_has_types_of_params_and_results(rt: HostRuntime) {
     let alloc = rt.alloc();
     let mut function = signature(&rt, alloc, &[ValType::I32, ValType::V128], &[ValType::F64]);
     let (found, empty) = keys_of(&rt, alloc, &mut function);
@@ -101,7 +101,7 @@ fn keys_are_signatures(rt: HostRuntime) {
 }
 
 #[test]
-fn the_type_of_a_key_has_its_signature(rt: HostRuntime) {
+fn to_def_keeps_signature(rt: HostRuntime) {
     let alloc = rt.alloc();
     let found = key(&rt, alloc, &[ValType::I32, ValType::V128], &[ValType::F64]);
     let def = found.to_def(alloc, at(3), true).expect(&rt, "memory");
@@ -113,7 +113,7 @@ fn the_type_of_a_key_has_its_signature(rt: HostRuntime) {
 }
 
 #[test]
-fn other_signatures_have_other_keys(rt: HostRuntime) {
+fn different_signatures_have_different_keys(rt: HostRuntime) {
     let alloc = rt.alloc();
     let found = key(&rt, alloc, &[ValType::I32, ValType::V128], &[ValType::F64]);
     let same = key(&rt, alloc, &[ValType::I32, ValType::V128], &[ValType::F64]);
@@ -129,7 +129,7 @@ fn other_signatures_have_other_keys(rt: HostRuntime) {
 }
 
 #[test]
-fn the_first_index_of_a_key_stays(rt: HostRuntime) {
+fn insert_keeps_first_index(rt: HostRuntime) {
     let alloc = rt.alloc();
     let (one, two) = (Index::Num(1, at(1)), Index::Num(2, at(2)));
     let mut cx = Expander::new(alloc);
@@ -140,7 +140,7 @@ fn the_first_index_of_a_key_stays(rt: HostRuntime) {
     assert!(rt; first.lookup(&cx) == Some(one));
 }
 
-/// `(func)`, and what else is said of it.
+/// Returns the definition of `(func)`, possibly shared or with a descriptor.
 fn empty_def<'a>(alloc: Global, shared: bool, descriptor: Option<Index<'a>>) -> TypeDef<'a> {
     let mut def = TypeDef::new(alloc, InnerTypeKind::Func(FunctionType::empty(alloc)));
     def.shared = shared;
@@ -148,8 +148,8 @@ fn empty_def<'a>(alloc: Global, shared: bool, descriptor: Option<Index<'a>>) -> 
     def
 }
 
-/// How many fields there are once this type and a tag of the type `(func)` are expanded: a type more where the tag does not
-/// take this one.
+/// Expands this type and a tag of type `(func)`, and returns the number of fields. It is one more
+/// if the type does not match.
 fn count_expanded<'a>(rt: &impl Abort, alloc: Global, def: TypeDef<'a>) -> usize {
     let mut fields = Seq::new(alloc);
     let ty = ModuleField::Ty(Type::new(at(9), None, def));
@@ -164,7 +164,7 @@ fn count_expanded<'a>(rt: &impl Abort, alloc: Global, def: TypeDef<'a>) -> usize
 }
 
 #[test]
-fn shared_types_and_those_with_descriptors_are_not_taken(rt: HostRuntime) {
+fn shared_and_descriptor_types_are_not_eligible(rt: HostRuntime) {
     let alloc = rt.alloc();
     let described = Some(Index::Num(1, at(20)));
     assert!(rt; count_expanded(&rt, alloc, empty_def(alloc, false, None)) == 2);

@@ -1,4 +1,5 @@
-//! Indices of types that a resolver of the caller's own gives, and types that are matched by the one of a module.
+//! A user-defined resolver of the indices in types, inline types that match a type of a module, and
+//! errors before resolving.
 
 ghost use Rattle.std.specs.Prelude.{⊤};
 
@@ -19,7 +20,7 @@ fn at(offset: usize) -> Span {
     Span { offset }
 }
 
-/// Answers the numbers from `next` on, and at `end` an error.
+/// Returns the numbers from `next` on, and an error at `end`.
 #[derive(Drop)]
 struct Counted {
     next: u32,
@@ -58,7 +59,7 @@ fn ref_at(offset: usize) -> ValType<'static> {
     })
 }
 
-/// `(ref 0)` and so on, and no other type.
+/// Returns whether a type is a reference to the type with this number.
 fn is_ref_to(ty: ValType<'_>, number: u32) -> bool {
     match ty {
         ValType::Ref(ty) => ty.heap == HeapType::Concrete(Index::Num(number, at(0))),
@@ -67,7 +68,7 @@ fn is_ref_to(ty: ValType<'_>, number: u32) -> bool {
 }
 
 #[test]
-fn each_part_of_a_type_has_an_index(rt: HostRuntime) {
+fn type_parts_are_resolved_by_user_resolver(rt: HostRuntime) {
     let mut cx = Counted { next: 0, end: 4 };
     let mut heap = HeapType::Concrete(x_at(0));
     let mut reference = RefType {
@@ -93,7 +94,7 @@ fn type_of<'a>(alloc: Global, function: FunctionType<'a>) -> ModuleField<'a> {
     ModuleField::Ty(Type::new(at(9), None, TypeDef::func(alloc, function)))
 }
 
-/// The resolver of `(module (type (func)) (type (func (param i32))))`
+/// Returns the resolver of `(module (type (func)) (type (func (param i32))))`.
 fn resolver<'a>(rt: &impl Abort, alloc: Global) -> Resolver<'a> {
     let mut maker = TreeBuilder::new(alloc);
     let takes = FunctionType::new(maker.params(&[(None, None, ValType::I32)]), Seq::new(alloc));
@@ -107,7 +108,7 @@ fn resolver<'a>(rt: &impl Abort, alloc: Global) -> Resolver<'a> {
 }
 
 #[test]
-fn a_type_is_matched_by_the_types_of_a_module(rt: HostRuntime) {
+fn check_matches_reports_mismatch_and_unknown_type(rt: HostRuntime) {
     let alloc = rt.alloc();
     let cx = resolver(&rt, alloc);
     let mut function = FunctionType::empty(alloc);
@@ -126,7 +127,7 @@ fn a_type_is_matched_by_the_types_of_a_module(rt: HostRuntime) {
 }
 
 #[test]
-fn a_type_without_indices_is_resolved(rt: HostRuntime) {
+fn type_without_indices_resolves_unchanged(rt: HostRuntime) {
     let alloc = rt.alloc();
     let cx = resolver(&rt, alloc);
     let mut function = FunctionType::empty(alloc);
@@ -164,7 +165,7 @@ fn imported<'a>(alloc: Global, keyword: usize, id: usize) -> ModuleField<'a> {
     })
 }
 
-/// What is told of two fields before they are resolved.
+/// Returns the result of `early_fault` for two fields.
 fn told<'a>(
     rt: &impl Abort,
     alloc: Global,
@@ -182,7 +183,7 @@ fn told<'a>(
 }
 
 #[test]
-fn faults_are_told_of_fields_as_they_stand(rt: HostRuntime) {
+fn early_fault_reports_late_import_and_duplicate_id(rt: HostRuntime) {
     let alloc = rt.alloc();
     let late = told(&rt, alloc, defined(alloc, 9, 14), imported(alloc, 19, 24));
     assert!(rt; late == Err(Error::new(at(19), Fault::ImportAfter("function"))));

@@ -1,4 +1,4 @@
-//! What is made for a tree, and what is told of it.
+//! Builders and accessors of the AST.
 
 use std::alloc::Global;
 use std::mem::size_of;
@@ -15,7 +15,7 @@ fn at(offset: usize) -> Span {
     Span { offset }
 }
 
-/// `(func)`, at a place
+/// `(func)` at an offset
 fn sig<'a>(offset: usize) -> ItemSig<'a> {
     ItemSig {
         span: at(offset),
@@ -31,7 +31,7 @@ fn group<'a>(items: ImportItems<'a>) -> Imports<'a> {
     Imports { span, items }
 }
 
-/// The signatures of its items stand at these places.
+/// Checks the offsets of the signatures of an import.
 fn has_sigs(rt: &impl Abort, alloc: Global, imports: &Imports<'_>, places: &[usize]) {
     let sigs = imports.item_sigs(alloc).expect(rt, "memory");
     let mut found = Vec::new(alloc);
@@ -42,7 +42,7 @@ fn has_sigs(rt: &impl Abort, alloc: Global, imports: &Imports<'_>, places: &[usi
 }
 
 #[test]
-fn signatures_of_imports_are_told_and_changed(rt: HostRuntime) {
+fn import_signatures_can_be_read_and_changed(rt: HostRuntime) {
     let alloc = rt.alloc();
     let mut one = Imports::single(at(0), "m", "n", sig(5));
     assert!(rt; one.unique_sigs() == 1);
@@ -78,7 +78,7 @@ fn signatures_of_imports_are_told_and_changed(rt: HostRuntime) {
     discard_field(ModuleField::Import(none));
 }
 
-/// `i64.load`, of this offset.
+/// `i64.load` with this offset
 fn load<'a>(offset: u64) -> Instruction<'a> {
     let arg = MemArg {
         align: 8,
@@ -89,7 +89,7 @@ fn load<'a>(offset: u64) -> Instruction<'a> {
     Instruction::Mem(MemOp::i64_load, arg)
 }
 
-/// The offset of its memory argument, if it has one.
+/// Returns the offset of the memory argument, if there is one.
 fn offset_of(instruction: &mut Instruction<'_>) -> Option<u64> {
     match instruction.memarg_mut() {
         Some(arg) => Some(arg.offset),
@@ -98,7 +98,7 @@ fn offset_of(instruction: &mut Instruction<'_>) -> Option<u64> {
 }
 
 #[test]
-fn a_memory_argument_is_changed_in_its_place(rt: HostRuntime) {
+fn memarg_mut_changes_memory_argument(rt: HostRuntime) {
     let mut instruction = load(4);
     if let Some(arg) = instruction.memarg_mut() {
         arg.offset = 20;
@@ -110,7 +110,7 @@ fn a_memory_argument_is_changed_in_its_place(rt: HostRuntime) {
     discard_instruction(constant);
 }
 
-/// A list that a field is put into has one.
+/// Checks that a list has one field after a field is added.
 fn has_one<'a>(rt: &impl Abort, alloc: Global, field: ModuleField<'a>) {
     let mut fields = fields_with_capacity(alloc, 2).expect(rt, "memory");
     push_field(&mut fields, field).expect(rt, "memory");
@@ -119,7 +119,7 @@ fn has_one<'a>(rt: &impl Abort, alloc: Global, field: ModuleField<'a>) {
 }
 
 #[test]
-fn lists_of_a_tree_are_made(rt: HostRuntime) {
+fn builder_lists_have_pushed_elements(rt: HostRuntime) {
     let alloc = rt.alloc();
     let call = Instruction::call(Index::Num(0, at(1)));
     let expression = Expression::one(alloc, call).expect(&rt, "memory");
@@ -143,7 +143,7 @@ fn label<'a>() -> Option<Id<'a>> {
     Some(Id::new("l", at(3)))
 }
 
-/// `$l`, and no type
+/// `$l` without a type
 fn labelled<'a>() -> BlockType<'a> {
     BlockType {
         label: label(),
@@ -152,7 +152,7 @@ fn labelled<'a>() -> BlockType<'a> {
     }
 }
 
-/// Whether it opens a block of the label `$l`.
+/// Returns whether the instruction starts a block with the label `$l`.
 fn opens(instruction: &Instruction<'_>) -> bool {
     match instruction.block_type() {
         Some(block) => block.label == label() && !instruction.is_closer(),
@@ -161,7 +161,7 @@ fn opens(instruction: &Instruction<'_>) -> bool {
 }
 
 #[test]
-fn openers_of_blocks_are_made(rt: HostRuntime) {
+fn pushed_blocks_open_with_their_label(rt: HostRuntime) {
     let alloc = rt.alloc();
     let mut maker = TreeBuilder::new(alloc);
     let mut instrs = Seq::new(alloc);
@@ -185,7 +185,8 @@ fn openers_of_blocks_are_made(rt: HostRuntime) {
     discard_expression(Expression::new(alloc, instrs));
 }
 
-/// The label of a branch on a cast, or the tag or the table that another instruction with a box names first.
+/// Returns the label of a branch on a cast, the table of an indirect call, or the tag of
+/// `resume_throw`.
 fn first_index<'a>(instruction: &Instruction<'a>) -> Option<Index<'a>> {
     match instruction {
         Instruction::call_indirect(call) | Instruction::return_call_indirect(call) => {
@@ -201,12 +202,12 @@ fn first_index<'a>(instruction: &Instruction<'a>) -> Option<Index<'a>> {
 }
 
 #[test]
-fn an_instruction_has_96_bytes(rt: HostRuntime) {
+fn instruction_size_is_96_bytes(rt: HostRuntime) {
     assert!(rt; size_of::<Instruction<'static>>() == 96);
 }
 
 #[test]
-fn large_immediates_get_memory_of_their_own(rt: HostRuntime) {
+fn large_immediates_are_boxed(rt: HostRuntime) {
     let alloc = rt.alloc();
     let mut maker = TreeBuilder::new(alloc);
     let (label, ty) = (Index::Num(7, at(1)), RefType::funcref());

@@ -1,4 +1,4 @@
-//! A walk over what stands in fields beside their items, by a visitor of one's own.
+//! A user-defined visitor of the parts of fields other than their items.
 
 use wast_tree::{
     Custom, Dylink0, Dylink0Subsection, Form, Func, Id, Index, Instruction, ModuleField, Seq,
@@ -9,7 +9,7 @@ fn at(offset: usize) -> Span {
     Span { offset }
 }
 
-/// What was told of, as digits: one for each call.
+/// The calls of the visitor as digits, one for each.
 #[derive(Drop)]
 struct Digits {
     told: u64,
@@ -45,8 +45,8 @@ impl Visitor for Digits {
     }
 }
 
-/// What is told of these fields. The list is lent as one that may be changed: the prover would compare the whole tree where a
-/// list of one's own is shared.
+/// Returns the digits for these fields. The list is borrowed mutably, because with a shared borrow
+/// the prover would compare the whole tree with itself.
 fn told_of(fields: &mut Seq<ModuleField>) -> u64 {
     let mut digits = Digits { told: 0 };
     visit_fields(fields.as_slice(), &mut digits);
@@ -54,7 +54,7 @@ fn told_of(fields: &mut Seq<ModuleField>) -> u64 {
 }
 
 #[test]
-fn a_visitor_is_told_in_order(rt: HostRuntime) {
+fn visitor_calls_are_in_field_order(rt: HostRuntime) {
     let alloc = rt.alloc();
     let mut maker = TreeBuilder::new(alloc);
     let mut fields = Seq::new(alloc);

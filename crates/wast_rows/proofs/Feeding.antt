@@ -6,16 +6,16 @@ use Rattle.std.proofs.lemmas.Grind.{flat_map-append}
 use Rattle.wast_rows.specs.Lines.{line_feed, before_if, before_lines, onto_first, lines_of, ended_line, ended_lines}
 use Rattle.wast_rows.specs.Runs.{IsOpen, AnswersText, BeginsAnswer, BeginsText, BeginsLines, AnswersEnded}
 
--- a byte that is no line feed goes onto the first line
+-- A byte that is not a line feed is added to the first line.
 before_other : (byte : ℕ) (lines : List (List ℕ)) → byte ≢ line_feed → before_lines byte lines ≡ onto_first byte lines
 before_other byte lines other = ap (λ test. before_if test byte lines) (ne_eqb byte line_feed other)
 
--- a line feed ends the open line
+-- A line feed ends the open line.
 pub lines_of-fed : (line rest : List ℕ) → IsOpen line → lines_of (line ++ (line_feed ∷ rest)) ≡ line ∷ lines_of rest
 lines_of-fed [] rest no_feed = refl
 lines_of-fed (byte ∷ line) rest no_feed = ap (before_lines byte) (lines_of-fed line rest no_feed.1) ∙ before_other byte (line ∷ lines_of rest) no_feed.0
 
--- an open line that is not empty is the last line
+-- An open line that is not empty is the last line.
 pub lines_of-open : (byte : ℕ) (line : List ℕ) → IsOpen (byte ∷ line) → lines_of (byte ∷ line) ≡ (byte ∷ line) ∷ []
 lines_of-open byte [] no_feed = before_other byte [] no_feed.0
 lines_of-open byte (next ∷ line) no_feed = ap (before_lines byte) (lines_of-open next line no_feed.1) ∙ before_other byte ((next ∷ line) ∷ []) no_feed.0
@@ -34,7 +34,7 @@ all_append : {A : Type 0} (Q : A → Type 0) (xs ys : List A) → AllByRecursion
 all_append Q [] ys p q = q
 all_append Q (x ∷ xs) ys p q = (p.0, all_append Q xs ys p.1 q)
 
--- ended lines come first
+-- Lines that ended come first.
 lines_of-ended : (asked : List (List ℕ)) (rest : List ℕ) → AllByRecursion IsOpen asked → lines_of (ended_lines asked ++ rest) ≡ asked ++ lines_of rest
 lines_of-ended [] rest each = refl
 lines_of-ended (line ∷ asked) rest each =
@@ -42,11 +42,11 @@ lines_of-ended (line ∷ asked) rest each =
     ∙ lines_of-fed line (ended_lines asked ++ rest) each.0 ∙ ap (λ l. line ∷ l) (lines_of-ended asked rest each.1)
 
 module _ (P : List ℕ → List ℕ → Type 0) where
-  -- an open line alone
+  -- An open line alone.
   pub AnswersEnded-nil : (line : List ℕ) → IsOpen line → AnswersEnded P line line []
   AnswersEnded-nil line no_feed = record { asked = []; told = []; each_open = tt; left_open = no_feed; split = refl; answered = tt; shown = refl }
 
-  -- a line feed
+  -- A line feed.
   pub AnswersEnded-feed : (line told : List ℕ) → IsOpen line → P line told → AnswersEnded P (ended_line line) [] (ended_line told)
   AnswersEnded-feed line told no_feed answers =
       record {
@@ -59,7 +59,7 @@ module _ (P : List ℕ → List ℕ → Type 0) where
         shown = sym (append-nil (ended_line told));
       }
 
-  -- some text, and then more
+  -- Some text, and then more.
   pub AnswersEnded-more : (text middle more left output after : List ℕ) → AnswersEnded P text middle output → AnswersEnded P (middle ++ more) left after
       → AnswersEnded P (text ++ more) left (output ++ after)
   AnswersEnded-more text middle more left output after first second =
@@ -74,12 +74,12 @@ module _ (P : List ℕ → List ℕ → Type 0) where
         shown = ap (λ o. o ++ after) first.shown ∙ ap (λ o. ended_lines first.told ++ o) second.shown ∙ sym (flat_map-append ended_line first.told second.told);
       }
 
-  -- the lines of a longer text are those that are answered, and those of what is left
+  -- The lines of a longer text are those that ended, and those of the rest.
   lines_beyond : (text left output rest : List ℕ) → (fed : AnswersEnded P text left output) → lines_of (text ++ rest) ≡ fed.asked ++ lines_of (left ++ rest)
   lines_beyond text left output rest fed =
       ap (λ t. lines_of (t ++ rest)) fed.split ∙ ap lines_of (append_assoc (ended_lines fed.asked) left rest) ∙ lines_of-ended fed.asked (left ++ rest) fed.each_open
 
-  -- an answer to what is left answers the whole
+  -- Right lines for the rest make right lines for the whole.
   pub AnswersText-more : (text left output after : List ℕ) → AnswersEnded P text left output → AnswersText P left after → AnswersText P text (output ++ after)
   AnswersText-more text left output after fed last =
       let split : lines_of text ≡ fed.asked ++ lines_of left =
@@ -90,7 +90,7 @@ module _ (P : List ℕ → List ℕ → Type 0) where
         shown = ap (λ o. o ++ after) fed.shown ∙ ap (λ o. ended_lines fed.told ++ o) last.shown ∙ sym (flat_map-append ended_line fed.told last.told);
       }
 
-  -- an open line
+  -- An open line.
   pub AnswersText-open : (line told : List ℕ) → line ≢ [] → IsOpen line → P line told → AnswersText P line (ended_line told)
   AnswersText-open [] told some no_feed answers = absurd (some refl)
   AnswersText-open (byte ∷ line) told some no_feed answers =
@@ -100,7 +100,7 @@ module _ (P : List ℕ → List ℕ → Type 0) where
         shown = sym (append-nil (ended_line told));
       }
 
-  -- the beginning of an answer to what is left begins an answer to the whole
+  -- A prefix of the lines for the rest makes a prefix of the lines for the whole.
   pub BeginsText-more : (text middle more output after : List ℕ) → AnswersEnded P text middle output → BeginsText P (middle ++ more) after
       → BeginsText P (text ++ more) (output ++ after)
   BeginsText-more text middle more output after fed last =
@@ -116,11 +116,11 @@ module _ (P : List ℕ → List ℕ → Type 0) where
             ∙ ap (λ o. o ++ last.part) (sym (flat_map-append ended_line fed.told last.told));
       }
 
-  -- no line is answered
+  -- No line is written.
   pub short_none : (text : List ℕ) → BeginsLines P text []
   short_none text = record { asked = []; told = []; later = lines_of text; split = refl; answered = tt; shown = refl }
 
-  -- answers to the first lines of what is left are, behind the answers before them, answers to the first lines of the whole
+  -- The lines for the first lines of the rest, after the lines before them, are those for the first lines of the whole.
   pub short_more : (text middle more output after : List ℕ) → AnswersEnded P text middle output → BeginsLines P (middle ++ more) after
       → BeginsLines P (text ++ more) (output ++ after)
   short_more text middle more output after fed last =
@@ -137,7 +137,7 @@ module _ (P : List ℕ → List ℕ → Type 0) where
   begins_longer line later part (BeginsAnswer.nothing e) = BeginsAnswer.nothing e
   begins_longer line later part (BeginsAnswer.partly first rest told more e answers split) = BeginsAnswer.partly line later told more refl (subst (λ l. P l told) (cc) answers) split
 
-  -- the beginning of the answer to a line that a line feed ends, and to the last line
+  -- A prefix of the line for a line that ended, and for the last line.
   pub BeginsText-feed : (line rest part : List ℕ) → IsOpen line → BeginsAnswer P (line ∷ []) part → BeginsText P (line ++ (line_feed ∷ rest)) part
   BeginsText-feed line rest part no_feed begun =
       record { asked = []; told = []; later = line ∷ lines_of rest; part = part; split = lines_of-fed line rest no_feed; answered = tt; begun = begins_longer line _ part begun; shown = refl }

@@ -1,4 +1,5 @@
--- A start field behind a resolved list: it is ready, and encoding it gives the bytes of the module with that field.
+-- A resolved list with a start field may be resolved again, and encoding it returns the bytes of the module with that
+-- field.
 use Rattle.std.proofs.Common.{◌≡◌, ℕ, ◌+◌, ◌<◌, ◌≤◌, true, ◌&&◌, List, [], ◌∷◌, Option, Some, None, Result, Ok, Err, is_some, refl, sym, ap, ◌∙◌, subst, inl, inr, arith}
 use Rattle.std.specs.Prelude.{max, OnOk, IfOk, IfErr}
 use Rattle.std.specs.Global.{Vec}
@@ -38,7 +39,7 @@ use Rattle.wast_core.specs.Uncovered.{head_of, uncovered_forms}
 use Rattle.wast_rows.specs.Starting.{IsNoBinary, IsSettledStart, with_start, finished_start, AddsStart, CountsStart}
 use Rattle.wast_rows.specs.StartSteps.{FindsStart, IsText, PutsStart}
 
--- An index that is known denotes a function, and becomes its number.
+-- An index that is known names a function, and becomes its number.
 record IsNumber (k : IdContext) (i : Index) : Type 0 where
   denotes : (is_some (denoted (k.number space.Func) i) && true) ≡ true
   number : ℕ
@@ -76,14 +77,14 @@ module _ (n : ℕ) (fields : List ModuleField) (i : Index) (above : greatest_gen
   list_is : with_start_fields n fields ((number.number, number.place) ∷ []) ≡ list
   list_is = ap (λ (j : Index). with_start (resolved_fields_from n fields) j) (sym number.is)
 
-  -- The list is ready.
+  -- The list may be resolved.
   pub still_well_formed : StartsStayWellFormed → is_well_formed fields ≡ true → is_well_formed list ≡ true
   still_well_formed keeps h = subst (λ xs. is_well_formed xs ≡ true) list_is (keeps n fields ((number.number, number.place) ∷ []) above h met)
 
   pub still_below : StartsStayBelow → greatest_generation list ≡ greatest_generation (resolved_fields_from n fields)
   still_below below = subst (λ xs. greatest_generation xs ≡ greatest_generation (resolved_fields_from n fields)) list_is (below (resolved_fields_from n fields) (index.Num number.number number.place ∷ []) refl)
 
-  -- No id is filled in, so the counter stays.
+  -- No id is generated, so the counter does not change.
   fills_none : FillsNoMore → generated_id_count list ≡ 0
   fills_none fills = subst (λ xs. generated_id_count xs ≡ 0) list_is (fills n fields ((number.number, number.place) ∷ []))
 
@@ -92,7 +93,7 @@ module _ (n : ℕ) (fields : List ModuleField) (i : Index) (above : greatest_gen
   counter_stays fills m k (kind.Binary pieces) h = absurd h
   counter_stays fills m k (kind.Refused e) h = h
 
-  -- and encoding it gives the bytes of the module with the field.
+  -- Encoding it returns the bytes of the module with the field.
   module _ (refused : RestsWithheld) (still : RestsStill) (below : StartsStayBelow) (last : StartsLast) (one : (bytes : List ℕ) (p q : List Part) → Reads bytes p → Reads bytes q → p ≡ q)
       (settled : IsSettledFor (id_context (items fields)) space.Func i) (name : Option (List ℕ)) where
     abbrev m : ℕ
@@ -118,7 +119,7 @@ module _ (n : ℕ) (fields : List ModuleField) (i : Index) (above : greatest_gen
     adds_start (Err e) new (inr h) =
         inr (inr (inr (met_too, subst (λ xs. IsUnwritten (head_of (uncovered_forms xs)) (IsBounded m name list) e) list_stays h.1, h.2 ∙ ap kind.Text list_stays)))
 
--- The steps, of what a module holds.
+-- The steps, for the content of a module.
 pub settled_names : SettledStays → (n : ℕ) (old new : ModuleKind) (names : KnownNames) (i : Index) → IsNoBinary old → IsSettledStart old i → ResolvesKind n old (Ok names) new → IsSettledFor (known_to names) space.Func i
 settled_names law n (kind.Text fields) new names i text settled h = subst (λ k. IsSettledFor k space.Func i) (sym h.2) (law n fields space.Func i settled)
 settled_names law n (kind.Binary pieces) new names i text settled h = absurd text
@@ -150,19 +151,19 @@ found_text n (kind.Text fields) found i j h = subst IsText (sym h.3) tt
 found_text n (kind.Binary pieces) found i j h = absurd h
 found_text n (kind.Refused e) found i j h = absurd h
 
--- Where no field is put, nothing changes.
+-- If no field is added, nothing changes.
 pub unput : (old new : ModuleKind) (i : Index) (e : Error) → PutsStart old i (Err e) new → new ≡ old
 unput (kind.Text fields) new i e put = put.1
 unput (kind.Binary pieces) new i e put = absurd put
 unput (kind.Refused d) new i e put = absurd put
 
--- the field behind the resolved list
+-- The field after the resolved list.
 put_behind : (n : ℕ) (fields : List ModuleField) (found new : ModuleKind) (i j : Index) (x : Unit {0}) → FindsStart n (kind.Text fields) i (Ok j) found → PutsStart found j (Ok x) new → new ≡ kind.Text (finished_start n fields i)
 put_behind n fields found new i j x h put =
     let is : new ≡ kind.Text (with_start (resolved_fields_from n fields) j) = subst (λ k. PutsStart k j (Ok x) new) h.3 put in
     is ∙ ap (λ (l : Index). kind.Text (with_start (resolved_fields_from n fields) l)) h.2
 
--- What the module holds then is ready,
+-- The module may then be resolved.
 pub held_ready : StartsStayWellFormed → StartsStayBelow → (n : ℕ) (old found new : ModuleKind) (i j : Index) (x : Unit {0}) → is_well_formed_kind old ≡ true → bound_of_kind old < n
     → FindsStart n old i (Ok j) found → PutsStart found j (Ok x) new → (is_well_formed_kind new ≡ true) × (bound_of_kind new ≡ bound_of_kind found)
 held_ready keeps below n (kind.Text fields) found new i j x well above h put =
@@ -173,7 +174,7 @@ held_ready keeps below n (kind.Text fields) found new i j x well above h put =
 held_ready keeps below n (kind.Binary pieces) found new i j x well above h put = absurd h
 held_ready keeps below n (kind.Refused e) found new i j x well above h put = absurd h
 
--- and gives its bytes;
+-- Encoding returns its bytes.
 pub adds_found : RestsWithheld → RestsStill → StartsStayBelow → StartsLast → ((bytes : List ℕ) (p q : List Part) → Reads bytes p → Reads bytes q → p ≡ q) → (n m : ℕ) (name : Option (List ℕ)) (old found new last : ModuleKind) (i j : Index) (x : Unit {0})
     → bound_of_kind old < n → IsSettledStart old i → FindsStart n old i (Ok j) found → Counts old found n m → PutsStart found j (Ok x) new → (result : Result (Vec ℕ) Error) → EncodesKind m name new result last → AddsStart n name old i result last
 adds_found refused still below ends one n m name (kind.Text fields) found new last i j x above settled h counts put result encodes =
@@ -183,7 +184,7 @@ adds_found refused still below ends one n m name (kind.Text fields) found new la
 adds_found refused still below ends one n m name (kind.Binary pieces) found new last i j x above settled h counts put result encodes = absurd h
 adds_found refused still below ends one n m name (kind.Refused e) found new last i j x above settled h counts put result encodes = absurd h
 
--- or there is no room for the field,
+-- Or there is no memory for the field.
 pub adds_no_room : (n : ℕ) (name : Option (List ℕ)) (old found new : ModuleKind) (i j : Index) (e : Error) → FindsStart n old i (Ok j) found → PutsStart found j (Err e) new → AddsStart n name old i (Err e) new
 adds_no_room n name (kind.Text fields) found new i j e h put =
     let stays : (e ≡ out_of_memory) × (new ≡ kind.Text (resolved_fields_from n fields)) = subst (λ k. PutsStart k j (Err e) new) h.3 put in
@@ -191,14 +192,14 @@ adds_no_room n name (kind.Text fields) found new i j e h put =
 adds_no_room n name (kind.Binary pieces) found new i j e h put = absurd h
 adds_no_room n name (kind.Refused d) found new i j e h put = absurd h
 
--- or no function was found.
+-- Or no function was found.
 pub adds_none : (n : ℕ) (name : Option (List ℕ)) (old found : ModuleKind) (i : Index) (e : Error) → FindsStart n old i (Err e) found → AddsStart n name old i (Err e) found
 adds_none n name (kind.Text fields) found i e (inl h) = inl h
 adds_none n name (kind.Text fields) found i e (inr h) = inr (inl (h.0, inl h.1, h.2))
 adds_none n name (kind.Binary pieces) found i e h = absurd h
 adds_none n name (kind.Refused d) found i e h = h
 
--- The counter rises by the ids that resolving the module fills in, or stays if that fails.
+-- The counter rises by the number of ids that resolving generates, or does not change if that fails.
 pub counts_found : FillsNoMore → (n m k : ℕ) (old found new last : ModuleKind) (i j : Index) (x : Unit {0}) → bound_of_kind old < n → FindsStart n old i (Ok j) found → Counts old found n m → PutsStart found j (Ok x) new
     → (result : Result (Vec ℕ) Error) → Counts new last m k → CountsStart n old result last k
 counts_found fills n m k (kind.Text fields) found new last i j x above h counts put result more = by result
@@ -234,7 +235,7 @@ rises (kind.Text fields) (kind.Refused e) n m h = omega (arith, h)
 rises (kind.Binary pieces) new n m h = omega (arith, h)
 rises (kind.Refused e) new n m h = omega (arith, h)
 
--- A module of which nothing changes but what it holds stays ready, where that is well formed and has the same generations.
+-- A module may still be resolved if only its content changed, and that is well formed with the same generations.
 pub stays_ready : (old new : Module) (m : ℕ) → new ≡ record old { kind = new.kind } → (is_well_formed_kind new.kind ≡ true) × (bound_of_kind new.kind ≡ bound_of_kind old.kind) → IsReady old m → IsReady new m
 stays_ready old new m stays same ready =
     let id : new.id ≡ old.id = ap (λ (x : Module). x.id) stays in

@@ -1,4 +1,4 @@
--- What the definitions say of worked modules, computed.
+-- Proves the lines of example modules by computing them.
 use Rattle.std.specs.Fmt.{digits}
 use Rattle.wast_rows.specs.Worked.{LinesOfIllFormed}
 

@@ -9,22 +9,22 @@ use Rattle.wast_rows.specs.Lines.{line_feed, ended_line}
 use Rattle.wast_rows.specs.Runs.{IsOpen, WritesOn, BeginsAnswer, BeginsLine, BeginsBytes, StopsWriter, StopsLine, AnswersLine, AnswersWriter, EndedWriter}
 use Rattle.wast_rows.proofs.Feeding.{AnswersEnded-nil, AnswersEnded-feed, AnswersEnded-more, AnswersText-open, AnswersText-more, BeginsText-feed, BeginsText-open, BeginsText-more, short_none, short_more}
 
--- what holds after a failed write holds on an error that is one
+-- What holds after a failed write holds for its error.
 pub when_written : {T : Type 0} (r : Result T RunError) (S : RunError → Type 0) → OnErr r (S error.Write) → IfErr r (λ e. e ≡ error.Write) → IfErr r S
 when_written (Ok x) S p e = tt
 when_written (Err y) S p e = subst S (sym e) p
 
--- what holds of an error holds where that is the one
+-- What holds for an error holds if that is the error.
 pub if_raised : {T : Type 0} (r : Result T RunError) (S : RunError → Type 0) (e : RunError) → IsErrAnd r (λ d. d ≡ e) → S e → IfErr r S
 if_raised (Ok x) S e is p = absurd is
 if_raised (Err y) S e is p = subst S (sym is) p
 
--- a line of some length has bytes
+-- A line with a length above 0 has bytes.
 pub some_line : (line : List ℕ) → (length line == 0) ≡ false → line ≢ []
 some_line [] test e = cc
 some_line (byte ∷ line) test e = cc
 
--- one write more
+-- One write more.
 pub WritesOn-more : (bytes rest left : List ℕ) (count : ℕ) (a b c : Option (List ℕ)) → WritesOn bytes rest a b → Appends b c (take count rest) → left ≡ drop count rest → WritesOn bytes left a c
 WritesOn-more bytes rest left count a b c so_far written e =
     record {
@@ -34,13 +34,13 @@ WritesOn-more bytes rest left count a b c so_far written e =
     }
 
 module _ (P : List ℕ → List ℕ → Type 0) where
-  -- the beginning of a line that answers a line
+  -- A prefix of the line for a line of the input.
   pub BeginsLine-partly : (line told bytes : List ℕ) (a b : Option (List ℕ)) → P line told → bytes ≡ ended_line told → BeginsBytes bytes a b → BeginsLine P line a b
   BeginsLine-partly line told bytes a b answers e begun =
       let taken = begun.writes_on in
       record { part = taken.part; begun = BeginsAnswer.partly line [] told begun.rest refl answers (sym e ∙ taken.split); appended = taken.appended }
 
-  -- a text that leaves a line open: an open line, one that a line feed ends, and more
+  -- A text without a final line feed: the open line, one that ends, and more.
   pub EndedWriter-nil : (line : List ℕ) (a : Option (List ℕ)) → IsOpen line → EndedWriter P line line a a
   EndedWriter-nil line a no_feed = record { output = []; answered = AnswersEnded-nil P line no_feed; appended = Appends-nil a }
 
@@ -56,7 +56,7 @@ module _ (P : List ℕ → List ℕ → Type 0) where
         appended = Appends-trans a b c first.output second.output first.appended second.appended;
       }
 
-  -- what is written at the end: for an open line, and behind the answers to what is ended
+  -- What is written at the end: for the open line, after the lines for those that ended.
   pub AnswersWriter-open : (line : List ℕ) (a b : Option (List ℕ)) → line ≢ [] → IsOpen line → AnswersLine P line a b → AnswersWriter P line a b
   AnswersWriter-open line a b some no_feed last = record { output = ended_line last.told; answered = AnswersText-open P line last.told some no_feed last.answers; appended = last.appended }
 
@@ -68,7 +68,7 @@ module _ (P : List ℕ → List ℕ → Type 0) where
         appended = Appends-trans a b c fed.output last.output fed.appended last.appended;
       }
 
-  -- what is written before an error: for a line that a line feed ends, for the last line, and behind the answers to what is ended
+  -- What is written before an error: for a line that ends, for the last line, and after the lines for those that ended.
   nothing_short : (text : List ℕ) (a b : Option (List ℕ)) → Keeps a b → StopsWriter P text error.Memory a b
   nothing_short text a b kept = record { output = []; begun = short_none P text; appended = Appends-kept a a b [] (Appends-nil a) kept }
 
@@ -103,7 +103,7 @@ module _ (P : List ℕ → List ℕ → Type 0) where
         appended = Appends-trans a b c fed.output stopped.output fed.appended stopped.appended;
       }
 
-  -- one turn of a loop over bytes
+  -- One turn of a loop over bytes.
   pub EndedWriter-next : (pending bytes middle left : List ℕ) (i : ℕ) (a b c : Option (List ℕ)) → i < length bytes → EndedWriter P (pending ++ take i bytes) middle a b
       → EndedWriter P (middle ++ (get_or bytes i 0 ∷ [])) left b c → EndedWriter P (pending ++ take (i + 1) bytes) left a c
   EndedWriter-next pending bytes middle left i a b c inside first second =

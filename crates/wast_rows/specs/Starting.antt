@@ -1,4 +1,10 @@
--- A start field of a caller's own, put behind the fields of a module (text format, start functions; binary format, start section).
+-- Adding a start field to a module that a caller has resolved (text format: start functions; binary format: start
+-- section).
+--
+-- It is a model of callers that have indices outside of the module.
+--
+--   (module (func $f)) and the index $f      the bytes of (module (func $f) (start $f))
+--   (module (func $f)) and the index $g      E4 at $g; the module is resolved, without the field
 use Rattle.std.specs.Prelude.{◌≡◌, ◌⊎◌, ⊤, ℕ, ◌+◌, List, [], ◌∷◌, ◌++◌, Option, Result, Ok, Err}
 use Rattle.std.specs.Global.{Vec}
 use Rattle.wast_base.specs.declared.faults.Error.{Error}
@@ -25,50 +31,52 @@ use Rattle.wast_core.specs.Headline.{IsMet, IsUnwritten}
 use Rattle.wast_core.specs.Meaning.{meaning}
 use Rattle.wast_core.specs.Uncovered.{head_of, uncovered_forms}
 
--- a text module, or one that was refused
+-- A text module, or one with an earlier error.
 abbrev pub IsNoBinary : ModuleKind → Type 0
 IsNoBinary (kind.Text fields) = ⊤
 IsNoBinary (kind.Binary pieces) = ⊥
 IsNoBinary (kind.Refused e) = ⊤
 
--- An index that is a generated id is that of a function of the fields.
+-- If the index is a generated id, a function of the fields has it.
 abbrev pub IsSettledStart : ModuleKind → Index → Type 0
 IsSettledStart (kind.Text fields) i = IsSettledFor (id_context (items fields)) space.Func i
 IsSettledStart (kind.Binary pieces) i = ⊤
 IsSettledStart (kind.Refused e) i = ⊤
 
--- the fields, and behind them a start field
+-- The fields with a start field after them.
 abbrev pub with_start : List ModuleField → Index → List ModuleField
 with_start fields i = fields ++ field.Start i ∷ []
 
--- the resolved list, and behind it the start field with its number
+-- The resolved fields with the start field after them, with its number.
 abbrev pub finished_start : ℕ → List ModuleField → Index → List ModuleField
 finished_start n fields i = with_start (resolved_fields_from n fields) (numbered_at (final_names n fields) space.Func i)
 
--- the bytes are read as these parts, and as no others
+-- The grammar reads the bytes as these parts, and as no others.
 abbrev pub IsReadAs : List ℕ → List Part → Type 0
 IsReadAs bytes parts = Reads bytes parts × ((others : List Part) → Reads bytes others → others ≡ parts)
 
--- Resolving is refused, which the module keeps,
+-- Resolving fails, and the module keeps the error.
 abbrev pub IsRefusedFirst : ℕ → List ModuleField → Error → ModuleKind → Type 0
 IsRefusedFirst n fields e new = IsUnresolved n fields e × (new ≡ kind.Refused e)
 
--- or no function has the name, or memory for the field is refused, and the module is resolved without it,
+-- Or no function has the name, or there is no memory for the field. The module is resolved without it.
 abbrev pub IsUnstarted : ℕ → List ModuleField → Index → Error → ModuleKind → Type 0
 IsUnstarted n fields i e new = IsMet fields × (AnswersFor (final_names n fields) space.Func i e ⊎ (IsMetBy (final_names n fields) space.Func i × (e ≡ out_of_memory))) × (new ≡ kind.Text (resolved_fields_from n fields))
 
--- or the list with the field is not resolved, for want of memory or of room, which the module keeps,
+-- Or the fields with the start field are not resolved, because allocation failed or they are too large. The module
+-- keeps the error.
 abbrev pub IsRefusedThen : ℕ → List ModuleField → Index → Error → ModuleKind → Type 0
 IsRefusedThen n fields i e new = IsMet (with_start fields i) × IsWithheld (IsTooLarge (n + generated_id_count fields) (finished_start n fields i)) e × (new ≡ kind.Refused e)
 
--- or it is not encoded, and stays resolved.
+-- Or they are not encoded. The module is resolved, with the field.
 abbrev pub IsStartUnwritten : ℕ → Option (List ℕ) → List ModuleField → Index → Error → ModuleKind → Type 0
 IsStartUnwritten n name fields i e new =
     IsMet (with_start fields i)
     × IsUnwritten (head_of (uncovered_forms (finished_start n fields i))) (IsBounded (n + generated_id_count fields) name (finished_start n fields i)) e
     × (new ≡ kind.Text (finished_start n fields i))
 
--- Bytes are those of the module with the start field behind its fields; else the first of these tells why there are none.
+-- On success the bytes are those of the module with the start field at the end. Otherwise the error is the first of
+-- these.
 abbrev pub AddsStart : ℕ → Option (List ℕ) → ModuleKind → Index → Result (Vec ℕ) Error → ModuleKind → Type 0
 AddsStart n name (kind.Text fields) i (Ok bytes) new = IsMet (with_start fields i) × IsReadAs bytes.items (meaning name (with_start fields i)) × (new ≡ kind.Text (finished_start n fields i))
 AddsStart n name (kind.Text fields) i (Err e) new = IsRefusedFirst n fields e new ⊎ (IsUnstarted n fields i e new ⊎ (IsRefusedThen n fields i e new ⊎ IsStartUnwritten n name fields i e new))
@@ -76,10 +84,9 @@ AddsStart n name (kind.Binary pieces) i result new = ⊥
 AddsStart n name (kind.Refused e) i (Ok bytes) new = ⊥
 AddsStart n name (kind.Refused e) i (Err d) new = (d ≡ e) × (new ≡ kind.Refused e)
 
--- How far the counter rises: by the ids that resolving the module fills in, and no further, since a
--- start field needs no id; and not at all if resolving fails first. For example, for
--- `(module (func $f))` it rises by 1, for the type of `$f`; if the index is `$g`, E4 comes after
--- that, and the counter has risen by 1 too.
+-- How the counter changes. It rises by the number of ids that resolving the module generates, because a start field
+-- needs no id. If resolving fails first, it does not change. For example, for `(module (func $f))` it rises by 1, for
+-- the type of `$f`. If the index is `$g`, E4 comes after that, and the counter has risen by 1 too.
 abbrev pub CountsStart : ℕ → ModuleKind → Result (Vec ℕ) Error → ModuleKind → ℕ → Type 0
 CountsStart n (kind.Text fields) (Ok bytes) new after = after ≡ n + generated_id_count fields
 CountsStart n (kind.Text fields) (Err e) new after = (IsRefusedFirst n fields e new × (after ≡ n)) ⊎ (IsMet fields × (after ≡ n + generated_id_count fields))

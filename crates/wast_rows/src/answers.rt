@@ -1,4 +1,4 @@
-//! The line that answers a line.
+//! The line that is written for a line of the input.
 
 ghost use Rattle.std.specs.Prelude.{◌≡◌, IfOk, IfErr, Some, Ok, string_bytes};
 ghost use Rattle.wast_rows.specs.declared.errors.RunError.TheVariants as error;
@@ -10,28 +10,28 @@ use std::alloc::{AllocError, Global};
 use wast_core::{EncodeOptions, Module, discard_module};
 use wast_tree::{Error, Fault, Gensym};
 
-/// `no row`
+/// Returns `no row`.
 fn no_row(alloc: Global) -> Result<String, AllocError>
     ensures { IfOk result (λ line. string_bytes line ≡ no_row_text) }
 {
     String::from_str(alloc, "no row")
 }
 
-/// `ill formed: C`, where C is the number of a clause.
+/// Returns `ill formed: C` with the number of a broken rule.
 fn ill_formed(alloc: Global, clause: u8) -> Result<String, AllocError>
     ensures { IfOk result (λ line. string_bytes line ≡ ill_formed_text clause) }
 {
     format!(in alloc; "ill formed: {clause}")
 }
 
-/// `ill formed`
+/// Returns `ill formed`.
 fn generated(alloc: Global) -> Result<String, AllocError>
     ensures { IfOk result (λ line. string_bytes line ≡ generated_text) }
 {
     String::from_str(alloc, "ill formed")
 }
 
-/// A fault at its place, or a refusal, which has none.
+/// Returns the line of an error, with its position if it has one.
 fn refusal(alloc: Global, error: Error<'_>) -> Result<String, AllocError>
     ensures { IfOk result (λ line. string_bytes line ≡ refusal_text error.entry) }
 {
@@ -44,7 +44,8 @@ fn refusal(alloc: Global, error: Error<'_>) -> Result<String, AllocError>
     }
 }
 
-/// What encoding answered: bytes in lower case hexadecimal, or why there are none. Want of memory is no answer.
+/// Returns the line of a result of encoding: the bytes in lower case hexadecimal, or the error. E12
+/// ends the run instead.
 fn told(alloc: Global, answer: Result<Vec<u8>, Error<'_>>) -> Result<String, RunError>
     ensures told { IfOk result (λ line. TellsAnswer answer.entry (string_bytes line)) }
     ensures err { IfErr result (λ e. e ≡ error.Memory) }
@@ -60,7 +61,7 @@ fn told(alloc: Global, answer: Result<Vec<u8>, Error<'_>>) -> Result<String, Run
     }
 }
 
-/// The line of a module, which is encoded where it is well formed and holds no generated id.
+/// Returns the line of a module. It is encoded if it is well formed and has no generated id.
 fn line_of_module(alloc: Global, module: &mut Module<'_>) -> Result<String, RunError>
     ensures told { IfOk result (λ line. TellsRow (Some (Ok «module».old)) (string_bytes line)) }
     ensures err { IfErr result (λ e. e ≡ error.Memory) }
@@ -76,7 +77,7 @@ fn line_of_module(alloc: Global, module: &mut Module<'_>) -> Result<String, RunE
     told(alloc, answer)
 }
 
-/// The line of a row, where there is one.
+/// Returns the line of a row, if there is one.
 fn line_of_row(
     alloc: Global,
     row: Option<Result<Module<'_>, Error<'_>>>,
@@ -95,7 +96,7 @@ fn line_of_row(
     }
 }
 
-/// The line that answers a line.
+/// Returns the line that is written for a line of the input.
 pub(crate) fn answer<'a, F: Fn(u32) -> Option<Result<Module<'a>, Error<'a>>>>(
     alloc: Global,
     line: &[u8],

@@ -1,17 +1,19 @@
-//! Why a run ends early.
+//! The errors of a run.
 
 use std::alloc::{AllocError, AllocFailed};
 use std::error::Error;
 use std::fmt;
 
-/// Why a run ends before it has answered each line.
+/// Why a run ends before it has written each line.
+///
+/// For example, the text of `RunError::Memory` is `out of memory`.
 #[derive(Clone, Copy, Debug, PartialEq, Eq)]
 pub enum RunError {
-    /// The reader failed, or did not come to its end in as many reads as a run makes.
+    /// The reader failed, or did not reach its end within a million reads.
     Read,
     /// The writer failed.
     Write,
-    /// Memory was refused.
+    /// Allocation failed.
     Memory,
 }
 

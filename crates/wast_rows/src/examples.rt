@@ -1,8 +1,8 @@
-//! Worked modules, of which the definitions compute what they say.
+//! Lines of example modules, which the prover computes.
 
 ghost use Rattle.wast_rows.specs.Worked.{LinesOfIllFormed};
 
-/// The lines of modules that are not encoded.
+/// Computes the lines of modules that are not encoded.
 pub(crate) fn ill_formed()
     ensures { LinesOfIllFormed }
 {}

@@ -1,4 +1,30 @@
-//! Worked modules by number, and the lines that tell what encoding answers for them.
+//! Example modules by number, and the lines that report what encoding returns for them.
+//!
+//! The program `wastrow` and tests use this crate. `run` is all of `wastrow` except its exit
+//! status.
+//!
+//! # Example
+//!
+//!     let made = sample(alloc, n).expect(rt, "there is such a row");
+//!
+//! # Modules
+//!
+//! - `samples` and `forms` make modules of the fields of `wast_rows_samples`.
+//! - `runs` reads lines and writes a line for each. `numbers` reads the number of a line, and
+//!   `answers` writes the line of a module. `errors` has the errors of a run.
+//! - `starting` adds a start field to a module, as a caller with indices outside of the module
+//!   does.
+//! - `examples` has lines that the prover computes.
+//!
+//! The rules are in `specs/`: `Answers` defines the line of a module, `Runs` what a run reads and
+//! writes, and `Starting` what adding a start field returns.
+//!
+//! # Guarantees
+//!
+//! - [`run`]: each line of the output is the line of the module with that number. After an error the
+//!   output is a prefix of such lines. This holds for readers and writers with known bytes.
+//! - [`add_start`], `answer`: the grammar reads the bytes as the module with the start field at the
+//!   end, and as no other module.
 #![tactic(auto)]
 
 mod answers;

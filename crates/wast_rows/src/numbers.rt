@@ -5,7 +5,7 @@ ghost use Rattle.wast_rows.specs.Numerals.{IsDecimalOf, IsNoNumber};
 
 use std::str;
 
-/// Whether a line begins with no sign, and with no zero but its only byte.
+/// Returns whether a line has no sign, and no zero before another digit.
 #[tactic(auto, using(crate::proofs::Numerals::no_plus, crate::proofs::Numerals::no_leading_zero))]
 fn has_plain_start(line: &[u8]) -> bool
     ensures sign { IsTrue result → slice_index line.now 0 ≢ 43 }
@@ -19,9 +19,9 @@ fn has_plain_start(line: &[u8]) -> bool
     }
 }
 
-/// The number that a line is: a `u32` in decimal form, without sign and leading zeros.
+/// Returns the number of a line: a `u32` in decimal form, without sign and leading zeros.
 ///
-/// Every other line gives `None`, also one that is no UTF-8.
+/// Returns `None` for every other line, also for one that is not UTF-8.
 pub(crate) fn number(line: &[u8]) -> Option<u32>
     ensures { MatchOption result (IsNoNumber line.now) (IsDecimalOf line.now) }
 {

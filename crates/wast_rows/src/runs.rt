@@ -13,13 +13,13 @@ use std::io::{ErrorKind, Read, Write};
 use wast_core::Module;
 use wast_tree::Error;
 
-/// The most calls of `read` that a run makes.
+/// The largest number of calls of `read` in a run.
 const MOST_READS: u32 = 1_000_000;
 
-/// How many bytes a run asks for at once.
+/// The number of bytes that a run reads at once.
 const PIECE_LEN: usize = 4096;
 
-/// Writes all of the bytes. Where that fails, a beginning of them may be written.
+/// Writes all bytes. If writing fails, a prefix of them may be written.
 fn write_bytes<W: Write>(writer: &mut W, bytes: &[u8]) -> Result<(), RunError>
     ensures ok { OnOk result (Appends (W.contents writer.old) (W.contents writer.new) bytes.now) }
     ensures err { OnErr result (BeginsBytes bytes.now (W.contents writer.old) (W.contents writer.new)) }
@@ -36,7 +36,7 @@ fn write_bytes<W: Write>(writer: &mut W, bytes: &[u8]) -> Result<(), RunError>
     Err(RunError::Write)
 }
 
-/// Writes once: how many bytes were taken, none of them where the write was interrupted.
+/// Writes once, and returns how many bytes were taken. It is 0 if the write was interrupted.
 fn write_some<W: Write>(writer: &mut W, bytes: &[u8]) -> Result<usize, RunError>
     ensures bound { IfOk result (λ count. count ≤ length bytes.now) }
     ensures ok { IfOk result (λ count. Appends (W.contents writer.old) (W.contents writer.new) (take count bytes.now)) }
@@ -56,7 +56,7 @@ fn write_some<W: Write>(writer: &mut W, bytes: &[u8]) -> Result<usize, RunError>
     }
 }
 
-/// Writes the line that answers a line, and a line feed.
+/// Writes the line for a line of the input, and a line feed.
 fn answer_line<'a, W: Write, F: Fn(u32) -> Option<Result<Module<'a>, Error<'a>>>>(
     alloc: Global,
     line: &[u8],
@@ -72,7 +72,7 @@ fn answer_line<'a, W: Write, F: Fn(u32) -> Option<Result<Module<'a>, Error<'a>>>
     write_bytes(writer, text.as_bytes())
 }
 
-/// Takes a byte into the pending line, which no line feed has ended yet, or answers that line where the byte ends it.
+/// Adds a byte to the line that is read, or writes its line if the byte is a line feed.
 fn take_byte<'a, W: Write, F: Fn(u32) -> Option<Result<Module<'a>, Error<'a>>>>(
     alloc: Global,
     byte: u8,
@@ -94,7 +94,7 @@ fn take_byte<'a, W: Write, F: Fn(u32) -> Option<Result<Module<'a>, Error<'a>>>>(
     Ok(())
 }
 
-/// Takes bytes into the pending line, and answers each line that ends in them.
+/// Adds bytes to the line that is read, and writes a line for each that ends in them.
 fn feed<'a, W: Write, F: Fn(u32) -> Option<Result<Module<'a>, Error<'a>>>>(
     alloc: Global,
     bytes: &[u8],
@@ -113,7 +113,7 @@ fn feed<'a, W: Write, F: Fn(u32) -> Option<Result<Module<'a>, Error<'a>>>>(
     Ok(())
 }
 
-/// Answers the pending line, where it has bytes.
+/// Writes the line for the last line of the input, if that has no line feed.
 fn finish<'a, W: Write, F: Fn(u32) -> Option<Result<Module<'a>, Error<'a>>>>(
     alloc: Global,
     pending: &[u8],
@@ -131,7 +131,7 @@ fn finish<'a, W: Write, F: Fn(u32) -> Option<Result<Module<'a>, Error<'a>>>>(
     answer_line(alloc, pending, writer, sample)
 }
 
-/// Reads once: the bytes that came, none of them where the read was interrupted; `None` at the end.
+/// Reads once. Returns the bytes, none if the read was interrupted, or `None` at the end.
 fn read_piece<'b, R: Read>(
     reader: &mut R,
     buffer: &'b mut [u8],
@@ -156,28 +156,40 @@ fn read_piece<'b, R: Read>(
     }
 }
 
-/// Reads lines up to the end of the input, and writes one line for each, ended by a line feed.
+/// Reads lines up to the end of the input, and writes one line for each.
 ///
-/// A line is the bytes before a line feed, or those after the last one where there are any; a carriage return is a byte
-/// of its line. The function handed in gives the module of a row by its number, and has to answer every number. What is
-/// written for a line:
+/// A line is the bytes before a line feed, or after the last one if there are any. A carriage
+/// return is a byte of its line. `sample` returns the module of a number, and has to return for
+/// every number. The line that is written is:
 ///
-/// - `no row` where it is no `u32` in decimal form, or has a sign or leading zeros, or where there is no such row;
-/// - `ill formed: C` where the row's module is not well formed, and C is the least number of a clause that fails;
-/// - `ill formed` where it is well formed and holds a generated id;
-/// - the module's bytes in lower case hexadecimal, as encoding gives them with a counter at 1;
-/// - `fault at P: text` or `refused: text` where encoding refuses the module with a place P or without one.
+/// - `no row` if the line is not a `u32` in decimal form, has a sign or leading zeros, or has no
+///   module;
+/// - `ill formed: C` if the module is not well formed, with the first rule C that it breaks;
+/// - `ill formed` if it is well formed and has a generated id;
+/// - its bytes in lower case hexadecimal, as encoding with a counter at 1 returns them;
+/// - `fault at P: text` or `refused: text` if encoding fails with or without a position P.
 ///
-/// It answers `Read` where a read fails, or where a million reads do not meet the end; `Write` where a write or a flush
-/// fails, or a write takes no byte; and `Memory` where memory is refused, also while a module is made or encoded, and for
-/// every error that the function handed in gives. A read or a write that is interrupted is made again.
+/// What is written before an error stays. After `Read`, there is a line for each line of the input
+/// whose line feed was read. After `Memory`, there are lines for the first lines, each of them
+/// whole. After `Write`, a prefix of the next line may follow these.
 ///
-/// What was written before an error stays. After `Read`, it answers the lines whose line feed was read, and no other;
-/// after `Memory`, it answers some first lines, each of them whole; after `Write`, a beginning of the next answer may
-/// stand behind such lines.
+/// # Example
 ///
-/// The contract speaks of readers and writers that tell their bytes, as `&[u8]` and `Vec<u8>` do; of others, such as the
-/// standard streams, it says nothing of what was read and written.
+///     let result = run(alloc, &mut input, &mut output, |n| odd_row(alloc, n));
+///
+/// # Errors
+///
+/// - `Read`: a read fails, or a million reads do not reach the end.
+/// - `Write`: a write or a flush fails, or a write takes no byte.
+/// - `Memory`: allocation failed, also while a module is made or encoded. Every error that `sample`
+///   returns counts as this one.
+///
+/// A read or a write that is interrupted is tried again.
+///
+/// # Guarantees
+///
+/// The contract is about readers and writers with known bytes, as `&[u8]` and `Vec<u8>` have. For
+/// others, such as the standard streams, it does not state what was read and written.
 pub fn run<'a, R: Read, W: Write, F: Fn(u32) -> Option<Result<Module<'a>, Error<'a>>>>(
     alloc: Global,
     reader: &mut R,

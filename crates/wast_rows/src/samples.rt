@@ -1,4 +1,4 @@
-//! The modules of the worked rows.
+//! The example modules.
 
 ghost use Rattle.std.specs.Prelude.{◌≡◌, is_some, IfSome, IfErr};
 ghost use Rattle.wast_base.specs.Faults.{out_of_memory};
@@ -11,7 +11,7 @@ use wast_core::{Module, ModuleKind};
 use wast_rows_samples::{sample_fields, twin_fields};
 use wast_tree::{ModuleField, Seq};
 
-/// A module of fields, without id and name, that stands at the offset 1.
+/// Returns a module of fields, without id and name, at offset 1.
 pub(crate) fn text_module<'a>(fields: Seq<ModuleField<'a>>) -> Module<'a>
     ensures { result.kind ≡ kind.Text fields.entry }
 {
@@ -23,7 +23,7 @@ pub(crate) fn text_module<'a>(fields: Seq<ModuleField<'a>>) -> Module<'a>
     }
 }
 
-/// The module of these fields, where they were made.
+/// Returns the module of these fields, if they exist.
 fn made_module<'a>(
     made: Option<Result<Seq<ModuleField<'a>>, Error<'a>>>,
 ) -> Option<Result<Module<'a>, Error<'a>>>
@@ -37,9 +37,18 @@ fn made_module<'a>(
     }
 }
 
-/// The module of a worked row, or out of memory; `None` where there is no such row.
+/// Returns an example module by its number, or `None` if there is no such module.
 ///
-/// The rows are those of [`sample_fields`]. A module has no id and no name, and stands at the offset 1.
+/// The numbers are those of [`sample_fields`]. The module has no id and no name, and is at offset
+/// 1.
+///
+/// # Example
+///
+///     let made = sample(alloc, n).expect(rt, "there is such a row");
+///
+/// # Errors
+///
+/// E12: allocation failed.
 pub fn sample<'a>(alloc: Global, n: u32) -> Option<Result<Module<'a>, Error<'a>>>
     ensures there { is_some result ≡ is_row n }
     ensures refusal { IfSome result (λ made. IfErr made (λ e. e ≡ out_of_memory)) }
@@ -47,10 +56,19 @@ pub fn sample<'a>(alloc: Global, n: u32) -> Option<Result<Module<'a>, Error<'a>>
     made_module(sample_fields(alloc, n))
 }
 
-/// The twin of [`sample`]: the same module with an `r` before the name of each id, or out of memory; `None` where there is no
-/// such row (text format, identifiers).
+/// Returns the module of [`sample`] with an `r` before the name of each id (text format:
+/// identifiers).
 ///
-/// Places, name annotations, and the texts of exports, imports and custom sections are those of the sample.
+/// For example, `(module (func $f))` becomes `(module (func $rf))`. Positions, name annotations,
+/// and the strings of exports, imports and custom sections are the same.
+///
+/// # Example
+///
+///     let made = twin(alloc, n).expect(rt, "there is such a row");
+///
+/// # Errors
+///
+/// E12: allocation failed.
 pub fn twin<'a>(alloc: Global, n: u32) -> Option<Result<Module<'a>, Error<'a>>>
     ensures there { is_some result ≡ is_row n }
     ensures refusal { IfSome result (λ made. IfErr made (λ e. e ≡ out_of_memory)) }

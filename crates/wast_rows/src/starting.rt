@@ -1,4 +1,4 @@
-//! A start field of a caller's own: the model of a caller that has indices of its own.
+//! Adds a start field to a module, as a caller with indices outside of the module does.
 
 ghost use Rattle.std.specs.Prelude.{◌≡◌, ◌≤◌, IfOk, IfErr, OnOk};
 ghost use Rattle.wast_base.specs.declared.spaces.Space.TheVariants as space;
@@ -17,7 +17,7 @@ use wast_resolve::laws::borne_law;
 use wast_resolve::{Names, discard_names};
 use wast_tree::{Error, Gensym, Index, ModuleField, push_field};
 
-/// The index of a function with its number.
+/// Replaces the index of a function by its number.
 fn number_start<'a>(names: &Names<'a>, idx: Index<'a>) -> Result<Index<'a>, Error<'a>>
     requires { IsSettledFor (known_to names.now) space.Func idx }
     ensures met { OnOk result (IsMetBy (known_to names.now) space.Func idx.entry) }
@@ -51,7 +51,7 @@ fn find_start<'a>(
     start
 }
 
-/// Puts a start field behind the fields of a text module.
+/// Appends a start field to the fields of a text module.
 fn put_start<'a>(module: &mut Module<'a>, start: Index<'a>) -> Result<(), Error<'a>>
     requires { IsText «module».old.kind }
     ensures put { PutsStart «module».old.kind start.entry result «module».new.kind }
@@ -63,19 +63,37 @@ fn put_start<'a>(module: &mut Module<'a>, start: Index<'a>) -> Result<(), Error<
     }
 }
 
-/// Resolves a module, puts a start field behind its fields, of the function that the index names in it, and gives its bytes (text
-/// format, start functions; binary format, start section).
+/// Resolves a module, appends a start field with this function, and encodes it (text format: start
+/// functions; binary format: start section).
 ///
-/// It needs what [`Module::resolve`] needs, a module that is not binary, and an index that is no generated id but that of a
-/// function of the module. The bytes are read as what the module means with that start field as its last, and as no other; the
-/// module then has the field, with the number of the function.
+/// # Example
 ///
-/// The errors come in this order. What resolving refuses, the module keeps, and a refused module answers what it keeps. E4 `func`
-/// at the place of the index, where no function has its name, and E12, where memory for the field is refused, leave the module
-/// resolved, without the field. The list with the field is resolved again: a refusal by E12, or by E10 where it is too large, is
-/// kept. Encoding refuses by E11, E10 and E12 as [`EncodeOptions::encode_module`] does, and leaves the module resolved, with the
-/// field. Span, id and name of the module stay. The counter rises by the ids that resolving the
-/// module fills in, and stays if that fails, since the start field needs no id.
+///     let answer = add_start(alloc, &mut module, &mut gensym, by_id("f", 80));
+///
+/// # Requires
+///
+/// - `ready`: what [`Module::resolve`] requires.
+/// - `text`: the module is not binary.
+/// - `settled`: a generated id in the index is that of a function of the module.
+///
+/// # Errors
+///
+/// In this order:
+///
+/// - An error of resolving. The module keeps it. A module with an earlier error returns that.
+/// - E4 `func` at the position of the index: no function has its name. Or E12: no memory for the
+///   field. The module is then resolved, without the field.
+/// - E12 or E10 when the fields are resolved again with the start field. The module keeps it.
+/// - E11, E10 and E12 of [`EncodeOptions::encode_module`]. The module is then resolved, with the
+///   field.
+///
+/// # Guarantees
+///
+/// - `answer`: the grammar reads the bytes as what the module with this start field at the end
+///   means, and as no other module. The module has the field, with the number of the function.
+/// - `stays`: `span`, `id` and `name` do not change. `ready`: the requirements hold again.
+/// - `counter`: it rises by the number of ids that resolving the module generates, because a start
+///   field needs no id. If that fails, the counter does not change.
 pub fn add_start<'a>(
     alloc: Global,
     module: &mut Module<'a>,

@@ -1,4 +1,5 @@
-//! A test: a run over an input that asks for each worked row, and has lines that are the number of none.
+//! A test: a run over the numbers of all example modules, and over lines that are not a number of
+//! one.
 #![tactic(auto)]
 
 use std::process::ExitCode;

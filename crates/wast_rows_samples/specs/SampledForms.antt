@@ -1,4 +1,6 @@
--- The forms that stand in worked modules, each alone (text format: modules).
+-- Fields with one unsupported construct, and no other (text format: modules).
+--
+--   (func i64.add128)      has `Beyond` alone
 use Rattle.std.specs.Prelude.{◌≡◌, List, [], ◌∷◌, None}
 use Rattle.wast_base.specs.declared.faults.Form.{Form}
 use Rattle.wast_base.specs.declared.ids.Span.{Span}
@@ -8,11 +10,11 @@ use Rattle.wast_tree_nodes.specs.declared.fields.ModuleField.{ModuleField}
 use Rattle.wast_tree_nodes.specs.declared.fields.ModuleField.TheVariants as field
 use Rattle.wast_tree_nodes.specs.Uncovered.{uncovered_forms}
 
--- this form stands in the fields, once, and no other that the encoder does not cover
+-- The fields have this unsupported construct once, and no other.
 abbrev pub HoldsAlone : Form → List ModuleField → Type 0
 HoldsAlone f fields = uncovered_forms fields ≡ f ∷ []
 
--- `(func ..)` of these instructions
+-- `(func ..)` with these instructions.
 abbrev pub plain_func : Span → List Instruction → ModuleField
 plain_func span instrs = field.Func (record {
   span = span;

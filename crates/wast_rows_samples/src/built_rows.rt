@@ -1,5 +1,5 @@
-//! The worked rows that no text gives: two close a block that is not open, and seven are not well formed, each by one clause
-//! alone.
+//! The example modules that no text gives: two close a block that is not open, and seven break one
+//! rule of well-formedness each.
 
 ghost use Rattle.std.specs.Prelude.{◌≡◌, is_some, IfSome, IfErr};
 ghost use Rattle.wast_base.specs.Faults.{out_of_memory};
@@ -40,7 +40,7 @@ fn block_after_an_end<'a>(
     one(alloc, maker, func)
 }
 
-/// `(module (func i32.load drop))`, with the alignment 3 of the load.
+/// `(module (func i32.load drop))`, but the load has the alignment 3.
 fn load_aligned_to_three<'a>(alloc: Global, maker: &mut TreeBuilder) -> Seq<ModuleField<'a>> {
     let arg = MemArg::new(Index::Num(0, at(14)), 3, 0);
     let mut instrs = Seq::new(alloc);
@@ -50,7 +50,7 @@ fn load_aligned_to_three<'a>(alloc: Global, maker: &mut TreeBuilder) -> Seq<Modu
     one(alloc, maker, func)
 }
 
-/// `(module (func i32.const 0 if end))`, with these branch hints.
+/// `(module (func i32.const 0 if end))` with these branch hints.
 fn hinted_condition<'a>(
     alloc: Global,
     maker: &mut TreeBuilder,
@@ -66,7 +66,7 @@ fn hinted_condition<'a>(
     one(alloc, maker, ModuleField::Func(func.with_hints(hints)))
 }
 
-/// `(module (memory (data "ab")))`, with pages of 2 to the 64 bytes.
+/// `(module (memory (data "ab")))` with pages of 2^64 bytes.
 fn memory_of_endless_pages<'a>(alloc: Global, maker: &mut TreeBuilder) -> Seq<ModuleField<'a>> {
     let memory = Memory {
         span: at(9),
@@ -110,14 +110,14 @@ fn global_that_ends_twice<'a>(alloc: Global, maker: &mut TreeBuilder) -> Seq<Mod
     one(alloc, maker, ModuleField::Global(global))
 }
 
-/// `(module (export "a" (func ..)))` of a generated id, which no function bears.
+/// `(module (export "a" (func ..)))` with a generated id that no function has.
 fn export_of_no_function<'a>(alloc: Global, maker: &mut TreeBuilder) -> Seq<ModuleField<'a>> {
     let id = Gensym::new(1).generate(at(26)).unwrap();
     let export = Export::new(at(9), "a", ExportKind::Func, Index::Id(id));
     one(alloc, maker, ModuleField::Export(export))
 }
 
-/// The fields of a row that is built by hand, if there is such a row.
+/// Returns the fields of a module that is built by hand, if the number is that of one.
 fn fields_of_row<'a>(
     alloc: Global,
     maker: &mut TreeBuilder,
@@ -141,7 +141,8 @@ fn fields_of_row<'a>(
     }
 }
 
-/// The fields of a row that is built by hand, or out of memory; `None` if there is no such row.
+/// Returns the fields of a module that is built by hand, or E12. Returns `None` if the number is
+/// not that of one.
 pub(crate) fn built_row<'a>(
     alloc: Global,
     n: u32,

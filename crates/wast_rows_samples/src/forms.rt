@@ -1,4 +1,4 @@
-//! The fields of small modules, each with one form that no encoder covers.
+//! The fields of small modules with one unsupported construct each.
 
 ghost use Rattle.std.specs.Prelude.{◌≡◌, [], ◌∷◌, None, Some, IfOk, IfErr};
 ghost use Rattle.wast_base.specs.Faults.{out_of_memory};
@@ -19,7 +19,7 @@ use wast_tree_nodes::{
     Ordered, Ordering, StorageType, Type, TypeDef, TypeUse, ValType,
 };
 
-/// A list of two fields.
+/// Returns a list of two fields.
 fn two<'a>(
     alloc: Global,
     maker: &mut TreeBuilder,
@@ -33,7 +33,7 @@ fn two<'a>(
     fields
 }
 
-/// `(type ..)` of a composite type, at a place.
+/// Returns `(type ..)` of a composite type, at this offset.
 fn type_of<'a>(
     alloc: Global,
     id: Option<Id<'a>>,
@@ -59,7 +59,7 @@ fn type_of<'a>(
     ModuleField::Ty(Type::new(at(offset), id, def))
 }
 
-/// `(type $a (func))` at the beginning of a module.
+/// `(type $a (func))` at the start of a module.
 fn empty_type<'a>(alloc: Global, name: &'a str) -> ModuleField<'a>
     ensures { result ≡ field.Ty (record { span = record { offset = 9 }; id = Some (source_id name.entry (record { offset = 14 })); name = None; def = plain_def }) }
 {
@@ -138,7 +138,7 @@ fn grouped_import<'a>(alloc: Global, maker: &mut TreeBuilder) -> Seq<ModuleField
     one(alloc, maker, ModuleField::Import(Imports { span, items }))
 }
 
-/// An array type `$a`, and a function that loads from an array of it.
+/// An array type `$a`, and a function that loads from an array of this type.
 fn array_load<'a>(alloc: Global, maker: &mut TreeBuilder) -> Seq<ModuleField<'a>>
     ensures { Makes maker.old maker.new (HoldsAlone form.ArrayMemArg result) }
 {
@@ -159,7 +159,7 @@ fn array_load<'a>(alloc: Global, maker: &mut TreeBuilder) -> Seq<ModuleField<'a>
     two(alloc, maker, written, func)
 }
 
-/// `(module (@dylink.0 ..))`, a section for a dynamic linker that names an architecture.
+/// `(module (@dylink.0 ..))` with a subsection that names an architecture.
 fn architecture<'a>(alloc: Global, maker: &mut TreeBuilder) -> Seq<ModuleField<'a>>
     ensures { Makes maker.old maker.new (HoldsAlone form.TargetArch result) }
 {
@@ -176,7 +176,7 @@ fn wide_sum<'a>(alloc: Global, maker: &mut TreeBuilder) -> Seq<ModuleField<'a>>
     one_instruction(alloc, maker, Instruction::Beyond("i64.add128"))
 }
 
-/// The fields of a module that holds this form.
+/// Returns the fields of a module with this unsupported construct.
 fn fields_of_form<'a>(alloc: Global, maker: &mut TreeBuilder, form: Form) -> Seq<ModuleField<'a>>
     ensures { Makes maker.old maker.new (HoldsAlone form result) }
 {
@@ -193,7 +193,21 @@ fn fields_of_form<'a>(alloc: Global, maker: &mut TreeBuilder, form: Form) -> Seq
     }
 }
 
-/// The fields of a small module that holds this form and no other that the encoder does not cover, or out of memory.
+/// Returns the fields of a small module with this unsupported construct and no other.
+///
+/// For example, for `Form::Shared` they are those of `(module (type (shared (func))))`.
+///
+/// # Example
+///
+///     Ok(text_module(form_fields(alloc, form)?))
+///
+/// # Errors
+///
+/// E12: allocation failed.
+///
+/// # Guarantees
+///
+/// `alone`: the fields have this unsupported construct once, and no other.
 pub fn form_fields<'a>(alloc: Global, form: Form) -> Result<Seq<ModuleField<'a>>, Error<'a>>
     ensures alone { IfOk result (λ fields. HoldsAlone form fields) }
     ensures refusal { IfErr result (λ e. e ≡ out_of_memory) }

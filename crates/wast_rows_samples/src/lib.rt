@@ -1,10 +1,32 @@
-//! The fields of worked modules, by number, with the places of their texts, and of small modules of one form each.
+//! The fields of the example modules by number, and of small modules with one unsupported construct
+//! each.
 //!
-//! A row is a text that `wat_text` reads ([`texts`]), or, if no text gives its fields, it is built by hand ([`built_rows`]). The
-//! modules of forms are built by hand too, because their contract says which form is in the fields ([`forms`]).
+//! `wast_rows` makes modules of them, and tests use those. The positions in the fields are offsets
+//! in the text of the module.
 //!
-//! A function named for a module that is built gives its fields. If the maker was refused memory, they are not all there; whoever
-//! made the maker asks it at the end.
+//! # Example
+//!
+//!     made_module(sample_fields(alloc, n))
+//!
+//! # Modules
+//!
+//! - `samples` returns the fields of an example module, and of its twin, whose ids have other
+//!   names. `ways` has the two ways to write ids.
+//! - `texts` has the modules that are texts. `wat_text` reads them.
+//! - `built_rows` builds the modules that no text gives, because they are not well formed or close
+//!   a block that is not open.
+//! - `forms` builds the modules with unsupported constructs. They are not read from texts, because
+//!   their contract states which construct is in the fields.
+//! - `parts` has what `built_rows` and `forms` share.
+//!
+//! A function with the name of a module returns its fields. If an allocation failed, some of them
+//! may be missing. The caller that made the builder gets the error from `finish`.
+//!
+//! # Guarantees
+//!
+//! - [`sample_fields`], `there`: there is a module for each number that `is_row` accepts.
+//!   `refusal`: the only error is E12.
+//! - [`form_fields`], `alone`: the fields have this unsupported construct once, and no other.
 #![tactic(auto)]
 
 mod built_rows;

@@ -15,7 +15,7 @@ pub(crate) fn at(offset: usize) -> Span
     Span { offset }
 }
 
-/// A list of one field.
+/// Returns a list of one field.
 pub(crate) fn one<'a>(
     alloc: Global,
     maker: &mut TreeBuilder,
@@ -28,7 +28,7 @@ pub(crate) fn one<'a>(
     fields
 }
 
-/// `(func ..)` of these instructions, at a place.
+/// Returns `(func ..)` with these instructions, at this offset.
 pub(crate) fn func_of<'a>(
     alloc: Global,
     offset: usize,
@@ -41,7 +41,7 @@ pub(crate) fn func_of<'a>(
     ModuleField::Func(func)
 }
 
-/// `(module (func ..))` of one instruction.
+/// Returns `(module (func ..))` with one instruction.
 pub(crate) fn one_instruction<'a>(
     alloc: Global,
     maker: &mut TreeBuilder,

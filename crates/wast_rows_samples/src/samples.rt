@@ -1,4 +1,4 @@
-//! The fields of the worked rows.
+//! The fields of the example modules.
 
 ghost use Rattle.std.specs.Prelude.{◌≡◌, is_some, IfSome, IfErr};
 ghost use Rattle.wast_base.specs.Faults.{out_of_memory};
@@ -13,7 +13,7 @@ use wast_tree_nodes::ModuleField;
 use wat_text::{TextError, read_tokens};
 use wat_tokens::{Placed, Token, written_tokens_of};
 
-/// What a string of a text stands for. Strings of the rows have no escapes but those of branch hints.
+/// Returns the bytes of a string literal. The only escapes in the texts are those of branch hints.
 fn unescaped<'a>(string: &'a [u8]) -> &'a [u8] {
     match string {
         b"\\00" => b"\0",
@@ -22,7 +22,7 @@ fn unescaped<'a>(string: &'a [u8]) -> &'a [u8] {
     }
 }
 
-/// The token of a row, of which this one is written in the text.
+/// Returns the token of a module for a token of its text.
 fn token_of_row<'a>(token: Token<'a>, way: Way) -> Token<'a> {
     match token {
         Token::Id(name) => Token::Id(way.name(name)),
@@ -31,7 +31,7 @@ fn token_of_row<'a>(token: Token<'a>, way: Way) -> Token<'a> {
     }
 }
 
-/// Gives the tokens of a text the ids and the strings of a row. All keep their places.
+/// Replaces the ids and strings of a text by those of the module. Positions do not change.
 fn write_in<'a>(tokens: &mut Vec<Placed<'a>>, way: Way) {
     for at in 0..tokens.len() {
         if let Some(placed) = tokens.get_mut(at) {
@@ -40,7 +40,7 @@ fn write_in<'a>(tokens: &mut Vec<Placed<'a>>, way: Way) {
     }
 }
 
-/// The fields of a text, with its ids written in this way.
+/// Returns the fields of a text, with its ids written in this way.
 fn read_row<'a>(alloc: Global, text: &'a str, way: Way) -> Result<Seq<ModuleField<'a>>, TextError> {
     let mut tokens = written_tokens_of(alloc, text)?;
     write_in(&mut tokens, way);
@@ -48,7 +48,8 @@ fn read_row<'a>(alloc: Global, text: &'a str, way: Way) -> Result<Seq<ModuleFiel
     read_tokens(alloc, tokens, end)
 }
 
-/// The fields of a text of a row, or out of memory: tests read each of these texts, so nothing else is wrong with one.
+/// Returns the fields of a text, or E12. Tests read all of these texts, so they have no other
+/// error.
 fn fields_of_text<'a>(
     alloc: Global,
     text: &'a str,
@@ -62,7 +63,8 @@ fn fields_of_text<'a>(
     }
 }
 
-/// The fields of the module of a row that is a text, or out of memory; `None` if the row is none, or there is no such row.
+/// Returns the fields of a module that is a text, or E12. Returns `None` if the number is not that
+/// of one.
 fn read_text_row<'a>(
     alloc: Global,
     n: u32,
@@ -75,7 +77,7 @@ fn read_text_row<'a>(
     Some(fields_of_text(alloc, text, way))
 }
 
-/// The fields of the module of a worked row, or out of memory, with its ids written in this way.
+/// Returns the fields of an example module, with its ids written in this way, or E12.
 fn made_fields<'a>(
     alloc: Global,
     n: u32,
@@ -90,10 +92,19 @@ fn made_fields<'a>(
     }
 }
 
-/// The fields of the module of a worked row, or out of memory; `None` where there is no such row.
+/// Returns the fields of an example module by its number, or `None` if there is no such module.
 ///
-/// The rows are 1 to 19 and 21 to 65, of which 58 to 64 are not well formed. Places are offsets in the text of the row's
-/// module: of a field that of its keyword, of an id that of its `$`.
+/// The numbers are 1 to 19 and 21 to 65. The modules 58 to 64 are not well formed. Positions are
+/// offsets in the text of the module: for a field that of its keyword, for an id that of its `$`.
+/// For example, number 2 has the fields of `(module (func))`, with the function at 9.
+///
+/// # Example
+///
+///     made_module(sample_fields(alloc, n))
+///
+/// # Errors
+///
+/// E12: allocation failed.
 pub fn sample_fields<'a>(alloc: Global, n: u32) -> Option<Result<Seq<ModuleField<'a>>, Error<'a>>>
     ensures there { is_some result ≡ is_row n }
     ensures refusal { IfSome result (λ made. IfErr made (λ e. e ≡ out_of_memory)) }
@@ -101,10 +112,18 @@ pub fn sample_fields<'a>(alloc: Global, n: u32) -> Option<Result<Seq<ModuleField
     made_fields(alloc, n, Way::Plain)
 }
 
-/// The fields of the twin of a worked row, or out of memory; `None` where there is no such row.
+/// Returns the fields of [`sample_fields`] with an `r` before the name of each id.
 ///
-/// They are those of [`sample_fields`] with an `r` before the name of each id. Places, name annotations, and the texts of
-/// exports, imports and custom sections are the same.
+/// For example, `(module (func $f))` becomes `(module (func $rf))`. Positions, name annotations,
+/// and the strings of exports, imports and custom sections are the same.
+///
+/// # Example
+///
+///     made_module(twin_fields(alloc, n))
+///
+/// # Errors
+///
+/// E12: allocation failed.
 pub fn twin_fields<'a>(alloc: Global, n: u32) -> Option<Result<Seq<ModuleField<'a>>, Error<'a>>>
     ensures there { is_some result ≡ is_row n }
     ensures refusal { IfSome result (λ made. IfErr made (λ e. e ≡ out_of_memory)) }

@@ -1,9 +1,9 @@
-//! The worked rows that are texts.
+//! The example modules that are texts.
 
 ghost use Rattle.std.specs.Prelude.{◌≡◌, is_some};
 ghost use Rattle.wast_rows_samples.specs.RowNumbers.{text_rows, is_among};
 
-/// Returns the text of a row; `None` if the row has none, or there is no such row.
+/// Returns the text of an example module, or `None` if the number is not that of one with a text.
 pub(crate) fn text_of_row(n: u32) -> Option<&'static str>
     ensures { is_some result ≡ is_among text_rows n }
 {

@@ -1,16 +1,16 @@
-//! The two ways to write the ids of a row: as its text has them, and as those of its twin.
+//! The two ways to write the ids of an example module: as in its text, and as in its twin.
 
-/// How the ids of a row are written.
+/// How ids are written.
 #[derive(Clone, Copy)]
 pub(crate) enum Way {
-    /// As the row's text has them.
+    /// As in the text of the module.
     Plain,
     /// With an `r` before each name.
     Twin,
 }
 
 impl Way {
-    /// The name of an id that has this name in the row's text.
+    /// Returns the name of an id that has this name in the text.
     pub(crate) fn name<'a>(self, name: &'a str) -> &'a str {
         match self {
             Way::Plain => name,
@@ -19,7 +19,8 @@ impl Way {
     }
 }
 
-/// A name with an `r` before it. The table has the names of all ids of the rows; another name stays as it is.
+/// Returns a name with an `r` before it. The table has the names of all ids of the example modules.
+/// Other names are returned unchanged.
 fn twin_name<'a>(name: &'a str) -> &'a str {
     match name {
         "a" => "ra",

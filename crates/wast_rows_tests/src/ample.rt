@@ -1,4 +1,4 @@
-//! Calls that take memory, with enough of it for what they are to hold: none of them is empty.
+//! Calls that allocate, on parts that are not empty and with enough memory.
 
 ghost use Rattle.std.specs.Prelude.{IsTrue};
 ghost use Rattle.wast_core_conv.specs.Customs.{is_encodable_subsection};
@@ -11,7 +11,7 @@ use wast_core::{Encode, EncodeOptions, ModuleKind, Wat, discard_module};
 use wast_resolve::{discard_names, resolve};
 use wast_tree::{Dylink0Subsection, Gensym, ModuleField, Seq, TreeBuilder, discard_fields};
 
-/// What a subsection holds.
+/// Checks the content of a subsection.
 fn holds(rt: &impl Abort, alloc: Global, subsection: &Dylink0Subsection, want: &[u8])
     requires { IsTrue (is_encodable_subsection subsection.now) }
 {
@@ -21,7 +21,7 @@ fn holds(rt: &impl Abort, alloc: Global, subsection: &Dylink0Subsection, want: &
 }
 
 #[test]
-fn subsections_hold_names_and_flags(rt: HostRuntime) {
+fn dylink_subsections_have_names_and_flags(rt: HostRuntime) {
     let alloc = rt.alloc();
     let mut maker = TreeBuilder::new(alloc);
     let needed = Dylink0Subsection::Needed(maker.names(&["ab"]));
@@ -35,7 +35,7 @@ fn subsections_hold_names_and_flags(rt: HostRuntime) {
 }
 
 #[test]
-fn a_text_is_encoded_as_its_module(rt: HostRuntime) {
+fn text_is_encoded_as_its_module(rt: HostRuntime) {
     let alloc = rt.alloc();
     let mut wat = Wat::Module(row(&rt, alloc, 27));
     let answer = EncodeOptions::new().encode_wat(alloc, &mut wat, &mut Gensym::new(1));
@@ -45,7 +45,7 @@ fn a_text_is_encoded_as_its_module(rt: HostRuntime) {
     }
 }
 
-/// The fields of a module, resolved without it.
+/// Checks that fields are resolved as those of a module.
 fn alone<'a>(rt: &impl Abort, alloc: Global, fields: Seq<ModuleField<'a>>) {
     assert!(rt; wast_tree::well_formed(fields.as_slice()));
     assert!(rt; wast_tree::gensym_bound(fields.as_slice()) == 0);
@@ -60,7 +60,7 @@ fn alone<'a>(rt: &impl Abort, alloc: Global, fields: Seq<ModuleField<'a>>) {
 }
 
 #[test]
-fn fields_are_resolved_alone(rt: HostRuntime) {
+fn resolve_works_on_bare_fields(rt: HostRuntime) {
     let alloc = rt.alloc();
     match row(&rt, alloc, 27).kind {
         ModuleKind::Text(fields) => alone(&rt, alloc, fields),
@@ -68,7 +68,7 @@ fn fields_are_resolved_alone(rt: HostRuntime) {
     }
 }
 
-/// What the resolved row puts into a vector is what encoding it answers.
+/// Checks that `put_module` writes the bytes that encoding returns.
 fn is_put(rt: &impl Abort, alloc: Global, n: u32) {
     let mut module = row(rt, alloc, n);
     let answer = module.resolve(alloc, &mut Gensym::new(1));
@@ -85,7 +85,7 @@ fn is_put(rt: &impl Abort, alloc: Global, n: u32) {
 }
 
 #[test]
-fn each_resolved_row_is_put_into_a_vector(rt: HostRuntime) {
+fn put_module_writes_each_resolved_row(rt: HostRuntime) {
     for n in 1..66 {
         if is_row(n) {
             is_put(&rt, rt.alloc(), n);

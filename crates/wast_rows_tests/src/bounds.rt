@@ -1,4 +1,4 @@
-//! The greatest counter of generated ids, and the greatest count of a space.
+//! The largest counter of generated ids, and the largest index of a namespace.
 
 use crate::made::{at, has_bytes, ready, row};
 use std::alloc::Global;
@@ -8,7 +8,7 @@ use wast_resolve::Namespace;
 use wast_tree::{Error, Fault, Gensym};
 
 #[test]
-fn a_space_has_a_greatest_number(rt: HostRuntime) {
+fn namespace_has_a_largest_index(rt: HostRuntime) {
     let mut space: Namespace<'_> = Namespace::with_count(rt.alloc(), 4_294_967_294);
     assert!(rt; !space.is_full());
     assert!(rt; space.alloc() == 4_294_967_294);
@@ -16,7 +16,7 @@ fn a_space_has_a_greatest_number(rt: HostRuntime) {
 }
 
 #[test]
-fn the_greatest_generation_is_given_to_no_id(rt: HostRuntime) {
+fn largest_generation_is_never_generated(rt: HostRuntime) {
     let mut gensym = Gensym::new(18_446_744_073_709_551_615);
     for _ in 0..2 {
         assert!(rt; gensym.generate(at(14)) == Err(Error::refusal(Fault::TooLarge)));
@@ -24,9 +24,9 @@ fn the_greatest_generation_is_given_to_no_id(rt: HostRuntime) {
     }
 }
 
-/// Row 2 wants one id, and row 27 none.
+/// Row 2 needs one generated id, and row 27 none.
 #[test]
-fn a_row_wants_ids_or_none(rt: HostRuntime) {
+fn row_needs_one_id_or_none(rt: HostRuntime) {
     let alloc = rt.alloc();
     for (n, first, bytes) in [
         (
@@ -49,7 +49,7 @@ fn a_row_wants_ids_or_none(rt: HostRuntime) {
     }
 }
 
-/// The module is too large for a counter at this generation, and stays so.
+/// Checks that the module is too large with a counter at this generation, also at a second call.
 fn is_too_large<'a>(rt: &impl Abort, alloc: Global, module: Module<'a>, first: u64) -> Module<'a> {
     let mut module = ready(rt, module);
     assert!(rt; first > 0);
@@ -61,7 +61,7 @@ fn is_too_large<'a>(rt: &impl Abort, alloc: Global, module: Module<'a>, first: u
 }
 
 #[test]
-fn want_of_ids_is_kept(rt: HostRuntime) {
+fn counter_overflow_error_is_sticky(rt: HostRuntime) {
     let alloc = rt.alloc();
     let module = is_too_large(&rt, alloc, row(&rt, alloc, 2), 18_446_744_073_709_551_615);
     let module = is_too_large(&rt, alloc, module, 1);

@@ -1,4 +1,4 @@
-//! Trees of ids whose names are empty, which no text has.
+//! Modules whose ids have empty names, which no text has.
 
 use crate::made::{at, has_bytes, module, ready};
 use crate::parts::{body_of, of_instruction};
@@ -11,17 +11,17 @@ use wast_tree::{
     Type, TypeDef, TypeUse, ValType,
 };
 
-/// An id whose name is empty, and which is written as `$` here.
+/// Returns an id with an empty name, written `$` here.
 fn empty<'a>(offset: usize) -> Id<'a> {
     Id::new("", at(offset))
 }
 
-/// The same, where an index stands.
+/// Returns an index that is such an id.
 fn by_empty<'a>(offset: usize) -> Index<'a> {
     Index::Id(empty(offset))
 }
 
-/// What is written of a block without a type: its label.
+/// Returns the type of a block with such a label.
 fn labelled<'a>(offset: usize) -> BlockType<'a> {
     BlockType {
         label: Some(empty(offset)),
@@ -72,7 +72,7 @@ fn nameless<'a>(alloc: Global) -> Result<Module<'a>, Error<'a>> {
 }
 
 #[test]
-fn empty_names_are_names(rt: HostRuntime) {
+fn empty_names_are_encoded(rt: HostRuntime) {
     let alloc = rt.alloc();
     let mut module = ready(&rt, nameless(alloc).expect(&rt, "memory"));
     let answer = module.encode(alloc, &mut Gensym::new(1));
@@ -85,7 +85,8 @@ fn empty_names_are_names(rt: HostRuntime) {
     discard_module(module);
 }
 
-/// `(module (func try_table $ (catch_all $) end))`: the clause is looked up outside of its block.
+/// `(module (func try_table $ (catch_all $) end))`: the label of the clause is not that of its own
+/// block.
 fn caught<'a>(alloc: Global) -> Result<Module<'a>, Error<'a>> {
     let mut maker = TreeBuilder::new(alloc);
     let clause = TryTableCatch {
@@ -108,7 +109,7 @@ fn denoting_nothing<'a>(alloc: Global, n: u32) -> Option<Result<Module<'a>, Erro
 }
 
 #[test]
-fn an_empty_name_can_denote_nothing(rt: HostRuntime) {
+fn unknown_empty_label_is_rejected(rt: HostRuntime) {
     let alloc = rt.alloc();
     let mut input = &b"0\n1\n"[..];
     let mut output = Vec::new(alloc);

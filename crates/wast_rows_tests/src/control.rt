@@ -1,4 +1,4 @@
-//! Bodies of 10,000 blocks, whose labels are one or all different.
+//! Bodies with 10,000 blocks, which have the same label or all different ones.
 
 use crate::made::{at, ready};
 use crate::parts::body_of;
@@ -18,7 +18,7 @@ fn open<'a>(maker: &mut TreeBuilder, instrs: &mut Seq<Instruction<'a>>, name: &'
     maker.push_block(instrs, Block, block);
 }
 
-/// Ends 10,000 blocks behind a branch.
+/// Ends 10,000 blocks after a branch.
 fn branch_and_end<'a>(maker: &mut TreeBuilder, instrs: &mut Seq<Instruction<'a>>, name: &'a str) {
     let to = Index::Id(Id::new(name, at(50)));
     maker.push_instruction(instrs, Instruction::br(to));
@@ -27,7 +27,7 @@ fn branch_and_end<'a>(maker: &mut TreeBuilder, instrs: &mut Seq<Instruction<'a>>
     }
 }
 
-/// Behind 27 bytes and 9,999 openers, of two bytes each, the module has these bytes.
+/// Checks the bytes of the module after 27 bytes and 9,999 blocks, of two bytes each.
 fn branches_by(rt: &impl Abort, alloc: alloc::Global, module: Module<'_>, branch: &[u8]) {
     let mut module = ready(rt, module);
     let bytes = module
@@ -37,9 +37,9 @@ fn branches_by(rt: &impl Abort, alloc: alloc::Global, module: Module<'_>, branch
     discard_module(module);
 }
 
-// 10,000 blocks of one label: the innermost of them is left.
+// 10,000 blocks with the same label: the branch is to the innermost.
 #[test]
-fn one_label_is_that_of_the_innermost_block(rt: HostRuntime) {
+fn repeated_label_means_the_innermost_block(rt: HostRuntime) {
     let alloc = rt.alloc();
     let mut maker = TreeBuilder::new(alloc);
     let mut instrs = Seq::new(alloc);
@@ -51,9 +51,9 @@ fn one_label_is_that_of_the_innermost_block(rt: HostRuntime) {
     branches_by(&rt, alloc, module, &[0x02, 0x40, 0x0c, 0, 0x0b]);
 }
 
-// 10,000 blocks of different labels: the outermost of them is left.
+// 10,000 blocks with different labels: the branch is to the outermost.
 #[test]
-fn many_labels_are_told_apart(rt: HostRuntime) {
+fn many_labels_are_distinguished(rt: HostRuntime) {
     let alloc = rt.alloc();
     let mut texts = Vec::new(alloc);
     for n in 0..10000 {

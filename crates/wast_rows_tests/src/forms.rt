@@ -1,4 +1,4 @@
-//! Modules with forms that no encoder covers: alone in each place where one can stand, and beside more than a module can hold.
+//! Modules with unsupported constructs: alone at each position, and in modules that are too large.
 
 use crate::holders::{Held, Whole, with_field, with_group, with_type};
 use crate::made::{at, module, ready};
@@ -34,7 +34,7 @@ const TARGET_ARCH: &str = "uncovered form: target architecture";
 
 const BEYOND: &str = "uncovered form: instruction beyond the table";
 
-/// It is E11 with this text, which has no place.
+/// Checks that an error is E11 with this text, and has no position.
 fn is_told(rt: &impl Abort, alloc: Global, error: Option<Error<'_>>, text: &str) {
     let error = error.expect(rt, "an error");
     let told = format!(in alloc; "{error}").expect(rt, "memory");
@@ -45,7 +45,8 @@ fn is_told(rt: &impl Abort, alloc: Global, error: Option<Error<'_>>, text: &str)
     );
 }
 
-/// The module resolves, and encoding it answers E11 with this text, twice, and leaves it resolved.
+/// Checks that the module resolves, and that encoding it fails with this E11, twice. It stays
+/// resolved.
 fn is_refused(rt: &impl Abort, alloc: Global, made: Result<Module<'_>, Error<'_>>, text: &str) {
     let mut module = ready(rt, made.expect(rt, "memory"));
     let mut gensym = Gensym::new(1);
@@ -64,7 +65,7 @@ fn is_refused(rt: &impl Abort, alloc: Global, made: Result<Module<'_>, Error<'_>
 }
 
 #[test]
-fn a_form_alone_is_refused(rt: HostRuntime) {
+fn lone_unsupported_construct_is_rejected(rt: HostRuntime) {
     let alloc = rt.alloc();
     for (form, text) in [
         (Form::StackSwitching, STACK_SWITCHING),
@@ -83,7 +84,7 @@ fn a_form_alone_is_refused(rt: HostRuntime) {
 }
 
 #[test]
-fn instructions_are_refused_in_each_place(rt: HostRuntime) {
+fn unsupported_instructions_are_rejected_anywhere(rt: HostRuntime) {
     let alloc = rt.alloc();
     let exact = HeapType::Exact(Index::Num(0, at(40)));
     for spot in [
@@ -184,7 +185,7 @@ fn shared<'a>(ty: AbstractHeapType) -> HeapType<'a> {
 }
 
 #[test]
-fn types_are_refused_in_each_place(rt: HostRuntime) {
+fn unsupported_types_are_rejected_anywhere(rt: HostRuntime) {
     let alloc = rt.alloc();
     for held in [
         Held::Member,
@@ -215,7 +216,7 @@ fn types_are_refused_in_each_place(rt: HostRuntime) {
 }
 
 #[test]
-fn fields_are_refused_as_a_whole(rt: HostRuntime) {
+fn unsupported_fields_are_rejected(rt: HostRuntime) {
     let alloc = rt.alloc();
     for (whole, text) in [
         (Whole::SharedMember, SHARED),
@@ -236,7 +237,7 @@ fn fields_are_refused_as_a_whole(rt: HostRuntime) {
     }
 }
 
-/// The first answer is this fault at this place.
+/// Checks that the first result is this error at this position.
 fn has_fault(
     rt: &impl Abort,
     alloc: Global,
@@ -252,7 +253,7 @@ fn has_fault(
 }
 
 #[test]
-fn groups_are_items_of_one_signature(rt: HostRuntime) {
+fn import_group_defines_items_of_its_signature(rt: HostRuntime) {
     let alloc = rt.alloc();
     let one = with_group(alloc, &["a"], TypeUse::none(), false);
     is_refused(&rt, alloc, one, COMPACT_IMPORTS);
@@ -267,7 +268,7 @@ fn groups_are_items_of_one_signature(rt: HostRuntime) {
     has_fault(&rt, alloc, used, 50, Fault::Unknown("type", "t"));
 }
 
-/// `(data "..")`, of a piece so many times, and a global of an instruction.
+/// Returns `(data "..")` with a piece many times, and a global with an instruction.
 fn repeated<'a>(
     alloc: Global,
     piece: &'a [u8],
@@ -297,9 +298,9 @@ fn repeated<'a>(
     }
 }
 
-// 4096 times a mebibyte is more than a segment can hold.
+// 4096 times a mebibyte does not fit in a segment.
 #[test]
-fn a_form_is_told_before_what_is_too_large(rt: HostRuntime) {
+fn unsupported_construct_is_reported_before_excess_size(rt: HostRuntime) {
     let alloc = rt.alloc();
     let piece = vec![in alloc; 0u8; 1048576].expect(&rt, "memory");
     let made = repeated(alloc, piece.as_slice(), 4096, Instruction::i32_const(0));

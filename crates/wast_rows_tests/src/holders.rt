@@ -1,4 +1,4 @@
-//! Modules that each hold one type or one field that no encoder covers.
+//! Modules with one unsupported type or field each.
 
 use crate::made::{at, module};
 use crate::parts::{block, elements, func, global, module_of, table, table_type, zero};
@@ -12,7 +12,7 @@ use wast_tree::{
     ValType,
 };
 
-/// Where a type of values stands.
+/// A position of a value type.
 #[derive(Clone, Copy)]
 pub(crate) enum Held {
     /// `(rec (type (struct (field ..))))`
@@ -41,7 +41,7 @@ pub(crate) enum Held {
     ImportedTag,
 }
 
-/// A field, or an item of one, that no encoder covers.
+/// An unsupported field, or one with an unsupported item.
 #[derive(Clone, Copy)]
 pub(crate) enum Whole {
     /// `(rec (type (shared (struct))))`
@@ -64,11 +64,11 @@ pub(crate) enum Whole {
     FilledTable,
     /// `(func (import "m" "n") (exact (type 0)))`
     ExactFunc,
-    /// `(import "m")`, of no items, each with a type of its own
+    /// `(import "m")` without items, each with a type of its own
     Group,
     /// `(import "m" (item "n") (func))`
     SharedGroup,
-    /// `(import "m" (func))`, of no items
+    /// `(import "m" (func))` without items
     EmptyGroup,
 }
 
@@ -93,7 +93,7 @@ fn group<'a>(alloc: Global, maker: &mut TreeBuilder, def: TypeDef<'a>) -> Module
     ModuleField::Rec(Rec { span: at(9), types })
 }
 
-/// What a composite type defines.
+/// Returns the definition of a composite type.
 fn def_of<'a>(
     alloc: Global,
     kind: InnerTypeKind<'a>,
@@ -149,7 +149,7 @@ fn select_of<'a>(alloc: Global, maker: &mut TreeBuilder, ty: ValType<'a>) -> Seq
     instrs
 }
 
-/// The field of a function that a type of values stands in.
+/// Returns the field of a function with a value type.
 fn func_holding<'a>(
     alloc: Global,
     maker: &mut TreeBuilder,
@@ -182,7 +182,7 @@ fn func_holding<'a>(
     }
 }
 
-/// The field that a type of values stands in.
+/// Returns the field with a value type.
 fn holding<'a>(
     alloc: Global,
     maker: &mut TreeBuilder,
@@ -233,7 +233,7 @@ fn from_m<'a>() -> InlineImport<'a> {
     }
 }
 
-/// `(import "m" ..)`, of several items or of none
+/// `(import "m" ..)` with several items or none
 fn imports<'a>(items: ImportItems<'a>) -> ModuleField<'a> {
     let span = at(9);
     ModuleField::Import(Imports { span, items })
@@ -260,7 +260,7 @@ fn exact_func<'a>(alloc: Global) -> ModuleField<'a> {
     })
 }
 
-/// What the type of a group defines.
+/// Returns the definition of the type of a group.
 fn whole_type<'a>(alloc: Global, maker: &mut TreeBuilder, whole: Whole) -> TypeDef<'a> {
     match whole {
         Whole::SharedMember => def_of(alloc, struct_of(maker, &[]), true, None, None),
@@ -273,7 +273,7 @@ fn whole_type<'a>(alloc: Global, maker: &mut TreeBuilder, whole: Whole) -> TypeD
     }
 }
 
-/// The field.
+/// Returns the field.
 fn whole_field<'a>(alloc: Global, maker: &mut TreeBuilder, whole: Whole) -> ModuleField<'a> {
     let funcref = RefType::funcref();
     match whole {
@@ -311,7 +311,7 @@ fn whole_field<'a>(alloc: Global, maker: &mut TreeBuilder, whole: Whole) -> Modu
     }
 }
 
-/// A module that holds a type of values alone.
+/// Returns a module with a value type, and nothing else unsupported.
 pub(crate) fn with_type<'a>(
     alloc: Global,
     held: Held,
@@ -322,14 +322,15 @@ pub(crate) fn with_type<'a>(
     module_of(alloc, maker, field)
 }
 
-/// A module of one field.
+/// Returns a module with one field.
 pub(crate) fn with_field<'a>(alloc: Global, whole: Whole) -> Result<Module<'a>, Error<'a>> {
     let mut maker = TreeBuilder::new(alloc);
     let field = whole_field(alloc, &mut maker, whole);
     module_of(alloc, maker, field)
 }
 
-/// `(import "m" (item ..) (func $f (type ..)))`, behind a function where it is to stand behind one, and `(start $f)`
+/// `(import "m" (item ..) (func $f (type ..)))`, after a function if `is_behind` is set, and
+/// `(start $f)`
 pub(crate) fn with_group<'a>(
     alloc: Global,
     names: &[&'a str],

@@ -1,5 +1,7 @@
-//! Tests of `wast_core`, `wast_resolve` and `wast_rows`, as their callers use them: each call that takes memory
-//! has its answer where there is enough, and runs on streams that fail end as they are told to.
+//! Tests of `wast_core`, `wast_resolve` and `wast_rows`, as callers use them.
+//!
+//! Each call that allocates has its result with enough memory. Runs on failing streams end with the
+//! right error.
 #![tactic(auto)]
 
 #[cfg(test)]

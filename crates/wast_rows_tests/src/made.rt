@@ -1,4 +1,4 @@
-//! What the tests make modules of.
+//! Modules for the tests.
 
 ghost use Rattle.std.specs.Prelude.{◌≡◌, IsTrue};
 ghost use Rattle.wast_core.specs.Modules.{is_well_formed, generation_bound};
@@ -13,7 +13,7 @@ pub(crate) fn at(offset: usize) -> Span {
     Span { offset }
 }
 
-/// A module without id.
+/// Returns a module without an id.
 pub(crate) fn module(kind: ModuleKind<'_>) -> Module<'_> {
     Module {
         span: at(1),
@@ -23,7 +23,7 @@ pub(crate) fn module(kind: ModuleKind<'_>) -> Module<'_> {
     }
 }
 
-// The module, where it can be encoded with a counter at 1.
+// Returns the module, if it can be encoded with a counter at 1.
 pub(crate) fn ready<'a>(rt: &impl Abort, module: Module<'a>) -> Module<'a>
     ensures well_formed { IsTrue (is_well_formed result) }
     ensures bound { generation_bound result ≡ 0 }
@@ -41,7 +41,7 @@ pub(crate) fn row<'a>(rt: &impl Abort, alloc: Global, n: u32) -> Module<'a>
     ready(rt, made.expect(rt, "memory"))
 }
 
-/// The answer is these bytes, written in hex.
+/// Checks that the result is these bytes, written in hex.
 pub(crate) fn has_bytes(
     rt: &impl Abort,
     alloc: Global,

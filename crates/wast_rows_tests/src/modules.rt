@@ -1,4 +1,4 @@
-//! Each call of `wast_core` that takes memory, where there is enough.
+//! Each call of `wast_core` that allocates, with enough memory.
 
 ghost use Rattle.wast_core.specs.Writing.{IsTextAtRest};
 
@@ -15,9 +15,9 @@ const BYTES_OF_4: &str = "0061736d0100000001040160000003020100070501016100000a04
 const BYTES_OF_27: &str =
     "0061736d0100000001040160000003020100070501016100000a0601040010000b0011046e616d65010401000166040401000174";
 
-// The type that row 4 implies takes an id, and so does its function, and only the first time.
+// The implicit type definition of row 4 gets a generated id, and so does its function, only once.
 #[test]
-fn a_module_gives_the_same_bytes_again(rt: HostRuntime) {
+fn encoding_twice_returns_same_bytes(rt: HostRuntime) {
     let alloc = rt.alloc();
     let mut module = row(&rt, alloc, 4);
     let mut gensym = Gensym::new(1);
@@ -31,7 +31,7 @@ fn a_module_gives_the_same_bytes_again(rt: HostRuntime) {
 }
 
 #[test]
-fn a_text_gives_the_bytes_of_its_module(rt: HostRuntime) {
+fn wat_encode_returns_bytes_of_its_module(rt: HostRuntime) {
     let alloc = rt.alloc();
     let mut wat = Wat::Module(row(&rt, alloc, 27));
     let answer = wat.encode(alloc, &mut Gensym::new(1));
@@ -42,7 +42,7 @@ fn a_text_gives_the_bytes_of_its_module(rt: HostRuntime) {
 }
 
 #[test]
-fn a_binary_module_gives_its_pieces(rt: HostRuntime) {
+fn binary_module_returns_its_pieces(rt: HostRuntime) {
     let alloc = rt.alloc();
     let mut gensym = Gensym::new(1);
     let mut pieces = Seq::new(alloc);
@@ -67,7 +67,7 @@ pub(crate) fn resolved_row<'a>(rt: &impl Abort, alloc: Global) -> Module<'a>
 }
 
 #[test]
-fn a_resolved_module_is_put_into_sinks(rt: HostRuntime) {
+fn put_module_writes_to_sinks(rt: HostRuntime) {
     let alloc = rt.alloc();
     let module = resolved_row(&rt, alloc);
     let options = EncodeOptions::new();
@@ -80,7 +80,7 @@ fn a_resolved_module_is_put_into_sinks(rt: HostRuntime) {
 }
 
 #[test]
-fn a_room_holds_a_module_or_nothing(rt: HostRuntime) {
+fn room_that_is_too_small_stays_empty(rt: HostRuntime) {
     let alloc = rt.alloc();
     let module = resolved_row(&rt, alloc);
     let options = EncodeOptions::new();

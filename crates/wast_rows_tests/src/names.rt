@@ -1,4 +1,4 @@
-//! What the ids of a resolved module denote, for indices of a caller's own.
+//! Looking up ids in a resolved module, for indices outside of it.
 
 ghost use Rattle.std.specs.Prelude.{IsTrue, Option, ℕ};
 ghost use Rattle.wast_base.specs.Ids.{Name};
@@ -10,14 +10,14 @@ use wast_core::discard_module;
 use wast_resolve::{Names, discard_names};
 use wast_tree::{Error, Fault, Gensym, Id, Index, Space};
 
-/// An index that is an id, at a place: as each id that is written, it may be looked up in any space.
+/// Returns an index that is an id from the source. It may be looked up in any namespace.
 pub(crate) fn by_id<'a>(name: &'a str, place: usize) -> Index<'a>
     ensures { (number : Name → Option ℕ) → IsTrue (is_settled_index number result) }
 {
     Index::Id(Id::new(name, at(place)))
 }
 
-/// The function of row 27 is 0, and no other is known.
+/// Checks that the function of row 27 is 0, and that no other id is known.
 fn knows_the_function(rt: &impl Abort, names: &Names<'_>) {
     let mut known = by_id("f", 50);
     assert!(rt; names.resolve_func(&mut known).is_ok());
@@ -29,7 +29,7 @@ fn knows_the_function(rt: &impl Abort, names: &Names<'_>) {
     assert!(rt; unknown == by_id("x", 60));
 }
 
-/// Row 27 makes its function and its type known, and nothing else.
+/// Checks that row 27 defines its function and its type, and nothing else.
 fn lists_the_ids(rt: &impl Abort, names: &Names<'_>) {
     let functions = names.pairs(Space::Func);
     assert!(rt; functions.len() == 1);
@@ -45,7 +45,7 @@ fn lists_the_ids(rt: &impl Abort, names: &Names<'_>) {
 }
 
 #[test]
-fn names_of_a_resolved_module(rt: HostRuntime) {
+fn resolve_returns_names_of_module(rt: HostRuntime) {
     let alloc = rt.alloc();
     let mut module = row(&rt, alloc, 27);
     let mut gensym = Gensym::new(1);
@@ -61,7 +61,7 @@ fn names_of_a_resolved_module(rt: HostRuntime) {
 }
 
 #[test]
-fn a_tag_and_a_type_are_looked_up(rt: HostRuntime) {
+fn names_look_up_tags_and_types(rt: HostRuntime) {
     let alloc = rt.alloc();
     let mut caught = row(&rt, alloc, 9);
     let names = caught.resolve(alloc, &mut Gensym::new(1));

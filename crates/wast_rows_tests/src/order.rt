@@ -1,5 +1,5 @@
-//! What an instruction that no encoder covers names is looked up in one order, in which the first id that denotes nothing
-//! is told.
+//! The indices of an unsupported instruction are resolved in one order, and the first unknown id is
+//! reported.
 
 use crate::made::{at, ready};
 use crate::parts::of_instruction;
@@ -10,7 +10,7 @@ use wast_core::{Module, discard_module};
 use wast_resolve::{Names, discard_names};
 use wast_tree::{Error, Fault, Gensym, Id, Index, MemArgOrdering, Ordering};
 
-/// A number before the place that is to be told, and from there on an id that denotes nothing.
+/// Returns a number before the position that is reported, and an unknown id from there on.
 fn index<'a>(number: u32, place: usize, told: usize) -> Index<'a> {
     if place < told {
         return Index::Num(number, at(place));
@@ -18,7 +18,8 @@ fn index<'a>(number: u32, place: usize, told: usize) -> Index<'a> {
     Index::Id(Id::new("x", at(place)))
 }
 
-/// A function of the instruction, which names ids from that place on, and the numbers of the places before it.
+/// Returns a function with the instruction. It has unknown ids from that position on, and numbers
+/// before.
 fn module_from<'a>(
     rt: &impl Abort,
     alloc: Global,
@@ -34,7 +35,7 @@ fn module_from<'a>(
     of_instruction(alloc, instruction(rt, alloc, uncovered, named))
 }
 
-/// Why resolving was refused, if it was.
+/// Returns the error of resolving, if there is one.
 fn refusal<'a>(answer: Result<Names<'a>, Error<'a>>) -> Option<Error<'a>> {
     match answer {
         Ok(names) => {
@@ -45,7 +46,7 @@ fn refusal<'a>(answer: Result<Names<'a>, Error<'a>>) -> Option<Error<'a>> {
     }
 }
 
-/// What the instruction names is looked up in these spaces, at these places.
+/// Checks that the indices of the instruction are resolved in these namespaces, in this order.
 fn are_asked(
     rt: &impl Abort,
     alloc: Global,
@@ -74,7 +75,7 @@ fn are_asked(
 }
 
 #[test]
-fn indices_of_uncovered_forms_are_looked_up(rt: HostRuntime) {
+fn indices_in_unsupported_instructions_are_resolved(rt: HostRuntime) {
     let op = MemArgOrdering::Op(Ordering::SeqCst);
     let rows: [(Uncovered, &[(&'static str, usize)]); 23] = [
         (Uncovered::Discard, &[("memory", 1)]),

@@ -1,4 +1,4 @@
-//! Fields of modules that hold one form.
+//! Fields of modules with one construct.
 
 use crate::made::{at, module};
 use std::alloc::Global;
@@ -9,7 +9,7 @@ use wast_tree::{
     TableKind, TableType, TreeBuilder, TypeUse, ValType,
 };
 
-/// The number 0 as an index.
+/// Returns the number 0 as an index.
 pub(crate) fn zero<'a>() -> Index<'a> {
     Index::Num(0, at(0))
 }
@@ -96,7 +96,7 @@ pub(crate) fn table<'a>(alloc: Global, kind: TableKind<'a>) -> ModuleField<'a> {
     })
 }
 
-/// A module of one field.
+/// Returns a module with one field.
 pub(crate) fn module_of<'a>(
     alloc: Global,
     maker: TreeBuilder,
@@ -121,7 +121,7 @@ pub(crate) fn body_of<'a>(
     module_of(alloc, maker, field)
 }
 
-/// The same, of one instruction.
+/// The same with one instruction.
 pub(crate) fn of_instruction<'a>(
     alloc: Global,
     instruction: Instruction<'a>,

@@ -1,7 +1,9 @@
-//! What the calls over a module do where their memory is refused, over each worked row that is well formed. With ample memory
-//! these tests only show that the calls answer: the script `tools/refused-memory` runs each of them with each request in turn
-//! refused that the call makes, in each row at once. It knows the call by a request for `BEGIN` bytes that stands before it
-//! and one for `END` bytes behind it.
+//! What the calls on a module do if an allocation fails, for each well-formed row.
+//!
+//! With enough memory these tests only show that the calls succeed. The script
+//! `tools/refused-memory` runs each of them, and lets each allocation of the call fail in turn, in
+//! each row at once. It finds the call by a request for `BEGIN` bytes before it and one for `END`
+//! bytes after it.
 
 ghost use Rattle.wast_core.specs.Modules.{IsReady};
 
@@ -13,10 +15,10 @@ use wast_expand::{deinline, types};
 use wast_resolve::{discard_names, names};
 use wast_tree::{Error, Fault, Gensym, ModuleField, Seq};
 
-/// From here on requests are counted.
+/// Requests are counted from here on.
 const BEGIN: usize = 40009;
 
-/// From here on none is refused.
+/// No request fails from here on.
 const END: usize = 40013;
 
 fn mark(rt: &impl Abort, alloc: Global, bytes: usize) {
@@ -24,7 +26,7 @@ fn mark(rt: &impl Abort, alloc: Global, bytes: usize) {
     assert!(rt; room.is_empty());
 }
 
-/// Whether the answer is that memory was refused.
+/// Returns whether the result is E12.
 fn is_refused<T>(answer: &Result<T, Error<'_>>) -> bool {
     match answer {
         Ok(_) => false,
@@ -32,12 +34,12 @@ fn is_refused<T>(answer: &Result<T, Error<'_>>) -> bool {
     }
 }
 
-/// The number is that of a worked row that is well formed.
+/// Returns whether the number is that of a well-formed row.
 pub(crate) fn is_row(n: u32) -> bool {
     n != 20 && (n < 58 || n > 64)
 }
 
-/// What encoding the row answers.
+/// Returns the result of encoding the row.
 fn answer_of<'a>(rt: &impl Abort, alloc: Global, n: u32) -> Result<Vec<u8>, Error<'a>> {
     let mut module = row(rt, alloc, n);
     let answer = EncodeOptions::new().encode_module(alloc, &mut module, &mut Gensym::new(1));
@@ -45,7 +47,7 @@ fn answer_of<'a>(rt: &impl Abort, alloc: Global, n: u32) -> Result<Vec<u8>, Erro
     answer
 }
 
-/// The answer is that of encoding the row.
+/// Checks that the result is that of encoding the row.
 pub(crate) fn is_of_row(
     rt: &impl Abort,
     alloc: Global,
@@ -70,7 +72,7 @@ enum Pass {
     Names,
 }
 
-/// What the pass makes of the fields.
+/// Returns the fields after the pass.
 fn passed<'a>(
     alloc: Global,
     pass: Pass,
@@ -87,7 +89,7 @@ fn passed<'a>(
     }
 }
 
-/// The fields of the row, as the pass takes them.
+/// Returns the fields of the row, as the pass takes them.
 fn fields_for<'a>(
     rt: &impl Abort,
     alloc: Global,
@@ -111,7 +113,7 @@ fn fields_for<'a>(
     fields
 }
 
-/// What encoding the fields answers.
+/// Returns the result of encoding the fields.
 fn encoded<'a>(
     rt: &impl Abort,
     alloc: Global,
@@ -126,7 +128,8 @@ fn encoded<'a>(
     answer
 }
 
-/// The pass over the fields of the row answers as with ample memory, or that memory was refused, and then as with ample memory.
+/// Checks that the pass on the fields of the row returns what it does with enough memory. It may
+/// return E12 first, and then the same.
 fn bears(rt: &impl Abort, alloc: Global, pass: Pass, n: u32) {
     for begin in [BEGIN, END] {
         let mut gensym = Gensym::new(1);
@@ -154,21 +157,21 @@ fn each_row_bears(rt: &impl Abort, alloc: Global, pass: Pass) {
 }
 
 #[test]
-fn writing_out_bears_refusals(rt: HostRuntime) {
+fn desugaring_survives_failed_allocations(rt: HostRuntime) {
     each_row_bears(&rt, rt.alloc(), Pass::Deinline);
 }
 
 #[test]
-fn binding_types_bears_refusals(rt: HostRuntime) {
+fn type_use_resolution_survives_failed_allocations(rt: HostRuntime) {
     each_row_bears(&rt, rt.alloc(), Pass::Expand);
 }
 
 #[test]
-fn numbering_bears_refusals(rt: HostRuntime) {
+fn index_resolution_survives_failed_allocations(rt: HostRuntime) {
     each_row_bears(&rt, rt.alloc(), Pass::Names);
 }
 
-/// Why resolving the module was refused, if it was.
+/// Returns the error of resolving the module, if there is one.
 fn refusal<'a>(
     rt: &impl Abort,
     alloc: Global,
@@ -191,9 +194,9 @@ fn refusal<'a>(
     }
 }
 
-// What is refused is kept, and answered again, by resolving and by encoding.
+// An error is kept, and returned again, by resolving and by encoding.
 #[test]
-fn resolving_keeps_a_refusal(rt: HostRuntime) {
+fn resolving_error_is_sticky(rt: HostRuntime) {
     let alloc = rt.alloc();
     for n in 1..66 {
         for begin in [BEGIN, END] {
@@ -220,9 +223,10 @@ fn resolving_keeps_a_refusal(rt: HostRuntime) {
     }
 }
 
-// Where the resolving inside was refused, that is kept; where the encoding itself was, the next call gives the bytes.
+// An error of the resolving step is kept. If the encoding step failed, the next call returns the
+// bytes.
 #[test]
-fn encoding_keeps_no_refusal_of_its_own(rt: HostRuntime) {
+fn encoding_out_of_memory_is_not_sticky(rt: HostRuntime) {
     let alloc = rt.alloc();
     for n in 1..66 {
         for begin in [BEGIN, END] {

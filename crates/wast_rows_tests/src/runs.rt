@@ -1,4 +1,5 @@
-//! Runs over rows that are no worked ones. What is told of the worked rows stands beside the program `wastrow`.
+//! Runs with the test's own rows. The lines of the example modules are stored with the program
+//! `wastrow`.
 
 use crate::made::{at, module};
 use crate::parts::{of_instruction, zero};
@@ -11,7 +12,7 @@ use wast_tree::{
     TreeBuilder, Type, TypeDef,
 };
 
-// A module of one type that bears a generated id.
+// A module with one type, which has a generated id.
 fn generated_module<'a>(alloc: Global) -> Result<Module<'a>, Error<'a>> {
     let id = Gensym::new(1).generate(at(14))?;
     let mut maker = TreeBuilder::new(alloc);
@@ -25,7 +26,7 @@ fn generated_module<'a>(alloc: Global) -> Result<Module<'a>, Error<'a>> {
     }
 }
 
-// A module of a load whose alignment is no power of two.
+// A module with a load whose alignment is not a power of two.
 fn unaligned_module<'a>(alloc: Global) -> Result<Module<'a>, Error<'a>> {
     let arg = MemArg {
         align: 3,
@@ -36,7 +37,7 @@ fn unaligned_module<'a>(alloc: Global) -> Result<Module<'a>, Error<'a>> {
     of_instruction(alloc, Instruction::Mem(MemOp::i32_load, arg))
 }
 
-// Rows that are no worked ones.
+// Rows that are not example modules.
 fn odd_row<'a>(alloc: Global, n: u32) -> Option<Result<Module<'a>, Error<'a>>> {
     match n {
         0 => Some(Err(Error::refusal(Fault::Component))),
@@ -49,7 +50,7 @@ fn odd_row<'a>(alloc: Global, n: u32) -> Option<Result<Module<'a>, Error<'a>>> {
 }
 
 #[test]
-fn handed_in_rows_have_their_lines(rt: HostRuntime) -> Result<(), Fail> {
+fn run_prints_lines_of_custom_rows(rt: HostRuntime) -> Result<(), Fail> {
     let refused = "refused: components are not encoded\n";
     let ill_and_refused =
         "ill formed: 1\nill formed\nrefused: components are not encoded\nno row\n";
@@ -69,7 +70,7 @@ fn handed_in_rows_have_their_lines(rt: HostRuntime) -> Result<(), Fail> {
 }
 
 #[test]
-fn errors_have_their_texts(rt: HostRuntime) -> Result<(), Fail> {
+fn run_errors_have_texts(rt: HostRuntime) -> Result<(), Fail> {
     for (error, want) in [
         (RunError::Read, "the input could not be read"),
         (RunError::Write, "the output could not be written"),

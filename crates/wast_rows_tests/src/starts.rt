@@ -1,4 +1,4 @@
-//! A start field of a caller's own, put behind the fields of row 27.
+//! A start field that is added to row 27.
 
 use crate::made::{at, has_bytes, row};
 use crate::names::by_id;
@@ -13,7 +13,7 @@ const BYTES_OF_27: &str =
     "0061736d0100000001040160000003020100070501016100000a0601040010000b0011046e616d65010401000166040401000174";
 
 #[test]
-fn a_start_field_is_put_behind_the_fields(rt: HostRuntime) {
+fn start_field_is_appended(rt: HostRuntime) {
     let alloc = rt.alloc();
     let mut module = row(&rt, alloc, 27);
     assert!(rt; matches!(&module.kind, ModuleKind::Text(_)));
@@ -25,9 +25,9 @@ fn a_start_field_is_put_behind_the_fields(rt: HostRuntime) {
     discard_module(module);
 }
 
-// The name denotes no function: the module is resolved, and no field is added.
+// The name is that of no function: the module is resolved, and no field is added.
 #[test]
-fn an_unknown_start_is_not_added(rt: HostRuntime) {
+fn unknown_start_function_is_rejected(rt: HostRuntime) {
     let alloc = rt.alloc();
     let mut module = row(&rt, alloc, 27);
     assert!(rt; matches!(&module.kind, ModuleKind::Text(_)));

@@ -1,4 +1,5 @@
-//! Runs from input that is interrupted, fails or never ends, and to output that fails or takes no byte, at each of its calls.
+//! Runs on input that is interrupted, fails or never ends, and on output that fails or takes no
+//! byte, at each call.
 
 use std::alloc::Global;
 use std::io;
@@ -6,20 +7,20 @@ use std::io::{ErrorKind, Read, Write};
 use std::process::Abort;
 use wast_rows::{RunError, run, sample};
 
-/// What the program `wastrow` is run on.
+/// The input of the run.
 const INPUT: &[u8] = b"1\n27\n12\nx\n";
 
-/// What it then writes.
+/// The output of the run.
 const OUTPUT: &[u8] =
     b"0061736d01000000\n0061736d0100000001040160000003020100070501016100000a0601040010000b0011046e616d65010401000166040401000174\nfault at 16: import after function\nno row\n";
 
-/// Where each line ends in the input, and its answer in the output.
+/// The end of each line of the input, and of its line in the output.
 const ENDS: [(usize, usize); 4] = [(2, 17), (5, 122), (8, 157), (10, 164)];
 
 /// More calls than a run makes on these streams.
 const MOST: usize = 1000;
 
-/// What a call does in place of what it is to do.
+/// How a call fails.
 #[derive(Clone, Copy)]
 enum Failing {
     Read(ErrorKind),
@@ -29,7 +30,7 @@ enum Failing {
     Flush(ErrorKind),
 }
 
-/// Gives and takes so many bytes a call at most, and fails once, after so many calls of one kind.
+/// A stream with at most so many bytes a call. It fails once, after so many calls of one kind.
 #[derive(Drop)]
 struct Stream<'a> {
     input: &'a [u8],
@@ -41,7 +42,7 @@ struct Stream<'a> {
 }
 
 impl Stream<'_> {
-    /// Whether this call is the one that fails.
+    /// Returns whether this call is the one that fails.
     fn is_failing(&mut self) -> bool {
         let is_failing = self.calls == self.fails_at;
         self.calls = self.calls.saturating_add(1);
@@ -85,7 +86,7 @@ impl Write for Stream<'_> {
     }
 }
 
-/// How much is written where so much of the input was read: the answers to its whole lines.
+/// Returns how much is written after so much of the input: the lines for its whole lines.
 fn answered(read: usize) -> usize {
     let mut written = 0;
     for (end, behind) in &ENDS {
@@ -96,7 +97,7 @@ fn answered(read: usize) -> usize {
     written
 }
 
-/// How much is written where a flush fails, after so many others: the answers up to this one.
+/// Returns how much is written if a flush fails after so many others: the lines up to this one.
 fn flushed(others: usize) -> usize {
     let mut written = 0;
     for (i, end) in ENDS.iter().enumerate() {
@@ -107,7 +108,7 @@ fn flushed(others: usize) -> usize {
     written
 }
 
-/// The call of this number fails, if it is made, which is told: what was written is what it is to be.
+/// Checks a run in which the call with this number fails. Returns whether the call was made.
 fn is_told(
     rt: &impl Abort,
     alloc: Global,
@@ -147,7 +148,7 @@ fn is_told(
     is_made
 }
 
-/// Each call of the kind fails in turn, up to a run that makes no more of them.
+/// Lets each call of the kind fail in turn, until a run makes no more of them.
 fn fail_in_turn(rt: &impl Abort, alloc: Global, failing: Failing, piece: usize) {
     for fails_at in 0..MOST {
         if !is_told(rt, alloc, failing, piece, fails_at) {
@@ -159,7 +160,7 @@ fn fail_in_turn(rt: &impl Abort, alloc: Global, failing: Failing, piece: usize) 
 }
 
 #[test]
-fn each_call_on_a_stream_fails_once(rt: HostRuntime) {
+fn run_reports_failure_of_each_stream_call(rt: HostRuntime) {
     for failing in [
         Failing::Read(ErrorKind::Other),
         Failing::Read(ErrorKind::Interrupted),
@@ -174,7 +175,7 @@ fn each_call_on_a_stream_fails_once(rt: HostRuntime) {
     }
 }
 
-/// Is interrupted at each call, so many times, and then at its end.
+/// A reader that is interrupted at each call, so many times, and then at its end.
 #[derive(Drop)]
 struct Interrupted {
     times: u32,
@@ -192,7 +193,7 @@ impl Read for Interrupted {
 }
 
 #[test]
-fn a_million_reads_are_made_and_no_more(rt: HostRuntime) {
+fn run_stops_after_a_million_reads(rt: HostRuntime) {
     let alloc = rt.alloc();
     for (times, want) in [
         (999_999, Ok(())),

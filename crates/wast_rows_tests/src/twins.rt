@@ -1,4 +1,5 @@
-//! The twin of each well formed row has the same answer, names aside; and encoding again changes no answer.
+//! The twin of each well-formed row has the same result, except for names. Encoding again returns
+//! the same.
 
 ghost use Rattle.std.specs.Prelude.{◌≡◌, IsTrue};
 ghost use Rattle.wast_core.specs.Modules.{is_well_formed, generation_bound};
@@ -11,7 +12,7 @@ use wast_core::{EncodeOptions, Module, discard_module};
 use wast_rows::twin;
 use wast_tree::{Error, Gensym};
 
-/// The twin of a row.
+/// Returns the twin of a row.
 fn twin_of<'a>(rt: &impl Abort, alloc: Global, n: u32) -> Module<'a>
     ensures well_formed { IsTrue (is_well_formed result) }
     ensures bound { generation_bound result ≡ 0 }
@@ -20,7 +21,7 @@ fn twin_of<'a>(rt: &impl Abort, alloc: Global, n: u32) -> Module<'a>
     ready(rt, made.expect(rt, "memory"))
 }
 
-/// What encoding the module answers, the second time too.
+/// Returns the result of encoding the module, and checks that the second call returns the same.
 fn encoded_twice<'a>(
     rt: &impl Abort,
     alloc: Global,
@@ -41,8 +42,8 @@ fn encoded_twice<'a>(
     first
 }
 
-/// The bytes before the last section that is called `name`, and all of them where there is none. In rows such a section is
-/// shorter than 128 bytes.
+/// Returns the bytes before the last section called `name`, and all of them if there is none. In
+/// rows such a section is shorter than 128 bytes.
 fn before_names(mut bytes: Vec<u8>) -> Vec<u8> {
     let mut end = bytes.len();
     for i in 0..bytes.len() {
@@ -54,7 +55,7 @@ fn before_names(mut bytes: Vec<u8>) -> Vec<u8> {
     bytes
 }
 
-/// The twin of the row has the same fault, or the same bytes before the names.
+/// Checks that the twin of the row has the same error, or the same bytes before the name section.
 fn has_a_twin(rt: &impl Abort, alloc: Global, n: u32) {
     let plain = encoded_twice(rt, alloc, row(rt, alloc, n));
     let twin = encoded_twice(rt, alloc, twin_of(rt, alloc, n));
@@ -72,7 +73,7 @@ fn has_a_twin(rt: &impl Abort, alloc: Global, n: u32) {
 }
 
 #[test]
-fn twins_answer_alike(rt: HostRuntime) {
+fn renaming_ids_keeps_result(rt: HostRuntime) {
     let alloc = rt.alloc();
     for n in 1..66 {
         if is_row(n) {
@@ -81,19 +82,19 @@ fn twins_answer_alike(rt: HostRuntime) {
     }
 }
 
-// Names are renamed: the name section of row 27 tells the longer ones.
+// Names are renamed: the name section of row 27 has the longer ones.
 #[test]
-fn a_twin_has_longer_names(rt: HostRuntime) {
+fn twin_has_longer_names(rt: HostRuntime) {
     let alloc = rt.alloc();
     let plain = encoded_twice(&rt, alloc, row(&rt, alloc, 27)).expect(&rt, "bytes");
     let twin = encoded_twice(&rt, alloc, twin_of(&rt, alloc, 27)).expect(&rt, "bytes");
     assert!(rt; plain.len() == 52 && twin.len() == 54);
 }
 
-/// What stands before the text of a written id in the `Debug` form of a module.
+/// The text before the name of a source id in the `Debug` form of a module.
 const WRITTEN: &[u8] = b"Written(\"";
 
-/// The text with an `r` before the text of each written id.
+/// Returns the text with an `r` before the name of each source id.
 fn with_longer_ids(rt: &impl Abort, alloc: Global, text: &[u8]) -> Vec<u8> {
     let mut longer = Vec::new(alloc);
     for i in 0..text.len() {
@@ -105,16 +106,16 @@ fn with_longer_ids(rt: &impl Abort, alloc: Global, text: &[u8]) -> Vec<u8> {
     longer
 }
 
-/// The `Debug` form of a module.
+/// Returns the `Debug` form of a module.
 fn printed(rt: &impl Abort, alloc: Global, module: Module<'_>) -> String {
     let text = format!(in alloc; "{module:?}").expect(rt, "memory");
     discard_module(module);
     text
 }
 
-// No contract says so: a twin that is the sample itself would meet that of `twin`.
+// No contract states this: a twin that is the sample itself would satisfy the contract of `twin`.
 #[test]
-fn twins_have_an_r_before_each_id_and_differ_in_nothing_else(rt: HostRuntime) {
+fn twin_differs_only_in_id_names(rt: HostRuntime) {
     let alloc = rt.alloc();
     for n in 1..66 {
         if is_row(n) {

@@ -1,4 +1,4 @@
-//! Modules that each hold one instruction that no encoder covers.
+//! Modules with one unsupported instruction each.
 
 use crate::made::at;
 use crate::parts::{block, elem, elements, func, global, module_of, table, table_type};
@@ -13,7 +13,7 @@ use wast_tree::{
     Switch, TableArg, TableKind, TreeBuilder, TypeUse, ValType,
 };
 
-/// An instruction that no encoder covers.
+/// An unsupported instruction.
 #[derive(Clone, Copy)]
 pub(crate) enum Uncovered {
     /// `i64.add128`
@@ -68,7 +68,7 @@ pub(crate) enum Uncovered {
     Null(HeapType<'static>),
 }
 
-/// Where an instruction stands.
+/// A position of an instruction.
 #[derive(Clone, Copy)]
 pub(crate) enum Spot {
     /// `(func ..)`
@@ -99,10 +99,10 @@ fn lane_of<'a>(memarg: MemArg<'a>) -> Instruction<'a> {
     Instruction::MemLane(MemLaneOp::v128_load8_lane, LoadOrStoreLane { memarg, lane })
 }
 
-/// The indices that an instruction names, in the order in which they are looked up.
+/// The indices of an instruction, in the order in which they are resolved.
 pub(crate) type Named<'a> = [Index<'a>; 4];
 
-/// A reference to the type at an index.
+/// Returns a reference to the type at an index.
 fn to<'a>(index: Index<'a>) -> RefType<'a> {
     RefType {
         nullable: true,
@@ -110,7 +110,7 @@ fn to<'a>(index: Index<'a>) -> RefType<'a> {
     }
 }
 
-/// An instruction with a memory argument, a fence, or a null reference.
+/// Returns an instruction with a memory argument, a fence, or a null reference.
 fn with_immediate<'a>(uncovered: Uncovered, named: Named<'a>) -> Instruction<'a> {
     let memory = MemArgTarget::Memory(named[0]);
     let array = MemArgTarget::Array(named[0]);
@@ -128,7 +128,7 @@ fn with_immediate<'a>(uncovered: Uncovered, named: Named<'a>) -> Instruction<'a>
     }
 }
 
-/// An instruction on descriptors, or one of those above.
+/// Returns an instruction on descriptors, or one of those above.
 fn on_descriptors<'a>(
     rt: &impl Abort,
     alloc: Global,
@@ -160,7 +160,7 @@ fn on_descriptors<'a>(
     }
 }
 
-/// A handler that goes to a label, and one that switches.
+/// Returns a handler with a label, and one that switches.
 fn handlers<'a>(
     rt: &impl Abort,
     alloc: Global,
@@ -176,7 +176,7 @@ fn handlers<'a>(
     }
 }
 
-/// An instruction on continuations, or one of those above.
+/// Returns an instruction on continuations, or one of those above.
 fn on_continuations<'a>(
     rt: &impl Abort,
     alloc: Global,
@@ -214,7 +214,7 @@ fn on_continuations<'a>(
     }
 }
 
-/// The instruction, with these indices.
+/// Returns the instruction with these indices.
 pub(crate) fn instruction<'a>(
     rt: &impl Abort,
     alloc: Global,
@@ -245,7 +245,7 @@ pub(crate) fn instruction<'a>(
     }
 }
 
-/// `(func ..)` of a body, in a block where it is to stand in one.
+/// Returns `(func ..)` with a body, in a block if the position is in one.
 fn func_of<'a>(
     alloc: Global,
     maker: &mut TreeBuilder,
@@ -263,7 +263,7 @@ fn func_of<'a>(
     func(alloc, TypeUse::none(), Seq::new(alloc), instrs)
 }
 
-/// The field of an instruction.
+/// Returns the field with an instruction.
 fn field_of<'a>(
     alloc: Global,
     maker: &mut TreeBuilder,
@@ -297,7 +297,7 @@ fn field_of<'a>(
     }
 }
 
-/// A module that holds an instruction alone, with each index 0.
+/// Returns a module with this instruction alone, and each index 0.
 pub(crate) fn with_instruction<'a>(
     rt: &impl Abort,
     alloc: Global,

@@ -1,4 +1,4 @@
--- What the definitions say of worked modules, computed.
+-- Proves the examples of specs/Private by computing them.
 use Rattle.std.proofs.Common.{refl}
 use Rattle.wast_base.specs.Blocks.{stays_open}
 use Rattle.wast_tree.specs.Private.Instructions.{InstructionsAsk}

@@ -1,3 +1,3 @@
--- What only contracts of private functions cite: a caller needs none of it.
+-- Definitions that only contracts of private functions name. Callers need none of them.
 pub mod Examples
 pub mod Instructions

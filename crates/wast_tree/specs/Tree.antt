@@ -1,4 +1,4 @@
--- The types of the tree under one roof, as in wast_tree_nodes: each type by its name, the variants of an enum behind a word.
+-- Short names of the AST types, as in wast_tree_nodes, so that definitions can match on them.
 pub use Rattle.wast_base.specs.declared.ids.Id.{Id}
 pub use Rattle.wast_base.specs.declared.ids.Index.{Index}
 pub use Rattle.wast_base.specs.declared.ids.Index.TheVariants as index

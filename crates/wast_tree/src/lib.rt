@@ -1,7 +1,40 @@
-//! The tree of a WebAssembly module in the text format: the fields of a module, as a parser makes them, and what can be told
-//! of them without changing them.
+//! The AST of a WebAssembly module in the text format, and the checks and visitors that read it.
 //!
-//! A call takes memory only where its text says so. A call that can fail says when, and with what.
+//! Build a module with these types and a [`TreeBuilder`], or parse one with `wat_text`. Then
+//! `wast_core` resolves and encodes it. The types have the names of those in the crate `wast`.
+//!
+//! # Example
+//!
+//! The fields of `(module (type $reader (func (param i32 i32) (result i32))) ..)`:
+//!
+//!     let (mut make, mut fields) = (TreeBuilder::new(alloc), Seq::new(alloc));
+//!     let ty = make.function_type(&[(None, None, I32); 2], &[I32]);
+//!     let ty = Type::new(at(11), id("reader", 16), TypeDef::func(alloc, ty));
+//!     make.push_field(&mut fields, ModuleField::Ty(ty));
+//!
+//! Before resolving, check the fields:
+//!
+//!     assert!(rt; wast_tree::well_formed(fields.as_slice()));
+//!     assert!(rt; wast_tree::gensym_bound(fields.as_slice()) == 0);
+//!
+//! # Modules
+//!
+//! This crate re-exports four others. They are separate, because the checker proves a whole crate
+//! again after a change:
+//!
+//! - `wast_base`: ids, indices, errors, the id counter, names of instructions, lists and boxes.
+//! - `wast_tree_nodes`: the AST types, their constructors, and calls that move and drop parts.
+//! - `wast_tree_build`: `TreeBuilder`.
+//! - `wast_tree_visit`: `well_formed`, `uncovered`, `gensym_bound`, and visitors.
+//!
+//! # Guarantees
+//!
+//! - The contract of a constructor is the value that it returns, field by field.
+//! - `well_formed`, `uncovered`, `is_written_out` and `gensym_bound` return exactly the tests and
+//!   numbers of the definitions `is_well_formed`, `uncovered_forms`, `is_written_out` and
+//!   `greatest_generation`.
+//! - A call allocates only if its comment, or that of its type, has `# Memory`, or if it can fail
+//!   with E12 or `AllocError`.
 #![tactic(auto)]
 
 pub use wast_base::{

@@ -1,23 +1,29 @@
--- What a maker of lists does. A `TreeBuilder` is seen as whether it was refused memory.
+-- The results of the calls of a `TreeBuilder`, with and without a failed allocation.
+--
+-- The model of a builder is whether an allocation failed. The old and the new model are `old` and `new` below.
+--
+--   Makes false false P                       holds only if P does: nothing failed, so P was done
+--   Makes true false P                        never holds: a failure is kept
+--   MayPut true (1 ∷ []) (1 ∷ []) 2           holds: 2 was not appended, because an allocation failed
 use Rattle.std.specs.Prelude.{◌≡◌, ◌⊎◌, Bool, true, false, List, [], ◌∷◌, ◌++◌}
 use Rattle.wast_tree_build.specs.Tree.{BlockType, Instruction}
 use Rattle.wast_tree_build.specs.Tree.instr
 use Rattle.wast_tree_build.specs.declared.makers.BlockKind.{BlockKind}
 use Rattle.wast_tree_build.specs.declared.makers.BlockKind.TheVariants as made
 
--- A refusal is kept; where there is none, what was to be made is made.
+-- A failure is kept, and if there is none, the call made what it promises.
 abbrev pub Makes : Bool → Bool → Type 0 → Type 0
 Makes old new made = (old ≡ true → new ≡ true) × (new ≡ false → made)
 
--- At the end of a list stands what was to be put there; or memory was refused, and the list is what it was.
+-- The list has the new element at its end; or an allocation failed, and the list is unchanged.
 abbrev pub MayPut : {A : Type 0} → Bool → List A → List A → A → Type 0
 MayPut refused old new x = (new ≡ old ++ x ∷ []) ⊎ ((refused ≡ true) × (new ≡ old))
 
--- A list has these elements; or memory was refused, and it has none.
+-- The list has these elements; or an allocation failed, and it is empty.
 abbrev pub MayMake : {A : Type 0} → Bool → List A → List A → Type 0
 MayMake refused xs made = (made ≡ xs) ⊎ ((refused ≡ true) × (made ≡ []))
 
--- the opener of a block of a kind
+-- the instruction that opens a block of this kind
 abbrev pub opener : BlockKind → BlockType → Instruction
 opener made.Block b = instr.block b
 opener made.Loop b = instr.loop_ b

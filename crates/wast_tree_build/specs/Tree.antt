@@ -1,4 +1,4 @@
--- The types of the tree under one roof, as in wast_tree_nodes: each type by its name, the variants of an enum behind a word.
+-- Short names of the AST types, as in wast_tree_nodes, so that definitions can match on them.
 pub use Rattle.wast_tree_nodes.specs.declared.immediates.BlockType.{BlockType}
 pub use Rattle.wast_tree_nodes.specs.declared.instrs.Instruction.{Instruction}
 pub use Rattle.wast_tree_nodes.specs.declared.instrs.Instruction.TheVariants as instr

@@ -1,4 +1,4 @@
-//! A maker of the lists that a tree holds.
+//! `TreeBuilder`, which builds the lists of an AST.
 
 ghost use Rattle.std.specs.Prelude.{◌≡◌, [], ◌∷◌, ◌++◌, true, false, Some, IfOk, IfErr, IfSome};
 ghost use Rattle.wast_base.specs.Faults.{out_of_memory};
@@ -17,7 +17,11 @@ use wast_tree_nodes::{
     push_subsection, push_type,
 };
 
-/// The openers of blocks that hold no more than a label and a type (text format, control instructions).
+/// An instruction that opens a block and has only a block type (text format: control instructions).
+///
+/// # Example
+///
+///     make.push_block(&mut body, BlockKind::If, BlockType::empty());
 #[derive(Clone, Copy, Debug, PartialEq, Eq)]
 pub enum BlockKind {
     /// `block`
@@ -26,12 +30,12 @@ pub enum BlockKind {
     Loop,
     /// `if`
     If,
-    /// `try`, of exceptions as they were first proposed
+    /// `try` (legacy exceptions)
     Try,
 }
 
 impl BlockKind {
-    /// The opener of a block of this kind.
+    /// Makes the instruction that opens a block of this kind.
     fn opener<'a>(self, block: Boxed<BlockType<'a>>) -> Instruction<'a>
         ensures { result ≡ opener self block.entry }
     {
@@ -44,12 +48,31 @@ impl BlockKind {
     }
 }
 
-/// Makes the lists of a tree, element after element, and keeps a refusal of memory until [`TreeBuilder::finish`] tells it: so
-/// code that makes a tree has no error to pass on, and nothing to drop.
+/// Builds the lists of an AST, and keeps a failed allocation until [`TreeBuilder::finish`].
 ///
-/// Contracts see whether memory was refused. Each call but [`TreeBuilder::new`], [`TreeBuilder::is_refused`] and [`TreeBuilder::finish`] may
-/// take memory for the list that it makes. Where that is refused, a list that was to be added to stays as it was, one that was
-/// to be made is empty, and `finish` answers E12.
+/// Code that builds a module has no error to pass on and nothing to drop, because only `finish`
+/// fails. After a failed allocation, a list that was to be extended is unchanged and a list that
+/// was to be made is empty. The model in contracts is whether an allocation failed.
+///
+/// # Example
+///
+///     let (mut make, mut fields) = (TreeBuilder::new(alloc), Seq::new(alloc));
+///     let ty = make.function_type(&[(None, None, I32); 2], &[I32]);
+///     let ty = Type::new(at(11), id("reader", 16), TypeDef::func(alloc, ty));
+///     make.push_field(&mut fields, ModuleField::Ty(ty));
+///
+/// # Guarantees
+///
+/// All calls that build state the same clauses:
+///
+/// - `made`: a failure is kept, and if there was none, the call did exactly what it promises.
+/// - `empty_on_failure`: a list has the elements, or an allocation failed and it is empty
+///   (unchanged, if it was to be extended).
+///
+/// # Memory
+///
+/// All calls except [`TreeBuilder::new`], [`TreeBuilder::is_refused`] and [`TreeBuilder::finish`]
+/// may allocate what they build.
 #[derive(Drop)]
 pub struct TreeBuilder {
     alloc: Global,
@@ -68,7 +91,7 @@ impl Model for TreeBuilder {
 }
 
 impl TreeBuilder {
-    /// A maker that was refused nothing yet. It takes no memory; `alloc` is what the other calls will ask.
+    /// Makes a builder. Other calls allocate from `alloc`.
     pub fn new(alloc: Global) -> TreeBuilder
         ensures { result ≡ false }
     {
@@ -78,14 +101,23 @@ impl TreeBuilder {
         }
     }
 
-    /// Whether memory was refused.
+    /// Returns whether an allocation failed.
+    ///
+    /// # Example
+    ///
+    ///     maker.push_data(&mut pieces, DataVal::String(b"ab"));
+    ///     assert!(rt; !maker.is_refused());
     pub fn is_refused(&self) -> bool
         ensures { result ≡ self.now }
     {
         self.refused
     }
 
-    /// Puts a field at the end of a list (text format, modules).
+    /// Appends a field to a list (text format: modules).
+    ///
+    /// # Example
+    ///
+    ///     make.push_field(&mut fields, ModuleField::Start(index(start, 504)));
     pub fn push_field<'a>(&mut self, fields: &mut Seq<ModuleField<'a>>, field: ModuleField<'a>)
         ensures made { Makes self.old self.new (fields.new ≡ fields.old ++ field.entry ∷ []) }
         ensures empty_on_failure { MayPut self.new fields.old fields.new field.entry }
@@ -95,7 +127,13 @@ impl TreeBuilder {
         }
     }
 
-    /// Puts an instruction at the end of a list (text format, expressions).
+    /// Appends an instruction to a list (text format: expressions).
+    ///
+    /// # Example
+    ///
+    ///     make.push_instruction(&mut body, local_get(index("base", 412)));
+    ///     make.push_instruction(&mut body, local_get(index("index", 428)));
+    ///     make.push_instruction(&mut body, Plain(Bare::I32(I32Op::i32_add)));
     pub fn push_instruction<'a>(
         &mut self,
         instrs: &mut Seq<Instruction<'a>>,
@@ -109,7 +147,7 @@ impl TreeBuilder {
         }
     }
 
-    /// A value in memory of its own, or `None` where that is refused.
+    /// Moves a value into a new box, or returns `None` if the allocation failed.
     fn boxed<T: Drop>(&mut self, value: T) -> Option<Boxed<T>>
         ensures made { Makes self.old self.new (result ≡ Some value) }
         ensures value { IfSome result (λ b. b ≡ value) }
@@ -123,7 +161,10 @@ impl TreeBuilder {
         }
     }
 
-    /// `call_indirect $t (type $f)`, or `unreachable` where memory is refused (text format, control instructions).
+    /// Makes `call_indirect $t (type $f)`, or `unreachable` if the allocation failed.
+    ///
+    /// The calls for `return_call_indirect`, `br_on_cast` and so on are alike. They box their
+    /// immediates, because an [`Instruction`] has a fixed size.
     pub fn call_indirect<'a>(&mut self, arg: CallIndirect<'a>) -> Instruction<'a>
         ensures made { Makes self.old self.new (result ≡ instr.call_indirect arg.entry) }
     {
@@ -133,7 +174,7 @@ impl TreeBuilder {
         }
     }
 
-    /// `return_call_indirect $t (type $f)`, or `unreachable` where memory is refused (text format, control instructions).
+    /// Makes `return_call_indirect $t (type $f)`, or `unreachable` if the allocation failed.
     pub fn return_call_indirect<'a>(&mut self, arg: CallIndirect<'a>) -> Instruction<'a>
         ensures made { Makes self.old self.new (result ≡ instr.return_call_indirect arg.entry) }
     {
@@ -143,7 +184,7 @@ impl TreeBuilder {
         }
     }
 
-    /// `br_on_cast $l anyref (ref $t)`, or `unreachable` where memory is refused (text format, control instructions).
+    /// Makes `br_on_cast $l anyref (ref $t)`, or `unreachable` if the allocation failed.
     pub fn br_on_cast<'a>(&mut self, arg: BrOnCast<'a>) -> Instruction<'a>
         ensures made { Makes self.old self.new (result ≡ instr.br_on_cast arg.entry) }
     {
@@ -153,7 +194,7 @@ impl TreeBuilder {
         }
     }
 
-    /// `br_on_cast_fail $l anyref (ref $t)`, or `unreachable` where memory is refused (text format, control instructions).
+    /// Makes `br_on_cast_fail $l anyref (ref $t)`, or `unreachable` if the allocation failed.
     pub fn br_on_cast_fail<'a>(&mut self, arg: BrOnCastFail<'a>) -> Instruction<'a>
         ensures made { Makes self.old self.new (result ≡ instr.br_on_cast_fail arg.entry) }
     {
@@ -163,7 +204,7 @@ impl TreeBuilder {
         }
     }
 
-    /// `br_on_cast_desc_eq $l anyref (ref $t)`, or `unreachable` where memory is refused (text format, control instructions).
+    /// Makes `br_on_cast_desc_eq $l anyref (ref $t)`, or `unreachable` if the allocation failed.
     pub fn br_on_cast_desc_eq<'a>(&mut self, arg: BrOnCastDescEq<'a>) -> Instruction<'a>
         ensures made { Makes self.old self.new (result ≡ instr.br_on_cast_desc_eq arg.entry) }
     {
@@ -173,7 +214,7 @@ impl TreeBuilder {
         }
     }
 
-    /// `br_on_cast_desc_eq_fail $l anyref (ref $t)`, or `unreachable` where memory is refused (text format, control instructions).
+    /// Makes `br_on_cast_desc_eq_fail $l anyref (ref $t)`; `unreachable` if the allocation failed.
     pub fn br_on_cast_desc_eq_fail<'a>(&mut self, arg: BrOnCastDescEqFail<'a>) -> Instruction<'a>
         ensures made { Makes self.old self.new (result ≡ instr.br_on_cast_desc_eq_fail arg.entry) }
     {
@@ -183,7 +224,7 @@ impl TreeBuilder {
         }
     }
 
-    /// `resume_throw $t $x (on $e $l)`, or `unreachable` where memory is refused (text format, control instructions).
+    /// Makes `resume_throw $t $x (on $e $l)`, or `unreachable` if the allocation failed.
     pub fn resume_throw<'a>(&mut self, arg: ResumeThrow<'a>) -> Instruction<'a>
         ensures made { Makes self.old self.new (result ≡ instr.resume_throw arg.entry) }
     {
@@ -193,7 +234,12 @@ impl TreeBuilder {
         }
     }
 
-    /// Puts the opener of a block at the end of a list (text format, control instructions).
+    /// Appends an instruction that opens a block to a list (text format: control instructions).
+    ///
+    /// # Example
+    ///
+    ///     let block = BlockType::new(Some(Id::new(name, at(24))), TypeUse::none());
+    ///     maker.push_block(&mut instrs, BlockKind::Block, block);
     pub fn push_block<'a>(
         &mut self,
         instrs: &mut Seq<Instruction<'a>>,
@@ -209,7 +255,13 @@ impl TreeBuilder {
         }
     }
 
-    /// Puts `try_table` at the end of a list (text format, control instructions).
+    /// Appends `try_table` to a list (text format: control instructions).
+    ///
+    /// # Example
+    ///
+    ///     let catches = maker.catches(&[clause]);
+    ///     let mut instrs = Seq::new(alloc);
+    ///     maker.push_try_table(&mut instrs, labelled(24), catches);
     pub fn push_try_table<'a>(
         &mut self,
         instrs: &mut Seq<Instruction<'a>>,
@@ -228,7 +280,7 @@ impl TreeBuilder {
         }
     }
 
-    /// The clauses of `try_table` (text format, control instructions).
+    /// Makes the list of the catch clauses of `try_table`.
     pub fn catches<'a>(&mut self, catches: &[TryTableCatch<'a>]) -> Seq<TryTableCatch<'a>>
         ensures made { Makes self.old self.new (result ≡ catches.now) }
         ensures empty_on_failure { MayMake self.new catches.now result }
@@ -236,7 +288,12 @@ impl TreeBuilder {
         copied(self, catches)
     }
 
-    /// Puts a type at the end of those of a group (text format, recursive types).
+    /// Appends a type to those of a `rec` group (text format: recursive types).
+    ///
+    /// # Example
+    ///
+    ///     let mut types = Seq::new(alloc);
+    ///     maker.push_type(&mut types, Type::new(at(14), None, def));
     pub fn push_type<'a>(&mut self, types: &mut Seq<Type<'a>>, ty: Type<'a>)
         ensures made { Makes self.old self.new (types.new ≡ types.old ++ ty.entry ∷ []) }
         ensures empty_on_failure { MayPut self.new types.old types.new ty.entry }
@@ -246,7 +303,12 @@ impl TreeBuilder {
         }
     }
 
-    /// Puts an expression at the end of the elements of a segment (text format, element segments).
+    /// Appends an expression to the elements of a segment (text format: element segments).
+    ///
+    /// # Example
+    ///
+    ///     let mut exprs = Seq::new(alloc);
+    ///     maker.push_expression(&mut exprs, null);
     pub fn push_expression<'a>(
         &mut self,
         exprs: &mut Seq<Expression<'a>>,
@@ -260,7 +322,11 @@ impl TreeBuilder {
         }
     }
 
-    /// Puts a piece at the end of the bytes of a data segment (text format, data segments).
+    /// Appends a piece to the bytes of a data segment (text format: data segments).
+    ///
+    /// # Example
+    ///
+    ///     maker.push_data(&mut pieces, DataVal::String(b"ab"));
     pub fn push_data<'a>(&mut self, pieces: &mut Seq<DataVal<'a>>, piece: DataVal<'a>)
         ensures made { Makes self.old self.new (pieces.new ≡ pieces.old ++ piece.entry ∷ []) }
         ensures empty_on_failure { MayPut self.new pieces.old pieces.new piece.entry }
@@ -270,7 +336,11 @@ impl TreeBuilder {
         }
     }
 
-    /// An expression of one instruction, without branch hints (text format, expressions).
+    /// Makes an expression of one instruction, without branch hints (text format: expressions).
+    ///
+    /// # Example
+    ///
+    ///     let zero = make.one_instruction(i32_const(0));
     pub fn one_instruction<'a>(&mut self, instruction: Instruction<'a>) -> Expression<'a>
         ensures made { Makes self.old self.new (result ≡ record { instrs = instruction.entry ∷ []; branch_hints = [] }) }
         ensures empty_on_failure { MayPut self.new [] result.instrs instruction.entry }
@@ -281,7 +351,12 @@ impl TreeBuilder {
         Expression::new(self.alloc, instrs)
     }
 
-    /// Branch hints, each with the number of its instruction and its value (text format, custom annotations).
+    /// Makes a list of branch hints.
+    ///
+    /// # Example
+    ///
+    ///     let hints = maker.hints(hints);
+    ///     one(alloc, maker, ModuleField::Func(func.with_hints(hints)))
     pub fn hints(&mut self, hints: &[BranchHint]) -> Seq<BranchHint>
         ensures made { Makes self.old self.new (result ≡ hints.now) }
         ensures empty_on_failure { MayMake self.new hints.now result }
@@ -289,8 +364,18 @@ impl TreeBuilder {
         copied(self, hints)
     }
 
-    /// `(func (param ..) (result ..))`: the id, name annotation and type of each parameter, and the types of the results (text
-    /// format, composite types).
+    /// Makes a function type, from the id, name annotation and type of each parameter, and results.
+    ///
+    /// # Example
+    ///
+    /// `(func (param i32 i32) (result i32))`:
+    ///
+    ///     let ty = make.function_type(&[(None, None, I32); 2], &[I32]);
+    ///
+    /// # Guarantees
+    ///
+    /// `made`; `lacks_params`, `lacks_results`: after a failed allocation each of the two lists is
+    /// complete or empty.
     pub fn function_type<'a>(
         &mut self,
         params: &[(Option<Id<'a>>, Option<NameAnnotation<'a>>, ValType<'a>)],
@@ -304,7 +389,11 @@ impl TreeBuilder {
         FunctionType::new(params, self.values(results))
     }
 
-    /// Types of values, as the results of a function (text format, composite types).
+    /// Makes a list of value types, such as the results of a function.
+    ///
+    /// # Example
+    ///
+    ///     let results = maker.values(&[ty]);
     pub fn values<'a>(&mut self, values: &[ValType<'a>]) -> Seq<ValType<'a>>
         ensures made { Makes self.old self.new (result ≡ values.now) }
         ensures empty_on_failure { MayMake self.new values.now result }
@@ -312,7 +401,11 @@ impl TreeBuilder {
         copied(self, values)
     }
 
-    /// Parameters of a function: the id, name annotation and type of each (text format, composite types).
+    /// Makes a list of parameters, of the id, name annotation and type of each.
+    ///
+    /// # Example
+    ///
+    ///     let params = maker.params(&[(None, None, ty)]);
     pub fn params<'a>(
         &mut self,
         params: &[(Option<Id<'a>>, Option<NameAnnotation<'a>>, ValType<'a>)],
@@ -323,7 +416,11 @@ impl TreeBuilder {
         copied(self, params)
     }
 
-    /// Locals of a function (text format, functions).
+    /// Makes a list of locals.
+    ///
+    /// # Example
+    ///
+    ///     let locals = make.locals(&[Local::new(id("address", 342), I32)]);
     pub fn locals<'a>(&mut self, locals: &[Local<'a>]) -> Seq<Local<'a>>
         ensures made { Makes self.old self.new (result ≡ locals.now) }
         ensures empty_on_failure { MayMake self.new locals.now result }
@@ -331,7 +428,11 @@ impl TreeBuilder {
         copied(self, locals)
     }
 
-    /// Fields of a struct (text format, composite types).
+    /// Makes a list of struct fields.
+    ///
+    /// # Example
+    ///
+    ///     let fields = maker.struct_fields(fields);
     pub fn struct_fields<'a>(&mut self, fields: &[StructField<'a>]) -> Seq<StructField<'a>>
         ensures made { Makes self.old self.new (result ≡ fields.now) }
         ensures empty_on_failure { MayMake self.new fields.now result }
@@ -339,7 +440,7 @@ impl TreeBuilder {
         copied(self, fields)
     }
 
-    /// Indices, as the parents of a type or the functions of an element segment (text format, indices).
+    /// Makes a list of indices, such as the functions of an element segment.
     pub fn indices<'a>(&mut self, indices: &[Index<'a>]) -> Seq<Index<'a>>
         ensures made { Makes self.old self.new (result ≡ indices.now) }
         ensures empty_on_failure { MayMake self.new indices.now result }
@@ -347,7 +448,11 @@ impl TreeBuilder {
         copied(self, indices)
     }
 
-    /// Names, as those under which a field is exported in place (text format, exports).
+    /// Makes a list of names, such as those of the subsection `needed`.
+    ///
+    /// # Example
+    ///
+    ///     let names = maker.names(names);
     pub fn names<'a>(&mut self, names: &[&'a str]) -> Seq<&'a str>
         ensures made { Makes self.old self.new (result ≡ names.now) }
         ensures empty_on_failure { MayMake self.new names.now result }
@@ -355,7 +460,12 @@ impl TreeBuilder {
         copied(self, names)
     }
 
-    /// The names under which a field is exported in place (text format, exports).
+    /// Makes the inline exports of a field (text format: exports).
+    ///
+    /// # Example
+    ///
+    ///     let names: [&'a str; 1] = ["read"];
+    ///     func.with_name("byte").with_exports(make.exports(&names))
     pub fn exports<'a>(&mut self, names: &[&'a str]) -> InlineExport<'a>
         ensures made { Makes self.old self.new (result ≡ record { names = names.now }) }
         ensures empty_on_failure { MayMake self.new names.now result.names }
@@ -365,7 +475,11 @@ impl TreeBuilder {
         }
     }
 
-    /// The bytes of one string, as those of a data segment (text format, data segments).
+    /// Makes the bytes of a data segment of one string (text format: data segments).
+    ///
+    /// # Example
+    ///
+    ///     let bytes = Memory::inline(alloc, at(149), id("bytes", 156), make.string(b"ready"));
     pub fn string<'a>(&mut self, string: &'a [u8]) -> Seq<DataVal<'a>>
         ensures made { Makes self.old self.new (result ≡ bytes.String string.entry ∷ []) }
         ensures empty_on_failure { MayPut self.new [] result (bytes.String string.entry) }
@@ -375,7 +489,7 @@ impl TreeBuilder {
         pieces
     }
 
-    /// The bytes of a custom section, in pieces (text format, custom annotations).
+    /// Makes the bytes of a custom section, of pieces that follow one another.
     pub fn pieces<'a>(&mut self, pieces: &[&'a [u8]]) -> Seq<&'a [u8]>
         ensures made { Makes self.old self.new (result ≡ pieces.now) }
         ensures empty_on_failure { MayMake self.new pieces.now result }
@@ -383,7 +497,13 @@ impl TreeBuilder {
         copied(self, pieces)
     }
 
-    /// Values of a field of `producers`: the name and the version of each (tool conventions, producers section).
+    /// Makes the values of a field of `producers`, of a name and a version each.
+    ///
+    /// # Example
+    ///
+    ///     let values = maker.versions(values);
+    ///     let mut fields = Seq::new(alloc);
+    ///     maker.push_producers(&mut fields, name, values);
     pub fn versions<'a>(&mut self, versions: &[(&'a str, &'a str)]) -> Seq<(&'a str, &'a str)>
         ensures made { Makes self.old self.new (result ≡ versions.now) }
         ensures empty_on_failure { MayMake self.new versions.now result }
@@ -391,7 +511,7 @@ impl TreeBuilder {
         copied(self, versions)
     }
 
-    /// Puts a field at the end of those of `producers`: its name and its values (tool conventions, producers section).
+    /// Appends a field to those of `producers`, with its name and values.
     pub fn push_producers<'a>(
         &mut self,
         fields: &mut Seq<(&'a str, Seq<(&'a str, &'a str)>)>,
@@ -406,7 +526,11 @@ impl TreeBuilder {
         }
     }
 
-    /// Puts a subsection at the end of those of `dylink.0` (tool conventions, dynamic linking).
+    /// Appends a subsection to those of `dylink.0` (tool conventions: dynamic linking).
+    ///
+    /// # Example
+    ///
+    ///     maker.push_subsection(&mut subsections, Dylink0Subsection::TargetArch("a"));
     pub fn push_subsection<'a>(
         &mut self,
         subsections: &mut Seq<Dylink0Subsection<'a>>,
@@ -420,7 +544,11 @@ impl TreeBuilder {
         }
     }
 
-    /// Names of exports with their flags (tool conventions, dynamic linking).
+    /// Makes the names of exports with their flags (tool conventions: dynamic linking).
+    ///
+    /// # Example
+    ///
+    ///     let exported = Dylink0Subsection::ExportInfo(maker.export_flags(&[("a", 128)]));
     pub fn export_flags<'a>(&mut self, flags: &[(&'a str, u32)]) -> Seq<(&'a str, u32)>
         ensures made { Makes self.old self.new (result ≡ flags.now) }
         ensures empty_on_failure { MayMake self.new flags.now result }
@@ -428,7 +556,11 @@ impl TreeBuilder {
         copied(self, flags)
     }
 
-    /// Modules and names of imports with their flags (tool conventions, dynamic linking).
+    /// Makes the modules and names of imports with their flags (tool conventions: dynamic linking).
+    ///
+    /// # Example
+    ///
+    ///     let imported = Dylink0Subsection::ImportInfo(maker.import_flags(&[("a", "b", 3)]));
     pub fn import_flags<'a>(
         &mut self,
         flags: &[(&'a str, &'a str, u32)],
@@ -439,7 +571,21 @@ impl TreeBuilder {
         copied(self, flags)
     }
 
-    /// The fields of a module, where no memory was refused. Else the error is E12, and the fields are dropped.
+    /// Returns the fields of a module, or E12 if an allocation failed.
+    ///
+    /// # Example
+    ///
+    ///     make.push_field(&mut fields, ModuleField::Start(index(start, 504)));
+    ///     make.finish(fields)
+    ///
+    /// # Errors
+    ///
+    /// E12: an allocation of this builder failed. The fields are then dropped. No other error
+    /// occurs.
+    ///
+    /// # Guarantees
+    ///
+    /// `fields`, `refusal`: success means that no allocation failed, and an error that one did.
     pub fn finish<'a, 'e>(
         self,
         fields: Seq<ModuleField<'a>>,
@@ -455,7 +601,7 @@ impl TreeBuilder {
     }
 }
 
-/// A list of the same elements.
+/// Makes a list of the same elements.
 fn copied<T: Copy + Drop>(maker: &mut TreeBuilder, items: &[T]) -> Seq<T>
     ensures made { Makes maker.old maker.new (result ≡ items.now) }
     ensures empty_on_failure { MayMake maker.new items.now result }

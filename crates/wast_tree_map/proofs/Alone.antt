@@ -1,4 +1,5 @@
--- What no map changes of a field: whether it is written out, its items but for their ids, and what import order asks of it.
+-- What no map changes of a field: whether it is desugared, its items except their ids, and its checks of import
+-- order.
 use Rattle.std.specs.Prelude.{◌&&◌, Option}
 use Rattle.std.specs.Borrow.{Bor}
 use Rattle.std.proofs.Common.{◌≡◌, ℕ, List, [], ◌∷◌, ◌++◌, refl, sym, ap, ◌∙◌, map}
@@ -23,7 +24,7 @@ use Rattle.wast_tree_map.specs.Named.{Naming, identity_naming, renamed_mark, ren
 use Rattle.wast_tree_map.specs.Laws.{KeepsItems, NamesItems, all_mapped}
 use Rattle.wast_tree_map.proofs.Kept.{mark_kept, items_kept, names_kept_by}
 
--- where no id changes, neither does that of a signature that names share
+-- If no id changes, the id of a signature that names share does not change either.
 pub shared_id_stays : {N : Type 0} (f : Change) → ((o : Option Id) → f.id o ≡ o) → ((o : Option Id) → f.own o ≡ o) → (names : List N) (o : Option Id) → mapped_shared_id f names o ≡ o
 shared_id_stays f items owns [] o = owns o
 shared_id_stays f items owns (name ∷ names) o = items o
@@ -49,17 +50,17 @@ module _ (f : Change) where
   field_alone (field.Memory x) = refl
   field_alone x = refl
 
-  -- a list is written out where the changed one is
+  -- A list is desugared if and only if the mapped one is.
   pub written_alone : (xs : List ModuleField) → is_written_out (all_mapped f xs) ≡ is_written_out xs
   written_alone [] = refl
   written_alone (x ∷ xs) = ap (λ b. b && is_written_out (all_mapped f xs)) (field_alone x) ∙ ap (λ b. is_written_field x && b) (written_alone xs)
 
-  -- and a field defines an item of the same space
+  -- A field defines an item of the same index space.
   pub defines_alone : (x : ModuleField) → defined_space (mapped_field f x) ≡ defined_space x
   defines_alone (field.Func x) = refl
   defines_alone x = refl
 
--- The items are those of the list, called otherwise.
+-- The items are those of the list, renamed.
 module _ (n : Naming) (f : Change) (ids : NamesItems n f) (names : RenamesIds n f) where
   struct_named : (fields : List StructField) → field_ids (map (named_struct_field f.own f.index) fields) ≡ map (renamed_mark n) (field_ids fields)
   struct_named [] = refl
@@ -123,6 +124,6 @@ module _ (n : Naming) (f : Change) (ids : NamesItems n f) (names : RenamesIds n 
   items_named [] = refl
   items_named (x ∷ xs) = (λ i. items_named_in x i ++ items_named xs i) ∙ sym (map-append (renamed_item n) (items_in x) (items xs))
 
--- They are the same, where their ids are.
+-- The items are the same, if their ids are.
 pub items_alone : (f : Change) → KeepsItems f → KeepsMarks f → (xs : List ModuleField) → items (all_mapped f xs) ≡ items xs
 items_alone f keeps marks xs = items_named identity_naming f (λ o. keeps o ∙ sym (mark_kept (mark_of_option o))) (names_kept_by f marks) xs ∙ items_kept (items xs)

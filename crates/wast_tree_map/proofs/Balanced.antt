@@ -1,11 +1,11 @@
--- Other labels leave what opens and closes blocks as it is.
+-- Other labels do not change which instructions open and close blocks.
 use Rattle.std.specs.Prelude.{◌&&◌, ◌==◌, length, nat_le, option_map, take}
 use Rattle.std.proofs.Common.{◌≡◌, ℕ, zero, suc, ◌+◌, List, [], ◌∷◌, refl, ap, ◌∙◌, map}
 use Rattle.std.proofs.lemmas.List.{length-map, take-map}
 use Rattle.wast_base.specs.Blocks.{BlockEffect, Opens, Closes, Stays, openers, closers, never_closed, stays_open, is_balanced}
 use Rattle.wast_tree_map.specs.Named.{Naming}
 
--- a turn, with another label
+-- The effect of an instruction, with another label.
 abbrev pub renamed_turn : Naming → BlockEffect → BlockEffect
 renamed_turn n (Opens l) = Opens (option_map n l)
 renamed_turn n Closes = Closes

@@ -1,4 +1,4 @@
--- The laws of the map at each instruction and each field.
+-- The theorems of maps at each instruction and each field.
 use Rattle.std.specs.Borrow.{Bor}
 use Rattle.std.specs.Int.{is_power_of_two}
 use Rattle.std.specs.Prelude.{is_none, ◌&&◌, not, Option, Some, None, option_map, length}
@@ -39,7 +39,7 @@ use Rattle.wast_tree_map.proofs.Ways.{In, At, Among, begins_at, each_first, each
 use Rattle.wast_tree_map.proofs.Balanced.{renamed_turn, balanced_named}
 use Rattle.wast_tree_map.proofs.Types.{heap_at, ref_at, val_at, type_at, rec_at, table_type_at, global_type_at, tag_type_at}
 
--- what a memory argument reads or writes, and the argument
+-- A memory argument and its memory or array.
 target_at : (t : MemArgTarget) → In in_target (λ f. mapped_target f.index) t
 target_at (target.Memory i) = made_at target.Memory (λ y. refl) (λ f y. refl) i (index_in space.Memory i)
 target_at (target.Array i) = made_at target.Array (λ y. refl) (λ f y. refl) i (tested_at i (uncovered_check form.ArrayMemArg) (λ n f. refl) (index_in space.Ty i))
@@ -57,7 +57,7 @@ indirect_at c =
     made_at (λ (q : Index × TypeUse FunctionType). record { table = q.0; ty = q.1 }) (λ y. refl) (λ f y. refl) (c.table, c.ty)
     (both_at c.table c.ty (index_at space.Table c.table) (use_at OfCall c.ty))
 
--- a block, and a block that catches
+-- A block, and a `try_table`.
 block_at : (blocks : Blocks) (b : BlockType) → Among in_block (λ f blocks b. mapped_block f b) blocks b
 block_at blocks b =
     made_among in_block (λ f blocks. mapped_block f) blocks (λ (q : TypeUse FunctionType × Option Id). record b { ty = q.0; label = q.1 }) (λ y. refl) (λ n y. refl) (λ f y. refl) (λ n f y. refl) (b.ty, b.label)
@@ -84,7 +84,7 @@ br_table_at blocks t =
     made_among in_br_table mapped_br_table blocks (λ (q : List Index × Index). record { labels = q.0; default = q.1 }) (λ y. refl) (λ n y. refl) (λ f y. refl) (λ n f y. refl) (t.labels, t.default)
     (both_at t.labels t.default (list_at (label_at blocks) t.labels) (label_at blocks t.default))
 
--- a branch on a cast: its label, and the types that are cast to and from
+-- A branch on a cast: its label and its two types.
 abbrev Cast : Type 0
 Cast = Index × (RefType × RefType)
 
@@ -97,14 +97,14 @@ mapped_cast f blocks q = (f.label blocks q.0, (mapped_ref f.index q.1.0, mapped_
 cast_at : (blocks : Blocks) (q : Cast) → Among in_cast_of mapped_cast blocks q
 cast_at blocks q = both_at q.0 q.1 (label_at blocks q.0) (asked_at q.1 (both_at q.1.0 q.1.1 (ref_at q.1.0) (ref_at q.1.1)))
 
--- of a form that no encoder covers
+-- An unsupported construct.
 uncovered_cast_at : (blocks : Blocks) (q : Cast) → Among (λ blocks q. in_cast_of blocks q ++ check_sites (uncovered_check form.Descriptor)) mapped_cast blocks q
 uncovered_cast_at blocks q = tested_at q (check_sites (uncovered_check form.Descriptor)) (λ n f. refl) (cast_at blocks q)
 
 uncovered_ref_at : (r : RefType) → In (λ r. in_ref r ++ uncovered_check form.Descriptor) (λ f. mapped_ref f.index) r
 uncovered_ref_at r = tested_at r (uncovered_check form.Descriptor) (λ n f. refl) (ref_at r)
 
--- the handlers of a resumption
+-- The handlers of a resume instruction.
 handle_at : (blocks : Blocks) (x : Handle) → Among in_handle mapped_handle blocks x
 handle_at blocks (handle.OnLabel e l) =
     made_among in_handle mapped_handle blocks (λ (q : Index × Index). handle.OnLabel q.0 q.1) (λ y. refl) (λ n y. refl) (λ f y. refl) (λ n f y. refl) (e, l) (both_at e l (index_at space.Tag e) (label_at blocks l))
@@ -115,7 +115,7 @@ handlers_at blocks t =
     made_among in_handlers mapped_handlers blocks (λ (xs : List Handle). record { handlers = xs }) (λ y. refl) (λ n y. refl) (λ f y. refl) (λ n f y. refl) t.handlers
     (tested_at t.handlers (check_sites (uncovered_check form.StackSwitching)) (λ n f. refl) (list_at (handle_at blocks) t.handlers))
 
--- and what stands before them
+-- The rest of the instruction.
 resume_at : (blocks : Blocks) (q : Index × ResumeTable) → Among (λ blocks q. at_index space.Ty q.0 ++ in_handlers blocks q.1) (λ f blocks q. (f.index space.Ty q.0, mapped_handlers f blocks q.1)) blocks q
 resume_at blocks q = both_at q.0 q.1 (index_at space.Ty q.0) (handlers_at blocks q.1)
 
@@ -123,13 +123,13 @@ throw_at : (blocks : Blocks) (q : (Index × Index) × ResumeTable)
     → Among (λ blocks q. check_sites (in_pair space.Ty q.0.0 space.Tag q.0.1) ++ in_handlers blocks q.1) (λ f blocks q. ((f.index space.Ty q.0.0, f.index space.Tag q.0.1), mapped_handlers f blocks q.1)) blocks q
 throw_at blocks q = both_at q.0 q.1 (asked_at q.0 (both_at q.0.0 q.0.1 (index_in space.Ty q.0.0) (index_in space.Tag q.0.1))) (handlers_at blocks q.1)
 
--- the innermost block closes
+-- The innermost block is closed.
 closed_named : (n : Naming) (blocks : Blocks) → without_innermost (renamed n blocks) ≡ renamed n (without_innermost blocks)
 closed_named n [] = refl
 closed_named n (b ∷ bs) = refl
 
--- An instruction: a tactic goes through the variants, with one line for each kind of immediates that has parts of its own. The
--- changed one stands where the function of its body is changed, and among other names.
+-- An instruction. A tactic goes through the variants, with one line for each kind of immediates that has parts. The
+-- mapped one is in a body whose function is mapped, with other names.
 module _ (n : Naming) (f : Change) (k : RenamesIds n f) where
   heap_stands : (t : HeapType) → check_sites (in_heap (mapped_heap f.index t)) ≡ map (named_site n f) (check_sites (in_heap t))
   heap_stands t = (asked_at t (heap_at t)).stands n f k
@@ -219,7 +219,7 @@ instr_still h (instr.resume_throw_ref a) = ap (λ (q : Index × ResumeTable). in
 instr_still h (instr.resume_throw a) = ap (λ (q : (Index × Index) × ResumeTable). instr.resume_throw (record { type_index = q.0.0; tag_index = q.0.1; table = q.1 })) (throw_at h.blocks ((a.type_index, a.tag_index), a.table)).still
 instr_still h i = grind (arith, common_steps, heap_still)
 
--- where the next one stands: in the changed body as behind the changed place
+-- The position of the next instruction in the mapped body.
 pub named_if : (n : Naming) (m : Option Mark) → name_if (renamed_mark n m) ≡ option_map n (name_if m)
 named_if n None = refl
 named_if n (Some m) = refl
@@ -242,7 +242,7 @@ after_mapped n f h (s ∷ ss) = ap (λ g. after_all g (map (named_site n f) ss))
 pub behind_mapped : (n : Naming) (f : Change) → RenamesIds n f → (h : BodyContext) (i : Instruction) → context_after (named_here n f h) (mapped_instr f h i) ≡ named_here n f (context_after h i)
 behind_mapped n f k h i = ap (after_all (named_here n f h)) (instr_stands n f k h i) ∙ after_mapped n f h (in_instr h i)
 
--- instructions, one after the other
+-- Instructions, one after the other.
 pub instrs_stand : (n : Naming) (f : Change) → RenamesIds n f → (h : BodyContext) (is : List Instruction) → in_instrs (named_here n f h) (mapped_instrs f h is) ≡ map (named_site n f) (in_instrs h is)
 instrs_stand n f k h [] = refl
 instrs_stand n f k h (i ∷ is) =
@@ -261,7 +261,7 @@ instrs_still : (h : BodyContext) (is : List Instruction) → mapped_instrs no_ch
 instrs_still h [] = refl
 instrs_still h (i ∷ is) = λ t. instr_still h i t ∷ instrs_still (context_after h i) is t
 
--- An instruction opens and closes what it did, under other labels.
+-- A mapped instruction opens and closes the same blocks, with other labels.
 module _ (n : Naming) (f : Change) (k : RenamesIds n f) where
   opens_named : (o : Option Id) → Opens (name_if (mark_of_option (f.own o))) ≡ Opens (option_map n (name_if (mark_of_option o)))
   opens_named o = ap (λ m. Opens (name_if m)) (k.owns o) ∙ ap Opens (named_if n (mark_of_option o))
@@ -278,12 +278,12 @@ module _ (n : Naming) (f : Change) (k : RenamesIds n f) where
   turns_named h [] = refl
   turns_named h (i ∷ is) = λ t. turn_named h i t ∷ turns_named (context_after h i) is t
 
--- there are as many instructions
+-- There are as many instructions.
 length_still : (f : Change) (h : BodyContext) (is : List Instruction) → length (mapped_instrs f h is) ≡ length is
 length_still f h [] = refl
 length_still f h (i ∷ is) = omega (arith, length_still f (context_after h i) is)
 
--- the expression of a function, in the changed body
+-- The expression of a function, in the mapped body.
 pub expression_stands : (n : Naming) (f : Change) → RenamesIds n f → (h : BodyContext) (e : Expression) → in_expression (named_here n f h) (mapped_expression f h e) ≡ map (named_site n f) (in_expression h e)
 expression_stands n f k h e =
     let hints = Asked (Clause 2 (hints_stand e)) ∷ [] in
@@ -298,7 +298,7 @@ expression_joins n x g f j h e q =
 expression_still : (h : BodyContext) (e : Expression) → mapped_expression no_change h e ≡ e
 expression_still h e = ap (λ (is : List Instruction). record e { instrs = is }) (instrs_still h e.instrs)
 
--- A constant expression stands in no function, and stays balanced or not.
+-- A constant expression is in no function, and balanced or not as before.
 constant_at : (e : Expression) → At in_constant mapped_constant e
 constant_at e =
     let own = Asked (Clause 5 (is_balanced (block_effects e.instrs))) ∷ [] in
@@ -313,7 +313,7 @@ constant_at e =
 local_at : (l : Local) → In in_local mapped_local l
 local_at l = made_at (λ (q : ValType × Option Id). record l { ty = q.0; id = q.1 }) (λ y. refl) (λ f y. refl) (l.ty, l.id) (both_at l.ty l.id (val_at l.ty) (mark_in l.id))
 
--- what is declared stays, or is called otherwise
+-- Declared ids are kept or renamed.
 pub marks_stay : (f : Change) → KeepsMarks f → (locals : List Local) → local_marks (map (mapped_local f) locals) ≡ local_marks locals
 marks_stay f k [] = refl
 marks_stay f k (l ∷ ls) = λ t. k.owns l.id t ∷ marks_stay f k ls t
@@ -333,11 +333,11 @@ declaring_named n f before (m ∷ ms) =
     (ap (λ (l : Option Name). renamed n before ++ l ∷ []) (named_if n m) ∙ sym (map-append (option_map n) before (name_if m ∷ [])))
     ∙ ap (λ ds. Declared (renamed n before) (renamed_mark n m) ∷ ds) (declaring_named n f (before ++ name_if m ∷ []) ms)
 
--- The types of the locals, what is declared, and the body, in a function whose type use is changed.
+-- The types of the locals, the declared ids, and the body, in a function whose type use is mapped.
 locals_at : (locals : List Local) → At (λ ls. check_sites (flat_map in_local ls)) (λ f. map (mapped_local f)) locals
 locals_at locals = asked_at locals (list_at local_at locals)
 
--- all that is declared, and where the body stands
+-- All declared ids, and the position of the body.
 all_marks : (n : Naming) (f : Change) → RenamesIds n f → (u : TypeUse FunctionType) (locals : List Local) → param_marks (f.used OfItem u).inline ++ local_marks (map (mapped_local f) locals) ≡ map (renamed_mark n) (param_marks u.inline ++ local_marks locals)
 all_marks n f k u locals =
     (λ t. k.params u t ++ marks_named n f k locals t) ∙ sym (map-append (renamed_mark n) (param_marks u.inline) (local_marks locals))
@@ -400,7 +400,7 @@ item_kind_at (kind.Tag t) = made_at kind.Tag (λ y. refl) (λ f y. refl) t (tag_
 sig_at : (s : ItemSig) → At in_sig mapped_sig s
 sig_at s = made_at (λ (q : Option Id × ItemKind). record s { id = q.0; kind = q.1 }) (λ y. refl) (λ f y. refl) (s.id, s.kind) (both_at s.id s.kind (item_id_at s.id) (item_kind_at s.kind))
 
--- with its name
+-- With its name.
 named_sig_at : (p : Bor (List ℕ) × ItemSig) → At (λ p. in_sig p.1) (λ f p. (p.0, mapped_sig f p.1)) p
 named_sig_at p = made_at (λ (s : ItemSig). (p.0, s)) (λ y. refl) (λ f y. refl) p.1 (sig_at p.1)
 
@@ -440,7 +440,7 @@ elem_kind_at (elem.Active table offset) =
     made_at (λ (q : Option Index × Expression). elem.Active q.0 q.1) (λ y. refl) (λ f y. refl) (table, offset) (both_at table offset (option_at (index_at space.Table) table) (constant_at offset))
 elem_kind_at e = fixed_at e (λ f. refl) (λ n f. refl)
 
--- whether a segment has its table or holds functions
+-- Whether a segment has its table or contains functions.
 suits_still : (f : Change) (e : ElemKind) (p : ElemPayload) → is_segment_type_allowed (mapped_elem_kind f e) (mapped_payload f p) ≡ is_segment_type_allowed e p
 suits_still f elem.Passive p = refl
 suits_still f elem.Declared p = refl
@@ -467,7 +467,7 @@ data_kind_at (data_kind.Active memory offset) =
     made_at (λ (q : Index × Expression). data_kind.Active q.0 q.1) (λ y. refl) (λ f y. refl) (memory, offset) (both_at memory offset (index_at space.Memory memory) (constant_at offset))
 data_kind_at d = fixed_at d (λ f. refl) (λ n f. refl)
 
--- nothing in a custom section changes
+-- Nothing in a custom section changes.
 subsections_still : (n : Naming) (f : Change) (ss : List Dylink0Subsection) → map (named_site n f) (check_sites (flat_map in_subsection ss)) ≡ check_sites (flat_map in_subsection ss)
 subsections_still n f [] = refl
 subsections_still n f (dylink.TargetArch text ∷ ss) = ap (λ sites. Asked (Covered form.TargetArch false) ∷ sites) (subsections_still n f ss)

@@ -1,4 +1,4 @@
--- Where no name changes, what is called otherwise is as it was.
+-- Renamed sites and items are equal to the original ones, if no name changes.
 use Rattle.std.specs.Prelude.{Option, Some, None, option_map}
 use Rattle.std.proofs.Common.{◌≡◌, List, [], ◌∷◌, refl, sym, ap, ◌∙◌, map}
 use Rattle.wast_base.specs.Ids.{Name, Mark, mark_of_option}
@@ -31,7 +31,7 @@ names_kept (o ∷ os) = λ t. name_kept o t ∷ names_kept os t
 locals_kept : (f : Change) (l : Locals) → named_locals identity_naming f l ≡ mapped_locals f l
 locals_kept f l = ap (λ (names : List (Option Name)). record (mapped_locals f l) { names = names }) (names_kept l.names)
 
--- what is asked, and a site
+-- Checks and sites.
 ask_kept : (f : Indices) (a : Check) → named_ask identity_naming f a ≡ mapped_ask f a
 ask_kept f (ItemIndex s i) = refl
 ask_kept f (InnerIndex i) = refl
@@ -58,7 +58,7 @@ sites_kept : (f : Change) (ss : List Site) → map (named_site identity_naming f
 sites_kept f [] = refl
 sites_kept f (s ∷ ss) = λ t. site_kept f s t ∷ sites_kept f ss t
 
--- changes that are joint
+-- Changes that agree with a third.
 site_joins : (h g f : Change) (s : Site) → Joins h g f s → NamedJoins identity_naming h g f s
 site_joins h g f (Asked a) e = e
 site_joins h g f (Used w u) e = e
@@ -80,7 +80,7 @@ names_kept_by f k = record { params = λ u. k.params u ∙ sym (marks_kept _); o
 joint_kept : (h g f : Change) → AreJoint h g f → AreNamedJoint identity_naming h g f
 joint_kept h g f j = record { names = names_kept_by h j.keeps; ids = j.ids; owns = j.owns }
 
--- So the laws of a part are what they are without names.
+-- So the theorems of a part are those without renaming.
 module _ {T : Type 0} {sites : T → List Site} {changed : Change → T → T} (x : T) (a : At sites changed x) where
   pub stands_at : (f : Change) → KeepsMarks f → sites (changed f x) ≡ map (mapped_site f) (sites x)
   stands_at f k = a.stands identity_naming f (names_kept_by f k) ∙ sites_kept f (sites x)

@@ -1,4 +1,4 @@
--- The laws of the map over a list of fields.
+-- The theorems of maps over a list of fields.
 use Rattle.std.specs.Prelude.{Option}
 use Rattle.std.proofs.Common.{◌≡◌, List, [], ◌∷◌, refl, sym, ap, ◌∙◌, map}
 use Rattle.wast_tree_map.specs.Tree.{Id, ModuleField}
@@ -16,18 +16,18 @@ pub each_so : (p : Site → Type 0) → ((s : Site) → p s) → (xs : List Site
 each_so p h [] = tt
 each_so p h (x ∷ xs) = (h x, each_so p h xs)
 
--- What stands in the changed list is the changed list of what stood.
+-- The sites of the mapped list are the mapped sites.
 pub stands_named : (n : Naming) (f : Change) → RenamesIds n f → (xs : List ModuleField) → in_module (map (mapped_field f) xs) ≡ map (named_site n f) (in_module xs)
 stands_named n f k xs = (fields_at xs).stands n f k
 
 pub stands : (f : Change) → KeepsMarks f → (xs : List ModuleField) → in_module (map (mapped_field f) xs) ≡ map (mapped_site f) (in_module xs)
 stands f k xs = stands_at xs (fields_at xs) f k
 
--- Where nothing changes, the list is the same.
+-- The map that changes nothing keeps the list.
 pub still : (xs : List ModuleField) → map (mapped_field no_change) xs ≡ xs
 still xs = (fields_at xs).still
 
--- Two changes are a third where they are so at each site.
+-- Two maps are a third, if they agree with it at each site.
 pub joins_named : (n : Naming) (h g f : Change) → AreNamedJoint n h g f → (xs : List ModuleField) → Each (NamedJoins n h g f) (in_module xs) → map (mapped_field g) (map (mapped_field h) xs) ≡ map (mapped_field f) xs
 joins_named n h g f j xs e = (fields_at xs).joins n h g f j e
 
@@ -49,14 +49,14 @@ joins_then h g (Repeated blocks m) = tt
 joins_then h g (Begins blocks m) = tt
 joins_then h g Ends = tt
 
--- Two changes after one another are one.
+-- Two maps one after another are their composition.
 pub twice : (h g : Change) → KeepsMarks h → (xs : List ModuleField) → map (mapped_field g) (map (mapped_field h) xs) ≡ map (mapped_field (compose h g)) xs
 twice h g k xs = joins h g (compose h g) (record { keeps = k; ids = λ o. refl; owns = λ o. refl }) xs (each_so (Joins h g (compose h g)) (joins_then h g) (in_module xs))
 
--- What changes nothing keeps marks.
+-- The change that changes nothing keeps ids.
 pub same_keeps : KeepsMarks no_change
 same_keeps = record { params = λ u. refl; owns = λ o. refl }
 
--- Changes that are the same at each site give the same list.
+-- Maps that are equal at each site have the same result.
 pub alike : (f g : Change) → ((o : Option Id) → f.id o ≡ g.id o) → ((o : Option Id) → f.own o ≡ g.own o) → (xs : List ModuleField) → Each (Joins no_change f g) (in_module xs) → map (mapped_field f) xs ≡ map (mapped_field g) xs
 alike f g ids owns xs e = sym (ap (map (mapped_field f)) (still xs)) ∙ joins no_change f g (record { keeps = same_keeps; ids = ids; owns = owns }) xs e

@@ -1,4 +1,4 @@
--- The laws of the map at each type.
+-- The theorems of maps at each type.
 use Rattle.std.specs.Prelude.{Option, not, []}
 use Rattle.std.proofs.Common.{List, ◌∷◌, refl}
 use Rattle.wast_tree_map.specs.Tree.{Id, Index, NameAnnotation, HeapType, RefType, ValType, StorageType, StructField, StructType, ArrayType, FunctionType, InnerTypeKind, TypeDef, Rec, TableType, GlobalType, TagType}

@@ -1,5 +1,9 @@
--- The one map over the tree: what each index, each type use and each id becomes (text format: indices, type uses,
--- identifiers).
+-- The map over the tree: the part that a change maps each part to (text format: indices, type uses, identifiers).
+--
+-- A change has one function for each kind of index, one for type uses, and two for ids. Everything else in the tree
+-- is kept.
+--
+--   mapped_field f (start $f)      (start 0), if f.index func $f is 0
 use Rattle.std.specs.Prelude.{⊤, ◌≡◌, List, [], ◌∷◌, ◌++◌, map, Option, option_map}
 use Rattle.wast_base.specs.Blocks.{Blocks, without_innermost}
 use Rattle.wast_base.specs.Ids.{mark_of_option}
@@ -26,44 +30,44 @@ use Rattle.wast_tree_map.specs.Tree.data_kind
 use Rattle.wast_tree_map.specs.Tree.field
 use Rattle.wast_tree_nodes.specs.Sites.{Locals, BodyContext, constant_context, context_after, param_marks, local_marks, body_here, exported_space, Check, ItemIndex, InnerIndex, PlainId, Clause, Covered, Where, OfItem, OfCall, OfBlock, Site, Asked, Used, Declared, LocalAt, FieldAt, LabelAt, Repeated, Begins, Ends}
 
--- what an index becomes where one of a space is wanted
+-- The new index of an index, by its index space.
 abbrev pub Indices : Type 0
 Indices = Space → Index → Index
 
--- what an id that may be missing becomes
+-- The new id of an id that may be missing.
 abbrev pub Ids : Type 0
 Ids = Option Id → Option Id
 
--- what an index, a type use and an id become
+-- A change: the new value of each index, type use and id.
 pub record Change : Type 0 where
   pub index : Indices
-  -- a type use, with what stands in it, by where it stands
+  -- A type use with its index and its inline type, by its position.
   pub used : Where → TypeUse FunctionType → TypeUse FunctionType
-  -- an index of a local, among these
+  -- The index of a local, with the locals in scope.
   pub local : Locals → Index → Index
-  -- an index of a field, in the struct of this type
+  -- The index of a struct field, with the index of its type.
   pub field : Index → Index → Index
-  -- an index of a label, where these blocks are open
+  -- A label, with the enclosing blocks.
   pub label : Blocks → Index → Index
-  -- the id of an item
+  -- The id of an item.
   pub id : Ids
-  -- any other id: of a parameter, a field of a struct or a local, a label of a block, where a label is repeated, and of a
-  -- signature that an import shares among no names
+  -- Any other id: of a parameter, a struct field, a local or a label, of a repeated label, and of a signature that an
+  -- import shares among no names.
   pub own : Ids
 
--- the locals of a body whose function is changed
+-- The locals of a body, if its function is mapped.
 abbrev pub mapped_locals : Change → Locals → Locals
 mapped_locals f l = record l { owner = option_map (f.used OfItem) l.owner }
 
--- where an instruction stands, in such a body
+-- The position of an instruction in such a body.
 abbrev pub mapped_here : Change → BodyContext → BodyContext
 mapped_here f h = record h { locals = mapped_locals f h.locals }
 
--- nothing changes
+-- The change that keeps everything.
 abbrev pub no_change : Change
 no_change = record { index = λ s i. i; used = λ w u. u; local = λ l i. i; field = λ o i. i; label = λ b i. i; id = λ o. o; own = λ o. o }
 
--- one after the other
+-- The composition of two changes.
 abbrev pub compose : Change → Change → Change
 compose h g = record {
   index = λ s i. g.index s (h.index s i);
@@ -75,17 +79,17 @@ compose h g = record {
   own = λ o. g.own (h.own o);
 }
 
--- Types.
+-- A heap type. The types follow.
 abbrev pub mapped_heap : Indices → HeapType → HeapType
 mapped_heap f (heap.Abstract shared ty) = heap.Abstract shared ty
 mapped_heap f (heap.Concrete i) = heap.Concrete (f space.Ty i)
 mapped_heap f (heap.Exact i) = heap.Exact (f space.Ty i)
 
--- a reference type
+-- A reference type.
 abbrev pub mapped_ref : Indices → RefType → RefType
 mapped_ref f r = record r { heap = mapped_heap f r.heap }
 
--- a value type
+-- A value type.
 abbrev pub mapped_val : Indices → ValType → ValType
 mapped_val f value.I32 = value.I32
 mapped_val f value.I64 = value.I64
@@ -94,45 +98,45 @@ mapped_val f value.F64 = value.F64
 mapped_val f value.V128 = value.V128
 mapped_val f (value.Ref r) = value.Ref (mapped_ref f r)
 
--- what a field of a struct or an element of an array is stored as
+-- The type of a struct field or an array element in storage.
 abbrev pub mapped_storage : Indices → StorageType → StorageType
 mapped_storage f storage.I8 = storage.I8
 mapped_storage f storage.I16 = storage.I16
 mapped_storage f (storage.Val t) = storage.Val (mapped_val f t)
 
--- a parameter, with what its id becomes; and where that stays, as of each part of a type below
+-- A parameter with a change of its id. The next definition keeps the id, as for each part of a type below.
 abbrev pub named_param : Ids → Indices → Option Id × Option NameAnnotation × ValType → Option Id × Option NameAnnotation × ValType
 named_param own f p = (own p.0, p.1, mapped_val f p.2)
 
 abbrev pub mapped_param : Indices → Option Id × Option NameAnnotation × ValType → Option Id × Option NameAnnotation × ValType
 mapped_param f p = named_param (λ o. o) f p
 
--- a function type
+-- A function type.
 abbrev pub named_signature : Ids → Indices → FunctionType → FunctionType
 named_signature own f t = record { params = map (named_param own f) t.params; results = map (mapped_val f) t.results }
 
 abbrev pub mapped_signature : Indices → FunctionType → FunctionType
 mapped_signature f t = named_signature (λ o. o) f t
 
--- a field of a struct
+-- A struct field.
 abbrev pub named_struct_field : Ids → Indices → StructField → StructField
 named_struct_field own f x = record x { id = own x.id; ty = mapped_storage f x.ty }
 
 abbrev pub mapped_struct_field : Indices → StructField → StructField
 mapped_struct_field f x = named_struct_field (λ o. o) f x
 
--- a struct type
+-- A struct type.
 abbrev pub named_struct : Ids → Indices → StructType → StructType
 named_struct own f t = record { fields = map (named_struct_field own f) t.fields }
 
 abbrev pub mapped_struct : Indices → StructType → StructType
 mapped_struct f t = named_struct (λ o. o) f t
 
--- an array type
+-- An array type.
 abbrev pub mapped_array : Indices → ArrayType → ArrayType
 mapped_array f t = record t { ty = mapped_storage f t.ty }
 
--- a composite type
+-- A composite type.
 abbrev pub named_inner : Ids → Indices → InnerTypeKind → InnerTypeKind
 named_inner own f (inner.Func t) = inner.Func (named_signature own f t)
 named_inner own f (inner.Struct t) = inner.Struct (named_struct own f t)
@@ -142,7 +146,7 @@ named_inner own f (inner.Cont t) = inner.Cont (record { 0 = f space.Ty t.0 })
 abbrev pub mapped_inner : Indices → InnerTypeKind → InnerTypeKind
 mapped_inner f t = named_inner (λ o. o) f t
 
--- what a type is defined as
+-- A type definition, without its id.
 abbrev pub named_def : Ids → Indices → TypeDef → TypeDef
 named_def own f d = record d {
   parents = map (f space.Ty) d.parents;
@@ -154,104 +158,104 @@ named_def own f d = record d {
 abbrev pub mapped_def : Indices → TypeDef → TypeDef
 mapped_def f d = named_def (λ o. o) f d
 
--- a type, which is an item
+-- A type definition. It is an item.
 abbrev pub mapped_type : Change → ty.«Type» → ty.«Type»
 mapped_type f t = record t { id = f.id t.id; def = named_def f.own f.index t.def }
 
--- the types of a group
+-- The types of a `rec` group.
 abbrev pub mapped_rec : Change → Rec → Rec
 mapped_rec f r = record r { types = map (mapped_type f) r.types }
 
--- a table type
+-- A table type.
 abbrev pub mapped_table_type : Indices → TableType → TableType
 mapped_table_type f t = record t { elem = mapped_ref f t.elem }
 
--- a global type
+-- A global type.
 abbrev pub mapped_global_type : Indices → GlobalType → GlobalType
 mapped_global_type f t = record t { ty = mapped_val f t.ty }
 
--- a tag type
+-- A tag type.
 abbrev pub mapped_tag_type : Change → TagType → TagType
 mapped_tag_type f (tag.Exception u) = tag.Exception (f.used OfItem u)
 
--- the table or the memory of an instruction
+-- The table or the memory of an instruction.
 abbrev pub mapped_table_arg : Indices → TableArg → TableArg
 mapped_table_arg f a = record { dst = f space.Table a.dst }
 
--- the memory of an instruction that has one
+-- The memory of an instruction, if it has one.
 abbrev pub mapped_memory_arg : Indices → MemoryArg → MemoryArg
 mapped_memory_arg f a = record { mem = f space.Memory a.mem }
 
--- what is copied, and what it fills
+-- The data segment and the memory of `memory.init`.
 abbrev pub mapped_memory_init : Indices → MemoryInit → MemoryInit
 mapped_memory_init f a = record { segment = f space.Data a.segment; mem = f space.Memory a.mem }
 
--- the memory that is copied from, and the one that is copied to
+-- The two memories of `memory.copy`.
 abbrev pub mapped_memory_copy : Indices → MemoryCopy → MemoryCopy
 mapped_memory_copy f a = record { src = f space.Memory a.src; dst = f space.Memory a.dst }
 
--- the table that is filled, and the element segment that it is filled from
+-- The element segment and the table of `table.init`.
 abbrev pub mapped_table_init : Indices → TableInit → TableInit
 mapped_table_init f a = record { table = f space.Table a.table; elem = f space.Elem a.elem }
 
--- the table that is copied to, and the one that is copied from
+-- The two tables of `table.copy`.
 abbrev pub mapped_table_copy : Indices → TableCopy → TableCopy
 mapped_table_copy f a = record { dst = f space.Table a.dst; src = f space.Table a.src }
 
--- what a memory argument reads or writes, and the argument
+-- The memory or array of a memory argument.
 abbrev pub mapped_target : Indices → MemArgTarget → MemArgTarget
 mapped_target f (target.Memory i) = target.Memory (f space.Memory i)
 mapped_target f (target.Array i) = target.Array (f space.Ty i)
 
--- a memory argument: what it reads or writes
+-- A memory argument.
 abbrev pub mapped_mem_arg : Indices → MemArg → MemArg
 mapped_mem_arg f m = record m { target = mapped_target f m.target }
 
--- the types of what `select` gives
+-- The types of `select`.
 abbrev pub mapped_select : Indices → SelectTypes → SelectTypes
 mapped_select f t = record { tys = option_map (map (mapped_val f)) t.tys }
 
--- the table and the type of an indirect call
+-- The table and the type use of an indirect call.
 abbrev pub mapped_indirect : Change → CallIndirect → CallIndirect
 mapped_indirect f c = record { table = f.index space.Table c.table; ty = f.used OfCall c.ty }
 
--- the type of a block
+-- A block type.
 abbrev pub mapped_block : Change → BlockType → BlockType
 mapped_block f b = record b { label = f.own b.label; ty = f.used OfBlock b.ty }
 
--- what a clause of `try_table` catches, and where it goes
+-- The kind of a catch clause, with its tag.
 abbrev pub mapped_caught : Indices → TryTableCatchKind → TryTableCatchKind
 mapped_caught f (caught.Catch e) = caught.Catch (f space.Tag e)
 mapped_caught f (caught.CatchRef e) = caught.CatchRef (f space.Tag e)
 mapped_caught f caught.CatchAll = caught.CatchAll
 mapped_caught f caught.CatchAllRef = caught.CatchAllRef
 
--- a clause of `try_table`: what it catches, and where it goes
+-- A catch clause, with its label.
 abbrev pub mapped_catch : Change → Blocks → TryTableCatch → TryTableCatch
 mapped_catch f blocks c = record { kind = mapped_caught f.index c.kind; label = f.label blocks c.label }
 
--- a block that catches
+-- The type and the clauses of `try_table`.
 abbrev pub mapped_try_table : Change → Blocks → TryTable → TryTable
 mapped_try_table f blocks t = record { block = mapped_block f t.block; catches = map (mapped_catch f blocks) t.catches }
 
--- the labels of `br_table`
+-- The labels of `br_table`.
 abbrev pub mapped_br_table : Change → Blocks → BrTableIndices → BrTableIndices
 mapped_br_table f blocks t = record { labels = map (f.label blocks) t.labels; default = f.label blocks t.default }
 
--- a field of a struct
+-- The type and the field of a struct access.
 abbrev pub mapped_access : Change → StructAccess → StructAccess
 mapped_access f a = record { owner = f.index space.Ty a.owner; field = f.field a.owner a.field }
 
--- the handlers of a resumption
+-- A handler of a resume instruction.
 abbrev pub mapped_handle : Change → Blocks → Handle → Handle
 mapped_handle f blocks (handle.OnLabel e l) = handle.OnLabel (f.index space.Tag e) (f.label blocks l)
 mapped_handle f blocks (handle.OnSwitch e) = handle.OnSwitch (f.index space.Tag e)
 
--- the handlers of a resumption, each by itself
+-- The handlers of a resume instruction.
 abbrev pub mapped_handlers : Change → Blocks → ResumeTable → ResumeTable
 mapped_handlers f blocks t = record { handlers = map (mapped_handle f blocks) t.handlers }
 
--- Bodies: each instruction from where it stands.
+-- An instruction, by its position. The bodies follow.
 abbrev pub mapped_instr : Change → BodyContext → Instruction → Instruction
 mapped_instr f h (instr.Plain op) = instr.Plain op
 mapped_instr f h (instr.Mem op m) = instr.Mem op (mapped_mem_arg f.index m)
@@ -353,33 +357,33 @@ mapped_instr f h (instr.memory_discard a) = instr.memory_discard (mapped_memory_
 -- To here.
 mapped_instr f h (instr.Beyond name) = instr.Beyond name
 
--- instructions, each behind those before it
+-- The instructions of a list, each after those before it.
 abbrev pub mapped_instrs : Change → BodyContext → List Instruction → List Instruction
 mapped_instrs f h [] = []
 mapped_instrs f h (i ∷ is) = mapped_instr f h i ∷ mapped_instrs f (context_after h i) is
 
--- an expression, from where it stands
+-- An expression, by its position.
 abbrev pub mapped_expression : Change → BodyContext → Expression → Expression
 mapped_expression f h e = record e { instrs = mapped_instrs f h e.instrs }
 
--- a constant expression
+-- A constant expression.
 abbrev pub mapped_constant : Change → Expression → Expression
 mapped_constant f e = mapped_expression f constant_context e
 
--- Fields.
+-- A local. The fields follow.
 abbrev pub mapped_local : Change → Local → Local
 mapped_local f l = record l { id = f.own l.id; ty = mapped_val f.index l.ty }
 
--- behind a type use
+-- The body or the inline import of a function.
 abbrev pub mapped_func_kind : Change → TypeUse FunctionType → FuncKind → FuncKind
 mapped_func_kind f u (func.Import import exact) = func.Import import exact
 mapped_func_kind f u (func.Inline locals e) = func.Inline (map (mapped_local f) locals) (mapped_expression f (body_here u (param_marks u.inline ++ local_marks locals)) e)
 
--- a function
+-- A function.
 abbrev pub mapped_func : Change → Func → Func
 mapped_func f x = record x { id = f.id x.id; kind = mapped_func_kind f x.ty x.kind; ty = f.used OfItem x.ty }
 
--- what is imported: its type
+-- The type of an import.
 abbrev pub mapped_item_kind : Change → ItemKind → ItemKind
 mapped_item_kind f (kind.Func u) = kind.Func (f.used OfItem u)
 mapped_item_kind f (kind.FuncExact u) = kind.FuncExact (f.used OfItem u)
@@ -388,81 +392,81 @@ mapped_item_kind f (kind.Memory t) = kind.Memory t
 mapped_item_kind f (kind.Global t) = kind.Global (mapped_global_type f.index t)
 mapped_item_kind f (kind.Tag t) = kind.Tag (mapped_tag_type f t)
 
--- an imported item
+-- An imported item.
 abbrev pub mapped_sig : Change → ItemSig → ItemSig
 mapped_sig f s = record s { id = f.id s.id; kind = mapped_item_kind f s.kind }
 
--- the id of a signature that names share: each item has it; where there is no name, it is the id of no item
+-- The id of a signature that names share. It is the id of each item, or of no item if there are no names.
 abbrev pub mapped_shared_id : {N : Type 0} → Change → List N → Option Id → Option Id
 mapped_shared_id f [] id = f.own id
 mapped_shared_id f (name ∷ names) id = f.id id
 
--- what an import imports
+-- The items of an import.
 abbrev pub mapped_import_items : Change → ImportItems → ImportItems
 mapped_import_items f (import_items.Single source name sig) = import_items.Single source name (mapped_sig f sig)
 mapped_import_items f (import_items.Group1 source items) = import_items.Group1 source (map (λ p. (p.0, mapped_sig f p.1)) items)
 mapped_import_items f (import_items.Group2 source sig names) = import_items.Group2 source (record sig { id = mapped_shared_id f names sig.id; kind = mapped_item_kind f sig.kind }) names
 
--- an import
+-- An import.
 abbrev pub mapped_import : Change → Imports → Imports
 mapped_import f i = record i { items = mapped_import_items f i.items }
 
--- what an element segment holds
+-- The content of an element segment.
 abbrev pub mapped_payload : Change → ElemPayload → ElemPayload
 mapped_payload f (payload.Indices is) = payload.Indices (map (f.index space.Func) is)
 mapped_payload f (payload.Exprs ty es) = payload.Exprs (mapped_ref f.index ty) (map (mapped_constant f) es)
 
--- what a table is made of
+-- The content of a table.
 abbrev pub mapped_table_kind : Change → TableKind → TableKind
 mapped_table_kind f (table.Import import ty) = table.Import import (mapped_table_type f.index ty)
 mapped_table_kind f (table.Normal ty init) = table.Normal (mapped_table_type f.index ty) (option_map (mapped_constant f) init)
 mapped_table_kind f (table.Inline ty is64 shared elements) = table.Inline (mapped_ref f.index ty) is64 shared (mapped_payload f elements)
 
--- a table
+-- A table.
 abbrev pub mapped_table : Change → Table → Table
 mapped_table f t = record t { id = f.id t.id; kind = mapped_table_kind f t.kind }
 
--- a memory
+-- A memory.
 abbrev pub mapped_memory : Change → Memory → Memory
 mapped_memory f m = record m { id = f.id m.id }
 
--- the value of a global
+-- The value of a global.
 abbrev pub mapped_global_kind : Change → GlobalKind → GlobalKind
 mapped_global_kind f (global.Import import) = global.Import import
 mapped_global_kind f (global.Inline e) = global.Inline (mapped_constant f e)
 
--- a global
+-- A global.
 abbrev pub mapped_global : Change → Global → Global
 mapped_global f g = record g { id = f.id g.id; ty = mapped_global_type f.index g.ty; kind = mapped_global_kind f g.kind }
 
--- a tag
+-- A tag.
 abbrev pub mapped_tag : Change → Tag → Tag
 mapped_tag f t = record t { id = f.id t.id; ty = mapped_tag_type f t.ty }
 
--- what an element segment fills
+-- The mode of an element segment.
 abbrev pub mapped_elem_kind : Change → ElemKind → ElemKind
 mapped_elem_kind f elem.Passive = elem.Passive
 mapped_elem_kind f elem.Declared = elem.Declared
 mapped_elem_kind f (elem.Active table offset) = elem.Active (option_map (f.index space.Table) table) (mapped_constant f offset)
 
--- an element segment
+-- An element segment.
 abbrev pub mapped_elem : Change → Elem → Elem
 mapped_elem f e = record e { id = f.id e.id; kind = mapped_elem_kind f e.kind; payload = mapped_payload f e.payload }
 
--- what a data segment fills
+-- The mode of a data segment.
 abbrev pub mapped_data_kind : Change → DataKind → DataKind
 mapped_data_kind f data_kind.Passive = data_kind.Passive
 mapped_data_kind f (data_kind.Active memory offset) = data_kind.Active (f.index space.Memory memory) (mapped_constant f offset)
 
--- a data segment
+-- A data segment.
 abbrev pub mapped_data : Change → Data → Data
 mapped_data f d = record d { id = f.id d.id; kind = mapped_data_kind f d.kind }
 
--- an export
+-- An export.
 abbrev pub mapped_export : Change → Export → Export
 mapped_export f e = record e { item = f.index (exported_space e.kind) e.item }
 
--- a field
+-- A module field.
 abbrev pub mapped_field : Change → ModuleField → ModuleField
 mapped_field f (field.Ty t) = field.Ty (mapped_type f t)
 mapped_field f (field.Rec r) = field.Rec (mapped_rec f r)
@@ -478,7 +482,7 @@ mapped_field f (field.Data d) = field.Data (mapped_data f d)
 mapped_field f (field.Tag t) = field.Tag (mapped_tag f t)
 mapped_field f (field.Custom c) = field.Custom c
 
--- What stands in a mapped part.
+-- A check of a mapped part.
 abbrev pub mapped_ask : Indices → Check → Check
 mapped_ask f (ItemIndex s i) = ItemIndex s (f s i)
 mapped_ask f (InnerIndex i) = InnerIndex i
@@ -486,7 +490,7 @@ mapped_ask f (PlainId m) = PlainId m
 mapped_ask f (Clause n holds) = Clause n holds
 mapped_ask f (Covered form holds) = Covered form holds
 
--- a site
+-- A site of a mapped part.
 abbrev pub mapped_site : Change → Site → Site
 mapped_site f (Asked a) = Asked (mapped_ask f.index a)
 mapped_site f (Used w u) = Used w (f.used w u)
@@ -498,13 +502,13 @@ mapped_site f (Repeated blocks m) = Repeated blocks m
 mapped_site f (Begins blocks m) = Begins blocks m
 mapped_site f Ends = Ends
 
--- A change keeps the marks that stand beside the items: those of the parameters in the type use of an item, which its body
--- stands behind, and those of what stands within items.
+-- The change keeps the ids within items: those of the parameters in the type use of an item, which its body can use,
+-- and others.
 pub record KeepsMarks (f : Change) : Type 0 where
   pub params : (u : TypeUse FunctionType) → param_marks (f.used OfItem u).inline ≡ param_marks u.inline
   pub owns : (o : Option Id) → mark_of_option (f.own o) ≡ mark_of_option o
 
--- At a site, two changes after one another are a third.
+-- For a check, two changes one after another are a third.
 abbrev pub JoinsAsk : Indices → Indices → Indices → Check → Type 0
 JoinsAsk h g f (ItemIndex s i) = g s (h s i) ≡ f s i
 JoinsAsk h g f (InnerIndex i) = ⊤
@@ -512,7 +516,7 @@ JoinsAsk h g f (PlainId m) = ⊤
 JoinsAsk h g f (Clause n holds) = ⊤
 JoinsAsk h g f (Covered form holds) = ⊤
 
--- The same at a site.
+-- At a site, two changes one after another are a third.
 abbrev pub Joins : Change → Change → Change → Site → Type 0
 Joins h g f (Asked a) = JoinsAsk h.index g.index f.index a
 Joins h g f (Used w u) = g.used w (h.used w u) ≡ f.used w u
@@ -524,13 +528,13 @@ Joins h g f (Repeated blocks m) = ⊤
 Joins h g f (Begins blocks m) = ⊤
 Joins h g f Ends = ⊤
 
--- They are so at the ids of items and at the others, and the first keeps the marks beside the items.
+-- The same at the ids of items and at all others, and the first change keeps the ids within items.
 pub record AreJoint (h g f : Change) : Type 0 where
   pub keeps : KeepsMarks h
   pub ids : (o : Option Id) → g.id (h.id o) ≡ f.id o
   pub owns : (o : Option Id) → g.own (h.own o) ≡ f.own o
 
--- so at each of a list
+-- A property holds at each site of a list.
 abbrev pub Each : {S : Type 0} → (S → Type 0) → List S → Type 0
 Each p [] = ⊤
 Each p (x ∷ xs) = p x × Each p xs

@@ -1,4 +1,4 @@
--- Which items bear a name.
+-- Lemmas: whether an item of a list has a name.
 use Rattle.std.proofs.Common.{◌≡◌, ℕ, Bool, true, false, ◌||◌, ◌&&◌, ◌+◌, List, [], ◌∷◌, ◌++◌, Option, Some, refl, ap, ◌∙◌}
 use Rattle.std.specs.Prelude.{is_some, if◌then◌else◌}
 use Rattle.std.specs.List.{list_any, position_from}
@@ -29,7 +29,7 @@ found_from p i (n ∷ ns) = by_test (p n) i (position_from p (i + 1) ns) (list_a
 pub borne_any : (name : Name) (ns : List (Option Name)) → is_borne name ns ≡ list_any (is_called name) ns
 borne_any name ns = ap is_some (position_from-zero (is_called name) ns) ∙ found_from (is_called name) 0 ns
 
--- an item of joined lists bears the name where one of either does
+-- an item of joined lists has the name if one of either list does
 pub borne_by_both : (s : Space) (name : Name) (a b : List Item) → is_borne name (names_in s (a ++ b)) ≡ is_borne name (names_in s a) || is_borne name (names_in s b)
 borne_by_both s name a b =
     ap (is_borne name) (flat_map-append (name_in s) a b)
@@ -43,7 +43,7 @@ borne_if : (name : Name) (b : Bool) (n : Option Name) → is_borne name ((if b t
 borne_if name false n = refl
 borne_if name true n = borne_one name n (is_called name n) refl
 
--- the items that bear it, one by one
+-- whether an item has the name, as a test of each item
 pub borne_among : (s : Space) (name : Name) (xs : List Item) → is_borne name (names_in s xs) ≡ list_any (λ x. same_space s x.space && is_called name (name_if x.id)) xs
 borne_among s name [] = refl
 borne_among s name (x ∷ xs) =

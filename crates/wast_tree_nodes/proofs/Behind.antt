@@ -1,4 +1,4 @@
--- Instructions one after the other, each from where it stands.
+-- Lemmas: the sites of joined lists of instructions.
 use Rattle.std.proofs.Common.{◌≡◌, List, [], ◌∷◌, ◌++◌, refl, sym, ap, ◌∙◌, append_assoc}
 use Rattle.wast_tree_nodes.specs.Tree.{Instruction}
 use Rattle.wast_tree_nodes.specs.Sites.{BodyContext, Site, context_after_site, after_all, context_after, in_instr, in_instrs}

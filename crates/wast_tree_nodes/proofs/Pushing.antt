@@ -1,4 +1,4 @@
--- What is the same for each of a list, for one less of those that are to come.
+-- Lemmas for the loops of Imports::item_sigs, which append a signature for each item.
 use Rattle.std.proofs.Common.{◌≡◌, ℕ, zero, suc, ◌+◌, ◌<◌, List, [], ◌∷◌, ◌++◌, refl, sym, ap, ◌∙◌, append_assoc, length, map, drop, add-one, arith}
 use Rattle.std.proofs.lemmas.List.{map-append}
 
@@ -8,7 +8,7 @@ module _ {T A : Type 0} where
   left_less y (x ∷ xs) zero lt = refl
   left_less y (x ∷ xs) (suc i) lt = left_less y xs i (omega (arith, lt))
 
-  -- one more behind those that are there, of those that are to come
+  -- one step: the next of the remaining elements is appended
   pub pushed_again : {S : Type 0} (now : S → A) (x : S) (there next : List S) (all : List A) (xs : List T) (i : ℕ) → i < length xs → next ≡ there ++ x ∷ []
       → map now there ++ map (λ t. now x) (drop i xs) ≡ all → map now next ++ map (λ t. now x) (drop (i + 1) xs) ≡ all
   pushed_again now x there next all xs i lt is h =

@@ -1,4 +1,9 @@
--- The kinds of fields (text format, modules).
+-- The kinds of fields (text format: modules).
+--
+-- Custom sections have a kind for each position in the binary module, because the encoder writes them position by position.
+--
+--   (func)                            kind `Func`, number 3
+--   (@custom "a" (before first))      kind `Custom BeforeFirst`, number 12
 use Rattle.std.specs.Prelude.{ℕ, ◌+◌, ◌==◌, Bool, List, ◌∷◌, map}
 use Rattle.wast_tree_nodes.specs.Tree.{ModuleField}
 use Rattle.wast_tree_nodes.specs.Customs.{place_rank, places}
@@ -10,7 +15,7 @@ use Rattle.wast_tree_nodes.specs.declared.kinds.FieldKind.TheVariants as kind
 abbrev pub kind_in : ModuleField → FieldKind
 kind_in f = (profile_of f).kind
 
--- the place of a kind among all; custom sections of each place are a kind of their own
+-- the number of a kind
 abbrev pub kind_rank : FieldKind → ℕ
 kind_rank kind.Ty = 0
 kind_rank kind.Rec = 1
@@ -26,7 +31,7 @@ kind_rank kind.Data = 10
 kind_rank kind.Tag = 11
 kind_rank (kind.Custom place) = 12 + place_rank place
 
--- all of them, by their ranks
+-- all kinds, in the order of their numbers
 abbrev pub kinds : List FieldKind
 kinds = kind.Ty ∷ kind.Rec ∷ kind.Import ∷ kind.Func ∷ kind.Table ∷ kind.Memory ∷ kind.Global ∷ kind.Export ∷ kind.Start ∷ kind.Elem ∷ kind.Data ∷ kind.Tag ∷ map kind.Custom places
 

@@ -1,5 +1,9 @@
--- The profile of a field: its kind, its position and the items that it defines (text format: modules). Whatever needs one of
--- these reads it here, so that a new field states them once, in a line of `profile_of`.
+-- The profile of a field: its kind, its position and the items that it defines (text format: modules).
+--
+-- All definitions that need one of these read it here, so that a new field states them once, in a line of `profile_of`.
+--
+--   (func $f (import "a" "b"))     kind `Func`, the position of `func`, one item: a function $f, imported
+--   (start 3)                      kind `Start`, the position of 3, no item
 use Rattle.std.specs.Prelude.{Bool, true, false, List, [], ◌∷◌, Option, Some, None}
 use Rattle.wast_base.specs.Ids.{span_of_index}
 use Rattle.wast_tree_nodes.specs.Tree.{Span, Id, NameAnnotation, Space, ImportItems, FuncKind, TableKind, MemoryKind, GlobalKind, TagKind, Custom, ModuleField}
@@ -20,8 +24,8 @@ use Rattle.wast_tree_nodes.specs.declared.profiles.FieldItems.{FieldItems}
 use Rattle.wast_tree_nodes.specs.declared.profiles.FieldItems.TheVariants as from
 use Rattle.wast_tree_nodes.specs.declared.profiles.FieldProfile.{FieldProfile}
 
--- An item that a field defines alone: its space, its id, its name annotation, and whether it is imported inline. A segment
--- cannot be imported, so it has None there. `(func $f (import "a" "b"))` has space.Func, the id $f, None, Some true.
+-- The item of a field that defines exactly one: its index space, its id, its name annotation, and whether it has an inline
+-- import. A segment cannot be imported, so it has None there. `(func $f (import "a" "b"))` has Func, $f, None, Some true.
 pub record Alone : Type 0 where
   pub space : Space
   pub id : Option Id
@@ -30,55 +34,55 @@ pub record Alone : Type 0 where
 
 -- the items that a field defines
 pub data Defined : Type 0 where
-  -- none, as an export
+  -- no item, as for an export
   Nothing : Defined
-  -- types: one, or the members of a group
+  -- one type, or the types of a group
   Types : List ty.«Type» → Defined
-  -- what is imported
+  -- imported items
   Imported : ImportItems → Defined
   -- one item
   Lone : Alone → Defined
 
--- what is read of a field in many places
+-- a profile
 pub record Profile : Type 0 where
   pub kind : FieldKind
   pub span : Span
   pub items : Defined
 
--- whether a function is imported inline
+-- whether a function has an inline import
 abbrev pub is_imported_func : FuncKind → Bool
 is_imported_func (func.Import source exact) = true
 is_imported_func (func.Inline locals e) = false
 
--- whether a table is
+-- whether a table has one
 abbrev pub is_imported_table : TableKind → Bool
 is_imported_table (table.Import source ty) = true
 is_imported_table (table.Normal ty init) = false
 is_imported_table (table.Inline ty is64 shared elements) = false
 
--- whether a memory is
+-- whether a memory has one
 abbrev pub is_imported_memory : MemoryKind → Bool
 is_imported_memory (memory.Import source ty) = true
 is_imported_memory (memory.Normal ty) = false
 is_imported_memory (memory.Inline is64 pieces exponent) = false
 
--- whether a global is
+-- whether a global has one
 abbrev pub is_imported_global : GlobalKind → Bool
 is_imported_global (global.Import source) = true
 is_imported_global (global.Inline e) = false
 
--- whether a tag is
+-- whether a tag has one
 abbrev pub is_imported_tag : TagKind → Bool
 is_imported_tag (tag_kind.Import source) = true
 is_imported_tag tag_kind.Inline = false
 
--- the position of a custom section; the tree has none of the known ones, which begin at 0
+-- the position of a custom section in the source; 0 for `producers` and `dylink.0`, because the AST has none of these
 abbrev pub custom_span : Custom → Span
 custom_span (custom.Raw section) = section.span
 custom_span (custom.Producers producers) = record { offset = 0 }
 custom_span (custom.Dylink0 info) = record { offset = 0 }
 
--- a profile, by its parts
+-- a profile of its parts
 abbrev pub profile : FieldKind → Span → Defined → Profile
 profile k span items = record { kind = k; span = span; items = items }
 
@@ -102,11 +106,11 @@ profile_of (field.Data d) = lone kind.Data d.span space.Data d.id d.name None
 profile_of (field.Tag t) = lone kind.Tag t.span space.Tag t.id t.name (Some (is_imported_tag t.kind))
 profile_of (field.Custom c) = profile (kind.Custom (custom_place c)) (custom_span c) Nothing
 
--- one item, as it is read
+-- the item that the code's `LoneItem` refers to
 abbrev pub alone_read : LoneItem → Alone
 alone_read item = record { space = item.space; id = item.id.now; name = item.name.now; imported = item.imported }
 
--- the items, as they are read
+-- the items that the code's `FieldItems` refers to
 abbrev pub items_read : FieldItems → Defined
 items_read from.Nothing = Nothing
 items_read (from.Type t) = Types (t.now ∷ [])
@@ -114,6 +118,6 @@ items_read (from.Types ts) = Types ts.now
 items_read (from.Imported i) = Imported i.now
 items_read (from.Lone item) = Lone (alone_read item)
 
--- the profile, as it is read
+-- the profile that the code's `FieldProfile` refers to
 abbrev pub profile_read : FieldProfile → Profile
 profile_read p = profile p.kind p.span (items_read p.items)

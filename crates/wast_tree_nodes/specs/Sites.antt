@@ -1,5 +1,13 @@
--- The one list of what stands in a module beside its items, in the order in which it is asked (text format: identifiers,
--- indices): what stands in a type, and sites of fields and bodies, which carry what they may read of those before them.
+-- Everything in a module that is checked or looked up, other than its items, as one list of sites (text format: identifiers,
+-- indices).
+--
+-- A site is an index with its index space, an index of a local with the locals in scope, or a label with the enclosing
+-- blocks. It is also a type use, a struct field access, a rule of well-formedness, or an unsupported construct. The list is
+-- in the order in which errors are reported. All questions about a module are functions of one site (which check does it
+-- make? is it resolved? may it be encoded?), so a new instruction adds one line here and none to those.
+--
+--   (export "a" (func $f))       one site: an index of the space `func`, the id $f
+--   (start 3)                    one site: an index of the space `func`, the number 3
 use Rattle.std.specs.Prelude.{ℕ, Bool, true, false, not, is_none, List, [], ◌∷◌, ◌++◌, map, Option, Some, None, flat_map}
 use Rattle.wast_tree_nodes.specs.Tree.{Id, Index, NameAnnotation, Space, RefType, HeapType, ValType, StorageType, StructField, StructType, ArrayType, FunctionType, TypeUse, InnerTypeKind, TypeDef, Rec, BlockType, BrTableIndices, TryTable, TryTableCatch, TryTableCatchKind, MemArg, MemArgTarget, CallIndirect, SelectTypes, StructAccess, Ordering, Handle, ResumeTable, AbstractHeapType, Form, Instruction, Expression, Local, FuncKind, Func, TableType, GlobalType, TagType, ItemKind, ItemSig, ImportItems, TableKind, MemoryKind, GlobalKind, Global, ExportKind, ElemKind, ElemPayload, Elem, DataKind, Custom, Dylink0Subsection, ModuleField}
 use Rattle.wast_tree_nodes.specs.Tree.space
@@ -37,56 +45,56 @@ use Rattle.wast_tree_nodes.specs.Clauses.{hints_stand, is_page_exponent, is_segm
 use Rattle.wast_tree_nodes.specs.Instrs.{block_effects}
 pub use Rattle.wast_tree_nodes.specs.Types.{Where, OfItem, OfCall, OfBlock}
 
--- what stands beside the items of a module, and is asked of it
+-- one thing that is checked, without its surroundings
 pub data Check : Type 0 where
-  -- an index, a number or an id, where one of this space is wanted
+  -- an index, a number or an id, of this index space
   ItemIndex : Space → Index → Check
-  -- an index, a number or an id, of what stands within an item: a local, a label or a field
+  -- an index, a number or an id, of a part of an item: a local, a label or a struct field
   InnerIndex : Index → Check
-  -- an id of which nothing is asked
+  -- an id that is not checked
   PlainId : Mark → Check
-  -- the clause of "well formed" of this number, and whether it holds here
+  -- the rule of well-formedness with this number, and whether it holds here
   Clause : ℕ → Bool → Check
-  -- a form that no encoder covers, and whether what stands here is without it
+  -- an unsupported form, and whether this part of the module is free of it
   Covered : Form → Bool → Check
 
--- the parameters and locals of a body: the type use of its function, whose type has the parameters that no inline type names,
--- and the names of the parameters and locals behind them; a constant expression has none
+-- The parameters and locals of a body: the type use of its function, and the names of the parameters and locals that the
+-- function declares. The type at the index may have more parameters. A constant expression has no locals.
 pub record Locals : Type 0 where
   pub owner : Option (TypeUse FunctionType)
   pub names : List (Option Name)
 
--- where something is asked: alone, in a type use, or in a body
+-- a check with what it needs of its surroundings
 pub data Site : Type 0 where
-  -- what is asked of the names of the module alone
+  -- a check that needs only the identifier context of the module
   Asked : Check → Site
   -- a type use: its index, its inline type, and whether the two match
   Used : Where → TypeUse FunctionType → Site
-  -- a parameter or a local, with its id if it has one, behind those of these names
+  -- a parameter or a local, with its id if it has one, after those with these names
   Declared : List (Option Name) → Option Mark → Site
   -- an index of a local, among these
   LocalAt : Locals → Index → Site
-  -- an index of a struct type, and then an index of a field in that struct
+  -- an index of a struct type, and an index of a field of that struct
   FieldAt : Index → Index → Site
-  -- an index of a label, among those of these open blocks
+  -- an index of a label, among these enclosing blocks
   LabelAt : Blocks → Index → Site
-  -- a label that an `else` or an `end` repeats, where these blocks are open
+  -- a label that an `else` or an `end` repeats, within these enclosing blocks
   Repeated : Blocks → Option Mark → Site
-  -- a block begins, with its label if it has one, where these are open
+  -- the begin of a block, with its label if it has one, within these enclosing blocks
   Begins : Blocks → Option Mark → Site
-  -- the innermost open block ends
+  -- the end of the innermost block
   Ends : Site
 
--- what an instruction may read of what stands before it in its body: the parameters and locals, and the open blocks
+-- the surroundings of an instruction in its body: the parameters and locals, and the enclosing blocks
 pub record BodyContext : Type 0 where
   pub locals : Locals
   pub blocks : Blocks
 
--- a constant expression has no parameters and no locals, and begins with no open block
+-- the surroundings of a constant expression: no parameters, locals or enclosing blocks
 abbrev pub constant_context : BodyContext
 constant_context = record { locals = record { owner = None; names = [] }; blocks = [] }
 
--- blocks begin and end; no other site moves the place
+-- the surroundings after a site; only the begin and the end of a block change them
 abbrev pub context_after_site : BodyContext → Site → BodyContext
 context_after_site h (Asked a) = h
 context_after_site h (Used w u) = h
@@ -98,25 +106,25 @@ context_after_site h (Repeated blocks m) = h
 context_after_site h (Begins blocks m) = record h { blocks = name_if m ∷ h.blocks }
 context_after_site h Ends = record h { blocks = without_innermost h.blocks }
 
--- where one stands behind these
+-- the surroundings after these sites
 abbrev pub after_all : BodyContext → List Site → BodyContext
 after_all h [] = h
 after_all h (s ∷ ss) = after_all (context_after_site h s) ss
 
--- what is asked, as sites
+-- checks as sites
 abbrev pub check_sites : List Check → List Site
 check_sites asks = map Asked asks
 
--- Each part of the tree.
+-- The rest of the file has a definition for each part of the AST. This one is for an optional part.
 abbrev pub if_there : {S A : Type 0} → (A → List S) → Option A → List S
 if_there f None = []
 if_there f (Some x) = f x
 
--- an index of a space
+-- an index of an index space
 abbrev pub in_index : Space → Index → List Check
 in_index s i = ItemIndex s i ∷ []
 
--- an index of a space, as a site
+-- the same as a site
 abbrev pub at_index : Space → Index → List Site
 at_index s i = check_sites (in_index s i)
 
@@ -124,17 +132,17 @@ at_index s i = check_sites (in_index s i)
 abbrev pub in_id : Id → List Check
 in_id id = PlainId (mark_of id) ∷ []
 
--- a form that no encoder covers stands here
+-- an unsupported form that this part of the module has
 abbrev pub uncovered_check : Form → List Check
 uncovered_check f = Covered f false ∷ []
 
--- of continuations
+-- whether an abstract heap type is of continuations
 abbrev pub is_continuation : AbstractHeapType → Bool
 is_continuation abstract.Cont = true
 is_continuation abstract.NoCont = true
 is_continuation ty = false
 
--- what is referred to: whether it is shared or a continuation; or an index, and whether it is that type alone
+-- a heap type: whether it is shared or of continuations; or its index, and whether it is exact
 abbrev pub in_heap : HeapType → List Check
 in_heap (heap.Abstract shared ty) = Covered form.Shared (not shared) ∷ Covered form.StackSwitching (not (is_continuation ty)) ∷ []
 in_heap (heap.Concrete i) = in_index space.Ty i
@@ -153,7 +161,7 @@ in_val value.F64 = []
 in_val value.V128 = []
 in_val (value.Ref r) = in_ref r
 
--- what a field of a struct or an element of an array is stored as
+-- the type of a struct field or an array element
 abbrev pub in_storage : StorageType → List Check
 in_storage storage.I8 = []
 in_storage storage.I16 = []
@@ -179,18 +187,18 @@ in_struct t = flat_map in_struct_field t.fields
 abbrev pub in_array : ArrayType → List Check
 in_array t = in_storage t.ty
 
--- a composite type; a continuation is that of a type
+-- a composite type; a continuation type has the index of a function type
 abbrev pub in_inner : InnerTypeKind → List Check
 in_inner (inner.Func t) = in_signature t
 in_inner (inner.Struct t) = in_struct t
 in_inner (inner.Array t) = in_array t
 in_inner (inner.Cont t) = in_index space.Ty t.0 ++ uncovered_check form.StackSwitching
 
--- a descriptor, or what one describes
+-- a `descriptor` or `describes` clause
 abbrev pub in_descriptor : Index → List Check
 in_descriptor i = in_index space.Ty i ++ uncovered_check form.Descriptor
 
--- what a type is defined as: its parents, its descriptor, what it describes, then the composite type, and whether it is shared
+-- the definition of a type: its supertypes, `descriptor`, `describes`, the composite type, and whether it is shared
 abbrev pub in_def : TypeDef → List Check
 in_def d =
     flat_map (in_index space.Ty) d.parents
@@ -200,7 +208,7 @@ in_def d =
 abbrev pub in_type : ty.«Type» → List Check
 in_type t = in_def t.def
 
--- each type of a group after the one before it
+-- the types of a group, in order
 abbrev pub in_rec : Rec → List Check
 in_rec r = flat_map in_type r.types
 
@@ -208,20 +216,20 @@ in_rec r = flat_map in_type r.types
 abbrev pub in_type_use : TypeUse FunctionType → List Check
 in_type_use u = if_there (in_index space.Ty) u.index ++ if_there in_signature u.inline
 
--- what a memory argument reads or writes
+-- the memory or array of a memory argument
 abbrev pub in_target : MemArgTarget → List Check
 in_target (target.Memory i) = in_index space.Memory i
 in_target (target.Array i) = in_index space.Ty i ++ uncovered_check form.ArrayMemArg
 
--- a memory argument: its memory, or the type of an array; its alignment is a power of two; and whether an ordering is written
+-- a memory argument: its memory or array type, rule 1 (its alignment is a power of two), and whether it has an ordering
 abbrev pub in_mem_arg : MemArg → List Check
 in_mem_arg m = in_target m.target ++ Clause 1 (is_power_of_two m.align) ∷ Covered form.Ordering (is_none m.ordering) ∷ []
 
--- two indices, the second behind the first
+-- two indices, in this order
 abbrev pub in_pair : Space → Index → Space → Index → List Check
 in_pair s i t j = in_index s i ++ in_index t j
 
--- the types of what `select` gives
+-- the result types of `select`
 abbrev pub in_select : SelectTypes → List Check
 in_select t = if_there (flat_map in_val) t.tys
 
@@ -233,57 +241,57 @@ in_use w u = Used w u ∷ []
 abbrev pub in_indirect : CallIndirect → List Site
 in_indirect c = at_index space.Table c.table ++ in_use OfCall c.ty
 
--- a label that is read
+-- an index of a label
 abbrev pub at_label : Blocks → Index → List Site
 at_label blocks l = LabelAt blocks l ∷ []
 
--- a block: its type, and then it begins
+-- a block: its type, and then its begin
 abbrev pub in_block : Blocks → BlockType → List Site
 in_block blocks b = in_use OfBlock b.ty ++ Begins blocks (mark_of_option b.label) ∷ []
 
--- what a clause of `try_table` catches
+-- the tag of a catch clause
 abbrev pub in_caught : TryTableCatchKind → List Check
 in_caught (caught.Catch e) = in_index space.Tag e
 in_caught (caught.CatchRef e) = in_index space.Tag e
 in_caught caught.CatchAll = []
 in_caught caught.CatchAllRef = []
 
--- a clause of `try_table`: its tag, and then its label, which is read outside of the block
+-- a catch clause: its tag, and then its label, which is looked up outside of the block
 abbrev pub in_catch : Blocks → TryTableCatch → List Site
 in_catch blocks c = check_sites (in_caught c.kind) ++ at_label blocks c.label
 
--- a block that catches: its type, what it catches, and then it begins
+-- `try_table`: its type, its catch clauses, and then its begin
 abbrev pub in_try_table : Blocks → TryTable → List Site
 in_try_table blocks t = in_use OfBlock t.block.ty ++ (flat_map (in_catch blocks) t.catches ++ Begins blocks (mark_of_option t.block.label) ∷ [])
 
--- the labels that a number chooses from, and then the one for all others
+-- the labels of `br_table`, and then its default
 abbrev pub in_br_table : Blocks → BrTableIndices → List Site
 in_br_table blocks t = flat_map (at_label blocks) t.labels ++ at_label blocks t.default
 
--- a field of a struct, with the type of the struct
+-- an access to a struct field: the type and the field
 abbrev pub in_access : StructAccess → List Site
 in_access a = FieldAt a.owner a.field ∷ []
 
--- a branch on a cast: its label, the type that is cast to, and the type that is cast from
+-- a branch on a cast: its label, the target type, and the operand type
 abbrev pub in_cast : Blocks → Index → (to from : RefType) → List Site
 in_cast blocks l to from = at_label blocks l ++ check_sites (in_ref to ++ in_ref from)
 
--- a handler of a resumption: its tag, and then its label if it has one
+-- a handler of `resume`: its tag, and then its label if it has one
 abbrev pub in_handle : Blocks → Handle → List Site
 in_handle blocks (handle.OnLabel e l) = at_index space.Tag e ++ at_label blocks l
 in_handle blocks (handle.OnSwitch e) = at_index space.Tag e
 
--- the handlers of a resumption
+-- the handlers of `resume`
 abbrev pub in_handlers : Blocks → ResumeTable → List Site
 in_handlers blocks t = flat_map (in_handle blocks) t.handlers ++ check_sites (uncovered_check form.StackSwitching)
 
--- A fence is sequentially consistent where no ordering is written.
+-- Whether a fence is sequentially consistent, as one without an ordering is.
 abbrev pub is_sequential : Option Ordering → Bool
 is_sequential None = true
 is_sequential (Some ordering.SeqCst) = true
 is_sequential (Some ordering.AcqRel) = false
 
--- an instruction, from where it stands; the label of `delegate` is read once its block has ended
+-- an instruction within its surroundings; the label of `delegate` is looked up after the end of its block
 abbrev pub in_instr : BodyContext → Instruction → List Site
 in_instr h (instr.Plain op) = []
 in_instr h (instr.Mem op m) = check_sites (in_mem_arg m)
@@ -385,16 +393,16 @@ in_instr h (instr.memory_discard a) = check_sites (in_index space.Memory a.mem +
 -- To here.
 in_instr h (instr.Beyond name) = check_sites (uncovered_check form.Beyond)
 
--- where the next one stands
+-- the surroundings of the next instruction
 abbrev pub context_after : BodyContext → Instruction → BodyContext
 context_after h i = after_all h (in_instr h i)
 
--- instructions, each behind those before it
+-- instructions, each in the surroundings that those before it leave
 abbrev pub in_instrs : BodyContext → List Instruction → List Site
 in_instrs h [] = []
 in_instrs h (i ∷ is) = in_instr h i ++ in_instrs (context_after h i) is
 
--- the body of a function: its instructions, and whether its branch hints stand on them
+-- the body of a function: its instructions, and rule 2 (its branch hints are on them)
 abbrev pub in_expression : BodyContext → Expression → List Site
 in_expression h e = in_instrs h e.instrs ++ Asked (Clause 2 (hints_stand e)) ∷ []
 
@@ -402,32 +410,32 @@ in_expression h e = in_instrs h e.instrs ++ Asked (Clause 2 (hints_stand e)) ∷
 abbrev pub in_local : Local → List Check
 in_local l = in_val l.ty ++ if_there in_id l.id
 
--- what is declared: the parameters of the inline type, and the locals after them
+-- the ids of the parameters of an inline type
 abbrev pub param_marks : Option FunctionType → List (Option Mark)
 param_marks None = []
 param_marks (Some t) = map (λ p. mark_of_option p.0) t.params
 
--- the ids of locals, where they have one
+-- the ids of locals
 abbrev pub local_marks : List Local → List (Option Mark)
 local_marks locals = map (λ l. mark_of_option l.id) locals
 
--- what is declared behind these names, each behind those before it
+-- declarations after these names, each after those before it
 abbrev pub declaration_sites : List (Option Name) → List (Option Mark) → List Site
 declaration_sites before [] = []
 declaration_sites before (m ∷ ms) = Declared before m ∷ declaration_sites (before ++ name_if m ∷ []) ms
 
--- where a body stands: behind what is declared, in a function of this type use
+-- the surroundings of the first instruction of a function with this type use and these declarations
 abbrev pub body_here : TypeUse FunctionType → List (Option Mark) → BodyContext
 body_here u marks = record { locals = record { owner = Some u; names = map name_if marks }; blocks = [] }
 
--- behind a type use: the types of the locals, what is declared, and then the body; or whether what is imported is exact
+-- after the type use: the types of the locals, the declarations, and the body; or whether an inline import is exact
 abbrev pub in_func_kind : TypeUse FunctionType → FuncKind → List Site
 in_func_kind u (func.Import import exact) = Asked (Covered form.Descriptor (not exact)) ∷ []
 in_func_kind u (func.Inline locals e) =
     let marks = param_marks u.inline ++ local_marks locals in
     check_sites (flat_map in_local locals) ++ (declaration_sites [] marks ++ in_expression (body_here u marks) e)
 
--- a function: its type use, and then what it is made of
+-- a function: its type use, and then its locals and body or its inline import
 abbrev pub in_func : Func → List Site
 in_func f = in_use OfItem f.ty ++ in_func_kind f.ty f.kind
 
@@ -443,7 +451,7 @@ in_global_type t = in_val t.ty ++ Covered form.Shared (not t.shared) ∷ []
 abbrev pub in_tag_type : TagType → List Site
 in_tag_type (tag.Exception u) = in_use OfItem u
 
--- what is imported: its type
+-- the type of an imported item
 abbrev pub in_item_kind : ItemKind → List Site
 in_item_kind (kind.Func u) = in_use OfItem u
 in_item_kind (kind.FuncExact u) = in_use OfItem u ++ check_sites (uncovered_check form.Descriptor)
@@ -456,35 +464,35 @@ in_item_kind (kind.Tag t) = in_tag_type t
 abbrev pub in_sig : ItemSig → List Site
 in_sig sig = in_item_kind sig.kind
 
--- the id of a signature that names share: each item has it; where there is no name, no item does, and it is an id of which
--- nothing is asked
+-- The id of a signature that names share. Each item has it. If there is no name, no item has it, and it is an id that is not
+-- checked.
 abbrev pub in_shared_id : {N : Type 0} → List N → Option Id → List Check
 in_shared_id [] id = if_there in_id id
 in_shared_id (name ∷ names) id = []
 
--- an import: each signature that is written, an id that no item has, and whether it is of a group
+-- an import: each signature in the source, an id that no item has, and whether it is a group
 abbrev pub in_import : ImportItems → List Site
 in_import (import_items.Single source name sig) = in_sig sig
 in_import (import_items.Group1 source items) = flat_map (λ p. in_sig p.1) items ++ check_sites (uncovered_check form.CompactImports)
 in_import (import_items.Group2 source sig names) = in_sig sig ++ check_sites (in_shared_id names sig.id ++ uncovered_check form.CompactImports)
 
--- a constant expression stands alone, and closes as many blocks as it opens, none before it is open; its branch hints are not
--- asked, since they are not written
+-- A constant expression: its instructions, and rule 5 (its blocks are balanced). Its branch hints are not checked, because the
+-- encoder does not write them.
 abbrev pub in_constant : Expression → List Site
 in_constant e = in_instrs constant_context e.instrs ++ Asked (Clause 5 (is_balanced (block_effects e.instrs))) ∷ []
 
--- functions; or expressions, and then their type
+-- the elements of a segment: functions; or expressions, and then their type
 abbrev pub in_payload : ElemPayload → List Site
 in_payload (payload.Indices is) = flat_map (at_index space.Func) is
 in_payload (payload.Exprs ty es) = flat_map in_constant es ++ check_sites (in_ref ty)
 
--- the type, and then what the elements are at first; or the type of the elements in place, and then these
+-- a table: its type, and then its initial value; or the type of its inline elements, and then these
 abbrev pub in_table_kind : TableKind → List Site
 in_table_kind (table.Import import ty) = check_sites (in_table_type ty)
 in_table_kind (table.Normal ty init) = check_sites (in_table_type ty) ++ if_there in_constant init
 in_table_kind (table.Inline ty is64 shared elements) = check_sites (in_ref ty) ++ (in_payload elements ++ Asked (Covered form.Shared (not shared)) ∷ [])
 
--- where bytes stand in place, a page has a size
+-- a memory: rule 3 for its page size, if it has inline data
 abbrev pub in_memory_kind : MemoryKind → List Site
 in_memory_kind (memory.Import import ty) = []
 in_memory_kind (memory.Normal ty) = []
@@ -495,26 +503,26 @@ abbrev pub in_global_kind : GlobalKind → List Site
 in_global_kind (global.Import import) = []
 in_global_kind (global.Inline e) = in_constant e
 
--- the type, and then the value at first
+-- a global: its type, and then its initial value
 abbrev pub in_global : Global → List Site
 in_global g = check_sites (in_global_type g.ty) ++ in_global_kind g.kind
 
--- the table, if one is written, and the offset
+-- an active element segment: its table, if there is one, and its offset
 abbrev pub in_elem_kind : ElemKind → List Site
 in_elem_kind elem.Passive = []
 in_elem_kind elem.Declared = []
 in_elem_kind (elem.Active table offset) = if_there (at_index space.Table) table ++ in_constant offset
 
--- an element segment: what it fills, what it holds, and whether the two suit
+-- an element segment: its table and offset, its elements, and rule 4 (its type is allowed without a table)
 abbrev pub in_elem : Elem → List Site
 in_elem e = in_elem_kind e.kind ++ (in_payload e.payload ++ Asked (Clause 4 (is_segment_type_allowed e.kind e.payload)) ∷ [])
 
--- the memory, and the offset
+-- an active data segment: its memory and its offset
 abbrev pub in_data_kind : DataKind → List Site
 in_data_kind data_kind.Passive = []
 in_data_kind (data_kind.Active memory offset) = at_index space.Memory memory ++ in_constant offset
 
--- the space of what is exported
+-- the index space of an exported item
 abbrev pub exported_space : ExportKind → Space
 exported_space export.Func = space.Func
 exported_space export.Table = space.Table
@@ -522,7 +530,7 @@ exported_space export.Memory = space.Memory
 exported_space export.Global = space.Global
 exported_space export.Tag = space.Tag
 
--- a subsection of dylink.0: no encoder covers that of an architecture
+-- a subsection of dylink.0; that of a target architecture is unsupported
 abbrev pub in_subsection : Dylink0Subsection → List Check
 in_subsection (dylink.MemInfo memory_size memory_align table_size table_align) = []
 in_subsection (dylink.Needed names) = []
@@ -531,7 +539,7 @@ in_subsection (dylink.ImportInfo flags) = []
 in_subsection (dylink.RuntimePath names) = []
 in_subsection (dylink.TargetArch name) = uncovered_check form.TargetArch
 
--- a custom section: nothing is asked of its bytes
+-- a custom section; its bytes are not checked
 abbrev pub in_custom : Custom → List Site
 in_custom (custom.Raw section) = []
 in_custom (custom.Producers producers) = []
@@ -553,16 +561,16 @@ in_field (field.Data d) = in_data_kind d.kind
 in_field (field.Tag t) = in_tag_type t.ty
 in_field (field.Custom c) = in_custom c
 
--- each field after the one before it
+-- the sites of all fields, in order
 abbrev pub in_module : List ModuleField → List Site
 in_module fields = flat_map in_field fields
 
--- nothing is asked of the id of a label
+-- the id of a label, which is not checked
 abbrev pub mark_asked : Option Mark → List Check
 mark_asked None = []
 mark_asked (Some m) = PlainId m ∷ []
 
--- What is asked, wherever it stands.
+-- The checks of a site, without its surroundings.
 abbrev pub asked_in : Site → List Check
 asked_in (Asked a) = a ∷ []
 asked_in (Used w u) = in_type_use u
@@ -574,6 +582,6 @@ asked_in (Repeated blocks m) = mark_asked m
 asked_in (Begins blocks m) = mark_asked m
 asked_in Ends = []
 
--- all that is asked at some sites
+-- the checks of a list of sites
 abbrev pub checks_of : List Site → List Check
 checks_of sites = flat_map asked_in sites

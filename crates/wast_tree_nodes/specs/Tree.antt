@@ -1,4 +1,4 @@
--- The types of the tree under one roof: each type by its name, and the variants of an enum behind a short word.
+-- Short names of the AST types, so that definitions can match on them: `index.Num` is the variant `Num` of `Index`.
 pub use Rattle.wast_base.specs.declared.ids.Span.{Span}
 pub use Rattle.wast_base.specs.declared.ids.Id.{Id}
 pub use Rattle.wast_base.specs.declared.ids.Index.{Index}

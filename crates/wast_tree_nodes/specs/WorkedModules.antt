@@ -1,4 +1,6 @@
--- Worked modules as lists of fields (text format: modules). A text may lie anywhere in memory.
+-- Example modules as lists of fields, for examples that compute (text format: modules).
+--
+-- A text in a contract has an address, so each text of an example has one as a parameter: the examples hold for all addresses.
 use Rattle.std.specs.Prelude.{ℕ, ◌+◌, false, List, [], ◌∷◌, Option, Some, None, codes}
 use Rattle.std.specs.Borrow.{Bor}
 use Rattle.wast_tree_nodes.specs.Tree.{Span, Id, Index, TypeDef, Instruction, MemoryType, GlobalType, Func, Memory, Data, Export, ModuleField}
@@ -17,19 +19,19 @@ use Rattle.wast_tree_nodes.specs.Tree.export
 use Rattle.wast_tree_nodes.specs.Tree.field
 use Rattle.wast_base.specs.Ids.{source_id}
 
--- where a text lies
+-- the address of a text
 abbrev pub Address : Type 0
 Address = ℕ × ℕ
 
--- a text that lies there
+-- a text at an address
 abbrev pub text : Address → List ℕ → Bor (List ℕ)
 text a t = record { ref_ptr = a; now = t }
 
--- a place in the text of a module
+-- a position in the source of a module
 abbrev pub place : ℕ → Span
 place n = record { offset = n }
 
--- an id that is written at n
+-- a source id at n
 abbrev pub id_at : Address → List ℕ → ℕ → Id
 id_at a t n = source_id (text a t) (place n)
 
@@ -41,11 +43,11 @@ by_id a t n = index.Id (id_at a t n)
 abbrev pub by_number : ℕ → ℕ → Index
 by_number k n = index.Num k (place n)
 
--- `(func)` where a type is defined
+-- the definition of `(type (func))`
 abbrev pub plain_def : TypeDef
 plain_def = record { kind = inner.Func (record { params = []; results = [] }); shared = false; parents = []; descriptor = None; describes = None; final_type = None }
 
--- `(type .. (func))`, which begins at n; its place is that of its keyword, as for each field
+-- `(type .. (func))`, which begins at n; its position is that of its keyword, as for each field
 abbrev pub plain_type : Option Id → ℕ → ty.«Type»
 plain_type id n = record { span = place (n + 1); id = id; name = None; def = plain_def }
 
@@ -80,7 +82,7 @@ export_field a n item = field.Export (plain_export a n item)
 abbrev pub row27_with : (a b c : Address) → Index → Index → Index → List ModuleField
 row27_with a b c type callee exported = type_field a 8 ∷ func_field b 25 type (instr.call callee ∷ []) ∷ export_field c 53 exported ∷ []
 
--- as it is written
+-- the same module with the ids of its source
 abbrev pub row27 : (a b c d e f : Address) → List ModuleField
 row27 a b c d e f = row27_with a b c (by_id d (codes "t") 40) (by_id e (codes "f") 49) (by_id f (codes "f") 71)
 
@@ -92,7 +94,7 @@ row31 a b c d e = type_field a 8 ∷ export_field b 25 (by_id c (codes "g") 43) 
 abbrev pub row32 : (a b : Address) → List ModuleField
 row32 a b = type_field a 8 ∷ type_field b 25 ∷ []
 
--- the type of a global that holds an `i32`
+-- the type of an immutable global of type `i32`
 abbrev pub plain_global_type : GlobalType
 plain_global_type = record { ty = value.I32; mutable = false; shared = false }
 

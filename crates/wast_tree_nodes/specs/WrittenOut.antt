@@ -1,5 +1,9 @@
--- Which lists of fields are written out: no field exports or imports its item in place, and none holds elements or data in
--- place (text format: abbreviations).
+-- Whether a list of fields is desugared: no field has inline exports, imports, elements or data (text format:
+-- abbreviations).
+--
+--   (func (export "a"))               not desugared
+--   (export "a" (func 0)) (func)      desugared
+--   (memory (data "x"))               not desugared
 use Rattle.std.specs.Prelude.{Bool, true, false, ◌&&◌, ◌==◌, length, List}
 use Rattle.std.specs.List.{list_all}
 use Rattle.wast_tree_nodes.specs.Tree.{InlineExport, FuncKind, TableKind, MemoryKind, GlobalKind, TagKind, ModuleField}
@@ -10,38 +14,38 @@ use Rattle.wast_tree_nodes.specs.Tree.global
 use Rattle.wast_tree_nodes.specs.Tree.tag_kind
 use Rattle.wast_tree_nodes.specs.Tree.field
 
--- an item has no exports in place
+-- whether there is no inline export
 abbrev pub exports_nothing : InlineExport → Bool
 exports_nothing e = length e.names == 0
 
--- a function is not imported in place
+-- whether a function has no inline import
 abbrev pub is_written_func : FuncKind → Bool
 is_written_func (func.Import import exact) = false
 is_written_func (func.Inline locals e) = true
 
--- a table is not imported in place, and holds no elements in place
+-- whether a table has no inline import and no inline elements
 abbrev pub is_written_table : TableKind → Bool
 is_written_table (table.Import import ty) = false
 is_written_table (table.Normal ty init) = true
 is_written_table (table.Inline ty is64 shared elements) = false
 
--- a memory is not imported in place, and holds no bytes in place
+-- whether a memory has no inline import and no inline data
 abbrev pub is_written_memory : MemoryKind → Bool
 is_written_memory (memory.Import import ty) = false
 is_written_memory (memory.Normal ty) = true
 is_written_memory (memory.Inline is64 pieces exponent) = false
 
--- a global is not imported in place
+-- whether a global has no inline import
 abbrev pub is_written_global : GlobalKind → Bool
 is_written_global (global.Import import) = false
 is_written_global (global.Inline e) = true
 
--- a tag is not imported in place
+-- whether a tag has no inline import
 abbrev pub is_written_tag : TagKind → Bool
 is_written_tag (tag_kind.Import import) = false
 is_written_tag tag_kind.Inline = true
 
--- a field has nothing in place
+-- whether a field has no inline parts
 abbrev pub is_written_field : ModuleField → Bool
 is_written_field (field.Ty t) = true
 is_written_field (field.Rec r) = true
@@ -57,6 +61,6 @@ is_written_field (field.Data d) = true
 is_written_field (field.Tag t) = exports_nothing t.exports && is_written_tag t.kind
 is_written_field (field.Custom c) = true
 
--- no field has anything in place
+-- whether no field has inline parts
 abbrev pub is_written_out : List ModuleField → Bool
 is_written_out fields = list_all is_written_field fields

@@ -5,9 +5,9 @@ use wast_base::{Index, Seq};
 /// `cont.bind $a $r` (stack switching)
 #[derive(Clone, Copy, Debug, PartialEq, Eq)]
 pub struct ContBind<'a> {
-    /// The type of the continuation that takes arguments.
+    /// The type of the continuation that the arguments are for.
     pub argument_index: Index<'a>,
-    /// The type of the continuation that is left.
+    /// The type of the resulting continuation.
     pub result_index: Index<'a>,
 }
 
@@ -25,7 +25,7 @@ pub struct Switch<'a> {
 pub struct Resume<'a> {
     /// The type of the continuation.
     pub type_index: Index<'a>,
-    /// What is done with what suspends.
+    /// The handlers.
     pub table: ResumeTable<'a>,
 }
 
@@ -34,9 +34,9 @@ pub struct Resume<'a> {
 pub struct ResumeThrow<'a> {
     /// The type of the continuation.
     pub type_index: Index<'a>,
-    /// The tag of what is thrown.
+    /// The tag of the exception that is thrown.
     pub tag_index: Index<'a>,
-    /// What is done with what suspends.
+    /// The handlers.
     pub table: ResumeTable<'a>,
 }
 
@@ -45,18 +45,18 @@ pub struct ResumeThrow<'a> {
 pub struct ResumeThrowRef<'a> {
     /// The type of the continuation.
     pub type_index: Index<'a>,
-    /// What is done with what suspends.
+    /// The handlers.
     pub table: ResumeTable<'a>,
 }
 
-/// The handlers of a resumption (stack switching).
+/// The handlers of a `resume` instruction (stack switching).
 #[derive(Debug, Drop)]
 pub struct ResumeTable<'a> {
-    /// The handlers, in the order of the text.
+    /// The handlers, in source order.
     pub handlers: Seq<Handle<'a>>,
 }
 
-/// A handler of a resumption (stack switching).
+/// A handler of a `resume` instruction (stack switching).
 #[derive(Clone, Copy, Debug, PartialEq, Eq)]
 pub enum Handle<'a> {
     /// `(on $e $l)`

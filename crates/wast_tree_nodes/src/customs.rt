@@ -1,4 +1,4 @@
-//! Custom sections that are written in a module.
+//! Custom sections of the source.
 
 ghost use Rattle.std.specs.Prelude.{◌≡◌, ◌<◌};
 ghost use Rattle.wast_tree_nodes.specs.Tree.custom;
@@ -6,20 +6,22 @@ ghost use Rattle.wast_tree_nodes.specs.Customs.{custom_name, custom_place, ancho
 
 use wast_base::{Seq, Span};
 
-/// A custom section: `(@custom ..)`, `(@producers ..)` or `(@dylink.0 ..)` (text format, custom annotations).
+/// A custom section: `(@custom ..)`, `(@producers ..)` or `(@dylink.0 ..)`.
+///
+/// The first is of the text format (custom annotations), and the others are tool conventions. For
+/// example, `(@custom "a" (after func) "x")` is a section named `a` with the byte of `x`.
 #[derive(Debug, Drop)]
 pub enum Custom<'a> {
-    /// Any bytes.
+    /// A section with a name, a position and any bytes.
     Raw(RawCustomSection<'a>),
-    /// What the module was made with (tool conventions, producers section).
+    /// The tools that made the module (tool conventions: producers section).
     Producers(Producers<'a>),
-    /// What a dynamic linker has to know (tool conventions, dynamic linking).
+    /// Information for a dynamic linker (tool conventions: dynamic linking).
     Dylink0(Dylink0<'a>),
 }
 
 impl<'a> Custom<'a> {
-    /// `(@custom "a" ..)` at a place of the text: where it stands in the module, its name and its bytes (text format, custom
-    /// annotations). It takes no memory.
+    /// Makes `(@custom "a" ..)`. `span` is its position in the source, `place` that in the module.
     pub fn raw(span: Span, place: CustomPlace, name: &'a str, bytes: Seq<&'a [u8]>) -> Custom<'a>
         ensures { result ≡ custom.Raw (record { span = span; place = place; name = name.entry; bytes = bytes.entry }) }
     {
@@ -31,7 +33,7 @@ impl<'a> Custom<'a> {
         })
     }
 
-    /// The name of the section (binary format, custom section): its own, `producers` or `dylink.0`. It takes no memory.
+    /// Returns the name of the section: its own, `producers` or `dylink.0`.
     pub fn name(&self) -> &'a str
         ensures { result.now ≡ custom_name self.now }
     {
@@ -42,8 +44,9 @@ impl<'a> Custom<'a> {
         }
     }
 
-    /// Where the section stands in the module (text format, custom annotations): in its own place, `producers` after the
-    /// last section, and `dylink.0` before the first. It takes no memory.
+    /// Returns the position of the section in the binary module.
+    ///
+    /// `producers` is after the last section, `dylink.0` before the first. Others have their own.
     pub fn place(&self) -> CustomPlace
         ensures { result ≡ custom_place self.now }
     {
@@ -54,7 +57,7 @@ impl<'a> Custom<'a> {
         }
     }
 
-    /// Whether the section stands in a place (text format, custom annotations). It takes no memory.
+    /// Returns whether the section has this position in the binary module.
     pub fn stands_at(&self, place: CustomPlace) -> bool
         ensures { result ≡ stands_at place self.now }
     {
@@ -62,34 +65,41 @@ impl<'a> Custom<'a> {
     }
 }
 
-/// A custom section of any bytes: `(@custom "a" (after func) "x")` (text format, custom annotations).
+/// A custom section of any bytes, such as `(@custom "a" (after func) "x")`.
 #[derive(Debug, Drop)]
 pub struct RawCustomSection<'a> {
-    /// The place of its keyword.
+    /// The position of its keyword in the source.
     pub span: Span,
-    /// Where it stands in the module.
+    /// Its position in the binary module.
     pub place: CustomPlace,
     /// Its name.
     pub name: &'a str,
-    /// Its bytes, in pieces one after another.
+    /// Its bytes, in pieces that follow one another.
     pub bytes: Seq<&'a [u8]>,
 }
 
-/// Where a custom section stands in a module (text format, custom annotations).
+/// The position of a custom section among the sections of a module.
+///
+/// `(before func)` and `(after func)` are relative to the function section, even if the module has
+/// none (text format: custom annotations).
+///
+/// # Example
+///
+///     let before = CustomPlace::Before(CustomPlaceAnchor::Code);
 #[derive(Clone, Copy, Debug, PartialEq, Eq)]
 pub enum CustomPlace {
-    /// Before all other sections.
+    /// Before all other sections: `(before first)`
     BeforeFirst,
-    /// Directly before the place of a section, whether that is written or not.
+    /// Directly before a section, or before its position if the module has no such section.
     Before(CustomPlaceAnchor),
-    /// Directly after the place of a section, whether that is written or not.
+    /// Directly after a section, or after its position if the module has no such section.
     After(CustomPlaceAnchor),
-    /// After all other sections but that of the names.
+    /// After all other sections except the name section: `(after last)`
     AfterLast,
 }
 
 impl CustomPlace {
-    /// The number of the place, below 26. It takes no memory.
+    /// Returns the number of the position, from 0 to 25, so that positions can be compared.
     pub fn rank(self) -> usize
         ensures same { result ≡ place_rank self }
         ensures within { result < 26 }
@@ -103,37 +113,37 @@ impl CustomPlace {
     }
 }
 
-/// A section beside which a custom section can stand (text format, custom annotations).
+/// A section that a custom section can be before or after (text format: custom annotations).
 #[derive(Clone, Copy, Debug, PartialEq, Eq)]
 pub enum CustomPlaceAnchor {
-    /// Types.
+    /// The type section.
     Ty,
-    /// Imports.
+    /// The import section.
     Import,
-    /// The types of functions.
+    /// The function section.
     Func,
-    /// Tables.
+    /// The table section.
     Table,
-    /// Memories.
+    /// The memory section.
     Memory,
-    /// Tags.
+    /// The tag section.
     Tag,
-    /// Globals.
+    /// The global section.
     Global,
-    /// Exports.
+    /// The export section.
     Export,
-    /// The start function.
+    /// The start section.
     Start,
-    /// Segments of elements.
+    /// The element section.
     Elem,
-    /// Bodies.
+    /// The code section.
     Code,
-    /// Segments of data.
+    /// The data section.
     Data,
 }
 
 impl CustomPlaceAnchor {
-    /// The number of the section, below 12. It takes no memory.
+    /// Returns the number of the section among these, from 0 to 11.
     pub fn rank(self) -> usize
         ensures same { result ≡ anchor_rank self }
         ensures within { result < 12 }
@@ -155,49 +165,48 @@ impl CustomPlaceAnchor {
     }
 }
 
-/// What a module was made with: `(@producers (language "R" "1"))` (tool conventions, producers section).
+/// The tools that made a module: `(@producers (language "R" "1"))` (tool conventions: producers).
 #[derive(Debug, Drop)]
 pub struct Producers<'a> {
-    /// The fields: the name of each, and its values, which are a name and a version.
+    /// The fields. Each has a name and values, and a value is a name and a version.
     pub fields: Seq<(&'a str, Seq<(&'a str, &'a str)>)>,
 }
 
-/// What a dynamic linker has to know: `(@dylink.0 ..)` (tool conventions, dynamic linking).
+/// Information for a dynamic linker: `(@dylink.0 ..)` (tool conventions: dynamic linking).
 #[derive(Debug, Drop)]
 pub struct Dylink0<'a> {
-    /// The subsections, in the order of the text.
+    /// The subsections, in source order.
     pub subsections: Seq<Dylink0Subsection<'a>>,
 }
 
-/// A subsection of `dylink.0` (tool conventions, dynamic linking).
+/// A subsection of `dylink.0` (tool conventions: dynamic linking).
 #[derive(Debug, Drop)]
 pub enum Dylink0Subsection<'a> {
-    /// `(mem-info (memory 1 0) (table 1 0))`: sizes in bytes and in elements, alignments as powers of two.
+    /// `(mem-info (memory 1 0) (table 1 0))`
     MemInfo {
-        /// How many bytes of memory are wanted.
+        /// The bytes of memory that the module needs.
         memory_size: u32,
-        /// How these are aligned.
+        /// The exponent of their alignment, a power of two.
         memory_align: u32,
-        /// How many elements of a table are wanted.
+        /// The table elements that the module needs.
         table_size: u32,
-        /// How these are aligned.
+        /// The exponent of their alignment, a power of two.
         table_align: u32,
     },
-    /// `(needed "a")`: the modules that are loaded first.
+    /// `(needed "a")`: the modules to load first.
     Needed(Seq<&'a str>),
-    /// `(export-info "a" 1)`: names of exports, with their flags.
+    /// `(export-info "a" 1)`: exports with their flags.
     ExportInfo(Seq<(&'a str, u32)>),
-    /// `(import-info "a" "b" 1)`: modules and names of imports, with their flags.
+    /// `(import-info "a" "b" 1)`: imports with their flags.
     ImportInfo(Seq<(&'a str, &'a str, u32)>),
-    /// `(runtime-path "a")`: where modules are looked for.
+    /// `(runtime-path "a")`: the folders to search for modules.
     RuntimePath(Seq<&'a str>),
-    /// The architecture that the module is for. No encoder covers it.
+    /// The target architecture. The encoder does not support it (E11).
     TargetArch(&'a str),
 }
 
 impl Dylink0Subsection<'_> {
-    /// The number of the subsection (tool conventions, dynamic linking), where 6 is that of the architecture. It takes no
-    /// memory.
+    /// Returns the number of the subsection in the binary format; 6 for the target architecture.
     pub fn id(&self) -> u8
         ensures { result ≡ subsection_id self.now }
     {

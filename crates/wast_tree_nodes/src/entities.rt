@@ -4,10 +4,14 @@ ghost use Rattle.std.specs.Prelude.{◌≡◌, None, true, false};
 
 use crate::types::{FunctionType, RefType, TypeUse, ValType};
 
-/// The size of a table or a memory: a minimum, and a maximum where one is written (text format, limits).
+/// The limits of a table or memory: a minimum, and an optional maximum (text format: limits).
+///
+/// # Example
+///
+///     let ty = TableType::new(Limits::new(0, None), RefType::funcref());
 #[derive(Clone, Copy, Debug, PartialEq, Eq)]
 pub struct Limits {
-    /// Whether indices have 64 bits.
+    /// Whether indices or addresses have 64 bits.
     pub is64: bool,
     /// The minimum, in elements or in pages.
     pub min: u64,
@@ -16,7 +20,7 @@ pub struct Limits {
 }
 
 impl Limits {
-    /// Limits of 32 bits (text format, limits). It takes no memory.
+    /// Makes limits of a table or memory with 32-bit indices.
     pub fn new(min: u64, max: Option<u64>) -> Limits
         ensures { result ≡ record { is64 = false; min = min; max = max } }
     {
@@ -27,7 +31,7 @@ impl Limits {
         }
     }
 
-    /// Limits of 64 bits (text format, limits). It takes no memory.
+    /// Makes limits of a table or memory with 64-bit indices.
     pub fn wide(min: u64, max: Option<u64>) -> Limits
         ensures { result ≡ record { is64 = true; min = min; max = max } }
     {
@@ -39,10 +43,10 @@ impl Limits {
     }
 }
 
-/// A table type: `1 2 funcref` (text format, table types).
+/// A table type, such as `1 2 funcref` (text format: table types).
 #[derive(Clone, Copy, Debug, PartialEq, Eq)]
 pub struct TableType<'a> {
-    /// Its size.
+    /// Its limits.
     pub limits: Limits,
     /// The type of its elements.
     pub elem: RefType<'a>,
@@ -51,7 +55,7 @@ pub struct TableType<'a> {
 }
 
 impl<'a> TableType<'a> {
-    /// The type of a table that is not shared (text format, table types). It takes no memory.
+    /// Makes the type of a table that is not shared.
     pub fn new(limits: Limits, elem: RefType<'a>) -> TableType<'a>
         ensures { result ≡ record { limits = limits; elem = elem.entry; shared = false } }
     {
@@ -63,19 +67,23 @@ impl<'a> TableType<'a> {
     }
 }
 
-/// A memory type: `1 2` (text format, memory types).
+/// A memory type, such as `1 2` (text format: memory types).
+///
+/// # Example
+///
+///     let ty = MemoryType::new(Limits::new(0, None));
 #[derive(Clone, Copy, Debug, PartialEq, Eq)]
 pub struct MemoryType {
-    /// Its size.
+    /// Its limits.
     pub limits: Limits,
     /// Whether it is `shared`.
     pub shared: bool,
-    /// The page size is 2 to this; where none is written, a page has 65,536 bytes (custom page sizes).
+    /// The exponent of the page size; a page has 65,536 bytes if `None` (custom page sizes).
     pub page_size_log2: Option<u32>,
 }
 
 impl MemoryType {
-    /// The type of a memory that is not shared, with pages of 65,536 bytes (text format, memory types). It takes no memory.
+    /// Makes the type of a memory that is not shared, with pages of 65,536 bytes.
     pub fn new(limits: Limits) -> MemoryType
         ensures { result ≡ record { limits = limits; shared = false; page_size_log2 = None } }
     {
@@ -87,20 +95,23 @@ impl MemoryType {
     }
 }
 
-/// A global type: `(mut i32)` (text format, global types).
+/// A global type, such as `(mut i32)` (text format: global types).
+///
+/// # Example
+///
+///     let ty = GlobalType::new(I32, true);
 #[derive(Clone, Copy, Debug, PartialEq, Eq)]
 pub struct GlobalType<'a> {
     /// The type of its value.
     pub ty: ValType<'a>,
-    /// Whether it can be changed.
+    /// Whether it is mutable.
     pub mutable: bool,
     /// Whether it is `shared`.
     pub shared: bool,
 }
 
 impl<'a> GlobalType<'a> {
-    /// The type of a global that is not shared, and whether it can be changed (text format, global types). It takes no
-    /// memory.
+    /// Makes the type of a global that is not shared.
     pub fn new(ty: ValType<'a>, mutable: bool) -> GlobalType<'a>
         ensures { result ≡ record { ty = ty.entry; mutable = mutable; shared = false } }
     {
@@ -112,9 +123,9 @@ impl<'a> GlobalType<'a> {
     }
 }
 
-/// A tag type (text format, tag types).
+/// A tag type (text format: tag types).
 #[derive(Debug, Drop)]
 pub enum TagType<'a> {
-    /// That of an exception: the type of what it carries.
+    /// The type of an exception tag. Its parameters are the values of the exception.
     Exception(TypeUse<'a, FunctionType<'a>>),
 }

@@ -1,4 +1,4 @@
-//! The fields of a module in the text format.
+//! The fields of a module: functions, tables, memories, globals, tags and exports.
 
 ghost use Rattle.std.specs.Prelude.{◌≡◌, [], Some, None, false};
 ghost use Rattle.wast_tree_nodes.specs.Hints.{with_hints};
@@ -19,7 +19,12 @@ use crate::types::{FunctionType, Rec, RefType, Type, TypeUse, ValType};
 use std::alloc;
 use wast_base::{Id, Index, NameAnnotation, Seq, Space, Span};
 
-/// A field of a module (text format, modules).
+/// A field of a module (text format: modules).
+///
+/// # Example
+///
+///     let stop = Tag::new(alloc, at(225), id("stop", 229), TypeUse::none());
+///     make.push_field(&mut fields, ModuleField::Tag(stop));
 #[derive(Debug, Drop)]
 pub enum ModuleField<'a> {
     /// `(type ..)`
@@ -50,15 +55,15 @@ pub enum ModuleField<'a> {
     Custom(Custom<'a>),
 }
 
-/// The names under which a field exports its item: `(export "a")` within the field (text format, exports).
+/// The inline exports of a field, such as `(export "a")` within `(func ..)` (text format: exports).
 #[derive(Debug, Drop)]
 pub struct InlineExport<'a> {
-    /// The names, in the order of the text.
+    /// The names, in source order.
     pub names: Seq<&'a str>,
 }
 
 impl<'a> InlineExport<'a> {
-    /// No names (text format, exports). It takes no memory.
+    /// Makes an empty list of inline exports.
     pub fn none(alloc: alloc::Global) -> InlineExport<'a>
         ensures { result ≡ record { names = [] } }
     {
@@ -68,18 +73,17 @@ impl<'a> InlineExport<'a> {
     }
 }
 
-/// Where a field imports its item from: `(import "a" "b")` within the field (text format, imports: abbreviations).
+/// An inline import, such as `(import "a" "b")` within `(func ..)` (text format: imports).
 #[derive(Clone, Copy, Debug, PartialEq, Eq)]
 pub struct InlineImport<'a> {
     /// The name of the module.
     pub module: &'a str,
-    /// The name of the item in it.
+    /// The name of the item in that module.
     pub field: &'a str,
 }
 
 impl<'a> InlineImport<'a> {
-    /// `(import "a" "b")` in place: the names of the module and of the item in it (text format, imports: abbreviations). It
-    /// takes no memory.
+    /// Makes the inline import `(import "a" "b")`, from the names of the module and the item.
     pub fn new(module: &'a str, field: &'a str) -> InlineImport<'a>
         ensures { result ≡ record { «module» = «module».entry; field = field.entry } }
     {
@@ -87,26 +91,35 @@ impl<'a> InlineImport<'a> {
     }
 }
 
-/// A function: `(func $f (type $t) ..)` (text format, functions).
+/// A function, such as `(func $f (type $t) ..)` (text format: functions).
+///
+/// # Example
+///
+/// A function that is exported as `read`, with the name `byte` for the name section:
+///
+///     let func = Func::new(alloc, at(239), id("read", 244), ty, locals, body);
+///     let names: [&'a str; 1] = ["read"];
+///     func.with_name("byte").with_exports(make.exports(&names))
 #[derive(Debug, Drop)]
 pub struct Func<'a> {
-    /// The place of its keyword.
+    /// The position of its keyword.
     pub span: Span,
-    /// Its id.
+    /// Its id, if it has one.
     pub id: Option<Id<'a>>,
-    /// Its name annotation.
+    /// Its name annotation, if it has one.
     pub name: Option<NameAnnotation<'a>>,
-    /// The names under which it is exported in place.
+    /// Its inline exports.
     pub exports: InlineExport<'a>,
-    /// What it is made of.
+    /// Its locals and body, or its inline import.
     pub kind: FuncKind<'a>,
     /// Its type.
     pub ty: TypeUse<'a, FunctionType<'a>>,
 }
 
 impl<'a> Func<'a> {
-    /// `(func $f ..)` at a place, with its type use, locals and body, without a name annotation and exports in place (text
-    /// format, functions). It takes no memory.
+    /// Makes `(func $f ..)` with a type use, locals and a body (text format: functions).
+    ///
+    /// It has no name annotation, inline exports or branch hints.
     pub fn new(
         alloc: alloc::Global,
         span: Span,
@@ -130,8 +143,9 @@ impl<'a> Func<'a> {
         }
     }
 
-    /// `(func $f (import ..) ..)` at a place, with its type use, without a name annotation and exports in place; its type is
-    /// not `exact` (text format, functions: abbreviations). It takes no memory.
+    /// Makes `(func $f (import "a" "b") ..)`, a function with an inline import.
+    ///
+    /// It has no name annotation and no inline exports, and its type is not `exact`.
     pub fn imported(
         alloc: alloc::Global,
         span: Span,
@@ -151,7 +165,7 @@ impl<'a> Func<'a> {
         }
     }
 
-    /// The function with a name annotation (text format, custom annotations). It takes no memory.
+    /// Returns the function with the name annotation `(@name "..")` instead of the one that it had.
     pub fn with_name(self, name: &'a str) -> Func<'a>
         ensures { result ≡ record self.entry { name = Some (record { name = name.entry }) } }
     {
@@ -159,16 +173,22 @@ impl<'a> Func<'a> {
         Func { name, ..self }
     }
 
-    /// The function with exports in place, where those that it had are dropped (text format, functions: abbreviations). It
-    /// takes no memory.
+    /// Returns the function with these inline exports. Those that it had are dropped.
     pub fn with_exports(self, exports: InlineExport<'a>) -> Func<'a>
         ensures { result ≡ record self.entry { exports = exports.entry } }
     {
         Func { exports, ..self }
     }
 
-    /// The function with branch hints in its body, where those that it had are dropped; one that is imported in place has no
-    /// body, and stays as it is (text format, custom annotations). It takes no memory.
+    /// Returns the function with these branch hints in its body. Those that it had are dropped.
+    ///
+    /// A function with an inline import has no body and is returned unchanged.
+    ///
+    /// # Example
+    ///
+    ///     let func = Func::new(alloc, at(9), None, none, Seq::new(alloc), instrs);
+    ///     let hints = maker.hints(hints);
+    ///     one(alloc, maker, ModuleField::Func(func.with_hints(hints)))
     pub fn with_hints(self, hints: Seq<BranchHint>) -> Func<'a>
         ensures { result ≡ record self.entry { kind = with_hints hints self.entry.kind } }
     {
@@ -179,14 +199,14 @@ impl<'a> Func<'a> {
     }
 }
 
-/// What a function is made of (text format, functions).
+/// The locals and body of a function, or its inline import (text format: functions).
 #[derive(Debug, Drop)]
 pub enum FuncKind<'a> {
-    /// Imported in place, and whether its type is `exact`.
+    /// An inline import, and whether the type of the function is `exact` (custom descriptors).
     Import(InlineImport<'a>, bool),
     /// Locals and a body.
     Inline {
-        /// The locals, in the order of the text.
+        /// The locals, in source order.
         locals: Seq<Local<'a>>,
         /// The body.
         expression: Expression<'a>,
@@ -194,7 +214,7 @@ pub enum FuncKind<'a> {
 }
 
 impl<'a> FuncKind<'a> {
-    /// The same with branch hints in its body, where it has one.
+    /// Returns it with these branch hints in its body, if it has one.
     fn with_hints(self, hints: Seq<BranchHint>) -> FuncKind<'a>
         ensures { result ≡ with_hints hints self.entry }
     {
@@ -211,19 +231,23 @@ impl<'a> FuncKind<'a> {
     }
 }
 
-/// A local of a function: `(local $x i32)` (text format, functions).
+/// A local of a function, such as `(local $x i32)` (text format: functions).
+///
+/// # Example
+///
+///     let locals = make.locals(&[Local::new(id("address", 342), I32)]);
 #[derive(Clone, Copy, Debug, PartialEq, Eq)]
 pub struct Local<'a> {
-    /// Its id.
+    /// Its id, if it has one.
     pub id: Option<Id<'a>>,
-    /// Its name annotation.
+    /// Its name annotation, if it has one.
     pub name: Option<NameAnnotation<'a>>,
     /// Its type.
     pub ty: ValType<'a>,
 }
 
 impl<'a> Local<'a> {
-    /// `(local $x ..)`, without a name annotation (text format, functions). It takes no memory.
+    /// Makes `(local $x ..)` without a name annotation.
     pub fn new(id: Option<Id<'a>>, ty: ValType<'a>) -> Local<'a>
         ensures { result ≡ record { id = id.entry; name = None; ty = ty.entry } }
     {
@@ -231,24 +255,33 @@ impl<'a> Local<'a> {
     }
 }
 
-/// A table: `(table $t 1 funcref)` (text format, tables).
+/// A table, such as `(table $t 1 funcref)` (text format: tables).
+///
+/// # Example
+///
+/// `(table $calls funcref (elem $ready $read))`:
+///
+///     let elems = ElemPayload::Indices(make.indices(&[index("ready", 131), index("read", 138)]));
+///     let calls = Table::inline(alloc, at(104), id("calls", 110), RefType::funcref(), elems);
+///     make.push_field(&mut fields, ModuleField::Table(calls));
 #[derive(Debug, Drop)]
 pub struct Table<'a> {
-    /// The place of its keyword.
+    /// The position of its keyword.
     pub span: Span,
-    /// Its id.
+    /// Its id, if it has one.
     pub id: Option<Id<'a>>,
-    /// Its name annotation.
+    /// Its name annotation, if it has one.
     pub name: Option<NameAnnotation<'a>>,
-    /// The names under which it is exported in place.
+    /// Its inline exports.
     pub exports: InlineExport<'a>,
-    /// What it is made of.
+    /// Its type, inline elements or inline import.
     pub kind: TableKind<'a>,
 }
 
 impl<'a> Table<'a> {
-    /// `(table $t ..)` at a place, without a name annotation, exports in place and a value at first (text format, tables). It
-    /// takes no memory.
+    /// Makes `(table $t ..)` of a table type (text format: tables).
+    ///
+    /// It has no name annotation, inline exports or initial value.
     pub fn new(alloc: alloc::Global, span: Span, id: Option<Id<'a>>, ty: TableType<'a>) -> Table<'a>
         ensures { result ≡ record { span = span; id = id.entry; name = None; exports = record { names = [] }; kind = table.Normal ty.entry None } }
     {
@@ -264,8 +297,9 @@ impl<'a> Table<'a> {
         }
     }
 
-    /// `(table $t funcref (elem ..))` at a place: a table of 32 bits that is not shared, with elements of a type in place,
-    /// without a name annotation and exports in place (text format, tables: abbreviations). It takes no memory.
+    /// Makes `(table $t funcref (elem ..))`, a table with inline elements.
+    ///
+    /// Its indices have 32 bits. It is not shared, and has no name annotation or inline exports.
     pub fn inline(
         alloc: alloc::Global,
         span: Span,
@@ -290,24 +324,24 @@ impl<'a> Table<'a> {
     }
 }
 
-/// What a table is made of (text format, tables).
+/// The type of a table, its inline elements or its inline import (text format: tables).
 #[derive(Debug, Drop)]
 pub enum TableKind<'a> {
-    /// Imported in place.
+    /// An inline import.
     Import {
-        /// Where it is from.
+        /// The names of the module and the item.
         import: InlineImport<'a>,
         /// Its type.
         ty: TableType<'a>,
     },
-    /// A type, and what each element is at first.
+    /// A type, and an initial value.
     Normal {
         /// Its type.
         ty: TableType<'a>,
-        /// What each element is at first, where that is written.
+        /// The initial value of each element, if there is one.
         init_expr: Option<Expression<'a>>,
     },
-    /// Elements in place, as many as the table has.
+    /// Inline elements, as many as the table has.
     Inline {
         /// The type of its elements.
         elem: RefType<'a>,
@@ -320,24 +354,28 @@ pub enum TableKind<'a> {
     },
 }
 
-/// A memory: `(memory $m 1)` (text format, memories).
+/// A memory, such as `(memory $m 1)` (text format: memories).
+///
+/// # Example
+///
+///     let bytes = Memory::inline(alloc, at(149), id("bytes", 156), make.string(b"ready"));
+///     make.push_field(&mut fields, ModuleField::Memory(bytes));
 #[derive(Debug, Drop)]
 pub struct Memory<'a> {
-    /// The place of its keyword.
+    /// The position of its keyword.
     pub span: Span,
-    /// Its id.
+    /// Its id, if it has one.
     pub id: Option<Id<'a>>,
-    /// Its name annotation.
+    /// Its name annotation, if it has one.
     pub name: Option<NameAnnotation<'a>>,
-    /// The names under which it is exported in place.
+    /// Its inline exports.
     pub exports: InlineExport<'a>,
-    /// What it is made of.
+    /// Its type, inline data or inline import.
     pub kind: MemoryKind<'a>,
 }
 
 impl<'a> Memory<'a> {
-    /// `(memory $m ..)` at a place, without a name annotation and exports in place (text format, memories). It takes no
-    /// memory.
+    /// Makes `(memory $m ..)` of a memory type, without a name annotation or inline exports.
     pub fn new(alloc: alloc::Global, span: Span, id: Option<Id<'a>>, ty: MemoryType) -> Memory<'a>
         ensures { result ≡ record { span = span; id = id.entry; name = None; exports = record { names = [] }; kind = memory.Normal ty } }
     {
@@ -350,8 +388,10 @@ impl<'a> Memory<'a> {
         }
     }
 
-    /// `(memory $m (data ..))` at a place: a memory of 32 bits, with pages of 65,536 bytes and these bytes in place, without a
-    /// name annotation and exports in place (text format, memories: abbreviations). It takes no memory.
+    /// Makes `(memory $m (data ..))`, a memory with inline data (text format: memories).
+    ///
+    /// Its addresses have 32 bits and its pages 65,536 bytes. It has no name annotation or inline
+    /// exports.
     pub fn inline(
         alloc: alloc::Global,
         span: Span,
@@ -373,8 +413,7 @@ impl<'a> Memory<'a> {
         }
     }
 
-    /// `(memory $m (import ..) ..)` at a place, without a name annotation and exports in place (text format, memories:
-    /// abbreviations). It takes no memory.
+    /// Makes `(memory $m (import "a" "b") ..)`, without a name annotation or inline exports.
     pub fn imported(
         alloc: alloc::Global,
         span: Span,
@@ -393,7 +432,7 @@ impl<'a> Memory<'a> {
         }
     }
 
-    /// The memory with a name annotation (text format, custom annotations). It takes no memory.
+    /// Returns the memory with the name annotation `(@name "..")` instead of the one that it had.
     pub fn with_name(self, name: &'a str) -> Memory<'a>
         ensures { result ≡ record self.entry { name = Some (record { name = name.entry }) } }
     {
@@ -401,8 +440,7 @@ impl<'a> Memory<'a> {
         Memory { name, ..self }
     }
 
-    /// The memory with exports in place, where those that it had are dropped (text format, memories: abbreviations). It
-    /// takes no memory.
+    /// Returns the memory with these inline exports. Those that it had are dropped.
     pub fn with_exports(self, exports: InlineExport<'a>) -> Memory<'a>
         ensures { result ≡ record self.entry { exports = exports.entry } }
     {
@@ -410,49 +448,59 @@ impl<'a> Memory<'a> {
     }
 }
 
-/// What a memory is made of (text format, memories).
+/// The type of a memory, its inline data or its inline import (text format: memories).
 #[derive(Debug, Drop)]
 pub enum MemoryKind<'a> {
-    /// Imported in place.
+    /// An inline import.
     Import {
-        /// Where it is from.
+        /// The names of the module and the item.
         import: InlineImport<'a>,
         /// Its type.
         ty: MemoryType,
     },
-    /// A type.
+    /// A memory type.
     Normal(MemoryType),
-    /// Bytes in place, as many as fill the memory up to its last page.
+    /// Inline data. The memory has as many pages as the data needs.
     Inline {
-        /// Whether indices have 64 bits.
+        /// Whether addresses have 64 bits.
         is64: bool,
-        /// The bytes.
+        /// The data, in pieces that follow one another.
         bytes: Seq<DataVal<'a>>,
-        /// The page size is 2 to this; where none is written, a page has 65,536 bytes (custom page sizes).
+        /// The exponent of the page size; a page has 65,536 bytes if `None` (custom page sizes).
         page_size_log2: Option<u32>,
     },
 }
 
-/// A global: `(global $g (mut i32) (i32.const 0))` (text format, globals).
+/// A global, such as `(global $g (mut i32) (i32.const 0))` (text format: globals).
+///
+/// The example imports it as `GlobalField`, because the allocator of `std` is named `Global` too.
+///
+/// # Example
+///
+///     let zero = make.one_instruction(i32_const(0));
+///     let ty = GlobalType::new(I32, true);
+///     let closed = GlobalField::new(alloc, at(182), id("closed", 189), ty, zero);
+///     make.push_field(&mut fields, ModuleField::Global(closed));
 #[derive(Debug, Drop)]
 pub struct Global<'a> {
-    /// The place of its keyword.
+    /// The position of its keyword.
     pub span: Span,
-    /// Its id.
+    /// Its id, if it has one.
     pub id: Option<Id<'a>>,
-    /// Its name annotation.
+    /// Its name annotation, if it has one.
     pub name: Option<NameAnnotation<'a>>,
-    /// The names under which it is exported in place.
+    /// Its inline exports.
     pub exports: InlineExport<'a>,
     /// Its type.
     pub ty: GlobalType<'a>,
-    /// What it is made of.
+    /// Its initial value, or its inline import.
     pub kind: GlobalKind<'a>,
 }
 
 impl<'a> Global<'a> {
-    /// `(global $g ..)` at a place, with its value at first, without a name annotation and exports in place (text format,
-    /// globals). It takes no memory.
+    /// Makes `(global $g ..)` of a type and an initial value (text format: globals).
+    ///
+    /// It has no name annotation and no inline exports.
     pub fn new(
         alloc: alloc::Global,
         span: Span,
@@ -473,35 +521,39 @@ impl<'a> Global<'a> {
     }
 }
 
-/// What a global is made of (text format, globals).
+/// The initial value of a global, or its inline import (text format: globals).
 #[derive(Debug, Drop)]
 pub enum GlobalKind<'a> {
-    /// Imported in place.
+    /// An inline import.
     Import(InlineImport<'a>),
-    /// Its value at first.
+    /// The initial value, a constant expression.
     Inline(Expression<'a>),
 }
 
-/// A tag: `(tag $t (param i32))` (text format, tags).
+/// A tag, such as `(tag $t (param i32))` (text format: tags).
+///
+/// # Example
+///
+///     let stop = Tag::new(alloc, at(225), id("stop", 229), TypeUse::none());
+///     make.push_field(&mut fields, ModuleField::Tag(stop));
 #[derive(Debug, Drop)]
 pub struct Tag<'a> {
-    /// The place of its keyword.
+    /// The position of its keyword.
     pub span: Span,
-    /// Its id.
+    /// Its id, if it has one.
     pub id: Option<Id<'a>>,
-    /// Its name annotation.
+    /// Its name annotation, if it has one.
     pub name: Option<NameAnnotation<'a>>,
-    /// The names under which it is exported in place.
+    /// Its inline exports.
     pub exports: InlineExport<'a>,
     /// Its type.
     pub ty: TagType<'a>,
-    /// What it is made of.
+    /// Whether it is defined here, or its inline import.
     pub kind: TagKind<'a>,
 }
 
 impl<'a> Tag<'a> {
-    /// `(tag $t ..)` at a place, of exceptions, without a name annotation and exports in place (text format, tags). It takes
-    /// no memory.
+    /// Makes `(tag $t ..)` for exceptions, without a name annotation or inline exports.
     pub fn new(
         alloc: alloc::Global,
         span: Span,
@@ -521,16 +573,16 @@ impl<'a> Tag<'a> {
     }
 }
 
-/// What a tag is made of (text format, tags).
+/// Whether a tag is defined in the module or imported inline (text format: tags).
 #[derive(Clone, Copy, Debug, PartialEq, Eq)]
 pub enum TagKind<'a> {
-    /// Imported in place.
+    /// An inline import.
     Import(InlineImport<'a>),
-    /// Its type alone.
+    /// Defined in the module, by its type alone.
     Inline,
 }
 
-/// What an export gives out (text format, exports).
+/// The kind of an exported item (text format: exports).
 #[derive(Clone, Copy, Debug, PartialEq, Eq)]
 pub enum ExportKind {
     /// A function.
@@ -546,7 +598,7 @@ pub enum ExportKind {
 }
 
 impl ExportKind {
-    /// The space of what is exported (text format, exports). It takes no memory.
+    /// Returns the index space of the exported item.
     pub fn space(self) -> Space
         ensures { result ≡ exported_space self }
     {
@@ -560,21 +612,26 @@ impl ExportKind {
     }
 }
 
-/// An export: `(export "a" (func $f))` (text format, exports).
+/// An export, such as `(export "a" (func $f))` (text format: exports).
+///
+/// # Example
+///
+///     let export = Export::new(at(9), "a", ExportKind::Func, Index::Id(id));
+///     one(alloc, maker, ModuleField::Export(export))
 #[derive(Clone, Copy, Debug, PartialEq, Eq)]
 pub struct Export<'a> {
-    /// The place of its keyword.
+    /// The position of its keyword.
     pub span: Span,
-    /// The name under which the item is known outside.
+    /// The name of the export.
     pub name: &'a str,
-    /// The space of the item.
+    /// The kind of the item.
     pub kind: ExportKind,
-    /// The item.
+    /// The exported item.
     pub item: Index<'a>,
 }
 
 impl<'a> Export<'a> {
-    /// `(export "a" ..)` at a place (text format, exports). It takes no memory.
+    /// Makes `(export "a" ..)`.
     pub fn new(span: Span, name: &'a str, kind: ExportKind, item: Index<'a>) -> Export<'a>
         ensures { result ≡ record { span = span; name = name.entry; kind = kind; item = item.entry } }
     {

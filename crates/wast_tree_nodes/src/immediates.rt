@@ -1,4 +1,4 @@
-//! What instructions hold beside an index or a number (text format: instructions).
+//! Immediates of instructions, other than an index or a number (text format: instructions).
 
 ghost use Rattle.std.specs.Prelude.{◌≡◌, None};
 ghost use Rattle.wast_tree_nodes.specs.Tree.target;
@@ -6,20 +6,24 @@ ghost use Rattle.wast_tree_nodes.specs.Tree.target;
 use crate::types::{FunctionType, TypeUse, ValType};
 use wast_base::{Boxed, Id, Index, NameAnnotation, Seq};
 
-/// The label and the type of a block: `$l (result i32)` (text format, control instructions).
+/// The label and type of a block, such as `$l (result i32)` (text format: control instructions).
+///
+/// # Example
+///
+///     let block = BlockType::new(Some(Id::new(name, at(24))), TypeUse::none());
+///     maker.push_block(&mut instrs, BlockKind::Block, block);
 #[derive(Debug, Drop)]
 pub struct BlockType<'a> {
-    /// The label.
+    /// The label, if there is one.
     pub label: Option<Id<'a>>,
-    /// What the name section calls the label, where that is written (custom annotations).
+    /// The name annotation of the label, if there is one.
     pub label_name: Option<NameAnnotation<'a>>,
-    /// The type: what the block takes and gives.
+    /// The type: the block's parameters and results.
     pub ty: TypeUse<'a, FunctionType<'a>>,
 }
 
 impl<'a> BlockType<'a> {
-    /// What a block of this label and type is opened with, without a name annotation (text format, control instructions).
-    /// It takes no memory.
+    /// Makes a block type of a label and a type, without a name annotation.
     pub fn new(label: Option<Id<'a>>, ty: TypeUse<'a, FunctionType<'a>>) -> BlockType<'a>
         ensures { result ≡ record { label = label.entry; label_name = None; ty = ty.entry } }
     {
@@ -30,7 +34,11 @@ impl<'a> BlockType<'a> {
         }
     }
 
-    /// Neither a label nor a type (text format, control instructions). It takes no memory.
+    /// Makes a block type without a label, parameters and results.
+    ///
+    /// # Example
+    ///
+    ///     make.push_block(&mut body, BlockKind::If, BlockType::empty());
     pub fn empty() -> BlockType<'a>
         ensures { result ≡ record { label = None; label_name = None; ty = record { index = None; inline = None } } }
     {
@@ -38,36 +46,35 @@ impl<'a> BlockType<'a> {
     }
 }
 
-/// The labels of `br_table $a $b $c` (text format, control instructions).
+/// The labels of `br_table $a $b $c` (text format: control instructions).
 #[derive(Debug, Drop)]
 pub struct BrTableIndices<'a> {
-    /// The labels that a number chooses from.
+    /// The labels for the operands 0, 1 and so on.
     pub labels: Seq<Index<'a>>,
-    /// The label for all other numbers.
+    /// The label for all other operands.
     pub default: Index<'a>,
 }
 
-/// A block that catches exceptions: `try_table $l (catch $e $h)` (text format, control instructions).
+/// The immediates of `try_table $l (catch $e $h)` (text format: control instructions).
 #[derive(Debug, Drop)]
 pub struct TryTable<'a> {
     /// The label and the type.
     pub block: Boxed<BlockType<'a>>,
-    /// What is caught, in the order of the text.
+    /// The catch clauses, in source order.
     pub catches: Seq<TryTableCatch<'a>>,
 }
 
-/// A clause of `try_table`: `(catch $e $h)` (text format, control instructions).
+/// A catch clause of `try_table`, such as `(catch $e $h)` (text format: control instructions).
 #[derive(Clone, Copy, Debug, PartialEq, Eq)]
 pub struct TryTableCatch<'a> {
-    /// What is caught.
+    /// Which exceptions it catches.
     pub kind: TryTableCatchKind<'a>,
-    /// The block that is left, by its label.
+    /// The label to branch to.
     pub label: Index<'a>,
 }
 
 impl<'a> TryTableCatch<'a> {
-    /// `(catch $e $h)`: what is caught, and the label of the block that is left (text format, control instructions). It
-    /// takes no memory.
+    /// Makes a catch clause, such as `(catch $e $h)`.
     pub fn new(kind: TryTableCatchKind<'a>, label: Index<'a>) -> TryTableCatch<'a>
         ensures { result ≡ record { kind = kind.entry; label = label.entry } }
     {
@@ -75,7 +82,7 @@ impl<'a> TryTableCatch<'a> {
     }
 }
 
-/// What a clause of `try_table` catches (text format, control instructions).
+/// The exceptions that a catch clause of `try_table` catches (text format: control instructions).
 #[derive(Clone, Copy, Debug, PartialEq, Eq)]
 pub enum TryTableCatchKind<'a> {
     /// An exception of a tag: `catch $e`
@@ -88,21 +95,21 @@ pub enum TryTableCatchKind<'a> {
     CatchAllRef,
 }
 
-/// The table of an instruction: `table.get $t` (text format, table instructions).
+/// The table of an instruction, such as `table.get $t` (text format: table instructions).
 #[derive(Clone, Copy, Debug, PartialEq, Eq)]
 pub struct TableArg<'a> {
     /// The table.
     pub dst: Index<'a>,
 }
 
-/// The memory of an instruction: `memory.size $m` (text format, memory instructions).
+/// The memory of an instruction, such as `memory.size $m` (text format: memory instructions).
 #[derive(Clone, Copy, Debug, PartialEq, Eq)]
 pub struct MemoryArg<'a> {
     /// The memory.
     pub mem: Index<'a>,
 }
 
-/// What `memory.init $m $d` fills, and from where (text format, memory instructions).
+/// The immediates of `memory.init $m $d` (text format: memory instructions).
 #[derive(Clone, Copy, Debug, PartialEq, Eq)]
 pub struct MemoryInit<'a> {
     /// The data segment that is copied.
@@ -111,34 +118,34 @@ pub struct MemoryInit<'a> {
     pub mem: Index<'a>,
 }
 
-/// What `memory.copy $to $from` copies (text format, memory instructions).
+/// The immediates of `memory.copy $to $from` (text format: memory instructions).
 #[derive(Clone, Copy, Debug, PartialEq, Eq)]
 pub struct MemoryCopy<'a> {
-    /// The memory that is copied.
+    /// The memory that is read.
     pub src: Index<'a>,
     /// The memory that it is copied to.
     pub dst: Index<'a>,
 }
 
-/// What `table.init $t $e` fills, and from where (text format, table instructions).
+/// The immediates of `table.init $t $e` (text format: table instructions).
 #[derive(Clone, Copy, Debug, PartialEq, Eq)]
 pub struct TableInit<'a> {
-    /// The table that is filled.
+    /// The table that it is copied to.
     pub table: Index<'a>,
     /// The element segment that is copied.
     pub elem: Index<'a>,
 }
 
-/// What `table.copy $to $from` copies (text format, table instructions).
+/// The immediates of `table.copy $to $from` (text format: table instructions).
 #[derive(Clone, Copy, Debug, PartialEq, Eq)]
 pub struct TableCopy<'a> {
-    /// The table that it is copied to.
+    /// The table that is written.
     pub dst: Index<'a>,
-    /// The table that is copied.
+    /// The table that is read.
     pub src: Index<'a>,
 }
 
-/// The table and the type of an indirect call: `call_indirect $t (type $f)` (text format, control instructions).
+/// The immediates of `call_indirect $t (type $f)` (text format: control instructions).
 #[derive(Debug, Drop)]
 pub struct CallIndirect<'a> {
     /// The table.
@@ -147,29 +154,36 @@ pub struct CallIndirect<'a> {
     pub ty: TypeUse<'a, FunctionType<'a>>,
 }
 
-/// The types of what `select` gives: `select (result i32)` (text format, parametric instructions).
+/// The result types of `select (result i32)` (text format: parametric instructions).
 #[derive(Debug, Drop)]
 pub struct SelectTypes<'a> {
-    /// The types, where any `(result ..)` is written.
+    /// The types, or `None` if there is no `(result ..)`.
     pub tys: Option<Seq<ValType<'a>>>,
 }
 
-/// A memory argument: `$m offset=4 align=2` (text format, memory instructions).
+/// A memory argument, such as `$m offset=4 align=2` (text format: memory instructions).
+///
+/// # Example
+///
+///     let arg = MemArg::new(Index::Num(0, at(14)), 3, 0);
+///     let mut instrs = Seq::new(alloc);
+///     maker.push_instruction(&mut instrs, Instruction::Mem(MemOp::i32_load, arg));
+///
+/// The module of this example is not well formed, because 3 is not a power of two.
 #[derive(Clone, Copy, Debug, PartialEq, Eq)]
 pub struct MemArg<'a> {
-    /// The alignment, in bytes.
+    /// The alignment, in bytes; a power of two in a well-formed module.
     pub align: u64,
     /// The offset, in bytes.
     pub offset: u64,
-    /// What is read or written.
+    /// The memory or array that is accessed.
     pub target: MemArgTarget<'a>,
-    /// The ordering, where one is written (threads).
+    /// The ordering, if there is one (threads).
     pub ordering: Option<MemArgOrdering>,
 }
 
 impl<'a> MemArg<'a> {
-    /// `$m offset=4 align=2`: a memory, an alignment and an offset in bytes, without an ordering (text format, memory
-    /// instructions). It takes no memory.
+    /// Makes the argument of an access to a memory, without an ordering. Both numbers are in bytes.
     pub fn new(memory: Index<'a>, align: u64, offset: u64) -> MemArg<'a>
         ensures { result ≡ record { align = align; offset = offset; target = target.Memory memory.entry; ordering = None } }
     {
@@ -182,21 +196,21 @@ impl<'a> MemArg<'a> {
     }
 }
 
-/// What a memory argument reads or writes (text format, memory instructions).
+/// The memory or array that a memory argument accesses (text format: memory instructions).
 #[derive(Clone, Copy, Debug, PartialEq, Eq)]
 pub enum MemArgTarget<'a> {
     /// A memory.
     Memory(Index<'a>),
-    /// An array of a type.
+    /// An array, by its type.
     Array(Index<'a>),
 }
 
 /// The ordering of a memory argument (threads).
 #[derive(Clone, Copy, Debug, PartialEq, Eq)]
 pub enum MemArgOrdering {
-    /// Of a load or a store.
+    /// The ordering of a load or a store.
     Op(Ordering),
-    /// Of what reads, changes and writes at once.
+    /// The ordering of a read-modify-write instruction.
     Rmw(Ordering),
 }
 
@@ -205,27 +219,27 @@ pub enum MemArgOrdering {
 pub enum Ordering {
     /// Sequentially consistent.
     SeqCst,
-    /// To acquire and to release.
+    /// Acquire and release.
     AcqRel,
 }
 
-/// An atomic access of what is no memory (shared-everything threads).
+/// An atomic access of a global, table, struct or array (shared-everything threads).
 #[derive(Clone, Copy, Debug, PartialEq, Eq)]
 pub struct Ordered<T> {
     /// Its ordering.
     pub ordering: Ordering,
-    /// What is accessed.
+    /// The operand that is accessed.
     pub inner: T,
 }
 
-/// A number of 32 bits with a fraction, as its bits (text format, floating-point).
+/// A 32-bit floating-point number, as its bits (text format: floating-point).
 #[derive(Clone, Copy, Debug, PartialEq, Eq)]
 pub struct F32 {
     /// The bits.
     pub bits: u32,
 }
 
-/// A number of 64 bits with a fraction, as its bits (text format, floating-point).
+/// A 64-bit floating-point number, as its bits (text format: floating-point).
 #[derive(Clone, Copy, Debug, PartialEq, Eq)]
 pub struct F64 {
     /// The bits.

@@ -1,4 +1,4 @@
-//! Imports.
+//! Imports, and the items that they import.
 
 ghost use Rattle.std.specs.Prelude.{◌≡◌, ◌<◌, ◌++◌, None, length, map, slice_index_or, IfOk, IfErr, OnOk};
 ghost use Rattle.wast_base.specs.Faults.{out_of_memory};
@@ -11,60 +11,68 @@ use crate::types::{FunctionType, TypeUse};
 use std::alloc::Global;
 use wast_base::{Error, Id, NameAnnotation, Seq, Space, Span};
 
-/// Imports of one field: `(import "m" "n" (func $f))` (text format, imports).
+/// An import field, such as `(import "m" "n" (func $f))` (text format: imports).
+///
+/// It has one item, or a group of items (compact import section proposal).
+///
+/// # Example
+///
+///     let ready = ItemSig::new(at(87), id("ready", 92), ItemKind::Func(TypeUse::none()));
+///     let ready = Imports::single(at(64), "host", "ready", ready);
+///     make.push_field(&mut fields, ModuleField::Import(ready));
 #[derive(Debug, Drop)]
 pub struct Imports<'a> {
-    /// The place of its keyword.
+    /// The position of its keyword.
     pub span: Span,
-    /// What is imported.
+    /// The imported items.
     pub items: ImportItems<'a>,
 }
 
-/// What a field imports (text format, imports).
+/// The items of an import field (text format: imports).
 #[derive(Debug, Drop)]
 pub enum ImportItems<'a> {
     /// One item.
     Single {
         /// The name of the module that it comes from.
         module: &'a str,
-        /// Its name there.
+        /// The name of the item in that module.
         name: &'a str,
-        /// What it is.
+        /// Its id, kind and type.
         sig: ItemSig<'a>,
     },
-    /// Items of one module, each with its name there (compact import section).
+    /// Items of one module, each with its own name and signature (compact import section).
     Group1 {
         /// The name of the module that they come from.
         module: &'a str,
-        /// The name of each, and what it is.
+        /// The name of each item, and its id, kind and type.
         items: Seq<(&'a str, ItemSig<'a>)>,
     },
-    /// Items of one module that are of one kind and type (compact import section).
+    /// Items of one module that share a signature (compact import section).
     Group2 {
         /// The name of the module that they come from.
         module: &'a str,
-        /// What each of them is.
+        /// The id, kind and type of each of them.
         sig: ItemSig<'a>,
-        /// The name of each.
+        /// The name of each item.
         items: Seq<&'a str>,
     },
 }
 
-/// What an imported item is: `(func $f (type $t))` (text format, imports).
+/// The signature of an imported item, such as `(func $f (type $t))` (text format: imports).
 #[derive(Debug, Drop)]
 pub struct ItemSig<'a> {
-    /// The place of its keyword.
+    /// The position of its keyword.
     pub span: Span,
-    /// Its id.
+    /// Its id, if it has one.
     pub id: Option<Id<'a>>,
-    /// Its name annotation.
+    /// Its name annotation, if it has one.
     pub name: Option<NameAnnotation<'a>>,
     /// Its kind, and its type.
     pub kind: ItemKind<'a>,
 }
 
 impl<'a> ItemSig<'a> {
-    /// `(func $f ..)` and the like at a place, without a name annotation (text format, imports). It takes no memory.
+    /// Makes the signature of an imported item, without a name annotation.
     pub fn new(span: Span, id: Option<Id<'a>>, kind: ItemKind<'a>) -> ItemSig<'a>
         ensures { result ≡ record { span = span; id = id.entry; name = None; kind = kind.entry } }
     {
@@ -77,12 +85,12 @@ impl<'a> ItemSig<'a> {
     }
 }
 
-/// The kind of an imported item, and its type (text format, imports).
+/// The kind of an imported item, and its type (text format: imports).
 #[derive(Debug, Drop)]
 pub enum ItemKind<'a> {
     /// A function.
     Func(TypeUse<'a, FunctionType<'a>>),
-    /// A function of its type alone (custom descriptors).
+    /// A function of exactly this type, not of a subtype (custom descriptors).
     FuncExact(TypeUse<'a, FunctionType<'a>>),
     /// A table.
     Table(TableType<'a>),
@@ -95,7 +103,7 @@ pub enum ItemKind<'a> {
 }
 
 impl ItemKind<'_> {
-    /// The space of the imported item (text format, imports). It takes no memory.
+    /// Returns the index space of the item.
     pub fn space(&self) -> Space
         ensures { result ≡ space_of_kind self.now }
     {
@@ -109,7 +117,7 @@ impl ItemKind<'_> {
     }
 }
 
-/// Puts the signatures of items behind those that are there.
+/// Appends the signatures of items.
 fn push_sigs<'s, 'a, 'e>(
     sigs: &mut Vec<&'s ItemSig<'a>>,
     items: &'s [(&'a str, ItemSig<'a>)],
@@ -123,7 +131,7 @@ fn push_sigs<'s, 'a, 'e>(
     Ok(())
 }
 
-/// Puts a signature behind those that are there, once for each name.
+/// Appends a signature once for each name.
 fn push_shared<'s, 'a, 'e>(
     sigs: &mut Vec<&'s ItemSig<'a>>,
     sig: &'s ItemSig<'a>,
@@ -139,8 +147,7 @@ fn push_shared<'s, 'a, 'e>(
 }
 
 impl<'a> Imports<'a> {
-    /// The import of one item, at a place: the names of its module and of the item there, and what it is (text format,
-    /// imports). It takes no memory.
+    /// Makes an import of one item, from the names of its module and the item, and its signature.
     pub fn single(span: Span, module: &'a str, name: &'a str, sig: ItemSig<'a>) -> Imports<'a>
         ensures { result ≡ record { span = span; items = import_items.Single «module».entry name.entry sig.entry } }
     {
@@ -150,8 +157,21 @@ impl<'a> Imports<'a> {
         }
     }
 
-    /// The signatures of the items, one for each item, in order: where items share one, it stands once for each of them (text
-    /// format, imports). It takes memory for a reference to each. The only error is E12, where that is refused.
+    /// Returns the signatures of the items in order, one for each item.
+    ///
+    /// A signature that items share occurs once for each of them.
+    ///
+    /// # Example
+    ///
+    ///     let sigs = imports.item_sigs(alloc).expect(rt, "memory");
+    ///
+    /// # Errors
+    ///
+    /// E12: allocation failed. No other error occurs.
+    ///
+    /// # Guarantees
+    ///
+    /// `sigs`: these signatures. `refusal`: an error is E12.
     pub fn item_sigs<'s, 'e>(&'s self, alloc: Global) -> Result<Vec<&'s ItemSig<'a>>, Error<'e>>
         ensures sigs { IfOk result (λ v. map (λ s. s.now) v.items ≡ item_sigs self.now.items) }
         ensures refusal { IfErr result (λ e. e ≡ out_of_memory) }
@@ -167,7 +187,12 @@ impl<'a> Imports<'a> {
         Ok(sigs)
     }
 
-    /// How many signatures are written: those that items share count once (text format, imports). It takes no memory.
+    /// Returns the number of signatures in the source. One that items share counts once.
+    ///
+    /// # Example
+    ///
+    ///     assert!(rt; shared.unique_sigs() == 1);
+    ///     shared.unique_sig_mut(0).span = at(8);
     pub fn unique_sigs(&self) -> usize
         ensures { result ≡ length (unique_sigs self.now.items) }
     {
@@ -177,8 +202,11 @@ impl<'a> Imports<'a> {
         }
     }
 
-    /// The signature at an index, to change; they are counted as they are written, from 0 (text format, imports). It needs
-    /// an index below [`Imports::unique_sigs`]. It takes no memory.
+    /// Borrows the signature number `i` in the source mutably, counted from 0.
+    ///
+    /// # Requires
+    ///
+    /// `i` is less than [`Imports::unique_sigs`].
     pub fn unique_sig_mut(&mut self, i: usize) -> &mut ItemSig<'a>
         requires { i < length (unique_sigs self.old.items) }
         ensures value { result.now ≡ slice_index_or (unique_sigs self.old.items) i result.now }

@@ -1,4 +1,4 @@
-//! Instructions of the text format.
+//! Instructions and expressions.
 
 ghost use Rattle.std.specs.Prelude.{◌≡◌, [], ◌∷◌, option_map, IfOk, IfErr};
 ghost use Rattle.wast_base.specs.Faults.{out_of_memory};
@@ -19,10 +19,18 @@ use crate::vectors::{I8x16Shuffle, LaneArg, LoadOrStoreLane, V128Const};
 use std::alloc::Global;
 use wast_base::{Boxed, Error, Id, Index, LaneOp, MemLaneOp, MemOp, Plain, Seq};
 
-/// An instruction (text format, instructions). Each variant but the classes has the name of its text, with `_` for `.`.
+/// An instruction (text format: instructions).
 ///
-/// An instruction has 96 bytes. Larger immediates, as those of `call_indirect`, are in memory of their own ([`Boxed`]), because
-/// each walk over a list reads all its bytes.
+/// A variant has the name of the instruction, with `_` for `.`. `Plain`, `Mem`, `Lane` and
+/// `MemLane` are classes of many instructions with the same immediates.
+///
+/// An instruction has 96 bytes. Larger immediates, such as those of `call_indirect`, are boxed
+/// ([`Boxed`]), because each pass over a list reads all its bytes.
+///
+/// # Example
+///
+///     maker.push_instruction(&mut instrs, Instruction::Mem(MemOp::i32_load, arg));
+///     maker.push_instruction(&mut instrs, Instruction::Plain(Plain::Bare(BareOp::drop)));
 #[allow(non_camel_case_types)]
 #[derive(Debug, Drop)]
 pub enum Instruction<'a> {
@@ -35,11 +43,11 @@ pub enum Instruction<'a> {
     /// A load or a store of a lane of a vector: `v128.load8_lane $m 3`
     MemLane(MemLaneOp, LoadOrStoreLane<'a>),
     // Written by tools/ops from here.
-    /// `catch $e`, of exceptions as they were first proposed
+    /// `catch $e` (legacy exceptions)
     catch(Index<'a>),
     /// `throw $e`
     throw(Index<'a>),
-    /// `rethrow $l`, of exceptions as they were first proposed
+    /// `rethrow $l` (legacy exceptions)
     rethrow(Index<'a>),
     /// `br $l`
     br(Index<'a>),
@@ -53,7 +61,7 @@ pub enum Instruction<'a> {
     call_ref(Index<'a>),
     /// `return_call_ref $t`
     return_call_ref(Index<'a>),
-    /// `delegate $l`, of exceptions as they were first proposed
+    /// `delegate $l` (legacy exceptions)
     delegate(Index<'a>),
     /// `local.get $x`
     local_get(Index<'a>),
@@ -160,7 +168,7 @@ pub enum Instruction<'a> {
     if_(Boxed<BlockType<'a>>),
     /// `else $l`
     else_(Option<Id<'a>>),
-    /// `try $l`, of exceptions as they were first proposed
+    /// `try $l` (legacy exceptions)
     try_(Boxed<BlockType<'a>>),
     /// `try_table $l (catch $e $h)`
     try_table(TryTable<'a>),
@@ -204,7 +212,7 @@ pub enum Instruction<'a> {
     v128_const(V128Const),
     /// `i8x16.shuffle 0 1 2 3 4 5 6 7 8 9 10 11 12 13 14 31`
     i8x16_shuffle(I8x16Shuffle),
-    /// `atomic.fence`, which is sequentially consistent where no ordering is written
+    /// `atomic.fence`; sequentially consistent if `None`
     atomic_fence(Option<Ordering>),
     /// An atomic access of a global (shared-everything threads).
     GlobalAtomic(Ordered<Index<'a>>),
@@ -212,7 +220,7 @@ pub enum Instruction<'a> {
     TableAtomic(Ordered<TableArg<'a>>),
     /// An atomic access of a field of a struct (shared-everything threads).
     StructAtomic(Ordered<StructAccess<'a>>),
-    /// An atomic access of an array of a type (shared-everything threads).
+    /// An atomic access of an array, by its type (shared-everything threads).
     ArrayAtomic(Ordered<Index<'a>>),
     /// `resume $t (on $e $l)` (stack switching)
     resume(Resume<'a>),
@@ -220,12 +228,12 @@ pub enum Instruction<'a> {
     resume_throw(Boxed<ResumeThrow<'a>>),
     /// `resume_throw_ref $t (on $e $l)` (stack switching)
     resume_throw_ref(ResumeThrowRef<'a>),
-    /// An instruction that no encoder knows, by its name: `i64.add128`
+    /// An instruction that is not in the opcode table, by its name: `i64.add128`
     Beyond(&'a str),
 }
 
 impl<'a> Instruction<'a> {
-    /// The memory argument, to change; `None` where there is none (text format, memory instructions). It takes no memory.
+    /// Borrows the memory argument mutably, or returns `None` if the instruction has none.
     pub fn memarg_mut(&mut self) -> Option<&mut MemArg<'a>>
         ensures value { option_map (λ m. m.now) result ≡ mem_arg_of self.old }
     {
@@ -236,8 +244,7 @@ impl<'a> Instruction<'a> {
         }
     }
 
-    /// The label and the type of the block that it opens; `None` where it opens none (text format, control instructions).
-    /// It takes no memory.
+    /// Returns the label and type of the block that it opens, or `None` if it opens no block.
     #[inline(always)]
     pub fn block_type(&self) -> Option<&BlockType<'a>>
         ensures { option_map (λ b. b.now) result ≡ block_of self.now }
@@ -252,7 +259,7 @@ impl<'a> Instruction<'a> {
         }
     }
 
-    /// Whether it closes a block (text format, control instructions). It takes no memory.
+    /// Returns whether it closes a block: `end` and `delegate` do.
     pub fn is_closer(&self) -> bool
         ensures { result ≡ is_closer self.now }
     {
@@ -262,8 +269,10 @@ impl<'a> Instruction<'a> {
         }
     }
 
-    /// Whether a function body that holds it wants the number of data segments to stand before the code (binary format,
-    /// data count section). It takes no memory.
+    /// Returns whether a module with it in a function body needs a data count section.
+    ///
+    /// `memory.init`, `data.drop`, `array.new_data` and `array.init_data` do: they refer to a data
+    /// segment, and the data section comes after the code (binary format: data count section).
     pub fn needs_data_count(&self) -> bool
         ensures { result ≡ needs_data_count self.now }
     {
@@ -277,18 +286,23 @@ impl<'a> Instruction<'a> {
     }
 }
 
-/// A branch hint: `(@metadata.code.branch_hint "\01")` (text format, custom annotations).
+/// A branch hint, such as `(@metadata.code.branch_hint "\01")` (text format: custom annotations).
+///
+/// # Example
+///
+/// In the body `i32.const 0 if end`, a hint on the `if` that the branch is not likely:
+///
+///     let on_if = BranchHint::new(1, 0);
 #[derive(Clone, Copy, Debug, PartialEq, Eq)]
 pub struct BranchHint {
-    /// The number of the instruction that it stands before, counted from 0.
+    /// The number of the instruction that it is about, counted from 0.
     pub instr_index: usize,
-    /// Its value: 1 where the branch is likely taken, and 0 where it is not.
+    /// Its value: 1 if the branch is likely, and 0 if it is not.
     pub value: u32,
 }
 
 impl BranchHint {
-    /// A hint before the instruction of this number, counted from 0: 1 where the branch is likely taken, and 0 where it is
-    /// not (text format, custom annotations). It takes no memory.
+    /// Makes a hint about the instruction of this number. `value` is 1 for likely, and 0 for not.
     pub fn new(instr_index: usize, value: u32) -> BranchHint
         ensures { result ≡ record { instr_index = instr_index; value = value } }
     {
@@ -296,17 +310,23 @@ impl BranchHint {
     }
 }
 
-/// A flat list of instructions, without the `end` that closes it (text format, expressions).
+/// A flat list of instructions, without the final `end`, and its branch hints.
+///
+/// It is the body of a function, or a constant expression (text format: expressions).
+///
+/// # Example
+///
+///     let value = Expression::new(alloc, instrs);
 #[derive(Debug, Drop)]
 pub struct Expression<'a> {
-    /// The instructions, in the order of the text.
+    /// The instructions, in source order.
     pub instrs: Seq<Instruction<'a>>,
-    /// The branch hints, in the order of the text.
+    /// The branch hints, in source order.
     pub branch_hints: Seq<BranchHint>,
 }
 
 impl<'a> Expression<'a> {
-    /// An expression of these instructions, without branch hints (text format, expressions). It takes no memory.
+    /// Makes an expression of these instructions, without branch hints.
     pub fn new(alloc: Global, instrs: Seq<Instruction<'a>>) -> Expression<'a>
         ensures { result ≡ record { instrs = instrs.entry; branch_hints = [] } }
     {
@@ -316,8 +336,7 @@ impl<'a> Expression<'a> {
         }
     }
 
-    /// The same instructions with these branch hints, where those that it had are dropped (text format, custom annotations).
-    /// It takes no memory.
+    /// Returns the expression with these branch hints. Those that it had are dropped.
     pub fn with_hints(self, hints: Seq<BranchHint>) -> Expression<'a>
         ensures { result ≡ record self.entry { branch_hints = hints } }
     {
@@ -327,8 +346,15 @@ impl<'a> Expression<'a> {
         }
     }
 
-    /// An expression of one instruction, without branch hints (text format, expressions). It takes memory for the
-    /// instruction. The only error is E12, where that is refused; then the instruction is dropped.
+    /// Makes an expression of one instruction, without branch hints.
+    ///
+    /// # Example
+    ///
+    ///     Expression::one(alloc, Instruction::i32_const(8))
+    ///
+    /// # Errors
+    ///
+    /// E12: allocation failed. The instruction is then dropped. No other error occurs.
     pub fn one<'e>(alloc: Global, instruction: Instruction<'a>) -> Result<Expression<'a>, Error<'e>>
         ensures expression { IfOk result (λ e. e ≡ record { instrs = instruction.entry ∷ []; branch_hints = [] }) }
         ensures refusal { IfErr result (λ e. e ≡ out_of_memory) }

@@ -1,4 +1,4 @@
-//! The kinds of fields.
+//! `FieldKind`, the kind of a field.
 
 ghost use Rattle.std.specs.Prelude.{◌≡◌, ◌<◌};
 ghost use Rattle.wast_tree_nodes.specs.Kinds.{kind_in, kind_rank, is_of};
@@ -7,8 +7,14 @@ use crate::customs::CustomPlace;
 use crate::fields::ModuleField;
 use crate::profiles::profile_of;
 
-/// A kind of fields: one for each variant of [`ModuleField`] (text format, modules), and of custom sections one for each
-/// place.
+/// The kind of a field (text format: modules).
+///
+/// There is a kind for each variant of [`ModuleField`]. Custom sections have a kind for each
+/// position in the binary module, because the encoder writes each position separately.
+///
+/// # Example
+///
+///     let starts = reaches.of_kind(FieldKind::Start);
 #[derive(Clone, Copy)]
 pub enum FieldKind {
     /// `(type ..)`
@@ -35,12 +41,12 @@ pub enum FieldKind {
     Data,
     /// `(tag ..)`
     Tag,
-    /// `(@custom ..)` and its like, of a place in the module.
+    /// `(@custom ..)` and its like, with this position in the binary module.
     Custom(CustomPlace),
 }
 
 impl FieldKind {
-    /// The number of the kind of a field, below 38. It takes no memory.
+    /// Returns the number of the kind of a field, from 0 to 37.
     pub fn rank_of(field: &ModuleField<'_>) -> usize
         ensures same { result ≡ kind_rank (kind_in field.now) }
         ensures within { result < 38 }
@@ -48,7 +54,7 @@ impl FieldKind {
         profile_of(field).kind.rank()
     }
 
-    /// The number of the kind, below 38. It takes no memory.
+    /// Returns the number of the kind, from 0 to 37.
     pub fn rank(self) -> usize
         ensures same { result ≡ kind_rank self }
         ensures within { result < 38 }
@@ -70,7 +76,7 @@ impl FieldKind {
         }
     }
 
-    /// Whether a field is of the kind. It takes no memory.
+    /// Returns whether a field has this kind.
     pub fn is_of(self, field: &ModuleField<'_>) -> bool
         ensures { result ≡ is_of self field.now }
     {

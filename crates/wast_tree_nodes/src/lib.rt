@@ -1,7 +1,30 @@
-//! The types of the tree of a WebAssembly module in the text format, as a parser makes it: how its parts are made, handed on
-//! and let go, and what can be told of them without a visitor.
+//! The AST types of a WebAssembly module in the text format, with constructors and functions that
+//! read, move and drop parts of it.
 //!
-//! A call takes memory only where its text says so. A call that can fail says when, and with what.
+//! A parser, or a caller by hand, builds these types; `wast_resolve` and `wast_core` resolve and
+//! encode them. Callers import them from `wast_tree`. Names follow the `ast` of the crate `wast`.
+//!
+//! # Example
+//!
+//! The tag `(tag $stop)`, at offset 225:
+//!
+//!     let stop = Tag::new(alloc, at(225), id("stop", 229), TypeUse::none());
+//!
+//! # Modules
+//!
+//! - `fields`: the fields of a module. `imports`, `segments`, `customs`: their parts.
+//! - `types`, `ref_types`, `entities`: types, and the types of tables, memories, globals and tags.
+//! - `instrs`: instructions and expressions.
+//! - `immediates`, `vectors`, `references`, `continuations`: the immediates of instructions.
+//! - `profiles`, `kinds`: the kind, position and items of a field.
+//! - `written_out`: whether fields are desugared.
+//! - `moves`: functions that append, take out and drop parts of the AST.
+//!
+//! # Guarantees
+//!
+//! - A constructor's contract is the value that it returns, field by field.
+//! - The definition `Sites` lists everything in a module that is checked. `Items` lists its items.
+//! - A call allocates only if its comment has E12 among its errors.
 #![tactic(auto)]
 
 mod continuations;

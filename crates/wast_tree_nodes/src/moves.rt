@@ -1,5 +1,5 @@
-//! Parts of a tree are handed on, or let go. A function that lets a tree go proves what dropping it does, so crates above
-//! call these, which are proved once.
+//! Functions that append, take out and drop parts of the AST. Code that drops a tree has to prove
+//! all drop functions again, so the crates above call these, which are proved once.
 
 ghost use Rattle.std.specs.Prelude.{◌≡◌, [], ◌∷◌, ◌++◌, IfOk, OnOk, OnErr, IfErr};
 ghost use Rattle.wast_base.specs.Faults.{out_of_memory};
@@ -18,8 +18,12 @@ use crate::types::{FunctionType, Type, TypeUse};
 use std::alloc::Global;
 use wast_base::{Boxed, Error, Index, Seq, Span};
 
-/// Puts a field at the end of a list. It may take memory. The only error is E12, where that is refused; then the list stays
-/// as it was, and the field is dropped.
+/// Appends a field to a list.
+///
+/// # Errors
+///
+/// E12: allocation failed. The list is then unchanged and the field is dropped. No other error
+/// occurs.
 #[inline(always)]
 pub fn push_field<'a, 'e>(
     fields: &mut Seq<ModuleField<'a>>,
@@ -33,8 +37,12 @@ pub fn push_field<'a, 'e>(
     Ok(())
 }
 
-/// Puts an instruction at the end of a list. It may take memory. The only error is E12, where that is refused; then the list
-/// stays as it was, and the instruction is dropped.
+/// Appends an instruction to a list.
+///
+/// # Errors
+///
+/// E12: allocation failed. The list is then unchanged and the instruction is dropped. No other
+/// error occurs.
 #[inline(always)]
 pub fn push_instruction<'a, 'e>(
     instrs: &mut Seq<Instruction<'a>>,
@@ -48,8 +56,12 @@ pub fn push_instruction<'a, 'e>(
     Ok(())
 }
 
-/// Puts a type at the end of a list. It may take memory. The only error is E12, where that is refused; then the list stays
-/// as it was, and the type is dropped.
+/// Appends a type to a list.
+///
+/// # Errors
+///
+/// E12: allocation failed. The list is then unchanged and the type is dropped. No other error
+/// occurs.
 #[inline(always)]
 pub fn push_type<'a, 'e>(types: &mut Seq<Type<'a>>, ty: Type<'a>) -> Result<(), Error<'e>>
     ensures pushed { OnOk result (types.new ≡ types.old ++ ty.entry ∷ []) }
@@ -60,8 +72,12 @@ pub fn push_type<'a, 'e>(types: &mut Seq<Type<'a>>, ty: Type<'a>) -> Result<(), 
     Ok(())
 }
 
-/// Puts an expression at the end of a list. It may take memory. The only error is E12, where that is refused; then the list
-/// stays as it was, and the expression is dropped.
+/// Appends an expression to a list.
+///
+/// # Errors
+///
+/// E12: allocation failed. The list is then unchanged and the expression is dropped. No other
+/// error occurs.
 #[inline(always)]
 pub fn push_expression<'a, 'e>(
     exprs: &mut Seq<Expression<'a>>,
@@ -75,8 +91,12 @@ pub fn push_expression<'a, 'e>(
     Ok(())
 }
 
-/// Puts a piece of a data segment at the end of a list. It may take memory. The only error is E12, where that is refused;
-/// then the list stays as it was, and the piece is dropped.
+/// Appends a piece of a data segment to a list.
+///
+/// # Errors
+///
+/// E12: allocation failed. The list is then unchanged and the piece is dropped. No other error
+/// occurs.
 #[inline(always)]
 pub fn push_data<'a, 'e>(pieces: &mut Seq<DataVal<'a>>, piece: DataVal<'a>) -> Result<(), Error<'e>>
     ensures pushed { OnOk result (pieces.new ≡ pieces.old ++ piece.entry ∷ []) }
@@ -87,8 +107,12 @@ pub fn push_data<'a, 'e>(pieces: &mut Seq<DataVal<'a>>, piece: DataVal<'a>) -> R
     Ok(())
 }
 
-/// Puts a subsection of `dylink.0` at the end of a list. It may take memory. The only error is E12, where that is refused;
-/// then the list stays as it was, and the subsection is dropped.
+/// Appends a subsection of `dylink.0` to a list.
+///
+/// # Errors
+///
+/// E12: allocation failed. The list is then unchanged and the subsection is dropped. No other
+/// error occurs.
 #[inline(always)]
 pub fn push_subsection<'a, 'e>(
     subsections: &mut Seq<Dylink0Subsection<'a>>,
@@ -102,8 +126,11 @@ pub fn push_subsection<'a, 'e>(
     Ok(())
 }
 
-/// A block's label and type in memory of its own. It takes memory. The only error is E12, where that is refused; then the
-/// block is dropped.
+/// Moves a block's label and type into a new box.
+///
+/// # Errors
+///
+/// E12: allocation failed. The block type is then dropped. No other error occurs.
 #[inline(always)]
 pub fn boxed_block<'a, 'e>(
     alloc: Global,
@@ -115,7 +142,15 @@ pub fn boxed_block<'a, 'e>(
     Ok(Boxed::new(alloc, block)?)
 }
 
-/// No fields, with room for so many. It takes memory for these. The only error is E12, where that is refused.
+/// Makes an empty list of fields, with room for `capacity` fields.
+///
+/// # Example
+///
+///     let mut fields = fields_with_capacity(alloc, 2).expect(rt, "memory");
+///
+/// # Errors
+///
+/// E12: allocation failed. No other error occurs.
 pub fn fields_with_capacity<'a, 'e>(
     alloc: Global,
     capacity: usize,
@@ -126,7 +161,7 @@ pub fn fields_with_capacity<'a, 'e>(
     Ok(Seq::from_vec(Vec::with_capacity(alloc, capacity)?))
 }
 
-/// The field that stands in a place, where a `start` of number 0 stays. It takes no memory.
+/// Takes a field out of its list, and leaves `(start 0)` there.
 #[inline(always)]
 pub fn take_field<'a>(place: &mut ModuleField<'a>) -> ModuleField<'a>
     ensures taken { result ≡ place.old }
@@ -135,57 +170,59 @@ pub fn take_field<'a>(place: &mut ModuleField<'a>) -> ModuleField<'a>
     std::mem::replace(place, ModuleField::Start(Index::Num(0, Span { offset: 0 })))
 }
 
-/// Drops a list of fields, and gives its memory back.
+/// Drops a list of fields, and frees its memory.
 pub fn discard_fields(fields: Seq<ModuleField<'_>>) {
     drop(fields);
 }
 
-/// Drops a field, and gives its memory back.
+/// Drops a field, and frees its memory.
 pub fn discard_field(field: ModuleField<'_>) {
     drop(field);
 }
 
-/// Drops a function, and gives its memory back.
+/// Drops a function, and frees its memory.
 pub fn discard_func(func: Func<'_>) {
     drop(func);
 }
 
-/// Drops what a function is made of, and gives its memory back.
+/// Drops the locals and body of a function, and frees their memory.
 pub fn discard_func_kind(kind: FuncKind<'_>) {
     drop(kind);
 }
 
-/// Drops an imported item's kind, and gives its memory back.
+/// Drops the kind of an imported item, and frees its memory.
 pub fn discard_item_kind(kind: ItemKind<'_>) {
     drop(kind);
 }
 
-/// Drops the type of a tag, and gives its memory back.
+/// Drops the type of a tag, and frees its memory.
 pub fn discard_tag_type(ty: TagType<'_>) {
     drop(ty);
 }
 
-/// Drops an instruction, and gives its memory back.
+/// Drops an instruction, and frees its memory.
 pub fn discard_instruction(instruction: Instruction<'_>) {
     drop(instruction);
 }
 
-/// Drops an expression, and gives its memory back.
+/// Drops an expression, and frees its memory.
 pub fn discard_expression(expression: Expression<'_>) {
     drop(expression);
 }
 
-/// Drops the names under which a field is exported in place, and gives their memory back.
+/// Drops the inline exports of a field, and frees their memory.
 pub fn discard_exports(exports: InlineExport<'_>) {
     drop(exports);
 }
 
-/// Drops a type use, and gives its memory back.
+/// Drops a type use, and frees its memory.
 pub fn discard_type_use<'a>(ty: TypeUse<'a, FunctionType<'a>>) {
     drop(ty);
 }
 
-/// Drops the inline type of a type use that has an index, and gives its memory back; another type use stays as it is.
+/// Drops the inline type of a type use that also has an index. Other type uses are unchanged.
+///
+/// For example, `(type $t) (result i32)` becomes `(type $t)`.
 pub fn discard_said_inline<'a>(ty: &mut TypeUse<'a, FunctionType<'a>>)
     ensures { ty.new ≡ said_once ty.old }
 {
@@ -194,22 +231,22 @@ pub fn discard_said_inline<'a>(ty: &mut TypeUse<'a, FunctionType<'a>>)
     }
 }
 
-/// Drops a function type, and gives its memory back.
+/// Drops a function type, and frees its memory.
 pub fn discard_function_type(ty: FunctionType<'_>) {
     drop(ty);
 }
 
-/// Drops a type, and gives its memory back.
+/// Drops a type definition, and frees its memory.
 pub fn discard_type(ty: Type<'_>) {
     drop(ty);
 }
 
-/// Drops the elements of a segment, and gives their memory back.
+/// Drops the elements of a segment, and frees their memory.
 pub fn discard_elem_payload(payload: ElemPayload<'_>) {
     drop(payload);
 }
 
-/// Drops the bytes of a data segment, and gives their memory back.
+/// Drops the bytes of a data segment, and frees their memory.
 pub fn discard_data(bytes: Seq<DataVal<'_>>) {
     drop(bytes);
 }

@@ -10,7 +10,7 @@ use crate::kinds::FieldKind;
 use crate::types::Type;
 use wast_base::{Id, NameAnnotation, Space, Span};
 
-/// An item that a field defines alone.
+/// The item of a field that defines exactly one.
 #[derive(Clone, Copy)]
 pub struct LoneItem<'f, 'a> {
     /// Its index space.
@@ -19,38 +19,42 @@ pub struct LoneItem<'f, 'a> {
     pub id: &'f Option<Id<'a>>,
     /// Its name annotation.
     pub name: &'f Option<NameAnnotation<'a>>,
-    /// Whether it is imported inline; `None` if it is a segment, because a segment cannot be imported.
+    /// Whether it has an inline import; `None` for a segment, which cannot be imported.
     pub imported: Option<bool>,
 }
 
-/// The items that a field defines, by reference.
+/// The items that a field defines.
 #[derive(Clone, Copy)]
 pub enum FieldItems<'f, 'a> {
     /// No item.
     Nothing,
     /// A type.
     Type(&'f Type<'a>),
-    /// The types of a group.
+    /// The types of a `rec` group.
     Types(&'f [Type<'a>]),
-    /// What is imported.
+    /// Imported items.
     Imported(&'f ImportItems<'a>),
     /// One item.
     Lone(LoneItem<'f, 'a>),
 }
 
-/// What is read of a field in many places. A new field states it once, in [`profile_of`].
+/// The kind, position and items of a field, which many functions read.
+///
+/// For example, `(func $f (import "a" "b"))` has the kind `Func`, the position of `func`, and one
+/// item: a function with the id `$f` that is imported. A new field states its profile once, in
+/// [`profile_of`].
 #[derive(Clone, Copy)]
 pub struct FieldProfile<'f, 'a> {
     /// Its kind.
     pub kind: FieldKind,
-    /// Its position; 0 if it is `@producers` or `@dylink.0`, because the tree has no position of these.
+    /// Its position; 0 for `@producers` and `@dylink.0`, because the AST has no position of these.
     pub span: Span,
     /// The items that it defines.
     pub items: FieldItems<'f, 'a>,
 }
 
 impl<'f, 'a> FieldProfile<'f, 'a> {
-    /// A profile, by its parts.
+    /// Makes a profile of its parts.
     #[inline(always)]
     fn new(kind: FieldKind, span: Span, items: FieldItems<'f, 'a>) -> FieldProfile<'f, 'a>
         ensures { profile_read result ≡ profile kind span (items_read items.entry) }
@@ -58,7 +62,7 @@ impl<'f, 'a> FieldProfile<'f, 'a> {
         FieldProfile { kind, span, items }
     }
 
-    /// The profile of a field that defines one item.
+    /// Makes the profile of a field that defines one item.
     #[inline(always)]
     fn lone(
         kind: FieldKind,
@@ -81,7 +85,7 @@ impl<'f, 'a> FieldProfile<'f, 'a> {
 }
 
 impl FuncKind<'_> {
-    /// Whether the function is imported inline.
+    /// Returns whether the function has an inline import.
     #[inline(always)]
     fn is_imported(&self) -> bool
         ensures { result ≡ is_imported_func self.now }
@@ -91,7 +95,7 @@ impl FuncKind<'_> {
 }
 
 impl TableKind<'_> {
-    /// Whether the table is imported inline.
+    /// Returns whether the table has an inline import.
     #[inline(always)]
     fn is_imported(&self) -> bool
         ensures { result ≡ is_imported_table self.now }
@@ -101,7 +105,7 @@ impl TableKind<'_> {
 }
 
 impl MemoryKind<'_> {
-    /// Whether the memory is imported inline.
+    /// Returns whether the memory has an inline import.
     #[inline(always)]
     fn is_imported(&self) -> bool
         ensures { result ≡ is_imported_memory self.now }
@@ -111,7 +115,7 @@ impl MemoryKind<'_> {
 }
 
 impl GlobalKind<'_> {
-    /// Whether the global is imported inline.
+    /// Returns whether the global has an inline import.
     #[inline(always)]
     fn is_imported(&self) -> bool
         ensures { result ≡ is_imported_global self.now }
@@ -121,7 +125,7 @@ impl GlobalKind<'_> {
 }
 
 impl TagKind<'_> {
-    /// Whether the tag is imported inline.
+    /// Returns whether the tag has an inline import.
     #[inline(always)]
     fn is_imported(&self) -> bool
         ensures { result ≡ is_imported_tag self.now }
@@ -131,7 +135,7 @@ impl TagKind<'_> {
 }
 
 impl Custom<'_> {
-    /// The position of the section, or 0.
+    /// Returns the position of the section in the source, or 0 if the AST has none.
     #[inline(always)]
     fn span(&self) -> Span
         ensures { result ≡ custom_span self.now }
@@ -143,7 +147,7 @@ impl Custom<'_> {
     }
 }
 
-/// Returns what is read of a field in many places, by reference (text format, modules). Does not allocate.
+/// Returns the kind, position and items of a field (text format: modules).
 #[inline(always)]
 pub fn profile_of<'f, 'a>(field: &'f ModuleField<'a>) -> FieldProfile<'f, 'a>
     ensures { profile_read result ≡ profile_of field.now }

@@ -1,4 +1,4 @@
-//! The reference types that have a word of their own.
+//! Constructors for the reference types that have a keyword, such as `anyref`.
 
 ghost use Rattle.std.specs.Prelude.{◌≡◌, true, false};
 ghost use Rattle.wast_tree_nodes.specs.Tree.heap;
@@ -6,8 +6,8 @@ ghost use Rattle.wast_tree_nodes.specs.Tree.abstract;
 
 use crate::types::{AbstractHeapType, RefType};
 
-/// A constructor for each word (text format, reference types: abbreviations). References of these types can be null, and none
-/// of the types is shared. No call takes memory.
+/// A constructor for each keyword (text format: reference types). These types are nullable, and
+/// none is shared.
 impl<'a> RefType<'a> {
     /// `funcref`
     pub fn func() -> RefType<'a>

@@ -1,9 +1,9 @@
-//! Immediates of instructions on structs, arrays and references.
+//! Immediates of instructions for structs, arrays and references.
 
 use crate::types::RefType;
 use wast_base::Index;
 
-/// A field of a struct: `struct.get $t $x` (text format, aggregate instructions).
+/// The struct type and the field of `struct.get $t $x` (text format: aggregate instructions).
 #[derive(Clone, Copy, Debug, PartialEq, Eq)]
 pub struct StructAccess<'a> {
     /// The type of the struct.
@@ -12,16 +12,16 @@ pub struct StructAccess<'a> {
     pub field: Index<'a>,
 }
 
-/// `array.new_fixed $t 3` (text format, aggregate instructions)
+/// `array.new_fixed $t 3` (text format: aggregate instructions)
 #[derive(Clone, Copy, Debug, PartialEq, Eq)]
 pub struct ArrayNewFixed<'a> {
     /// The type of the array.
     pub array: Index<'a>,
-    /// How many elements it has.
+    /// The number of its elements.
     pub length: u32,
 }
 
-/// `array.new_data $t $d` (text format, aggregate instructions)
+/// `array.new_data $t $d` (text format: aggregate instructions)
 #[derive(Clone, Copy, Debug, PartialEq, Eq)]
 pub struct ArrayNewData<'a> {
     /// The type of the array.
@@ -30,7 +30,7 @@ pub struct ArrayNewData<'a> {
     pub data_idx: Index<'a>,
 }
 
-/// `array.new_elem $t $e` (text format, aggregate instructions)
+/// `array.new_elem $t $e` (text format: aggregate instructions)
 #[derive(Clone, Copy, Debug, PartialEq, Eq)]
 pub struct ArrayNewElem<'a> {
     /// The type of the array.
@@ -39,14 +39,14 @@ pub struct ArrayNewElem<'a> {
     pub elem_idx: Index<'a>,
 }
 
-/// `array.fill $t` (text format, aggregate instructions)
+/// `array.fill $t` (text format: aggregate instructions)
 #[derive(Clone, Copy, Debug, PartialEq, Eq)]
 pub struct ArrayFill<'a> {
     /// The type of the array.
     pub array: Index<'a>,
 }
 
-/// `array.copy $to $from` (text format, aggregate instructions)
+/// `array.copy $to $from` (text format: aggregate instructions)
 #[derive(Clone, Copy, Debug, PartialEq, Eq)]
 pub struct ArrayCopy<'a> {
     /// The type of the array that is written.
@@ -55,23 +55,23 @@ pub struct ArrayCopy<'a> {
     pub src_array: Index<'a>,
 }
 
-/// `array.init_data $t $d`, `array.init_elem $t $e` (text format, aggregate instructions)
+/// `array.init_data $t $d`, `array.init_elem $t $e` (text format: aggregate instructions)
 #[derive(Clone, Copy, Debug, PartialEq, Eq)]
 pub struct ArrayInit<'a> {
     /// The type of the array.
     pub array: Index<'a>,
-    /// The segment that the elements come from.
+    /// The data or element segment that the elements come from.
     pub segment: Index<'a>,
 }
 
-/// `ref.test (ref $t)` (text format, reference instructions)
+/// `ref.test (ref $t)` (text format: reference instructions)
 #[derive(Clone, Copy, Debug, PartialEq, Eq)]
 pub struct RefTest<'a> {
     /// The type that is tested for.
     pub rt: RefType<'a>,
 }
 
-/// `ref.cast (ref $t)` (text format, reference instructions)
+/// `ref.cast (ref $t)` (text format: reference instructions)
 #[derive(Clone, Copy, Debug, PartialEq, Eq)]
 pub struct RefCast<'a> {
     /// The type that it is cast to.
@@ -85,23 +85,23 @@ pub struct RefCastDescEq<'a> {
     pub rt: RefType<'a>,
 }
 
-/// `br_on_cast $l anyref (ref $t)` (text format, control instructions)
+/// `br_on_cast $l anyref (ref $t)` (text format: control instructions)
 #[derive(Clone, Copy, Debug, PartialEq, Eq)]
 pub struct BrOnCast<'a> {
     /// The label.
     pub label: Index<'a>,
-    /// The type of what is cast.
+    /// The type of the operand.
     pub from_type: RefType<'a>,
     /// The type that it is cast to.
     pub to_type: RefType<'a>,
 }
 
-/// `br_on_cast_fail $l anyref (ref $t)` (text format, control instructions)
+/// `br_on_cast_fail $l anyref (ref $t)` (text format: control instructions)
 #[derive(Clone, Copy, Debug, PartialEq, Eq)]
 pub struct BrOnCastFail<'a> {
     /// The label.
     pub label: Index<'a>,
-    /// The type of what is cast.
+    /// The type of the operand.
     pub from_type: RefType<'a>,
     /// The type that it is cast to.
     pub to_type: RefType<'a>,
@@ -112,7 +112,7 @@ pub struct BrOnCastFail<'a> {
 pub struct BrOnCastDescEq<'a> {
     /// The label.
     pub label: Index<'a>,
-    /// The type of what is cast.
+    /// The type of the operand.
     pub from_type: RefType<'a>,
     /// The type that it is cast to.
     pub to_type: RefType<'a>,
@@ -123,7 +123,7 @@ pub struct BrOnCastDescEq<'a> {
 pub struct BrOnCastDescEqFail<'a> {
     /// The label.
     pub label: Index<'a>,
-    /// The type of what is cast.
+    /// The type of the operand.
     pub from_type: RefType<'a>,
     /// The type that it is cast to.
     pub to_type: RefType<'a>,

@@ -1,4 +1,4 @@
-//! Segments of elements and of data.
+//! Element segments and data segments.
 
 ghost use Rattle.std.specs.Prelude.{◌≡◌, ◌++◌, None, length, OnOk, OnErr, IfErr};
 ghost use Rattle.wast_tree_nodes.specs.Tree.data_kind;
@@ -9,23 +9,28 @@ use crate::instrs::Expression;
 use crate::types::RefType;
 use wast_base::{Error, Id, Index, NameAnnotation, Seq, Span};
 
-/// An element segment: `(elem $e (table $t) (offset ..) func $f)` (text format, element segments).
+/// An element segment, such as `(elem $e (table $t) (offset ..) func $f)`.
+///
+/// # Example
+///
+///     let elem = Elem::new(at(9), None, kind, ElemPayload::Exprs { ty, exprs });
+///     one(alloc, maker, ModuleField::Elem(elem))
 #[derive(Debug, Drop)]
 pub struct Elem<'a> {
-    /// The place of its keyword.
+    /// The position of its keyword.
     pub span: Span,
-    /// Its id.
+    /// Its id, if it has one.
     pub id: Option<Id<'a>>,
-    /// Its name annotation.
+    /// Its name annotation, if it has one.
     pub name: Option<NameAnnotation<'a>>,
-    /// What becomes of it.
+    /// Whether it is passive, declarative or active.
     pub kind: ElemKind<'a>,
     /// Its elements.
     pub payload: ElemPayload<'a>,
 }
 
 impl<'a> Elem<'a> {
-    /// `(elem $e ..)` at a place, without a name annotation (text format, element segments). It takes no memory.
+    /// Makes `(elem $e ..)` without a name annotation.
     pub fn new(
         span: Span,
         id: Option<Id<'a>>,
@@ -44,53 +49,53 @@ impl<'a> Elem<'a> {
     }
 }
 
-/// What becomes of an element segment (text format, element segments).
+/// Whether an element segment is passive, declarative or active (text format: element segments).
 #[derive(Debug, Drop)]
 pub enum ElemKind<'a> {
-    /// Instructions take from it.
+    /// Instructions such as `table.init` copy it.
     Passive,
-    /// Its functions may be referred to, and nothing else.
+    /// It only declares functions for `ref.func`.
     Declared,
-    /// A table is filled with it at first.
+    /// It is copied to a table when the module is instantiated.
     Active {
-        /// The table, where one is written; else the first one.
+        /// The table, or `None` for table 0.
         table: Option<Index<'a>>,
-        /// Where in the table it begins.
+        /// The first index of the table that is written.
         offset: Expression<'a>,
     },
 }
 
-/// The elements of a segment (text format, element segments).
+/// The elements of a segment (text format: element segments).
 #[derive(Debug, Drop)]
 pub enum ElemPayload<'a> {
-    /// Functions.
+    /// Indices of functions.
     Indices(Seq<Index<'a>>),
     /// Constant expressions.
     Exprs {
-        /// The type of their values.
+        /// The type of the elements.
         ty: RefType<'a>,
-        /// The expressions, in the order of the text.
+        /// The expressions, in source order.
         exprs: Seq<Expression<'a>>,
     },
 }
 
-/// A data segment: `(data $d (memory $m) (offset ..) "x")` (text format, data segments).
+/// A data segment, such as `(data $d (memory $m) (offset ..) "x")` (text format: data segments).
 #[derive(Debug, Drop)]
 pub struct Data<'a> {
-    /// The place of its keyword.
+    /// The position of its keyword.
     pub span: Span,
-    /// Its id.
+    /// Its id, if it has one.
     pub id: Option<Id<'a>>,
-    /// Its name annotation.
+    /// Its name annotation, if it has one.
     pub name: Option<NameAnnotation<'a>>,
-    /// What becomes of it.
+    /// Whether it is passive or active.
     pub kind: DataKind<'a>,
-    /// Its bytes, in pieces one after another.
+    /// Its bytes, in pieces that follow one another.
     pub bytes: Seq<DataVal<'a>>,
 }
 
 impl<'a> Data<'a> {
-    /// `(data $d ..)` at a place, without a name annotation (text format, data segments). It takes no memory.
+    /// Makes `(data $d ..)` without a name annotation.
     pub fn new(
         span: Span,
         id: Option<Id<'a>>,
@@ -109,22 +114,22 @@ impl<'a> Data<'a> {
     }
 }
 
-/// What becomes of a data segment (text format, data segments).
+/// Whether a data segment is passive or active (text format: data segments).
 #[derive(Debug, Drop)]
 pub enum DataKind<'a> {
-    /// Instructions take from it.
+    /// Instructions such as `memory.init` copy it.
     Passive,
-    /// A memory is filled with it at first.
+    /// It is copied to a memory when the module is instantiated.
     Active {
         /// The memory.
         memory: Index<'a>,
-        /// Where in the memory it begins.
+        /// The first address that is written.
         offset: Expression<'a>,
     },
 }
 
 impl<'a> DataKind<'a> {
-    /// What fills a memory at first, from an offset on (text format, data segments). It takes no memory.
+    /// Makes the kind of an active segment, from the memory and the first address.
     pub fn active(memory: Index<'a>, offset: Expression<'a>) -> DataKind<'a>
         ensures { result ≡ data_kind.Active memory.entry offset.entry }
     {
@@ -132,17 +137,17 @@ impl<'a> DataKind<'a> {
     }
 }
 
-/// Bytes of a data segment (text format, data segments).
+/// A piece of the bytes of a data segment (text format: data segments).
 #[derive(Debug, Drop)]
 pub enum DataVal<'a> {
     /// A string: `"x"`
     String(&'a [u8]),
-    /// The bytes of numbers: `(i16 1 2)`
+    /// The bytes of numbers, as of `(i16 1 2)`
     Integral(Seq<u8>),
 }
 
 impl DataVal<'_> {
-    /// The bytes, to read.
+    /// Borrows the bytes.
     fn as_slice(&self) -> &[u8]
         ensures { result.now ≡ data_bytes self.now }
     {
@@ -152,15 +157,22 @@ impl DataVal<'_> {
         }
     }
 
-    /// How many bytes there are (text format, data segments). It takes no memory.
+    /// Returns the number of bytes.
     pub fn len(&self) -> usize
         ensures { result ≡ length (data_bytes self.now) }
     {
         self.as_slice().len()
     }
 
-    /// Appends the bytes (text format, data segments). It may take memory for them. The only error is E12, where that is
-    /// refused; then nothing was appended.
+    /// Appends the bytes to `out`.
+    ///
+    /// # Example
+    ///
+    ///     piece.push_onto(&mut bytes).expect(&rt, "memory");
+    ///
+    /// # Errors
+    ///
+    /// E12: allocation failed. `out` is then unchanged. No other error occurs.
     pub fn push_onto<'e>(&self, out: &mut Vec<u8>) -> Result<(), Error<'e>>
         ensures appended { OnOk result (out.new.items ≡ out.old.items ++ data_bytes self.now) }
         ensures refusal { IfErr result (λ e. e ≡ out_of_memory) }

@@ -1,4 +1,4 @@
-//! Types of the text format.
+//! Types: value types, heap types, composite types, type definitions and type uses.
 
 ghost use Rattle.std.specs.Prelude.{◌≡◌, [], Some, None, true, false};
 ghost use Rattle.wast_tree_nodes.specs.Tree.heap;
@@ -8,10 +8,9 @@ ghost use Rattle.wast_tree_nodes.specs.Tree.inner;
 use std::alloc::Global;
 use wast_base::{Id, Index, NameAnnotation, Seq, Span};
 
-/// A value type (text format, value types).
+/// A value type (text format: value types).
 ///
-/// Value types have an order, for maps; the format gives it no meaning. It is that of the variants, and of the reference
-/// types.
+/// Value types are ordered, by variant, so that they can be keys of maps.
 #[derive(Clone, Copy, Debug, PartialEq, Eq, PartialOrd, Ord, Hash)]
 pub enum ValType<'a> {
     /// `i32`
@@ -28,20 +27,25 @@ pub enum ValType<'a> {
     Ref(RefType<'a>),
 }
 
-/// A reference type: `(ref null $t)` (text format, reference types).
+/// A reference type, such as `(ref null $t)` (text format: reference types).
 ///
-/// Reference types have an order, for maps; the format gives it no meaning. Those that cannot be null come first; then it
-/// is by what they refer to.
+/// Reference types are ordered so that they can be keys of maps: not nullable first, then by heap
+/// type. For `funcref` and the other words there is a constructor each.
+///
+/// # Example
+///
+///     let ty = RefType::externref();
+///     let null = maker.one_instruction(Instruction::ref_null(ty.heap));
 #[derive(Clone, Copy, Debug, PartialEq, Eq, PartialOrd, Ord, Hash)]
 pub struct RefType<'a> {
     /// Whether the reference can be null.
     pub nullable: bool,
-    /// What it refers to.
+    /// The type that it refers to.
     pub heap: HeapType<'a>,
 }
 
 impl<'a> RefType<'a> {
-    /// `(ref ..)` or `(ref null ..)` (text format, reference types). It takes no memory.
+    /// Makes `(ref ..)`, or `(ref null ..)` if `nullable`.
     pub fn new(nullable: bool, target: HeapType<'a>) -> RefType<'a>
         ensures { result ≡ record { nullable = nullable; heap = target.entry } }
     {
@@ -51,21 +55,21 @@ impl<'a> RefType<'a> {
         }
     }
 
-    /// `funcref` (text format, reference types). It takes no memory.
+    /// Makes `funcref`.
     pub fn funcref() -> RefType<'a>
         ensures { result ≡ record { nullable = true; heap = heap.Abstract false abstract.Func } }
     {
         RefType::nullable_of(AbstractHeapType::Func)
     }
 
-    /// `externref` (text format, reference types). It takes no memory.
+    /// Makes `externref`.
     pub fn externref() -> RefType<'a>
         ensures { result ≡ record { nullable = true; heap = heap.Abstract false abstract.Extern } }
     {
         RefType::nullable_of(AbstractHeapType::Extern)
     }
 
-    /// `(ref null ..)` of a type that no module defines and that is not shared.
+    /// Makes `(ref null ..)` of an abstract heap type that is not shared.
     pub(crate) fn nullable_of(ty: AbstractHeapType) -> RefType<'a>
         ensures { result ≡ record { nullable = true; heap = heap.Abstract false ty } }
     {
@@ -73,27 +77,27 @@ impl<'a> RefType<'a> {
     }
 }
 
-/// What a reference refers to (text format, heap types).
+/// A heap type, the type that a reference refers to (text format: heap types).
 ///
-/// Heap types have an order, for maps; the format gives it no meaning. It is that of the variants, then of their fields;
-/// of indices, whatever their places.
+/// Heap types are ordered, by variant and then by their fields, so that they can be keys of maps.
+/// Positions of indices are ignored.
 #[derive(Clone, Copy, Debug, PartialEq, Eq, PartialOrd, Ord, Hash)]
 pub enum HeapType<'a> {
-    /// A type that no module defines.
+    /// An abstract heap type, such as `func`.
     Abstract {
         /// Whether it is `shared`.
         shared: bool,
         /// The type.
         ty: AbstractHeapType,
     },
-    /// A type of the module, and those below it.
+    /// A type definition of the module, and its subtypes: `$t`
     Concrete(Index<'a>),
-    /// A type of the module alone: `(exact $t)` (custom descriptors)
+    /// A type definition of the module, without its subtypes: `(exact $t)` (custom descriptors)
     Exact(Index<'a>),
 }
 
 impl<'a> HeapType<'a> {
-    /// A type that no module defines and that is not shared (text format, heap types). It takes no memory.
+    /// Makes an abstract heap type that is not shared.
     pub fn of(ty: AbstractHeapType) -> HeapType<'a>
         ensures { result ≡ heap.Abstract false ty }
     {
@@ -101,9 +105,9 @@ impl<'a> HeapType<'a> {
     }
 }
 
-/// A heap type that no module defines (text format, heap types).
+/// An abstract heap type, which the source does not define (text format: heap types).
 ///
-/// These types have an order, for maps; the format gives it no meaning. It is that of the variants.
+/// The order is that of the variants, so that these types can be keys of maps.
 #[derive(Clone, Copy, Debug, PartialEq, Eq, PartialOrd, Ord, Hash)]
 pub enum AbstractHeapType {
     /// `func`
@@ -136,33 +140,32 @@ pub enum AbstractHeapType {
     NoCont,
 }
 
-/// What a field of a struct or an element of an array holds (text format, composite types).
+/// The type of a struct field or an array element (text format: composite types).
 #[derive(Clone, Copy, Debug, PartialEq, Eq)]
 pub enum StorageType<'a> {
     /// `i8`
     I8,
     /// `i16`
     I16,
-    /// A value.
+    /// A value type.
     Val(ValType<'a>),
 }
 
-/// A field of a struct: `(field $x (mut i32))` (text format, composite types).
+/// A field of a struct, such as `(field $x (mut i32))` (text format: composite types).
 #[derive(Clone, Copy, Debug, PartialEq, Eq)]
 pub struct StructField<'a> {
-    /// Its id.
+    /// Its id, if it has one.
     pub id: Option<Id<'a>>,
-    /// Its name annotation.
+    /// Its name annotation, if it has one.
     pub name: Option<NameAnnotation<'a>>,
-    /// Whether it can be changed.
+    /// Whether it is mutable.
     pub mutable: bool,
-    /// What it holds.
+    /// Its type.
     pub ty: StorageType<'a>,
 }
 
 impl<'a> StructField<'a> {
-    /// `(field $x ..)`, and whether it can be changed, without a name annotation (text format, composite types). It takes
-    /// no memory.
+    /// Makes `(field $x ..)`, or `(field $x (mut ..))` if `mutable`, without a name annotation.
     pub fn new(id: Option<Id<'a>>, mutable: bool, ty: StorageType<'a>) -> StructField<'a>
         ensures { result ≡ record { id = id.entry; name = None; mutable = mutable; ty = ty.entry } }
     {
@@ -175,44 +178,48 @@ impl<'a> StructField<'a> {
     }
 }
 
-/// The fields of a struct (text format, composite types).
+/// A struct type, such as `(struct (field $x i32))` (text format: composite types).
 #[derive(Debug, Drop)]
 pub struct StructType<'a> {
-    /// The fields, in the order of the text.
+    /// The fields, in source order.
     pub fields: Seq<StructField<'a>>,
 }
 
-/// The elements of an array (text format, composite types).
+/// An array type, such as `(array (mut i8))` (text format: composite types).
 #[derive(Clone, Copy, Debug, PartialEq, Eq)]
 pub struct ArrayType<'a> {
-    /// Whether they can be changed.
+    /// Whether its elements are mutable.
     pub mutable: bool,
-    /// What each holds.
+    /// The type of its elements.
     pub ty: StorageType<'a>,
 }
 
-/// A continuation, by the type of its function: `(cont $t)` (stack switching).
+/// A continuation type, such as `(cont $t)`, with the index of its function type (stack switching).
 #[derive(Clone, Copy, Debug, PartialEq, Eq)]
 pub struct ContType<'a>(pub Index<'a>);
 
-/// The parameters and results of a function: `(param $x i32) (result i64)` (text format, composite types).
+/// A function type, such as `(param $x i32) (result i64)` (text format: composite types).
+///
+/// # Example
+///
+///     let takes = FunctionType::new(maker.params(&[(None, None, ValType::I32)]), Seq::new(alloc));
 #[derive(Debug, Drop)]
 pub struct FunctionType<'a> {
-    /// Each parameter's id, name annotation and type.
+    /// The parameters: the id, name annotation and type of each.
     pub params: Seq<(Option<Id<'a>>, Option<NameAnnotation<'a>>, ValType<'a>)>,
     /// The types of the results.
     pub results: Seq<ValType<'a>>,
 }
 
 impl<'a> FunctionType<'a> {
-    /// `(func)`: neither parameters nor results (text format, composite types). It takes no memory.
+    /// Makes `(func)`, without parameters and results.
     pub fn empty(alloc: Global) -> FunctionType<'a>
         ensures { result ≡ record { params = []; results = [] } }
     {
         FunctionType::new(Seq::new(alloc), Seq::new(alloc))
     }
 
-    /// `(func (param ..) (result ..))` (text format, composite types). It takes no memory.
+    /// Makes `(func (param ..) (result ..))`.
     pub fn new(
         params: Seq<(Option<Id<'a>>, Option<NameAnnotation<'a>>, ValType<'a>)>,
         results: Seq<ValType<'a>>,
@@ -223,17 +230,25 @@ impl<'a> FunctionType<'a> {
     }
 }
 
-/// A type use: the index of a type, a type that is written out in place, or both (text format, type uses).
+/// A type use: the index of a type, an inline type, or both (text format: type uses).
+///
+/// `(func (type $t))` has an index, `(func (result i32))` an inline type, and
+/// `(func (type $t) (result i32))` both. Resolving adds an index to a type use without one, unless
+/// the binary format has a short form for it.
+///
+/// # Example
+///
+///     let ty = TypeUse::inline(make.function_type(&params, &[I32]));
 #[derive(Debug, Drop)]
 pub struct TypeUse<'a, T> {
-    /// `(type $t)`
+    /// The index, as in `(type $t)`, if there is one.
     pub index: Option<Index<'a>>,
-    /// The type that is written out in place.
+    /// The inline type, if there is one.
     pub inline: Option<T>,
 }
 
 impl<'a> TypeUse<'a, FunctionType<'a>> {
-    /// Neither an index nor an inline type: that of `(func)` (text format, type uses). It takes no memory.
+    /// Makes the type use of `(func)`, with neither an index nor an inline type.
     pub fn none() -> TypeUse<'a, FunctionType<'a>>
         ensures { result ≡ record { index = None; inline = None } }
     {
@@ -243,7 +258,7 @@ impl<'a> TypeUse<'a, FunctionType<'a>> {
         }
     }
 
-    /// `(type $t)` (text format, type uses). It takes no memory.
+    /// Makes the type use `(type $t)`.
     pub fn of(index: Index<'a>) -> TypeUse<'a, FunctionType<'a>>
         ensures { result ≡ record { index = Some index.entry; inline = None } }
     {
@@ -253,7 +268,7 @@ impl<'a> TypeUse<'a, FunctionType<'a>> {
         }
     }
 
-    /// A type that is written out in place (text format, type uses: abbreviations). It takes no memory.
+    /// Makes a type use with an inline type alone, such as `(result i32)`.
     pub fn inline(ty: FunctionType<'a>) -> TypeUse<'a, FunctionType<'a>>
         ensures { result ≡ record { index = None; inline = Some ty.entry } }
     {
@@ -263,7 +278,7 @@ impl<'a> TypeUse<'a, FunctionType<'a>> {
         }
     }
 
-    /// `(type $t)` and a type that is written out beside it (text format, type uses). It takes no memory.
+    /// Makes a type use with an index and an inline type, such as `(type $t) (result i32)`.
     pub fn both(index: Index<'a>, ty: FunctionType<'a>) -> TypeUse<'a, FunctionType<'a>>
         ensures { result ≡ record { index = Some index.entry; inline = Some ty.entry } }
     {
@@ -272,7 +287,7 @@ impl<'a> TypeUse<'a, FunctionType<'a>> {
     }
 }
 
-/// A composite type (text format, composite types).
+/// A composite type (text format: composite types).
 #[derive(Debug, Drop)]
 pub enum InnerTypeKind<'a> {
     /// `(func ..)`
@@ -285,26 +300,33 @@ pub enum InnerTypeKind<'a> {
     Cont(ContType<'a>),
 }
 
-/// What a type is defined as: a composite type, and how it stands to other types (text format, recursive types).
+/// A composite type with its supertypes and modifiers (text format: recursive types).
+///
+/// # Example
+///
+/// `(type $reader (func (param i32 i32) (result i32)))`:
+///
+///     let ty = make.function_type(&[(None, None, I32); 2], &[I32]);
+///     let ty = Type::new(at(11), id("reader", 16), TypeDef::func(alloc, ty));
+///     make.push_field(&mut fields, ModuleField::Ty(ty));
 #[derive(Debug, Drop)]
 pub struct TypeDef<'a> {
     /// The composite type.
     pub kind: InnerTypeKind<'a>,
     /// Whether it is `shared`.
     pub shared: bool,
-    /// The types that it is a subtype of.
+    /// The supertypes that the source declares.
     pub parents: Seq<Index<'a>>,
-    /// `(descriptor $t)`
+    /// `(descriptor $t)` (custom descriptors)
     pub descriptor: Option<Index<'a>>,
-    /// `(describes $t)`
+    /// `(describes $t)` (custom descriptors)
     pub describes: Option<Index<'a>>,
-    /// Whether it is `final`, where the text says so; it is final where it says nothing.
+    /// Whether `(sub ..)` has `final`. A definition without `sub` has `None`, and is final.
     pub final_type: Option<bool>,
 }
 
 impl<'a> TypeDef<'a> {
-    /// What `(type ..)` defines by a composite type alone: a final type without parents (text format, types). It takes no
-    /// memory.
+    /// Makes the definition of `(type (struct ..))` and the like: a final type without supertypes.
     pub fn new(alloc: Global, kind: InnerTypeKind<'a>) -> TypeDef<'a>
         ensures { result ≡ record { kind = kind.entry; shared = false; parents = []; descriptor = None; describes = None; final_type = None } }
     {
@@ -318,15 +340,14 @@ impl<'a> TypeDef<'a> {
         }
     }
 
-    /// What `(type (func ..))` defines: a final function type without parents (text format, types). It takes no memory.
+    /// Makes the definition of `(type (func ..))`: a final function type without supertypes.
     pub fn func(alloc: Global, ty: FunctionType<'a>) -> TypeDef<'a>
         ensures { result ≡ record { kind = inner.Func ty.entry; shared = false; parents = []; descriptor = None; describes = None; final_type = None } }
     {
         TypeDef::new(alloc, InnerTypeKind::Func(ty))
     }
 
-    /// What `(type (sub ..))` defines, with these parents, and whether it is `final` (text format, recursive types). It
-    /// takes no memory.
+    /// Makes the definition of `(type (sub ..))`, or of `(type (sub final ..))` if `final_type`.
     pub fn sub(final_type: bool, parents: Seq<Index<'a>>, kind: InnerTypeKind<'a>) -> TypeDef<'a>
         ensures { result ≡ record { kind = kind.entry; shared = false; parents = parents.entry; descriptor = None; describes = None; final_type = Some final_type } }
     {
@@ -341,21 +362,26 @@ impl<'a> TypeDef<'a> {
     }
 }
 
-/// A type definition: `(type $t (func ..))` (text format, types).
+/// A type definition, such as `(type $t (func ..))` (text format: types).
+///
+/// # Example
+///
+///     let ty = Type::new(at(11), id("reader", 16), TypeDef::func(alloc, ty));
+///     make.push_field(&mut fields, ModuleField::Ty(ty));
 #[derive(Debug, Drop)]
 pub struct Type<'a> {
-    /// The place of its keyword.
+    /// The position of its keyword.
     pub span: Span,
-    /// Its id.
+    /// Its id, if it has one.
     pub id: Option<Id<'a>>,
-    /// Its name annotation.
+    /// Its name annotation, if it has one.
     pub name: Option<NameAnnotation<'a>>,
-    /// What it is defined as.
+    /// Its definition.
     pub def: TypeDef<'a>,
 }
 
 impl<'a> Type<'a> {
-    /// `(type $t ..)` at a place, without a name annotation (text format, types). It takes no memory.
+    /// Makes `(type $t ..)` without a name annotation.
     pub fn new(span: Span, id: Option<Id<'a>>, def: TypeDef<'a>) -> Type<'a>
         ensures { result ≡ record { span = span; id = id.entry; name = None; def = def.entry } }
     {
@@ -368,17 +394,17 @@ impl<'a> Type<'a> {
     }
 }
 
-/// Types that may refer to each other: `(rec (type ..) ..)` (text format, recursive types).
+/// A group of types that may refer to each other: `(rec (type ..) ..)` (text format: types).
 #[derive(Debug, Drop)]
 pub struct Rec<'a> {
-    /// The place of its keyword.
+    /// The position of its keyword.
     pub span: Span,
-    /// The types, in the order of the text.
+    /// The types, in source order.
     pub types: Seq<Type<'a>>,
 }
 
 impl<'a> Rec<'a> {
-    /// `(rec ..)` of these types, at a place (text format, recursive types). It takes no memory.
+    /// Makes `(rec ..)` of these types.
     pub fn new(span: Span, types: Seq<Type<'a>>) -> Rec<'a>
         ensures { result ≡ record { span = span; types = types.entry } }
     {

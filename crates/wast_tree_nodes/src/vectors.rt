@@ -1,24 +1,24 @@
-//! Immediates of instructions on vectors.
+//! Immediates of vector instructions.
 
 use crate::immediates::{F32, F64, MemArg};
 
-/// The number of a lane: `i8x16.extract_lane_s 3` (text format, vector instructions).
+/// The number of a lane, such as the 3 of `i8x16.extract_lane_s 3` (text format: instructions).
 #[derive(Clone, Copy, Debug, PartialEq, Eq)]
 pub struct LaneArg {
     /// The lane.
     pub lane: u8,
 }
 
-/// What a load or a store of a lane reads or writes: `v128.load8_lane offset=4 3` (text format, vector instructions).
+/// The immediates of a lane load or store, such as `v128.load8_lane offset=4 3`.
 #[derive(Clone, Copy, Debug, PartialEq, Eq)]
 pub struct LoadOrStoreLane<'a> {
-    /// How the memory is accessed.
+    /// The memory argument.
     pub memarg: MemArg<'a>,
     /// The lane.
     pub lane: LaneArg,
 }
 
-/// The lanes of a vector: `v128.const i32x4 1 2 3 4` (text format, vector instructions).
+/// The immediate of `v128.const i32x4 1 2 3 4`: a vector shape and its lanes.
 #[derive(Clone, Copy, Debug, PartialEq, Eq)]
 pub enum V128Const {
     /// `i8x16`
@@ -35,10 +35,9 @@ pub enum V128Const {
     F64x2([F64; 2]),
 }
 
-/// The lanes that a shuffle chooses: `i8x16.shuffle 0 1 2 3 4 5 6 7 8 9 10 11 12 13 14 31` (text format, vector
-/// instructions).
+/// The lanes that a shuffle chooses: `i8x16.shuffle 0 1 2 3 4 5 6 7 8 9 10 11 12 13 14 31`.
 #[derive(Clone, Copy, Debug, PartialEq, Eq)]
 pub struct I8x16Shuffle {
-    /// The numbers of the lanes.
+    /// The numbers of the lanes, from 0 to 31.
     pub lanes: [u8; 16],
 }

@@ -1,4 +1,4 @@
-//! Which fields are written out.
+//! `is_written_out`: whether fields are desugared.
 
 ghost use Rattle.std.specs.Prelude.{◌≡◌};
 ghost use Rattle.wast_tree_nodes.specs.WrittenOut.{exports_nothing, is_written_func, is_written_table, is_written_memory, is_written_global, is_written_tag, is_written_field, is_written_out};
@@ -7,14 +7,14 @@ use crate::fields::{
     FuncKind, GlobalKind, InlineExport, MemoryKind, ModuleField, TableKind, TagKind,
 };
 
-/// Whether nothing is exported in place.
+/// Returns whether there is no inline export.
 fn exports_nothing(exports: &InlineExport<'_>) -> bool
     ensures { result ≡ exports_nothing exports.now }
 {
     exports.names.is_empty()
 }
 
-/// Whether the function is not imported in place.
+/// Returns whether the function has no inline import.
 fn is_written_func(kind: &FuncKind<'_>) -> bool
     ensures { result ≡ is_written_func kind.now }
 {
@@ -24,7 +24,7 @@ fn is_written_func(kind: &FuncKind<'_>) -> bool
     }
 }
 
-/// Whether the table is not imported in place, and holds no elements in place.
+/// Returns whether the table has no inline import and no inline elements.
 fn is_written_table(kind: &TableKind<'_>) -> bool
     ensures { result ≡ is_written_table kind.now }
 {
@@ -34,7 +34,7 @@ fn is_written_table(kind: &TableKind<'_>) -> bool
     }
 }
 
-/// Whether the memory is not imported in place, and holds no bytes in place.
+/// Returns whether the memory has no inline import and no inline data.
 fn is_written_memory(kind: &MemoryKind<'_>) -> bool
     ensures { result ≡ is_written_memory kind.now }
 {
@@ -44,7 +44,7 @@ fn is_written_memory(kind: &MemoryKind<'_>) -> bool
     }
 }
 
-/// Whether the global is not imported in place.
+/// Returns whether the global has no inline import.
 fn is_written_global(kind: &GlobalKind<'_>) -> bool
     ensures { result ≡ is_written_global kind.now }
 {
@@ -54,7 +54,7 @@ fn is_written_global(kind: &GlobalKind<'_>) -> bool
     }
 }
 
-/// Whether the tag is not imported in place.
+/// Returns whether the tag has no inline import.
 fn is_written_tag(kind: &TagKind<'_>) -> bool
     ensures { result ≡ is_written_tag kind.now }
 {
@@ -64,7 +64,7 @@ fn is_written_tag(kind: &TagKind<'_>) -> bool
     }
 }
 
-/// Whether nothing stands in place in the field.
+/// Returns whether the field has no inline parts.
 fn is_written_field(field: &ModuleField<'_>) -> bool
     ensures { result ≡ is_written_field field.now }
 {
@@ -87,10 +87,10 @@ fn is_written_field(field: &ModuleField<'_>) -> bool
     }
 }
 
-/// Whether the fields are written out: none has abbreviations (text format, abbreviations). It takes no memory.
+/// Returns whether the fields are desugared: none has inline exports, imports, elements or data.
 ///
-/// They are, where no field exports its item in place or imports it in place, no table holds its elements in place, and no
-/// memory its data.
+/// For example, `(func (export "a"))` is not desugared, and `(func) (export "a" (func 0))` is (text
+/// format: abbreviations).
 pub fn is_written_out(fields: &[ModuleField<'_>]) -> bool
     ensures { result ≡ is_written_out fields.now }
 {

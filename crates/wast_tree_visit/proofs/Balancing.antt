@@ -1,4 +1,4 @@
--- Counting the open blocks along instructions tells whether they are balanced.
+-- Lemmas for is_balanced: counting the enclosing blocks decides whether instructions are balanced.
 use Rattle.std.proofs.Common.{◌≡◌, ℕ, zero, suc, ◌+◌, ◌≤◌, ◌<◌, List, [], ◌∷◌, Option, Some, None, Bool, true, false, eqb, refl, ap, sym, ◌∙◌, length, take, drop, get_or, arith, inl, inr, ◌⊎◌}
 use Rattle.std.specs.Prelude.{is_some, option_map}
 use Rattle.std.proofs.lemmas.Bool.{cases_eq, and_parts, and_from, leb-true, le-leb, eq-eqb, eqb-true}
@@ -8,7 +8,7 @@ use Rattle.wast_base.specs.Blocks.{BlockEffect, Opens, Closes, Stays, openers, c
 use Rattle.wast_tree_visit.specs.Tree.{BlockType, Instruction}
 use Rattle.wast_tree_nodes.specs.Instrs.{turn_by, turn_of, block_effects}
 
--- These close all that they open and as many blocks as were open before, and none before it is open.
+-- whether effects close all blocks that they open and n blocks before them, and none too early
 abbrev pub balanced_from : List BlockEffect → ℕ → Bool
 balanced_from [] n = eqb n 0
 balanced_from (Opens l ∷ ts) n = balanced_from ts (suc n)
@@ -16,7 +16,7 @@ balanced_from (Closes ∷ ts) zero = false
 balanced_from (Closes ∷ ts) (suc n) = balanced_from ts n
 balanced_from (Stays ∷ ts) n = balanced_from ts n
 
--- in each of the first n fronts the closers are at most the openers and d
+-- each prefix of 1 to n effects has at most d more closers than openers
 abbrev Within : List BlockEffect → ℕ → ℕ → Type 0
 Within ts d n = (k : ℕ) → k ≤ n → closers (take k ts) ≤ openers (take k ts) + d
 
@@ -73,11 +73,11 @@ same_tests true b to from = sym (to refl)
 same_tests false true to from = from refl
 same_tests false false to from = refl
 
--- Counting tells it.
+-- counting decides balance
 pub balanced : (ts : List BlockEffect) → balanced_from ts 0 ≡ is_balanced ts
 balanced ts = same_tests _ _ (counted ts) (counting ts)
 
--- One instruction by what is told of it: it opens a block, closes one, closes one where none is open, or does neither.
+-- one instruction: it opens a block, closes one, closes one although there is none, or does neither
 module _ (c : Bool) (ts : List BlockEffect) (n m : ℕ) where
   pub some_opens : (b : Option BlockType) → is_some b ≡ true → m ≡ n + 1 → balanced_from (turn_by b c ∷ ts) n ≡ balanced_from ts m
   some_opens (Some b) h e = ap (balanced_from ts) (omega arith)
@@ -100,7 +100,7 @@ pub some_if : {A B : Type 0} (f : A → B) (o : Option A) (b : Option B) → opt
 some_if f None b h = ap is_some (sym h)
 some_if f (Some x) b h = ap is_some (sym h)
 
--- instructions from one on
+-- the instructions from number n on
 module _ (is : List Instruction) (n : ℕ) (i : Instruction) (lt : n < length is) (at : i ≡ get_or is n i) where
   pub turns_from : block_effects (drop n is) ≡ turn_of i ∷ block_effects (drop (n + 1) is)
   turns_from = ap block_effects (drop_more is n i lt ∙ ap (λ x. x ∷ drop (n + 1) is) (sym at))
@@ -109,6 +109,6 @@ module _ (is : List Instruction) (n : ℕ) (i : Instruction) (lt : n < length is
       → balanced_from (block_effects (drop n is)) k ≡ b → balanced_from (block_effects (drop (n + 1) is)) m ≡ b
   past k m b e h = sym e ∙ (ap (λ ts. balanced_from ts k) (sym turns_from) ∙ h)
 
--- none is left
+-- no instruction is left
 pub at_the_end : (is : List Instruction) (n k : ℕ) (b : Bool) → length is ≤ n → balanced_from (block_effects (drop n is)) k ≡ b → eqb k 0 ≡ b
 at_the_end is n k b le h = ap (λ rest. balanced_from (block_effects rest) k) (sym (drop_of_length-le is le)) ∙ h

@@ -1,4 +1,4 @@
--- What a visitor that keeps the last place has found, of all that it was told.
+-- Lemmas: the results of a visitor that keeps the last position.
 use Rattle.std.proofs.Common.{◌≡◌, Option, List, [], ◌∷◌, ◌++◌, flat_map, refl, sym, ap, ◌∙◌}
 use Rattle.std.specs.Prelude.{map, option_map}
 use Rattle.std.proofs.lemmas.Grind.{flat_map-append}
@@ -27,7 +27,7 @@ module _ {V F : Type 0} (found_at : Span → Check → List F) (place : V → Sp
   pub located : {a b : V} {xs : List Check} → Visits finds a xs b → of b ≡ first_of (of a) (found_from found_at (place a) xs)
   located {a} {b} {xs} h = each_located a b xs h.tells
 
--- The forms that are found with their places are those that are found without.
+-- the forms that are found with positions are those that are found without
 abbrev form_in : Uncovered → Form
 form_in u = u.form
 

@@ -1,4 +1,4 @@
--- Whether the item at an index passes a test, of a list with an item for each element.
+-- Lemmas: whether the item at an index passes a test, in a list with an item for each element.
 use Rattle.std.proofs.Common.{◌≡◌, ℕ, Bool, false, ◌≤◌, ◌<◌, length, get_or, take, drop, List, [], ◌∷◌, refl, sym, ap, ◌∙◌, arith}
 use Rattle.std.specs.Prelude.{map}
 use Rattle.std.specs.List.{list_any, flat_map}
@@ -24,7 +24,7 @@ module _ {X : Type 0} (p : X → Bool) where
     pub of_no_more : (i : ℕ) → length xs ≤ i → false ≡ list_any p (take 1 (drop i (flat_map (λ y. f y ∷ []) xs)))
     of_no_more i le = past_all (flat_map (λ y. f y ∷ []) xs) i (omega (arith, as_many f xs, le))
 
-  -- where all elements give one
+  -- all elements have the same item
   pub of_same : {A : Type 0} (f : A → X) (xs : List A) (i : ℕ) (b : Bool) → i < length xs → ((x : A) → b ≡ p (f x)) → b ≡ list_any p (take 1 (drop i (flat_map (λ y. f y ∷ []) xs)))
   of_same f [] i b lt h = absurd (omega (arith, lt))
   of_same f (x ∷ xs) i b lt h = let y = get_or (x ∷ xs) i x in of_each f (x ∷ xs) i y x b lt refl (h y)

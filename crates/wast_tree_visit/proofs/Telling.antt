@@ -1,4 +1,4 @@
--- What a visitor has made out of all that it was told.
+-- Lemmas: the state of a visitor after a list, for a maximum, a first result and a test.
 use Rattle.std.proofs.Common.{◌≡◌, ℕ, Bool, true, false, ◌||◌, Option, Some, None, List, [], ◌∷◌, ◌++◌, flat_map, refl, sym, ap, ◌∙◌, arith}
 use Rattle.std.specs.List.{list_any}
 use Rattle.std.proofs.Math.Bool.{or-false}
@@ -11,7 +11,7 @@ greatest_each : {V A : Type 0} (of : V → ℕ) (g : A → ℕ) (a b : V) (xs : 
 greatest_each of g a b [] h = ap of h ∙ omega arith
 greatest_each of g a b (x ∷ xs) h = let e = greatest_each of g h.0 b xs h.1.1 in let f = h.1.0 in omega arith
 
--- the greatest of what was told
+-- a visitor that keeps the greatest number
 pub greatest_told : {V A : Type 0} (of : V → ℕ) (g : A → ℕ) {a b : V} {xs : List A} → Visits (λ old x new. of new ≡ max (of old) (g x)) a xs b → of b ≡ max (of a) (max_of (map g xs))
 greatest_told of g {a} {b} {xs} h = greatest_each of g a b xs h.tells
 
@@ -29,7 +29,7 @@ first_each of g a b [] h = ap of h ∙ sym (first_nothing (of a))
 first_each of g a b (x ∷ xs) h =
     first_each of g h.0 b xs h.1.1 ∙ (ap (λ o. first_of o (flat_map g xs)) h.1.0 ∙ first_behind (of a) (g x) (flat_map g xs))
 
--- the first of what was told
+-- a visitor that keeps the first result
 pub first_told : {V A F : Type 0} (of : V → Option F) (g : A → List F) {a b : V} {xs : List A} → Visits (λ old x new. of new ≡ first_of (of old) (g x)) a xs b → of b ≡ first_of (of a) (flat_map g xs)
 first_told of g {a} {b} {xs} h = first_each of g a b xs h.tells
 
@@ -42,11 +42,11 @@ any_each of p a b [] h = ap of h ∙ sym (or-false (of a))
 any_each of p a b (x ∷ xs) h =
     any_each of p h.0 b xs h.1.1 ∙ (ap (λ o. o || list_any p xs) h.1.0 ∙ any_behind (of a) (p x) (list_any p xs))
 
--- whether any of what was told passes a test
+-- a visitor that keeps whether any element passes a test
 pub any_told : {V A : Type 0} (of : V → Bool) (p : A → Bool) {a b : V} {xs : List A} → Visits (λ old x new. of new ≡ (of old || p x)) a xs b → of b ≡ (of a || list_any p xs)
 any_told of p {a} {b} {xs} h = any_each of p a b xs h.tells
 
--- of two things that are told, each alone
+-- a visitor with two parts is one visitor for each part
 module _ {V A : Type 0} (one other : V → A → V → Type 0) where
   first_of_each : (a b : V) (xs : List A) → TellsEach (λ old x new. one old x new × other old x new) a xs b → TellsEach one a xs b
   first_of_each a b [] h = h

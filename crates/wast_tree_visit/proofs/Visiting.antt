@@ -1,4 +1,4 @@
--- What a visitor was told of parts that stand one after the other.
+-- Lemmas: a visit of joined lists is a visit of each, and the checks of each kind of part.
 use Rattle.std.proofs.Common.{◌≡◌, ℕ, ◌+◌, ◌<◌, true, false, List, [], ◌∷◌, ◌++◌, refl, sym, ap, ◌∙◌, subst, append-nil, length, get_or, take, arith}
 use Rattle.std.proofs.lemmas.Bool.Decides.{Decides-eqb}
 use Rattle.std.specs.Prelude.{◌==◌, flat_map}
@@ -31,7 +31,7 @@ module _ {V A : Type 0} {told : V → A → V → Type 0} where
   pub visits_both : {a b c : V} {xs ys : List A} → Visits told a xs b → Visits told b ys c → Visits told a (xs ++ ys) c
   visits_both {a} {b} {c} {xs} {ys} h k = record { tells = tells_both told a b c xs ys h.tells k.tells }
 
-  -- one part of a list more
+  -- one more part of a list
   pub visits_more : {T : Type 0} {a b c : V} (f : T → List A) (xs : List T) (i : ℕ) (x d : T) → i < length xs → x ≡ get_or xs i d
       → Visits told a (flat_map f (take i xs)) b → Visits told b (f x) c → Visits told a (flat_map f (take (i + 1) xs)) c
   visits_more {a = a} {c = c} f xs i x d lt is h k =
@@ -46,7 +46,7 @@ each_alone f (x ∷ xs) = ap (λ ys. f x ∷ ys) (each_alone f xs)
 pub asked_use : (w : Where) (u : TypeUse FunctionType) → checks_of (in_use w u) ≡ in_type_use u
 asked_use w u = append-nil (in_type_use u)
 
--- of parts that may be there, and of lists of parts
+-- the checks of optional parts, and of lists of parts
 pub asked_if : {A : Type 0} (f : A → List Site) (o : Option A) → checks_of (if_there f o) ≡ if_there (λ x. checks_of (f x)) o
 asked_if f None = refl
 asked_if f (Some x) = refl
@@ -67,12 +67,12 @@ asked_exprs ty es =
     asked_both (flat_map in_constant es) (check_sites (in_ref ty))
     ∙ (ap (λ asks. asks ++ checks_of (check_sites (in_ref ty))) (asked_each in_constant es) ∙ ap (λ asks. flat_map (λ e. checks_of (in_constant e)) es ++ asks) (asked_asking (in_ref ty)))
 
--- Nothing is asked where a parameter or a local is declared.
+-- declarations have no checks
 pub asked_declaring : (before : List (Option Name)) (marks : List (Option Mark)) → checks_of (declaration_sites before marks) ≡ []
 asked_declaring before [] = refl
 asked_declaring before (m ∷ ms) = asked_declaring (before ++ name_if m ∷ []) ms
 
--- A function asks the types and ids of its locals, and then its body.
+-- the checks of a function: the types and ids of its locals, and then its body
 pub asked_inline : (u : TypeUse FunctionType) (locals : List Local) (e : Expression)
     → checks_of (in_func_kind u (func.Inline locals e)) ≡ flat_map in_local locals ++ checks_of (in_expression (body_here u (param_marks u.inline ++ local_marks locals)) e)
 asked_inline u locals e =
@@ -82,7 +82,7 @@ asked_inline u locals e =
     ∙ (ap (λ asks. asks ++ checks_of (declaration_sites [] marks ++ body)) (asked_asking (flat_map in_local locals))
     ∙ ap (λ asks. flat_map in_local locals ++ asks) (asked_both (declaration_sites [] marks) body ∙ ap (λ asks. asks ++ checks_of body) (asked_declaring [] marks)))
 
--- Which blocks are open changes nothing of what is asked.
+-- the checks do not depend on the enclosing blocks
 pub asked_label : (id : Option Id) → if_there in_id id ≡ mark_asked (mark_of_option id)
 asked_label None = refl
 asked_label (Some id) = refl
@@ -117,7 +117,7 @@ asked_anywhere_try_table blocks t = asked_try_table blocks t ∙ sym (asked_try_
 pub asked_anywhere_br_table : (blocks : Blocks) (t : BrTableIndices) → checks_of (in_br_table blocks t) ≡ checks_of (in_br_table [] t)
 asked_anywhere_br_table blocks t = asked_br_table blocks t ∙ sym (asked_br_table [] t)
 
--- one instruction more
+-- one more instruction
 pub visits_next : {V : Type 0} {told : V → Check → V → Type 0} {a b c : V} (h : BodyContext) (is : List Instruction) (n : ℕ) (i d : Instruction) → n < length is → i ≡ get_or is n d
     → Visits told a (checks_of (in_instrs h (take n is))) b → Visits told b (checks_of (in_instr (after_all h (in_instrs h (take n is))) i)) c → Visits told a (checks_of (in_instrs h (take (n + 1) is))) c
 visits_next {told = told} {a} {c = c} h is n i d lt at before next =
@@ -127,7 +127,7 @@ visits_next {told = told} {a} {c = c} h is n i d lt at before next =
     ∙ (instrs-append h (take n is) (i ∷ []) ∙ ap (λ ss. in_instrs h (take n is) ++ ss) (append-nil (in_instr there i))) in
     subst (λ asks. Visits told a asks c) (sym (ap checks_of more ∙ asked_both (in_instrs h (take n is)) (in_instr there i))) (visits_both before next)
 
--- handlers of a resumption
+-- the checks of handlers
 asked_handle : (blocks : Blocks) (h : Handle) → checks_of (in_handle blocks h) ≡ checks_of (in_handle [] h)
 asked_handle blocks (handle.OnLabel e l) = refl
 asked_handle blocks (handle.OnSwitch e) = refl
@@ -146,14 +146,14 @@ pub asked_anywhere_handlers : (blocks : Blocks) (t : ResumeTable) (front : List 
 asked_anywhere_handlers blocks t front =
     asked_both front (in_handlers blocks t) ∙ (ap (λ asks. checks_of front ++ asks) (asked_handlers blocks t ∙ sym (asked_handlers [] t)) ∙ sym (asked_both front (in_handlers [] t)))
 
--- parts, and behind them what else is asked
+-- the checks of sites, and further checks after them
 pub asked_behind : (sites : List Site) (asks : List Check) → checks_of (sites ++ check_sites asks) ≡ checks_of sites ++ asks
 asked_behind sites asks = asked_both sites (check_sites asks) ∙ ap (λ more. checks_of sites ++ more) (asked_asking asks)
 
 pub asked_list : {A : Type 0} (f : A → List Site) (xs : List A) (asks : List Check) → checks_of (flat_map f xs ++ check_sites asks) ≡ flat_map (λ x. checks_of (f x)) xs ++ asks
 asked_list f xs asks = asked_behind (flat_map f xs) asks ∙ ap (λ more. more ++ asks) (asked_each f xs)
 
--- The id of a signature that names share is asked where there is no name.
+-- the id of a signature that names share is visited only if there is no name
 pub shared_by_none : {N : Type 0} (names : List N) (id : Option Id) → (length names == 0) ≡ true → in_shared_id names id ≡ if_there in_id id
 shared_by_none [] id none = refl
 shared_by_none (name ∷ names) id none = let e : length (name ∷ names) ≡ 0 = (Decides-eqb (length (name ∷ names)) 0).0 none in absurd (omega arith)

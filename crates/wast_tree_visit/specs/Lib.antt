@@ -1,5 +1,11 @@
--- What the contracts of reading walks cite: what a walk does to a visitor, where a list of fields is ill formed,
--- and where the first form stands that no encoder covers.
+-- The definitions that contracts of this crate name.
+--
+--   Visits           a visit of a list
+--   IllFormed        the first rule of well-formedness that fails, its position and its message
+--   FirstUncovered   the first unsupported form and its position
+--   Surveys          indices of data segments
+--   Tree             short names of the AST types
+--   Private          definitions for private functions
 pub mod FirstUncovered
 pub mod IllFormed
 pub mod Private

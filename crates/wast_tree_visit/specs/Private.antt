@@ -1,2 +1,2 @@
--- What only contracts of private functions cite: a caller needs none of it.
+-- Definitions that only contracts of private functions name. Callers need none of them.
 pub mod IdOwners

@@ -1,4 +1,4 @@
-//! Which item has an id.
+//! The search for the item that has an id.
 
 ghost use Rattle.std.specs.Prelude.{◌≡◌, ◌==◌, ◌≤◌, ◌-◌, ◌&&◌, ◌||◌, List, [], ◌∷◌, length, flat_map, is_some};
 ghost use Rattle.std.specs.List.{list_any};
@@ -13,7 +13,7 @@ use crate::field_items::items_of;
 use wast_base::{Id, Space};
 use wast_tree_nodes::{FieldItems, ImportItems, ItemSig, ModuleField, Type};
 
-/// Whether an optional id is this one.
+/// Returns whether an optional id is this one.
 fn is_called(bearer: &Option<Id<'_>>, id: &Id<'_>) -> bool
     ensures { result ≡ is_called (name_of id.now) (name_if (mark_of_option bearer.now)) }
 {
@@ -23,19 +23,19 @@ fn is_called(bearer: &Option<Id<'_>>, id: &Id<'_>) -> bool
     }
 }
 
-/// Whether an item stands in the space and has the id.
+/// Returns whether an item is of the space and has the id.
 fn bears(own: Space, bearer: &Option<Id<'_>>, space: Space, id: &Id<'_>) -> bool
     ensures { result ≡ bears space (name_of id.now) (item own bearer.now []) }
 {
     space.is(own) && is_called(bearer, id)
 }
 
-/// What is an item.
+/// A part of the AST that is an item.
 trait IsItem {
     /// The item.
     ghost item: { Self → Item };
 
-    /// Whether it stands in the space and has the id.
+    /// Returns whether it is of the space and has the id.
     fn bears(&self, space: Space, id: &Id<'_>) -> bool
         ensures { result ≡ bears space (name_of id.now) (item self.now) };
 }
@@ -64,17 +64,17 @@ impl<'a> IsItem for (&'a str, ItemSig<'a>) {
     }
 }
 
-/// What is seen at an item of a field.
+/// The result of looking at an item of a field.
 #[derive(Clone, Copy)]
 pub(crate) struct Look {
-    /// How many items the field has.
+    /// The number of items of the field.
     pub(crate) items: usize,
     /// Whether the item has the id.
     pub(crate) found: bool,
 }
 
 impl Look {
-    /// A look at an item of a field with one, of which it is known whether it has the id.
+    /// Makes the result for a field with one item; `found` is whether that item has the id.
     fn at_one(item: usize, found: bool) -> Look
         ensures items { result.items ≡ 1 }
         ensures found { result.found ≡ (item == 0 && found) }
@@ -139,7 +139,7 @@ fn look_among(items: FieldItems<'_, '_>, item: usize, space: Space, id: &Id<'_>)
     }
 }
 
-/// The generation of an optional id of an item, where the item stands in the space and the id is generated; else 0.
+/// Returns the generation of an item's id, or 0 if the item is not of the space or has no id.
 fn generation_in(own: Space, bearer: &Option<Id<'_>>, space: Space) -> u64 {
     match bearer {
         Some(id) if space.is(own) => id.generation(),
@@ -147,7 +147,7 @@ fn generation_in(own: Space, bearer: &Option<Id<'_>>, space: Space) -> u64 {
     }
 }
 
-/// The same of an item of an import.
+/// Returns the same for an item of an import.
 fn generation_in_import(items: &ImportItems<'_>, item: usize, space: Space) -> u64 {
     match items {
         ImportItems::Single { sig, .. } | ImportItems::Group2 { sig, .. } => {
@@ -160,7 +160,7 @@ fn generation_in_import(items: &ImportItems<'_>, item: usize, space: Space) -> u
     }
 }
 
-/// The same of an item of a field.
+/// Returns the same for an item of a field.
 fn generation_among(items: FieldItems<'_, '_>, item: usize, space: Space) -> u64 {
     match items {
         FieldItems::Nothing => 0,
@@ -174,20 +174,23 @@ fn generation_among(items: FieldItems<'_, '_>, item: usize, space: Space) -> u64
     }
 }
 
-/// A field, of which its items are read. What looks for an id is generic in it: a proof would else compare the type of the
-/// whole tree with itself at each list of fields that is held or cut.
+/// A field that has items.
+///
+/// The search is generic in it, because proofs of code on lists of fields would otherwise compare
+/// the type of the whole AST with itself.
 pub(crate) trait HasItems {
     /// Its items.
     ghost items: { Self → List Item };
 
-    /// How many items it has, and whether the one at an index among them stands in the space and has the id; where none is
-    /// there, it has not.
+    /// Returns the number of its items, and whether the one at `item` is of the space and has the
+    /// id.
     fn look(&self, item: usize, space: Space, id: &Id<'_>) -> Look
         ensures items { result.items ≡ length (items self.now) }
         ensures found { result.found ≡ bears_at space (name_of id.now) (items self.now) item };
 
-    /// The generation of the id of the item at an index, where it stands in the space and its id is generated; else 0. Where
-    /// no item is, it may be any.
+    /// Returns the generation of the id of the item at `item`, or 0 if that is not of the space.
+    ///
+    /// If there is no such item, the result may be any number.
     fn generation(&self, item: usize, space: Space) -> u64;
 }
 
@@ -203,7 +206,7 @@ impl HasItems for ModuleField<'_> {
     }
 }
 
-/// A place among the items of a list of fields: before an item of a field, or behind its last one.
+/// A position among the items of a list of fields: before an item of a field, or after its last.
 #[derive(Clone, Copy)]
 pub(crate) struct Place {
     /// The index of the field.
@@ -213,20 +216,20 @@ pub(crate) struct Place {
 }
 
 impl Place {
-    /// Before all items.
+    /// The position before all items.
     pub(crate) const START: Place = Place { field: 0, item: 0 };
 }
 
-/// A step from a place to the next.
+/// A step from a position to the next.
 #[derive(Clone, Copy)]
 struct Step {
-    /// The place that it leads to.
+    /// The position that it leads to.
     place: Place,
-    /// Whether the item that it passed has the id.
+    /// Whether the item between the two has the id.
     found: bool,
 }
 
-/// Looks at an item of the field at an index, where there is one.
+/// Looks at an item of the field at a position, if there is one.
 fn look_at<T: HasItems>(fields: &[T], place: Place, space: Space, id: &Id<'_>) -> Look
     ensures items { result.items ≡ length (items_at T.items fields.now place.field) }
     ensures found { result.found ≡ bears_at space (name_of id.now) (items_at T.items fields.now place.field) place.item }
@@ -241,7 +244,7 @@ fn look_at<T: HasItems>(fields: &[T], place: Place, space: Space, id: &Id<'_>) -
     }
 }
 
-/// Goes past the item behind a place.
+/// Moves past the item after a position.
 fn step_on<T: HasItems>(fields: &[T], place: Place, space: Space, id: &Id<'_>) -> Step
     ensures borne { list_any (bears space (name_of id.now)) (items_behind T.items fields.now place) ≡ (result.found || list_any (bears space (name_of id.now)) (items_behind T.items fields.now result.place)) }
     ensures nearer { steps_on T.items fields.now result.place ≤ steps_on T.items fields.now place - 1 }
@@ -270,7 +273,7 @@ fn step_on<T: HasItems>(fields: &[T], place: Place, space: Space, id: &Id<'_>) -
     }
 }
 
-/// Goes past the item before a place, or to behind the last of the field before it.
+/// Moves past the item before a position, or to the end of the field before it.
 fn step_back<T: HasItems>(fields: &[T], place: Place, space: Space, id: &Id<'_>) -> Step
     ensures borne { list_any (bears space (name_of id.now)) (items_before T.items fields.now place) ≡ (result.found || list_any (bears space (name_of id.now)) (items_before T.items fields.now result.place)) }
     ensures nearer { steps_back T.items fields.now result.place ≤ steps_back T.items fields.now place - 1 }
@@ -311,7 +314,7 @@ fn step_back<T: HasItems>(fields: &[T], place: Place, space: Space, id: &Id<'_>)
     }
 }
 
-/// The place behind an item of the space that has the id: the nearest to a place on either side.
+/// Returns the position after the closest item of the space that has the id, on either side.
 pub(crate) fn nearest_bearer<T: HasItems>(
     fields: &[T],
     start: Place,

@@ -1,4 +1,4 @@
-//! Which fields are well formed, and which clause fails.
+//! `well_formed` and `ill_formed`: whether fields are well formed, and the rule that fails.
 
 ghost use Rattle.std.specs.Prelude.{◌≡◌, Bool, true, None, Some, is_none, flat_map};
 ghost use Rattle.wast_tree_nodes.specs.Known.{id_context};
@@ -11,7 +11,7 @@ use crate::visits::{Visit, Visitor, visit_each};
 use wast_base::{Form, Id, Index, Space};
 use wast_tree_nodes::ModuleField;
 
-/// The lesser of a number that may be there and another one.
+/// Returns the lesser of two numbers, the first of which is optional.
 fn lesser(least: Option<u8>, number: u8) -> u8
     ensures { result ≡ min_with least number }
 {
@@ -21,7 +21,7 @@ fn lesser(least: Option<u8>, number: u8) -> u8
     }
 }
 
-/// The least number of a clause that fails, of all that it was told of a list of fields with such items.
+/// A visitor that keeps the least number of a rule that fails.
 #[derive(Drop)]
 struct Least<S> {
     settler: S,
@@ -29,7 +29,7 @@ struct Least<S> {
 }
 
 impl<S> Least<S> {
-    /// Notes a clause, unless it holds.
+    /// Notes a rule that fails.
     fn note(&mut self, number: u8, holds: bool)
         ensures clause { self.new.clause ≡ least_of self.old.clause (unless_holds number holds) }
         ensures settler { self.new.settler ≡ self.old.settler }
@@ -39,7 +39,9 @@ impl<S> Least<S> {
         }
     }
 
-    /// Whether a clause that fails was noted whose number is no greater, so that this one would change nothing.
+    /// Returns whether a failed rule with this number or a lower one is noted already.
+    ///
+    /// Noting the rule then changes nothing, so the caller need not check it.
     fn is_least(&self, number: u8) -> bool
         ensures { (holds : Bool) → result ≡ true → least_of self.now.clause (unless_holds number holds) ≡ self.now.clause }
     {
@@ -51,7 +53,9 @@ impl<S> Least<S> {
 }
 
 impl<S: IdResolver> Least<S> {
-    /// Notes the clause that a generated id is that of an item, unless it is. It stands apart so that written ids are quick.
+    /// Notes rule 6 if a generated id names no item.
+    ///
+    /// It is a separate function, so that the common case of a source id stays fast.
     #[cold]
     #[inline(never)]
     fn look_for(&mut self, space: Space, index: &Index<'_>)
@@ -87,7 +91,7 @@ impl<S: IdResolver> Visitor for Least<S> {
     fn covered(&mut self, _form: Form, _holds: bool) {}
 }
 
-/// The least number of a clause that fails in parts of the tree, by who settles indices.
+/// Returns the least number of a rule that fails in parts of the AST, with this resolver of ids.
 fn least_failing<T: Visit, S: IdResolver + Drop>(parts: &[T], settler: S) -> Option<u8>
     ensures { result ≡ least_of None (flat_map (failing_clauses_at (S.known settler)) (flat_map T.asks parts.now)) }
 {
@@ -99,38 +103,46 @@ fn least_failing<T: Visit, S: IdResolver + Drop>(parts: &[T], settler: S) -> Opt
     least.clause
 }
 
-/// The same, where the indices are settled by the items of the parts.
+/// Returns the same, with the items of the parts as the owners of ids.
 fn least_failing_own<T: HasItems + Visit>(parts: &[T]) -> Option<u8>
     ensures { result ≡ least_of None (flat_map (failing_clauses_at (id_context (flat_map T.items parts.now))) (flat_map T.asks parts.now)) }
 {
     least_failing(parts, IdOwners::new(parts))
 }
 
-/// The least number of a clause of "well formed" that fails in the fields, and `None` where they are well formed (text format:
-/// indices, modules). It takes no memory.
+/// Returns the least number of a rule of well-formedness that the fields break, or `None`.
 ///
-/// Fields are well formed where:
+/// Resolving and encoding require well-formed fields. The rules are:
 ///
-/// 1. the alignment of each memory argument is a power of two;
-/// 2. the branch hints in the body of a function stand on its instructions, each behind the one before it, and have value 0 or 1;
-/// 3. where a memory holds its bytes in place, its page size is 2 to less than 64;
-/// 4. of an active element segment without a table, which stands for the first one, expressions are of type `funcref`: for
-///    another type the binary format wants the table written;
-/// 5. a constant expression closes as many blocks as it opens, and none before it is open;
-/// 6. each generated id that stands for an index is that of an item of its space, and none stands for a local, a label or a
-///    field.
+/// 1. The alignment of each memory argument is a power of two.
+/// 2. The branch hints of a function are on its instructions, in increasing order, with the value
+///    0 or 1.
+/// 3. The page size of a memory with inline data is less than 2^64.
+/// 4. An active element segment without a table has functions, or expressions of type `funcref`.
+///    The binary format has a form without a table only for these.
+/// 5. The blocks of a constant expression are balanced.
+/// 6. A generated id that is used as an index names an item of its index space. None is used for a
+///    local, a label or a struct field.
 ///
-/// A type use may have no index, and an inline type may be another than that of the index beside it: this is E5, E6 or E7,
-/// which resolving answers. A written id may be that of no item or no field (E4, E9), a label at an `else` or an `end` may be
-/// another than that of its block (E8), and two parameters and locals of a function (E2), or two fields of a struct (E3), may
-/// have one id. A form may be one that no encoder covers, as [`uncovered`](crate::uncovered) tells.
+/// All else that can be wrong is an error of resolving or encoding. For example, an unknown source
+/// id is E4, and an unsupported construct is E11. To learn the position, call
+/// [`first_ill_formed`](crate::first_ill_formed).
 ///
-/// Its time is linear in the size of the fields, and a generated id that stands for an index adds to it. Where it was generated
-/// at most 16 ids before or after the last one that was found in its space, it is looked for from that one on, outward on both
-/// sides. Else its item is found by halving the fields, if the generations in its space rise in the order of its items, as a
-/// counter gives them, and, but for at most 15 places, few other fields, at most 63, stand from one such item to the next; so a
-/// list of n fields takes no more than n log n steps. In another order each may be looked for through all the fields. Once a
-/// clause fails, no more ids are looked for. [`first_ill_formed`](crate::first_ill_formed) tells a place too.
+/// The time is linear in the size of the fields, plus the search for each generated id. It takes at
+/// most n log n steps in all for a list of n fields, if generations rise in the order of the items,
+/// as a counter generates them. In another order, each search may read all fields. A search starts
+/// at the last item that was found, if the two ids are at most 16 generations apart, and otherwise
+/// uses binary search. Binary search also needs that at most 63 fields without such an item are
+/// between two items, with up to 15 exceptions.
+///
+/// # Example
+///
+/// For a load with the alignment 3 the result is `Some(1)`, and for `(module (func))` it is `None`.
+///
+/// # Guarantees
+///
+/// - `least`: the result is the least number of a rule that fails.
+/// - `none`: the result is `None` exactly if the fields are well formed.
 pub fn ill_formed(fields: &[ModuleField<'_>]) -> Option<u8>
     ensures least { result ≡ ill_formed fields.now }
     ensures none { is_none result ≡ is_well_formed fields.now }
@@ -138,8 +150,13 @@ pub fn ill_formed(fields: &[ModuleField<'_>]) -> Option<u8>
     least_failing_own(fields)
 }
 
-/// Whether the fields are well formed, so that no clause fails, as [`ill_formed`] lists them (text format: indices, modules).
-/// It takes no memory.
+/// Returns whether the fields are well formed, as resolving and encoding require.
+///
+/// To learn which rule they break, call [`ill_formed`], which lists the rules.
+///
+/// # Example
+///
+///     assert!(rt; wast_tree::well_formed(fields.as_slice()));
 pub fn well_formed(fields: &[ModuleField<'_>]) -> bool
     ensures { result ≡ is_well_formed fields.now }
 {

@@ -1,4 +1,4 @@
-//! What is asked of single parts of a well formed module.
+//! The rules of well-formedness for single parts of a module.
 
 ghost use Rattle.std.specs.Prelude.{◌≡◌};
 ghost use Rattle.wast_base.specs.Blocks.{is_balanced};
@@ -10,7 +10,7 @@ use wast_tree_nodes::{
     AbstractHeapType, BranchHint, ElemKind, ElemPayload, HeapType, Instruction, Ordering, RefType,
 };
 
-/// Whether 2 to this is a number of 64 bits; it is, where nothing is written.
+/// Returns whether a page of 2 to this many bytes has a size below 2^64. `None` is 65,536 bytes.
 pub(crate) fn is_page_exponent(exponent: Option<u32>) -> bool
     ensures { result ≡ is_page_exponent exponent }
 {
@@ -20,14 +20,14 @@ pub(crate) fn is_page_exponent(exponent: Option<u32>) -> bool
     }
 }
 
-/// Whether a branch hint stands on one of so many instructions, on that of this number or behind it, and has value 0 or 1.
+/// Returns whether a hint is on one of `count` instructions, from `first` on, with value 0 or 1.
 fn stands(count: usize, first: usize, hint: &BranchHint) -> bool
     ensures { result ≡ is_hint_in_order count first hint.now }
 {
     first <= hint.instr_index && hint.instr_index < count && hint.value < 2
 }
 
-/// Whether branch hints stand on so many instructions, each behind the one before it, and have value 0 or 1.
+/// Returns whether hints are on `count` instructions, in increasing order, with value 0 or 1.
 pub(crate) fn hints_stand(count: usize, hints: &[BranchHint]) -> bool
     ensures { result ≡ stand_from count 0 hints.now }
 {
@@ -41,7 +41,7 @@ pub(crate) fn hints_stand(count: usize, hints: &[BranchHint]) -> bool
     true
 }
 
-/// Whether it is `func`.
+/// Returns whether it is `func`.
 fn is_func(ty: AbstractHeapType) -> bool
     ensures { result ≡ is_func ty }
 {
@@ -63,7 +63,7 @@ fn is_func(ty: AbstractHeapType) -> bool
     }
 }
 
-/// Whether it is `funcref`.
+/// Returns whether it is `funcref`.
 fn is_funcref(ty: &RefType<'_>) -> bool
     ensures { result ≡ is_funcref ty.now }
 {
@@ -73,7 +73,7 @@ fn is_funcref(ty: &RefType<'_>) -> bool
     }
 }
 
-/// Whether the elements are functions, or references to any functions.
+/// Returns whether the elements are functions, or expressions of type `funcref`.
 fn holds_functions(payload: &ElemPayload<'_>) -> bool
     ensures { result ≡ holds_functions payload.now }
 {
@@ -83,7 +83,7 @@ fn holds_functions(payload: &ElemPayload<'_>) -> bool
     }
 }
 
-/// Whether the binary format has a place for these elements in such a segment.
+/// Returns whether the binary format has a form for a segment of this kind with these elements.
 pub(crate) fn suits(kind: &ElemKind<'_>, payload: &ElemPayload<'_>) -> bool
     ensures { result ≡ is_segment_type_allowed kind.now payload.now }
 {
@@ -94,7 +94,7 @@ pub(crate) fn suits(kind: &ElemKind<'_>, payload: &ElemPayload<'_>) -> bool
     }
 }
 
-/// Whether they close as many blocks as they open, none before it is open.
+/// Returns whether the blocks are balanced: all are closed, and none is closed before it is opened.
 pub(crate) fn is_balanced(instrs: &[Instruction<'_>]) -> bool
     ensures { result ≡ is_balanced (block_effects instrs.now) }
 {
@@ -112,7 +112,7 @@ pub(crate) fn is_balanced(instrs: &[Instruction<'_>]) -> bool
     open == 0
 }
 
-/// Whether a fence of this ordering is sequentially consistent; it is, where none is written.
+/// Returns whether a fence with this ordering is sequentially consistent, as one without is.
 pub(crate) fn is_sequential(ordering: Option<Ordering>) -> bool
     ensures { result ≡ is_sequential ordering }
 {
@@ -122,7 +122,7 @@ pub(crate) fn is_sequential(ordering: Option<Ordering>) -> bool
     }
 }
 
-/// Whether it is of continuations.
+/// Returns whether it is a heap type of continuations.
 pub(crate) fn is_continuation(ty: AbstractHeapType) -> bool
     ensures { result ≡ is_continuation ty }
 {

@@ -1,4 +1,4 @@
-//! What stands in immediates of instructions on continuations, as reading walks tell it.
+//! Visits of the immediates of stack switching instructions.
 #![tactic(auto, using(crate::proofs::Visiting::visits_both, crate::proofs::Visiting::visits_one, crate::proofs::Visiting::visits_none, wast_tree_nodes::proofs::Asking::asked_asking, wast_tree_nodes::proofs::Asking::asked_both, crate::proofs::Visiting::asked_handlers))]
 
 ghost use Rattle.std.specs.Prelude.{◌++◌, []};

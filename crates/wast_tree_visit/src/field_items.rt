@@ -6,7 +6,7 @@ ghost use Rattle.wast_tree_nodes.specs.Profiles.{items_read};
 
 use wast_tree_nodes::{FieldItems, ModuleField, profile_of};
 
-/// The items of a field, by reference.
+/// Returns the items of a field, by reference.
 #[inline(always)]
 pub(crate) fn items_of<'f, 'a>(field: &'f ModuleField<'a>) -> FieldItems<'f, 'a>
     ensures { items_defined (items_read result) ≡ items_in field.now }

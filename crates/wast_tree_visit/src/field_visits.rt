@@ -1,4 +1,4 @@
-//! What stands in fields other than types and functions, as reading walks tell it.
+//! Visits of fields other than types and functions.
 #![tactic(auto, using(crate::proofs::Visiting::visits_both, crate::proofs::Visiting::visits_one, crate::proofs::Visiting::visits_none, wast_tree_nodes::proofs::Asking::asked_asking, wast_tree_nodes::proofs::Asking::asked_both, crate::proofs::Visiting::asked_use, crate::proofs::Visiting::asked_if, crate::proofs::Visiting::asked_index_if, crate::proofs::Visiting::asked_each, crate::proofs::Visiting::asked_indices))]
 
 ghost use Rattle.wast_tree_nodes.specs.Sites.{in_index, in_table_type, in_global_type, in_tag_type, in_item_kind, in_sig, in_shared_id, in_import, in_table_kind, in_memory_kind, in_global_kind, in_global, exported_space, in_elem_kind, in_payload, in_elem, in_data_kind, in_subsection, in_custom, checks_of};
@@ -93,7 +93,7 @@ impl Visit for ImportItems<'_> {
     }
 }
 
-/// Tells a visitor of the id of a signature that names share, where there is no name: then no item has it.
+/// Visits the id of a signature that names share, if there is no name and so no item has the id.
 #[tactic(auto, using(crate::proofs::Visiting::visits_none, crate::proofs::Visiting::shared_by_none, crate::proofs::Visiting::shared_by_some))]
 fn visit_shared_id<V: Visitor>(names: &[&str], id: &Option<Id<'_>>, visitor: &mut V)
     ensures { Visits V.told visitor.old (in_shared_id names.now id.now) visitor.new }

@@ -1,4 +1,4 @@
-//! Where fields are not well formed.
+//! `first_ill_formed`: the first rule of well-formedness that fails, with a position.
 
 ghost use Rattle.std.specs.Prelude.{◌≡◌, List, Some, None, is_none, map, flat_map};
 ghost use Rattle.wast_tree_visit.specs.IllFormed.{clause_text, place_or_last, failing_at, failing_from, field_place, first_ill_formed};
@@ -15,47 +15,46 @@ use std::fmt;
 use wast_base::{Form, Id, Index, Space, Span};
 use wast_tree_nodes::{ModuleField, profile_of};
 
-/// A clause of "well formed" that fails, and where.
+/// A rule of well-formedness that fails, with the closest position known.
+///
+/// `{}` prints the rule. For example, rule 1 is printed as `alignment must be a power of two`.
 #[derive(Clone, Copy, Debug, PartialEq, Eq)]
 pub struct IllFormed {
-    /// The number of the clause, as [`ill_formed`](crate::ill_formed) lists them.
+    /// The number of the rule, from 1 to 6, as [`ill_formed`](crate::ill_formed) lists them.
     pub clause: u8,
-    /// The nearest place: of clause 6 that of the index; else that of the last index or id before it in its field, or of the
-    /// field, where none stands before it.
+    /// The closest position known. For rule 6 it is that of the index. Otherwise it is that of the
+    /// last index or id before the mistake in its field, or of the field if there is none.
     pub span: Span,
 }
 
-/// What is wrong, in words, without the place.
+/// Prints what is wrong, without the position.
 impl fmt::Display for IllFormed {
     ghost output = { λ i. Some (clause_text i.clause) };
 
     fn fmt<W: fmt::Write>(&self, f: &mut fmt::Formatter<W>) -> fmt::Result {
         match self.clause {
-            1 => write!(f, "alignment is no power of two"),
+            1 => write!(f, "alignment must be a power of two"),
             2 => write!(
                 f,
-                "branch hint is on no instruction, not behind the one before it, or neither 0 nor 1"
+                "branch hints must be on instructions, in increasing order, with value 0 or 1"
             ),
-            3 => write!(f, "page of 2^64 bytes or more"),
-            4 => write!(f, "element segment without a table is not of type funcref"),
-            5 => write!(
-                f,
-                "constant expression does not close as many blocks as it opens"
-            ),
-            6 => write!(f, "generated id is not that of an item of its space"),
-            _ => write!(f, "not well formed"),
+            3 => write!(f, "page size must be less than 2^64"),
+            4 => write!(f, "element segment without a table must have type funcref"),
+            5 => write!(f, "unbalanced blocks in constant expression"),
+            6 => write!(f, "generated id does not name an item of its index space"),
+            _ => write!(f, "module is not well formed"),
         }
     }
 }
 
-/// The place of a field.
+/// Returns the position of a field.
 pub(crate) fn field_place(field: &ModuleField<'_>) -> Span
     ensures { result ≡ field_place field.now }
 {
     profile_of(field).span
 }
 
-/// The first clause that fails, of all that it was told, and the last place.
+/// A visitor that keeps the first rule that fails, and the last position.
 #[derive(Drop)]
 struct First<S> {
     settler: S,
@@ -64,7 +63,7 @@ struct First<S> {
 }
 
 impl<S> First<S> {
-    /// Notes a clause, unless it holds, or one was noted before.
+    /// Notes a rule that fails, if none is noted yet.
     fn note(&mut self, clause: u8, holds: bool)
         ensures { self.new ≡ record self.old { found = first_of self.old.found (map (λ n. record { clause = n; span = self.old.span }) (unless_holds clause holds)) } }
     {
@@ -102,16 +101,18 @@ impl<S: IdResolver> Visitor for First<S> {
     fn covered(&mut self, _form: Form, _holds: bool) {}
 }
 
-/// A field that is looked through. What does so is generic in it: a proof would else compare the type of the whole tree with
-/// itself at each list of fields that is held or cut.
+/// A field that is searched.
+///
+/// The search is generic in it, because proofs of code on lists of fields would otherwise compare
+/// the type of the whole AST with itself.
 trait Searchable {
-    /// Its place.
+    /// Its position.
     ghost place: { Self → Span };
 
-    /// What stands in it.
+    /// Its checks.
     ghost asks: { Self → List Check };
 
-    /// Looks for the first clause that fails in it.
+    /// Searches it for the first rule that fails.
     fn look<S: IdResolver>(&self, first: &mut First<S>)
         ensures known { S.known first.new.settler ≡ S.known first.old.settler }
         ensures found { first.new.found ≡ first_of first.old.found (failing_from (S.known first.old.settler) (place self.now) (asks self.now)) };
@@ -128,7 +129,7 @@ impl Searchable for ModuleField<'_> {
     }
 }
 
-/// The first clause that fails in parts of the tree, by who settles indices.
+/// Returns the first rule that fails in parts of the AST, with this resolver of ids.
 fn first_failing<T: Searchable, S: IdResolver + Drop>(parts: &[T], settler: S) -> Option<IllFormed>
     ensures { result ≡ head_of (flat_map (λ x. failing_from (S.known settler) (T.place x) (T.asks x)) parts.now) }
 {
@@ -143,24 +144,33 @@ fn first_failing<T: Searchable, S: IdResolver + Drop>(parts: &[T], settler: S) -
     first.found
 }
 
-/// The same, where the indices are settled by the items of the parts.
+/// Returns the same, with the items of the parts as the owners of ids.
 fn first_failing_own<T: HasItems + Searchable>(parts: &[T]) -> Option<IllFormed>
     ensures { result ≡ head_of (flat_map (λ x. failing_from (id_context (flat_map T.items parts.now)) (T.place x) (T.asks x)) parts.now) }
 {
     first_failing(parts, IdOwners::new(parts))
 }
 
-/// The first clause of "well formed" that fails in the fields, with the nearest place, for messages; `None` where they are
-/// well formed (text format: indices, modules). It takes no memory.
+/// Returns the first rule of well-formedness that fails in the fields, with a position, or `None`.
 ///
-/// It is the first in the order in which things are asked (`in_module`): field by field as the text has them, and within a
-/// field in the order of the text, but for these. A segment is asked before the table or memory that it fills (`table.init`,
-/// `memory.init`), the memory that `memory.copy` reads before the one it writes, the type that a branch casts to before the
-/// one it casts from, element expressions before their type, and a descriptor before what a type describes, however the two
-/// are written. Whether hints stand and blocks are closed is asked behind the instructions, and whether a segment suits its
-/// table behind all of the segment.
+/// Use it for messages. [`ill_formed`](crate::ill_formed) lists the rules, and returns the least
+/// number instead of the first failure. It takes as long.
 ///
-/// [`ill_formed`](crate::ill_formed) lists the clauses, tells the least one, and says how long both take.
+/// "First" is in the order of the definition `in_module`: field by field, and within a field mostly
+/// in source order. Exceptions: `table.init` and `memory.init` have the segment first, and
+/// `memory.copy` the memory that is read. A branch on a cast has its target type first, element
+/// expressions come before their type, and `descriptor` before `describes`. The rules for hints and
+/// for blocks come after all instructions, and that for a segment's type after the segment.
+///
+/// # Example
+///
+/// For the fields of `(func i32.load)` with the alignment 3, it returns rule 1 at the position of
+/// the memory's index.
+///
+/// # Guarantees
+///
+/// - `first`: the result is the definition `first_ill_formed` of the fields.
+/// - `none`: the result is `None` exactly if the fields are well formed.
 pub fn first_ill_formed(fields: &[ModuleField<'_>]) -> Option<IllFormed>
     ensures first { result ≡ first_ill_formed fields.now }
     ensures none { is_none result ≡ is_well_formed fields.now }

@@ -1,5 +1,5 @@
-//! What is asked of fields before they are encoded: which forms no encoder covers, and whether an index of a data segment
-//! stands there.
+//! Checks before encoding: the first unsupported form, and whether there is an index of a data
+//! segment.
 
 ghost use Rattle.std.specs.Prelude.{◌≡◌, ◌||◌};
 ghost use Rattle.std.specs.List.{list_any};
@@ -11,16 +11,16 @@ use crate::visits::{Visitor, visit_fields};
 use wast_base::{Form, Id, Index, Space};
 use wast_tree_nodes::ModuleField;
 
-/// What is seen of fields before they are encoded.
+/// The result of [`scan_for_encoding`].
 #[derive(Clone, Copy, Debug, PartialEq, Eq)]
 pub struct EncodingScan {
-    /// The first form that no encoder covers, where one stands there.
+    /// The first unsupported form, if there is one.
     pub uncovered: Option<Form>,
-    /// Whether an index of a data segment stands there.
+    /// Whether there is an index of a data segment.
     pub has_data_index: bool,
 }
 
-/// What it was told of.
+/// A visitor that finds the two parts of an [`EncodingScan`].
 #[derive(Drop)]
 struct Surveyor {
     uncovered: Option<Form>,
@@ -47,9 +47,18 @@ impl Visitor for Surveyor {
     }
 }
 
-/// What is seen of fields before they are encoded, in one walk: the first form that no encoder covers, as [`uncovered`] tells
-/// it, and whether an index of a data segment stands there, without which no body needs a data count (binary format, data
-/// count section). It takes no memory.
+/// Returns the first unsupported form in the fields, and whether they refer to a data segment.
+///
+/// It reads the fields once. Without an index of a data segment no function body needs a data count
+/// section (binary format: data count section). [`uncovered`] lists the unsupported forms.
+///
+/// # Example
+///
+/// For `(func data.drop 0)` the result has no form, and `has_data_index` is true.
+///
+/// # Guarantees
+///
+/// `uncovered`, `data`: the two parts of the result are exactly these.
 pub fn scan_for_encoding(fields: &[ModuleField<'_>]) -> EncodingScan
     ensures uncovered { result.uncovered ≡ head_of (uncovered_forms fields.now) }
     ensures data { result.has_data_index ≡ list_any is_of_data (checks_of (in_module fields.now)) }
@@ -65,13 +74,26 @@ pub fn scan_for_encoding(fields: &[ModuleField<'_>]) -> EncodingScan
     }
 }
 
-/// The first form in the fields that no encoder covers, and `None` where each is covered (text format, modules). It takes no
-/// memory.
+/// Returns the first form in the fields that the encoder does not support (E11), or `None`.
 ///
-/// These are: continuations; what is shared, but for memories; an ordering that is written on a memory argument, and a fence
-/// of acquiring and releasing; atomic accesses of globals, tables, structs and arrays; descriptors, and exact types and
-/// functions; groups of imports; memory arguments of arrays; and instructions that no encoder knows, `memory.discard` among
-/// them. In an inline type they count too, also where it is not written.
+/// The unsupported forms are:
+///
+/// - continuations (stack switching)
+/// - `shared`, except on memories
+/// - an ordering on a memory argument, and a fence that acquires and releases
+/// - atomic accesses of globals, tables, structs and arrays
+/// - descriptors, exact types and exact functions
+/// - groups of imports
+/// - a memory argument of an array
+/// - `dylink.0` with a target architecture
+/// - instructions that are not in the opcode table, and `memory.discard`
+///
+/// Inline types count too, even those that are not encoded because there is an index beside them.
+///
+/// # Example
+///
+/// For `(func suspend 0)` the result is `Some(Form::StackSwitching)`. The position is in the result
+/// of [`first_uncovered`](crate::first_uncovered).
 pub fn uncovered(fields: &[ModuleField<'_>]) -> Option<Form>
     ensures { result ≡ head_of (uncovered_forms fields.now) }
 {

@@ -1,4 +1,4 @@
-//! The greatest generation of the ids of a module.
+//! `gensym_bound`: the greatest generation of the ids of a module.
 
 ghost use Rattle.std.specs.Prelude.{◌≡◌, max};
 ghost use Rattle.wast_base.specs.Ids.{name_of, generation_of};
@@ -8,7 +8,7 @@ use crate::visits::{ItemVisitor, Visitor, visit_fields, visit_items};
 use wast_base::{Form, Id, Index, Space};
 use wast_tree_nodes::{ModuleField, StructField};
 
-/// The greatest generation of the ids that it was told of.
+/// A visitor that keeps the greatest generation of an id.
 #[derive(Drop)]
 struct Greatest {
     generation: u64,
@@ -61,10 +61,15 @@ impl Visitor for Greatest {
     fn covered(&mut self, _form: Form, _holds: bool) {}
 }
 
-/// The greatest generation of an id in the fields, and 0 where no id is generated. It takes no memory.
+/// Returns the greatest generation of an id in the fields, or 0 if no id is generated.
 ///
-/// The ids are those of items, parameters, locals, labels and fields of structs, those that stand for indices, and that of a
-/// signature that an import shares among no names. A counter that begins above it gives ids that are new to the fields.
+/// An id counter that starts above it generates ids that are new to the fields, as resolving
+/// requires. All ids count: those of items, parameters, locals, labels and struct fields, and those
+/// that are used as indices. So does that of a signature that an import shares among no names.
+///
+/// # Example
+///
+///     assert!(rt; wast_tree::gensym_bound(fields.as_slice()) == 0);
 pub fn gensym_bound(fields: &[ModuleField<'_>]) -> u64
     ensures { result ≡ greatest_generation fields.now }
 {

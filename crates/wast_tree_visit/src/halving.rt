@@ -1,18 +1,19 @@
-//! Where the search for a generated id begins. What is found does not go by it: it is quick where the generations in a space
-//! rise in the order of its items, as a counter gives them.
+//! The position from which the search for a generated id starts, by binary search. It affects only
+//! the speed: it is close if generations rise in the order of the items, as a counter generates
+//! them.
 
 use crate::bearers::{HasItems, Place};
 use wast_base::{Id, Space, Span};
 
-/// So many without a generated id of the space are gone past, where the next one is looked for.
+/// The number of fields or items that the search for the next generated id may skip.
 const FAR: usize = 64;
 
-/// So many stretches are kept apart.
+/// The number of ranges that are kept apart.
 const STRETCHES: usize = 16;
 
-/// A row of fields or items.
+/// A list of fields or items.
 trait Row {
-    /// The generation of the first generated id of the space at an index; 0 where none stands there.
+    /// Returns the generation of the first generated id of the space at an index, or 0 if none.
     fn generation(&self, index: usize, space: Space) -> u64;
 }
 
@@ -39,12 +40,14 @@ impl<'f, T: HasItems> Row for Items<'f, T> {
     }
 }
 
-/// How many items a field has.
+/// Returns the number of items of a field.
 fn count_items<T: HasItems>(field: &T, space: Space) -> usize {
     field.look(0, space, &Id::new("", Span::default())).items
 }
 
-/// The generation of the first generated id of the space in a field, or 0; it may be 0 too, where many items stand before it.
+/// Returns the generation of the first generated id of the space in a field, or 0.
+///
+/// It may also be 0 if many items come before the first such id.
 fn first_generation<T: HasItems>(field: &T, space: Space) -> u64 {
     let first = field.generation(0, space);
     if first != 0 {
@@ -59,15 +62,16 @@ fn first_generation<T: HasItems>(field: &T, space: Space) -> u64 {
     0
 }
 
-/// A stretch of a row.
+/// A range of fields or items.
 #[derive(Clone, Copy)]
 struct Stretch {
     first: usize,
     end: usize,
 }
 
-/// Stretches of the fields outside of which no generated id of a space is borne, and from one to the next of them it is far;
-/// the last has all that stands behind it.
+/// Ranges of fields that contain all items of a space with generated ids, each far from the next.
+///
+/// The last range extends to the last such field.
 #[derive(Clone, Copy)]
 pub(crate) struct Stretches {
     count: usize,
@@ -75,7 +79,7 @@ pub(crate) struct Stretches {
 }
 
 impl Stretches {
-    /// Those of these fields for a space.
+    /// Returns the ranges of these fields for a space.
     pub(crate) fn of<T: HasItems>(fields: &[T], space: Space) -> Stretches {
         let mut stretches = Stretches {
             count: 0,
@@ -89,7 +93,7 @@ impl Stretches {
         stretches
     }
 
-    /// One more index, which stands behind them.
+    /// Adds an index, which is after all others.
     fn add(&mut self, index: usize) {
         let end = index.saturating_add(1);
         if self.count > 0 && self.count <= STRETCHES {
@@ -105,7 +109,7 @@ impl Stretches {
         }
     }
 
-    /// The last of them whose first generation is not above that of an id.
+    /// Returns the last range whose first generation is not above that of an id.
     fn stretch_of<R: Row>(&self, row: &R, space: Space, id: &Id<'_>) -> Stretch {
         let mut found = self.all[0];
         for stretch in &self.all[..self.count.min(STRETCHES)] {
@@ -117,8 +121,9 @@ impl Stretches {
     }
 }
 
-/// The next index at or behind one, before an end, at which a generated id of the space stands; the end, where none does or
-/// it stands far.
+/// Returns the next index from `from` on that has a generated id of the space.
+///
+/// It returns `end` if there is none before `end`, or none soon.
 fn next<R: Row>(row: &R, from: usize, end: usize, space: Space) -> usize {
     let far = end.min(from.saturating_add(FAR));
     for index in from..far {
@@ -129,7 +134,9 @@ fn next<R: Row>(row: &R, from: usize, end: usize, space: Space) -> usize {
     end
 }
 
-/// The last index of a stretch whose generation is not above that of the id, where generations rise in it.
+/// Returns the last index of a range whose generation is not above that of the id.
+///
+/// Generations have to rise within the range.
 fn halved<R: Row>(row: &R, stretch: Stretch, space: Space, id: &Id<'_>) -> usize {
     let mut first = stretch.first;
     let mut end = stretch.end;
@@ -148,8 +155,9 @@ fn halved<R: Row>(row: &R, stretch: Stretch, space: Space, id: &Id<'_>) -> usize
     first
 }
 
-/// The place before the item that has the id, where generations rise in the order of the items; it may answer `None` where
-/// they do not, or where many fields without such an id stand between them.
+/// Returns the position before the item that has the id, if generations rise in the order of items.
+///
+/// It may return `None` if they do not, or if many fields without such an id are between the items.
 pub(crate) fn halved_place<T: HasItems>(
     fields: &[T],
     stretches: &Stretches,

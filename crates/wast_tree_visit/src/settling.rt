@@ -1,4 +1,4 @@
-//! Which generated ids stand where they may.
+//! Whether a generated id names an item of its index space.
 
 ghost use Rattle.std.specs.Prelude.{◌≡◌, flat_map};
 ghost use Rattle.wast_base.specs.Ids.{name_of};
@@ -10,49 +10,51 @@ use crate::bearers::{HasItems, Place, nearest_bearer};
 use crate::halving::{Stretches, halved_place};
 use wast_base::{Id, Index, Space};
 
-/// Who tells whether a generated id is that of an item.
+/// A resolver that knows whether a generated id names an item.
 pub(crate) trait IdResolver {
-    /// What it knows of the items.
+    /// The identifier context that it knows.
     ghost known: { Self → IdContext };
 
-    /// Whether the index is a number, a written id, or the generated id of an item of the space.
+    /// Returns whether the index is a number, a source id, or the generated id of an item.
     fn settles(&mut self, space: Space, index: &Index<'_>) -> bool
         ensures settled { result ≡ is_settled_index ((id_context self.old).number space) index.now }
         ensures stays { id_context self.new ≡ id_context self.old };
 }
 
-/// Ids whose generations differ by so much at most are looked for from one to the other.
+/// A search starts at the last item found, if the generations differ by at most this number.
 const NEAR: u64 = 16;
 
-/// Where the search for the next id of a space may begin.
+/// The position from which the search for the next id of an index space starts.
 #[derive(Clone, Copy)]
 struct Found {
-    /// The place behind the item that was found last; at first before all items.
+    /// The position after the item that was found last; at first before all items.
     place: Place,
     /// The generation of its id; at first 0.
     generation: u64,
-    /// The stretches of the fields that bear generated ids of the space, once they are known.
+    /// The ranges of fields with generated ids of the space, once they are known.
     stretches: Option<Stretches>,
 }
 
 impl Found {
-    /// Nothing was found yet.
+    /// The start, before anything was found.
     const NOTHING: Found = Found {
         place: Place::START,
         generation: 0,
         stretches: None,
     };
 
-    /// Whether an id was generated soon before or after the last one that was found.
+    /// Returns whether an id was generated soon before or after the last one that was found.
     fn is_near(&self, id: &Id<'_>) -> bool {
         self.generation.abs_diff(id.generation()) <= NEAR
     }
 }
 
-/// The fields, whose items bear ids.
+/// The fields, whose items own ids.
 ///
-/// Where an id was found, the search for the next one of its space begins, and goes on outward on both sides, where the two
-/// were generated one soon after the other; else at the place that halving the fields gives, if the item there has the id.
+/// The search for an id starts at the item that was found last in its index space, and continues on
+/// both sides, if the two ids were generated soon after each other. Otherwise it starts at the
+/// position that binary search returns. The start only affects the speed: a search that finds
+/// nothing there reads all fields.
 #[derive(Drop)]
 pub(crate) struct IdOwners<'f, T> {
     fields: &'f [T],
@@ -60,7 +62,8 @@ pub(crate) struct IdOwners<'f, T> {
 }
 
 impl<'f, T: HasItems> IdOwners<'f, T> {
-    /// These fields; the first search of each space begins at the first of them.
+    /// Makes the owners of ids of these fields. The first search in each index space starts at the
+    /// first field.
     pub(crate) fn new(fields: &'f [T]) -> Self
         ensures { result.fields.now ≡ fields.now }
     {
@@ -70,7 +73,7 @@ impl<'f, T: HasItems> IdOwners<'f, T> {
         }
     }
 
-    /// Where the search for an id begins.
+    /// Returns the position from which to search for an id.
     fn start(&mut self, space: Space, id: &Id<'_>) -> Place
         ensures { self.new.fields ≡ self.old.fields }
     {
@@ -89,7 +92,7 @@ impl<'f, T: HasItems> IdOwners<'f, T> {
         }
     }
 
-    /// Whether an item of the space has the id.
+    /// Returns whether an item of the space has the id.
     fn finds(&mut self, space: Space, id: &Id<'_>) -> bool
         ensures borne { result ≡ is_borne (name_of id.now) (names_in space (flat_map T.items self.old.fields.now)) }
         ensures fields { self.new.fields ≡ self.old.fields }
@@ -118,7 +121,7 @@ impl<'f, T: HasItems> IdResolver for IdOwners<'f, T> {
     }
 }
 
-/// Whether the index is no generated id.
+/// Returns whether the index is a number or a source id.
 pub(crate) fn is_written(index: &Index<'_>) -> bool
     ensures { result ≡ is_written_index index.now }
 {

@@ -1,4 +1,4 @@
-//! Where a form stands that no encoder covers.
+//! `first_uncovered`: the first unsupported form, with a position.
 
 ghost use Rattle.std.specs.Prelude.{◌≡◌, List, map, flat_map, option_map};
 ghost use Rattle.wast_tree_visit.specs.FirstUncovered.{uncovered_at, first_uncovered};
@@ -11,16 +11,17 @@ use crate::visits::{Visit, Visitor};
 use wast_base::{Form, Id, Index, Space, Span};
 use wast_tree_nodes::ModuleField;
 
-/// A form that no encoder covers, and where.
+/// An unsupported form, with the closest position known.
 #[derive(Clone, Copy, Debug, PartialEq, Eq)]
 pub struct Uncovered {
     /// The form.
     pub form: Form,
-    /// The nearest place: that of the last index or id before it in its field, or of the field, where none stands before it.
+    /// The closest position known: that of the last index or id before it in its field, or of the
+    /// field if there is none.
     pub span: Span,
 }
 
-/// The first form that it was told of and that no encoder covers, and the last place.
+/// A visitor that keeps the first unsupported form, and the last position.
 #[derive(Drop)]
 struct Finder {
     span: Span,
@@ -54,13 +55,15 @@ impl Visitor for Finder {
     }
 }
 
-/// A part of the tree with a place. What looks through a list of these is generic in them: a proof would else compare the type
-/// of the whole tree with itself at each list of fields that is held or cut.
+/// A part of the AST that has a position.
+///
+/// The search is generic in it, because proofs of code on lists of fields would otherwise compare
+/// the type of the whole AST with itself.
 trait Placed {
-    /// Its place.
+    /// Its position.
     ghost place: { Self → Span };
 
-    /// Its place.
+    /// Returns its position.
     fn place(&self) -> Span
         ensures { result ≡ place self.now };
 }
@@ -73,7 +76,7 @@ impl Placed for ModuleField<'_> {
     }
 }
 
-/// The first form in parts of the tree that no encoder covers.
+/// Returns the first unsupported form in parts of the AST.
 fn first_in<T: Visit + Placed>(parts: &[T]) -> Option<Uncovered>
     ensures { result ≡ head_of (flat_map (λ x. found_from uncovered_at (T.place x) (T.asks x)) parts.now) }
 {
@@ -88,11 +91,19 @@ fn first_in<T: Visit + Placed>(parts: &[T]) -> Option<Uncovered>
     finder.found
 }
 
-/// The first form in the fields that no encoder covers, with the nearest place, for messages; `None` where each is covered
-/// (text format, modules). It takes no memory.
+/// Returns the first unsupported form in the fields, with a position for messages, or `None`.
 ///
-/// The form is the one that [`uncovered`](crate::uncovered) tells, which lists them, and so the one of E11, whose error has no
-/// place.
+/// The form is that of [`uncovered`](crate::uncovered), which lists them, and so that of E11. E11
+/// itself has no position.
+///
+/// # Example
+///
+/// For `(func $f suspend $e)` it returns the form `StackSwitching` at the position of `$e`.
+///
+/// # Guarantees
+///
+/// - `first`: the result is the definition `first_uncovered` of the fields.
+/// - `form`: its form is the first unsupported form of the fields.
 pub fn first_uncovered(fields: &[ModuleField<'_>]) -> Option<Uncovered>
     ensures first { result ≡ first_uncovered fields.now }
     ensures form { option_map (λ u. u.form) result ≡ head_of (uncovered_forms fields.now) }

@@ -1,4 +1,4 @@
-//! Walks over the tree to read it: a visitor is told of each item, or of each id and index beside them, in order.
+//! Visitors: calls for each item of a module, or for everything else that is checked, in order.
 #![tactic(auto, using(crate::proofs::Visiting::visits_both, crate::proofs::Visiting::visits_one, crate::proofs::Visiting::visits_none, wast_tree_nodes::proofs::Asking::asked_asking, wast_tree_nodes::proofs::Asking::asked_both, crate::proofs::Visiting::asked_use))]
 
 ghost use Rattle.std.specs.Prelude.{◌≡◌, ◌∷◌, ◌++◌, List, [], map, Option};
@@ -23,48 +23,62 @@ use wast_tree_nodes::{
     ValType,
 };
 
-/// What is told of the items of a module (text format, modules), as a count or a list of them.
+/// A visitor of the items of a module, for [`visit_items`] (text format: modules).
+///
+/// For example, a visitor can count the functions, or collect their ids.
 pub trait ItemVisitor<'a> {
-    /// How it stands before and after an item.
+    /// The change that a call makes to the visitor. An implementation defines it.
     ghost told: { Self → Item → Self → Type 0 };
 
-    /// An item of a space, with its id if it has one, and the fields of a struct type.
+    /// Visits an item: its index space, its id if it has one, and the fields of a struct type.
     fn item(&mut self, space: Space, id: &Option<Id<'a>>, fields: &[StructField<'a>])
         ensures { told self.old (item space id.now fields.now) self.new };
 }
 
-/// What is told of what stands in a module beside its items (text format: identifiers, indices), as a count of indices, a
-/// look for an id, or a test of each.
+/// A visitor of everything in a module that is checked, other than its items, for [`visit_fields`].
 ///
-/// Its calls come in the order in which what stands there is asked, field by field, and within a body instruction by
-/// instruction.
+/// The calls come in the order of the checks: field by field, and in a body instruction by
+/// instruction (text format: identifiers, indices). For example, a visitor can count indices or
+/// search for an id.
+///
+/// # Example
+///
+///     fn index(&mut self, _space: Space, index: &Index<'_>) {
+///         self.tell(if index.is_resolved() { 1 } else { 2 });
+///     }
 pub trait Visitor {
-    /// How it stands before and after one of them.
+    /// The change that a call makes to the visitor. An implementation defines it.
     ghost told: { Self → Check → Self → Type 0 };
 
-    /// An index where one of a space is wanted.
+    /// Visits an index of an item of this index space.
     fn index(&mut self, space: Space, index: &Index<'_>)
         ensures { told self.old (ItemIndex space index.now) self.new };
 
-    /// An index of a local, a label or a field.
+    /// Visits an index of a local, a label or a struct field.
     fn within(&mut self, index: &Index<'_>)
         ensures { told self.old (InnerIndex index.now) self.new };
 
-    /// An id of which nothing is asked.
+    /// Visits an id that is not checked, such as that of a parameter or a label.
     fn id(&mut self, id: &Id<'_>)
         ensures { told self.old (PlainId (mark_of id.now)) self.new };
 
-    /// Whether the clause of this number of "well formed" holds.
+    /// Visits a rule of well-formedness, and whether it holds here.
     fn clause(&mut self, number: u8, holds: bool)
         ensures { told self.old (Clause number holds) self.new };
 
-    /// A form that no encoder covers, and whether what stands here is without it.
+    /// Visits an unsupported form. `holds` is true if this part of the module is free of it.
     fn covered(&mut self, form: Form, holds: bool)
         ensures { told self.old (Covered form holds) self.new };
 }
 
-/// Tells a visitor of each item of the fields, also of those without an id, in the order in which they are numbered (text
-/// format, modules). It takes no memory.
+/// Visits each item of the fields, in the order in which items are numbered (text format: modules).
+///
+/// Items without an id are visited too. For example, `(import "a" "b" (func)) (func $f)` has two:
+/// a function without an id, and the function `$f`.
+///
+/// # Guarantees
+///
+/// The visitor is called once for each item, in order (`Visits`, `items`).
 pub fn visit_items<'a, V: ItemVisitor<'a>>(fields: &[ModuleField<'a>], visitor: &mut V)
     ensures { Visits V.told visitor.old (items fields.now) visitor.new }
 {
@@ -73,7 +87,7 @@ pub fn visit_items<'a, V: ItemVisitor<'a>>(fields: &[ModuleField<'a>], visitor: 
     }
 }
 
-/// Tells a visitor of the items of a field.
+/// Visits the items of a field.
 pub(crate) fn visit_items_in<'a, V: ItemVisitor<'a>>(field: &ModuleField<'a>, visitor: &mut V)
     ensures { Visits V.told visitor.old (items_in field.now) visitor.new }
 {
@@ -86,7 +100,7 @@ pub(crate) fn visit_items_in<'a, V: ItemVisitor<'a>>(field: &ModuleField<'a>, vi
     }
 }
 
-/// Tells a visitor of the items of an import.
+/// Visits the items of an import.
 fn visit_import<'a, V: ItemVisitor<'a>>(items: &ImportItems<'a>, visitor: &mut V)
     ensures { Visits V.told visitor.old (items_of_import items.now) visitor.new }
 {
@@ -97,14 +111,14 @@ fn visit_import<'a, V: ItemVisitor<'a>>(items: &ImportItems<'a>, visitor: &mut V
     }
 }
 
-/// Tells a visitor of the item of a signature.
+/// Visits the item of a signature.
 fn visit_sig<'a, V: ItemVisitor<'a>>(sig: &ItemSig<'a>, visitor: &mut V)
     ensures { Visits V.told visitor.old (item_of_sig sig.now ∷ []) visitor.new }
 {
     visitor.item(sig.kind.space(), &sig.id, &[]);
 }
 
-/// Tells a visitor of an item for each of these names, with its signature.
+/// Visits an item for each of these names, with its signature.
 fn visit_sigs<'a, V: ItemVisitor<'a>>(items: &[(&'a str, ItemSig<'a>)], visitor: &mut V)
     ensures { Visits V.told visitor.old (flat_map (λ p. item_of_sig p.1 ∷ []) items.now) visitor.new }
 {
@@ -113,7 +127,7 @@ fn visit_sigs<'a, V: ItemVisitor<'a>>(items: &[(&'a str, ItemSig<'a>)], visitor:
     }
 }
 
-/// Tells a visitor of an item for each of these names, all of one signature.
+/// Visits an item for each of these names, all with the same signature.
 fn visit_shared<'a, V: ItemVisitor<'a>>(sig: &ItemSig<'a>, names: &[&'a str], visitor: &mut V)
     ensures { Visits V.told visitor.old (flat_map (λ name. item_of_sig sig.now ∷ []) names.now) visitor.new }
 {
@@ -122,14 +136,14 @@ fn visit_shared<'a, V: ItemVisitor<'a>>(sig: &ItemSig<'a>, names: &[&'a str], vi
     }
 }
 
-/// Tells a visitor of a type, with the fields of a struct.
+/// Visits a type, with the fields of a struct.
 fn visit_type<'a, V: ItemVisitor<'a>>(ty: &Type<'a>, visitor: &mut V)
     ensures { Visits V.told visitor.old (items_of_type ty.now) visitor.new }
 {
     visitor.item(Space::Ty, &ty.id, fields_of(&ty.def.kind));
 }
 
-/// The fields of a struct, and none of another type.
+/// Returns the fields of a struct type, and none for another type.
 fn fields_of<'k, 'a>(kind: &'k InnerTypeKind<'a>) -> &'k [StructField<'a>]
     ensures { result.now ≡ fields_of kind.now }
 {
@@ -140,7 +154,7 @@ fn fields_of<'k, 'a>(kind: &'k InnerTypeKind<'a>) -> &'k [StructField<'a>]
     }
 }
 
-/// Tells a visitor of the types of a group, each an item.
+/// Visits the types of a group, each an item.
 fn visit_members<'a, V: ItemVisitor<'a>>(types: &[Type<'a>], visitor: &mut V)
     ensures { Visits V.told visitor.old (flat_map items_of_type types.now) visitor.new }
 {
@@ -149,17 +163,17 @@ fn visit_members<'a, V: ItemVisitor<'a>>(types: &[Type<'a>], visitor: &mut V)
     }
 }
 
-/// A part of the tree that is read.
+/// A part of the AST that can be visited.
 pub(crate) trait Visit {
-    /// What stands in it.
+    /// Its checks.
     ghost asks: { Self → List Check };
 
-    /// Tells a visitor of it.
+    /// Visits its checks, in order.
     fn visit<V: Visitor>(&self, visitor: &mut V)
         ensures { Visits V.told visitor.old (asks self.now) visitor.new };
 }
 
-/// Tells a visitor of each part of a list.
+/// Visits each part of a list.
 pub(crate) fn visit_each<T: Visit, V: Visitor>(parts: &[T], visitor: &mut V)
     ensures { Visits V.told visitor.old (flat_map T.asks parts.now) visitor.new }
 {
@@ -168,7 +182,7 @@ pub(crate) fn visit_each<T: Visit, V: Visitor>(parts: &[T], visitor: &mut V)
     }
 }
 
-/// Tells a visitor of the indices of a space.
+/// Visits the indices of a space.
 pub(crate) fn visit_indices<V: Visitor>(space: Space, indices: &[Index<'_>], visitor: &mut V)
     ensures { Visits V.told visitor.old (flat_map (in_index space) indices.now) visitor.new }
 {
@@ -177,7 +191,7 @@ pub(crate) fn visit_indices<V: Visitor>(space: Space, indices: &[Index<'_>], vis
     }
 }
 
-/// Tells a visitor of an index of a space, if there is one.
+/// Visits an index of a space, if there is one.
 pub(crate) fn visit_index<V: Visitor>(space: Space, index: &Option<Index<'_>>, visitor: &mut V)
     ensures { Visits V.told visitor.old (if_there (in_index space) index.now) visitor.new }
 {
@@ -186,7 +200,7 @@ pub(crate) fn visit_index<V: Visitor>(space: Space, index: &Option<Index<'_>>, v
     }
 }
 
-/// Tells a visitor of the index of a descriptor, or of what one describes, if there is one.
+/// Visits the index of a `descriptor` or `describes` clause, if there is one.
 fn visit_descriptor<V: Visitor>(index: &Option<Index<'_>>, visitor: &mut V)
     ensures { Visits V.told visitor.old (if_there in_descriptor index.now) visitor.new }
 {
@@ -444,7 +458,7 @@ impl Visit for TryTable<'_> {
     }
 }
 
-/// Tells a visitor of the indices of labels.
+/// Visits the indices of labels.
 fn visit_labels<V: Visitor>(labels: &[Index<'_>], visitor: &mut V)
     ensures { Visits V.told visitor.old (map InnerIndex labels.now) visitor.new }
 {
@@ -480,7 +494,7 @@ impl Visit for SelectTypes<'_> {
     }
 }
 
-/// Tells a visitor of two indices.
+/// Visits two indices.
 fn visit_pair<V: Visitor>(
     visitor: &mut V,
     space: Space,
@@ -494,7 +508,7 @@ fn visit_pair<V: Visitor>(
     visitor.index(other_space, other);
 }
 
-/// Tells a visitor of an index of a space, in a form that no encoder covers.
+/// Visits an index of a space, in an unsupported form.
 fn visit_uncovered_index<V: Visitor>(space: Space, index: &Index<'_>, form: Form, visitor: &mut V)
     ensures { Visits V.told visitor.old (in_index space index.now ++ uncovered_check form) visitor.new }
 {
@@ -502,7 +516,7 @@ fn visit_uncovered_index<V: Visitor>(space: Space, index: &Index<'_>, form: Form
     visitor.covered(form, false);
 }
 
-/// Tells a visitor of a part of a form that no encoder covers.
+/// Visits a part of an unsupported form.
 fn visit_uncovered<T: Visit, V: Visitor>(part: &T, form: Form, visitor: &mut V)
     ensures { Visits V.told visitor.old (T.asks part.now ++ uncovered_check form) visitor.new }
 {
@@ -519,7 +533,7 @@ impl Visit for StructAccess<'_> {
     }
 }
 
-/// Tells a visitor of a branch on a cast.
+/// Visits a branch on a cast.
 fn visit_cast<V: Visitor>(label: &Index<'_>, to: &RefType<'_>, from: &RefType<'_>, visitor: &mut V)
     ensures { (blocks : Blocks) → Visits V.told visitor.old (checks_of (in_cast blocks label.now to.now from.now)) visitor.new }
 {
@@ -528,7 +542,7 @@ fn visit_cast<V: Visitor>(label: &Index<'_>, to: &RefType<'_>, from: &RefType<'_
     from.visit(visitor);
 }
 
-/// Tells a visitor of a branch on a cast, of a form that no encoder covers.
+/// Visits a branch on a cast, of an unsupported form.
 fn visit_uncovered_cast<V: Visitor>(
     label: &Index<'_>,
     to: &RefType<'_>,
@@ -541,7 +555,7 @@ fn visit_uncovered_cast<V: Visitor>(
     visitor.covered(Form::Descriptor, false);
 }
 
-/// Tells a visitor of an instruction.
+/// Visits an instruction.
 fn visit_instr<V: Visitor>(instr: &Instruction<'_>, visitor: &mut V)
     ensures { (h : BodyContext) → Visits V.told visitor.old (checks_of (in_instr h instr.now)) visitor.new }
 {
@@ -704,7 +718,7 @@ fn visit_instr<V: Visitor>(instr: &Instruction<'_>, visitor: &mut V)
     }
 }
 
-/// Tells a visitor of instructions, in order.
+/// Visits instructions, in order.
 fn visit_instrs<V: Visitor>(instrs: &[Instruction<'_>], visitor: &mut V)
     ensures { (h : BodyContext) → Visits V.told visitor.old (checks_of (in_instrs h instrs.now)) visitor.new }
 {
@@ -713,7 +727,7 @@ fn visit_instrs<V: Visitor>(instrs: &[Instruction<'_>], visitor: &mut V)
     }
 }
 
-/// Tells a visitor of the body of a function.
+/// Visits the body of a function.
 fn visit_expression<V: Visitor>(expression: &Expression<'_>, visitor: &mut V)
     ensures { (h : BodyContext) → Visits V.told visitor.old (checks_of (in_expression h expression.now)) visitor.new }
 {
@@ -725,7 +739,7 @@ fn visit_expression<V: Visitor>(expression: &Expression<'_>, visitor: &mut V)
     );
 }
 
-/// A constant expression.
+/// An expression is visited as a constant expression; a function body has its own function.
 impl Visit for Expression<'_> {
     ghost asks = { λ e. checks_of (in_constant e) };
 
@@ -745,7 +759,7 @@ impl Visit for Local<'_> {
     }
 }
 
-/// Tells a visitor of what a function is made of.
+/// Visits the locals and body of a function, or its inline import.
 #[tactic(auto, using(crate::proofs::Visiting::visits_both, crate::proofs::Visiting::visits_one, crate::proofs::Visiting::asked_inline))]
 fn visit_func_kind<V: Visitor>(kind: &FuncKind<'_>, visitor: &mut V)
     ensures { (u : TypeUse FunctionType) → Visits V.told visitor.old (checks_of (in_func_kind u kind.now)) visitor.new }
@@ -790,8 +804,19 @@ impl Visit for ModuleField<'_> {
     }
 }
 
-/// Tells a visitor of what stands in the fields beside their items: indices and ids, clauses of "well formed", and forms that
-/// no encoder covers (text format, modules). It takes no memory.
+/// Visits everything in the fields that is checked, other than their items (text format: modules).
+///
+/// These are indices, ids, rules of well-formedness and unsupported forms. For example,
+/// `(export "a" (func $f))` has one index, `$f`.
+///
+/// # Example
+///
+///     let mut digits = Digits { told: 0 };
+///     visit_fields(fields.as_slice(), &mut digits);
+///
+/// # Guarantees
+///
+/// The visitor is called once for each check, in order (`Visits`, `checks_of`, `in_module`).
 pub fn visit_fields<V: Visitor>(fields: &[ModuleField<'_>], visitor: &mut V)
     ensures { Visits V.told visitor.old (checks_of (in_module fields.now)) visitor.new }
 {

@@ -1,4 +1,9 @@
-//! Reads the numbers of worked rows, and writes for each what encoding its module answers.
+//! Reads numbers of example modules, and writes a line for each: its bytes, or the error of
+//! encoding.
+//!
+//! The exit status is 0 at the end of the input, 2 if reading or writing failed, and 3 if
+//! allocation failed. For example, for the line `1` it writes
+//! `0061736d01000000`.
 #![tactic(auto)]
 
 use std::process::ExitCode;

@@ -1,4 +1,4 @@
-//! The conversion of one text.
+//! Converts one text.
 
 use crate::diagnostics::{report, report_malformed, warn};
 use crate::escapes::Escaped;
@@ -35,7 +35,7 @@ fn input(rt: &HostRuntime, file: &str) -> io::Result<Vec<u8>> {
     Ok(bytes)
 }
 
-/// Leaves the name section out, if that is asked for.
+/// Removes the name section, if the options have `--no-names`.
 fn selected(alloc: Global, options: &Options, bytes: Vec<u8>) -> Result<Vec<u8>, AllocError> {
     if options.omits_names {
         return without_names(alloc, bytes.as_slice());
@@ -50,7 +50,7 @@ fn hex_line(alloc: Global, bytes: &[u8]) -> Result<Vec<u8>, AllocError> {
     Ok(line.into_bytes())
 }
 
-/// Returns what is written of the bytes of a module.
+/// Returns the output for the bytes of a module.
 fn output_of_bytes(
     alloc: Global,
     options: &Options,
@@ -63,7 +63,7 @@ fn output_of_bytes(
     Ok(bytes)
 }
 
-/// Returns an output, or reports that memory was refused.
+/// Returns an output, or reports that allocation failed.
 fn allocated(rt: &HostRuntime, output: Result<Vec<u8>, AllocError>) -> Result<Vec<u8>, Failure> {
     match output {
         Ok(bytes) => Ok(bytes),
@@ -71,7 +71,7 @@ fn allocated(rt: &HostRuntime, output: Result<Vec<u8>, AllocError>) -> Result<Ve
     }
 }
 
-/// Returns what is written of the bytes of the module of a text, or reports why it has none.
+/// Returns the output for the module of a text, or reports its error.
 fn module_output<'a>(
     rt: &HostRuntime,
     options: &Options,
@@ -85,7 +85,7 @@ fn module_output<'a>(
     }
 }
 
-/// Returns the index of each id of a text, or reports why they have none.
+/// Returns the list of the ids of a text, or reports its error.
 fn names_output<'a>(
     rt: &HostRuntime,
     file: Escaped<'_>,
@@ -98,7 +98,7 @@ fn names_output<'a>(
     }
 }
 
-/// Returns what is written of a text.
+/// Returns the output for a text.
 fn output_of_text(
     rt: &HostRuntime,
     options: &Options,
@@ -121,7 +121,7 @@ fn text_before(bytes: &[u8], offset: usize) -> &str {
     }
 }
 
-/// Returns what is written of the bytes of a file.
+/// Returns the output for the bytes of a file.
 fn output_of(
     rt: &HostRuntime,
     options: &Options,
@@ -161,7 +161,7 @@ fn write_target(rt: &HostRuntime, target: &str, output: &[u8]) -> Result<(), Fai
     write_output_to(rt, target, output)
 }
 
-/// Writes the output of a file to where it belongs.
+/// Writes the output of a file to standard output or to a file, by the options.
 fn write_output(
     rt: &HostRuntime,
     options: &Options,
@@ -180,7 +180,7 @@ fn write_output(
     }
 }
 
-/// Reads a file, and writes what is asked for of it.
+/// Reads a file, and writes its output.
 pub(crate) fn convert_file(rt: &HostRuntime, options: &Options, file: &str) -> Result<(), Failure> {
     let bytes = match input(rt, file) {
         Ok(bytes) => bytes,

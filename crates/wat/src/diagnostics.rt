@@ -1,8 +1,8 @@
 //! What is printed about a text on standard error.
 //!
-//! A place is printed with its source line and a caret, as tools of Rust do. Each line is printed in
-//! at most some hundred columns, however long a line of the text or a name is, and the time is linear
-//! in the text.
+//! A position is printed with its source line and a caret, as tools of Rust do. Each line has at
+//! most some hundred columns, however long a line of the text or a name is. The time is linear in
+//! the text.
 
 use crate::escapes::{Blanks, Escaped, Margin, SourceText, is_bidirectional_control};
 use crate::failures::Failure;
@@ -25,9 +25,9 @@ const MEMORY: u32 = 12;
 struct Excerpt<'a> {
     /// What is printed for the part of the line before it.
     head: &'a str,
-    /// The part before the place.
+    /// The part before the position.
     before: &'a str,
-    /// The part from the place on.
+    /// The part from the position on.
     after: &'a str,
     /// What is printed for the part of the line after it.
     tail: &'a str,
@@ -66,7 +66,7 @@ fn cut_before(text: &str, count: usize) -> (&str, &str) {
     ("...", kept)
 }
 
-/// Returns what is printed of the source line of an offset: all of it, or the part around the offset.
+/// Returns what is printed of the source line of an offset: all of it, or the part around it.
 fn excerpt_at(text: &str, offset: usize) -> Excerpt<'_> {
     let (before, after) = line_at(text, offset);
     let half = LINE / 2;
@@ -82,7 +82,7 @@ fn excerpt_at(text: &str, offset: usize) -> Excerpt<'_> {
     }
 }
 
-/// Prints a place: the line of the text, and a caret under the place. Takes no memory.
+/// Prints a position: the line of the text, and a caret under the position. Does not allocate.
 fn print_place(rt: &HostRuntime, file: Escaped<'_>, text: &str, place: Span) {
     let (number, column) = line_and_column(text, place);
     let margin = Margin(number);
@@ -100,12 +100,12 @@ fn print_place(rt: &HostRuntime, file: Escaped<'_>, text: &str, place: Span) {
     let _ = eprintln!(rt; "{margin} | {left}{blanks}^");
 }
 
-/// Returns what is wrong with a text.
+/// Returns the message of an error.
 fn message_of(alloc: Global, refused: &Refused<'_>) -> Result<String, AllocError> {
     format!(in alloc; "{refused}")
 }
 
-/// Reports why a text has no bytes, and where.
+/// Reports the error of a text, with its position.
 pub(crate) fn report(
     rt: &HostRuntime,
     alloc: Global,
@@ -131,7 +131,7 @@ pub(crate) fn report(
     Failure::Text
 }
 
-/// Reports that bytes are not UTF-8, of which those before the first wrong one are this text.
+/// Reports bytes that are not UTF-8. The text is the bytes before the first wrong one.
 pub(crate) fn report_malformed(rt: &HostRuntime, file: Escaped<'_>, text: &str) -> Failure {
     let offset = text.len();
     let _ = eprintln!(rt; "error: malformed UTF-8 encoding at byte {offset}");
@@ -139,8 +139,8 @@ pub(crate) fn report_malformed(rt: &HostRuntime, file: Escaped<'_>, text: &str) 
     Failure::Text
 }
 
-/// Returns whether a text may have bidirectional control characters. In UTF-8 each of them begins with
-/// one of two bytes, which few texts have, so that most texts are not decoded to look for them.
+/// Returns whether a text may have bidirectional control characters. In UTF-8 each of them begins
+/// with one of two bytes. Few texts have these, so most texts are not decoded to look for them.
 fn may_have_bidirectional_control(text: &str) -> bool {
     text.as_bytes()
         .iter()
@@ -160,8 +160,8 @@ fn first_bidirectional_control(text: &str) -> Option<usize> {
     None
 }
 
-/// Warns of the first bidirectional control character of a text. Comments and strings may have
-/// them, so the text is read all the same.
+/// Warns of the first bidirectional control character of a text. The text is still read, because
+/// comments and strings may have such characters.
 pub(crate) fn warn(rt: &HostRuntime, file: Escaped<'_>, text: &str) {
     if let Some(offset) = first_bidirectional_control(text) {
         let (line, column) = line_and_column(text, Span { offset });

@@ -1,10 +1,11 @@
-//! Text as messages show it: a control character is printed as an escape of the text format.
+//! Text in messages. A control character is printed as an escape of the text format.
 
 use std::fmt;
 use unicode_width::UnicodeWidthChar;
 
-/// Returns whether a character changes the order in which a line is displayed, so that a text can
-/// look other than it is read (Unicode, bidirectional algorithm). For example U+202E does.
+/// Returns whether a character changes the order in which a line is displayed (Unicode,
+/// bidirectional algorithm). Such a text can look different from what is read. For example, U+202E
+/// is such a character.
 pub(crate) fn is_bidirectional_control(character: char) -> bool {
     matches!(
         character,
@@ -55,8 +56,9 @@ fn write_blanks<W: fmt::Write>(f: &mut fmt::Formatter<W>, character: char) -> fm
 }
 
 /// Prints a text with its control characters as escapes: a line feed as `\n`, and an escape
-/// character as `\u{1b}`. So a name from a text can neither begin a line of a log nor send a
-/// command to a terminal.
+/// character as `\u{1b}`.
+///
+/// So a name from a text can neither begin a line of a log nor send a command to a terminal.
 #[derive(Clone, Copy)]
 pub(crate) struct Escaped<'a>(pub &'a str);
 

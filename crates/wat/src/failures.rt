@@ -1,23 +1,25 @@
-//! Why a run ends without what was asked for, and the exit status that says so.
+//! Failed runs and their exit status.
 
 use crate::escapes::Escaped;
 use std::io;
 use std::process::ExitCode;
 
-/// Why a run ends without what was asked for. It is printed on standard error where it is found; a
-/// message that cannot be printed there is lost, and the exit status is the same.
+/// Why a run failed.
+///
+/// Its message is printed on standard error when it is found. If it cannot be printed there, it is
+/// lost, and the exit status is the same.
 #[derive(Clone, Copy)]
 pub(crate) enum Failure {
-    /// The text is not a module that has bytes.
+    /// The text is not a module that can be encoded.
     Text,
     /// The arguments are wrong, or a file or a stream failed.
     System,
-    /// Memory was refused.
+    /// Allocation failed.
     Memory,
 }
 
 impl Failure {
-    /// The number of the exit status of a run that ends so.
+    /// Returns the number of the exit status.
     fn number(self) -> u8 {
         match self {
             Failure::Text => 1,
@@ -26,12 +28,12 @@ impl Failure {
         }
     }
 
-    /// The exit status of a run that ends so.
+    /// Returns the exit status.
     pub fn status(self) -> ExitCode {
         ExitCode::from(self.number())
     }
 
-    /// Returns the failure with the greater exit status: this one, or one before it.
+    /// Returns the failure with the larger exit status: this one, or one before it.
     pub fn worse(self, before: Option<Failure>) -> Failure {
         match before {
             Some(other) if other.number() > self.number() => other,
@@ -39,13 +41,13 @@ impl Failure {
         }
     }
 
-    /// Reports that memory was refused. Takes no memory.
+    /// Reports that allocation failed. Does not allocate.
     pub fn memory(rt: &HostRuntime) -> Failure {
         let _ = eprintln!(rt; "error: out of memory");
         Failure::Memory
     }
 
-    /// Reports that the arguments cannot be read: one is not UTF-8, or memory was refused.
+    /// Reports that the arguments cannot be read: one is not UTF-8, or allocation failed.
     pub fn of_arguments(rt: &HostRuntime, error: io::Error) -> Failure {
         if let io::ErrorKind::OutOfMemory = error.kind() {
             return Failure::memory(rt);

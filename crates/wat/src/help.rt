@@ -1,4 +1,4 @@
-//! What `--help` prints. `tools/manual` reads the texts of this file for the man page.
+//! The text of `--help`. `tools/manual` reads the strings of this file for the man page.
 
 use crate::options::{Choice, OPTIONS};
 use std::{fmt, io};

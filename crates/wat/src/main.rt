@@ -1,9 +1,17 @@
-//! Turns modules in the text format into their bytes.
+//! Converts modules in the text format to binary modules.
 //!
-//! It reads the files that arguments name, or else standard input, and writes the bytes to standard
-//! output or into files. With `--hex` it writes one line of hexadecimal digits, and with `--names`
-//! the index of each id. What is wrong is printed on standard error, and the exit status says what
-//! kind it is: the help lists them.
+//! It reads the files in its arguments, or standard input, and writes the bytes to standard output
+//! or to files. With `--hex` it writes one line of hexadecimal digits, and with `--names` the index
+//! of each id. Errors are printed on standard error, and the exit status is that of the error: the
+//! help lists them.
+//!
+//! # Modules
+//!
+//! - `options` reads the arguments, and `help` prints the help.
+//! - `conversions` converts one file, `outputs` writes its output, and `names` and `sections` make
+//!   what `--names` and `--no-names` print.
+//! - `failures` has the errors and their exit status. `diagnostics` prints an error of a text with
+//!   its source line, and `escapes` prints control characters as escapes.
 #![tactic(auto)]
 
 mod conversions;
@@ -29,8 +37,8 @@ use std::process::ExitCode;
 /// The version of the command.
 const VERSION: &str = "0.1.0";
 
-/// Converts each file. One that fails is reported, and the failure with the greatest exit status is
-/// returned.
+/// Converts each file. Reports each one that fails, and returns the failure with the largest exit
+/// status.
 fn convert_files(rt: &HostRuntime, options: &Options) -> Result<(), Failure> {
     let mut worst = None;
     for file in options.files.iter() {
@@ -44,7 +52,8 @@ fn convert_files(rt: &HostRuntime, options: &Options) -> Result<(), Failure> {
     }
 }
 
-/// Reports two files that would have the same output, because only one would be left.
+/// Reports two files that would have the same output, because only one of the outputs would be
+/// left.
 fn check_outputs(rt: &HostRuntime, options: &Options) -> Result<(), Failure> {
     match shared_path(rt.alloc(), options) {
         Ok(None) => Ok(()),
@@ -53,7 +62,7 @@ fn check_outputs(rt: &HostRuntime, options: &Options) -> Result<(), Failure> {
     }
 }
 
-/// Converts what is asked for.
+/// Converts the files of the options.
 fn convert(rt: &HostRuntime, options: &Options) -> Result<(), Failure> {
     if options.prints_bytes() && rt.stdout().is_terminal() {
         return Err(Failure::terminal(rt));
@@ -67,7 +76,7 @@ fn convert(rt: &HostRuntime, options: &Options) -> Result<(), Failure> {
     convert_files(rt, options)
 }
 
-/// Reports how printing to standard output ended.
+/// Reports the result of printing to standard output.
 fn printed(rt: &HostRuntime, answer: io::Result<()>) -> Result<(), Failure> {
     match answer {
         Ok(()) => Ok(()),
@@ -75,7 +84,7 @@ fn printed(rt: &HostRuntime, answer: io::Result<()>) -> Result<(), Failure> {
     }
 }
 
-/// The whole run.
+/// Runs the command.
 fn run(rt: &HostRuntime) -> Result<(), Failure> {
     let arguments = match env::args(rt) {
         Ok(arguments) => arguments,

@@ -1,10 +1,10 @@
-//! What the ids of a text denote, as lines.
+//! The ids of a text and their indices, as lines.
 
 use std::alloc::{AllocError, Global};
 use std::fmt::Write;
 use wat_bytes::Denoted;
 
-/// Whether ids without quotes are made of it (text format, identifiers).
+/// Returns whether a byte can be in an id without quotes (text format: identifiers).
 fn is_id_byte(byte: u8) -> bool {
     byte > b' '
         && byte < 0x7f
@@ -14,7 +14,7 @@ fn is_id_byte(byte: u8) -> bool {
         )
 }
 
-/// Adds a line for what one id denotes: the space, the id as a text has it, and the number.
+/// Adds a line for one id: the index space, the id as in the source, and the index.
 fn add_line(lines: &mut String, denoted: &Denoted<'_>) -> Result<(), AllocError> {
     let (space, number) = (denoted.space, denoted.number);
     let name = denoted.id.name();
@@ -25,7 +25,7 @@ fn add_line(lines: &mut String, denoted: &Denoted<'_>) -> Result<(), AllocError>
     writeln!(lines, "{space} $\"{escaped}\" {number}")
 }
 
-/// Returns what ids denote, a line for each.
+/// Returns a line for each id. For example, `func $f 1`.
 pub(crate) fn name_lines(alloc: Global, names: &[Denoted<'_>]) -> Result<Vec<u8>, AllocError> {
     let mut lines = String::new(alloc);
     for denoted in names {

@@ -1,14 +1,14 @@
-//! The options of the command, and what the arguments ask for.
+//! The options of the command, and its arguments.
 
 use crate::escapes::Escaped;
 use std::alloc::{AllocError, Global};
 use std::env::Args;
 use std::fmt;
 
-/// The file name that stands for standard input and standard output.
+/// The file name for standard input and standard output.
 pub(crate) const STANDARD: &str = "-";
 
-/// What an option asks for.
+/// The effect of an option.
 #[derive(Clone, Copy)]
 enum Action {
     /// The output goes to a file.
@@ -38,7 +38,7 @@ pub(crate) struct Choice {
     pub value: &'static str,
     /// What it does, in one line.
     pub help: &'static str,
-    /// What it asks for.
+    /// Its effect.
     action: Action,
 }
 
@@ -125,7 +125,7 @@ fn joined(alloc: Global, word: &str) -> Result<Option<(Choice, String)>, AllocEr
     }
 }
 
-/// What is written of a module.
+/// The kind of output of a module.
 #[derive(Clone, Copy)]
 pub(crate) enum Output {
     /// Its bytes.
@@ -136,22 +136,22 @@ pub(crate) enum Output {
     Names,
 }
 
-/// What to read, and what to write of it, and where.
+/// The files to read, the kind of output, and the files to write.
 #[derive(Drop)]
 pub(crate) struct Options {
-    /// The files to read, `-` for standard input; if there are none, standard input is read.
+    /// The files to read, `-` for standard input. If there are none, standard input is read.
     pub files: Vec<String>,
     /// The file to write, `-` for standard output.
     pub target: Option<String>,
     /// The folder of the outputs.
     pub folder: Option<String>,
-    /// What is written.
+    /// The kind of output.
     pub output: Output,
     /// Whether the name section is left out.
     pub omits_names: bool,
 }
 
-/// What the arguments ask for.
+/// What the command does with its arguments.
 #[derive(Drop)]
 pub(crate) enum Request {
     /// Modules are converted.
@@ -167,7 +167,7 @@ pub(crate) enum Request {
 pub(crate) enum Misuse {
     /// No option has this name.
     UnknownOption(String),
-    /// This option is given after another that says what is written.
+    /// This option comes after another that sets the kind of output.
     SecondOutput(String),
     /// An option that takes no value has one here.
     UnwantedValue(String),
@@ -181,7 +181,7 @@ pub(crate) enum Misuse {
     OneForSeveral,
     /// The output of standard input has no name.
     Unnamed,
-    /// Memory was refused.
+    /// Allocation failed.
     Memory,
 }
 
@@ -221,18 +221,19 @@ impl fmt::Display for Misuse {
 /// The arguments that were read so far.
 #[derive(Drop)]
 struct Reading {
-    /// What they ask for.
+    /// The options so far.
     options: Options,
     /// The option whose value is the next word.
     awaited: Option<Choice>,
-    /// Whether `--` was read, after which each word is a file.
+    /// Whether `--` was read. Each word after it is a file.
     is_past_options: bool,
 }
 
 impl Request {
-    /// Reads the arguments, of which the first is the program's name, from left to right. The first
-    /// that asks for the help or the version decides, and so does the first that is wrong. What
-    /// does not go together is looked for at the end.
+    /// Reads the arguments from left to right. The first is the name of the program.
+    ///
+    /// The first argument that is `--help` or `--version` decides, and so does the first that is
+    /// wrong. Options that exclude each other are found at the end.
     pub fn new(alloc: Global, arguments: Args) -> Result<Request, Misuse> {
         let mut reading = Reading::new(alloc);
         for word in arguments.skip(1) {
@@ -246,7 +247,7 @@ impl Request {
 }
 
 impl Reading {
-    /// Begins to read arguments.
+    /// Starts to read arguments.
     fn new(alloc: Global) -> Reading {
         let options = Options {
             files: Vec::new(alloc),
@@ -262,7 +263,7 @@ impl Reading {
         }
     }
 
-    /// Returns what is asked for if the next word asks for the help or the version.
+    /// Returns the help or the version, if the next word is such an option.
     fn request_of(&self, word: &str) -> Option<Request> {
         if self.awaited.is_some() || self.is_past_options {
             return None;
@@ -316,7 +317,7 @@ impl Reading {
         }
     }
 
-    /// Ends to read arguments.
+    /// Finishes reading arguments.
     fn end(self) -> Result<Request, Misuse> {
         let Reading {
             options,
@@ -342,7 +343,7 @@ impl Options {
         }
     }
 
-    /// Does what an option without a value asks for, whose word this is.
+    /// Applies an option without a value, which is this word.
     fn set_flag(&mut self, choice: Choice, word: String) -> Result<(), Misuse> {
         match choice.action {
             Action::Hex => self.set_output(Output::Hex, word),
@@ -354,7 +355,7 @@ impl Options {
         }
     }
 
-    /// Changes what is written, as this word says.
+    /// Sets the kind of output to that of this word.
     fn set_output(&mut self, output: Output, word: String) -> Result<(), Misuse> {
         match self.output {
             Output::Bytes => {
@@ -365,7 +366,7 @@ impl Options {
         }
     }
 
-    /// Does what an option with this value asks for.
+    /// Applies an option with this value.
     fn set_value(&mut self, choice: Choice, value: String) -> Result<(), Misuse> {
         match choice.action {
             Action::Folder => self.set_folder(choice, value),
@@ -396,7 +397,7 @@ impl Options {
         self.files.is_empty() || self.files.iter().any(|file| file.as_str() == STANDARD)
     }
 
-    /// Returns what does not go together.
+    /// Returns options that exclude each other.
     fn conflict(&self) -> Option<Misuse> {
         if self.omits_names && matches!(self.output, Output::Names) {
             return Some(Misuse::Conflict("--names", "--no-names"));
@@ -419,7 +420,7 @@ impl Options {
         self.folder.is_some() || self.files.len() > 1
     }
 
-    /// Returns whether bytes are written to standard output without an option that says so.
+    /// Returns whether bytes go to standard output by default, so without `-o -`.
     pub fn prints_bytes(&self) -> bool {
         matches!(self.output, Output::Bytes) && self.target.is_none() && !self.names_outputs()
     }

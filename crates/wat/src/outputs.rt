@@ -1,4 +1,4 @@
-//! Where outputs go: to standard output, or into files.
+//! Writes outputs to standard output or to files.
 
 use crate::options::{Options, Output};
 use std::alloc::{AllocError, Global};
@@ -8,10 +8,10 @@ use std::io::{self, ErrorKind, Write};
 /// At most this many names of temporary files are tried.
 const MOST: u32 = 1_000_000;
 
-/// A file that is written before it gets its name.
+/// A file that is written before it gets its final name.
 #[derive(Drop)]
 struct Temporary {
-    /// Where it is until then.
+    /// The path of the temporary file.
     path: String,
     /// The open file.
     file: File,
@@ -33,7 +33,7 @@ fn without_extension<'a>(name: &'a str, extension: &str) -> Option<&'a str> {
     }
 }
 
-/// Returns a name without the extension of a text.
+/// Returns a name without the extension `.wat` or `.wast`.
 fn stem_of(name: &str) -> &str {
     if let Some(stem) = without_extension(name, ".wat") {
         return stem;
@@ -50,7 +50,8 @@ fn extension_of(output: Output) -> &'static str {
     }
 }
 
-/// Returns the path of the output of a file: beside it, or in the folder of the outputs.
+/// Returns the path of the output of a file: in the folder of the file, or in the folder of the
+/// outputs.
 pub(crate) fn output_path(
     alloc: Global,
     options: &Options,
@@ -71,7 +72,7 @@ pub(crate) fn output_path(
     format!(in alloc; "{folder}{slash}{stem}{extension}")
 }
 
-/// Returns the paths of the outputs of all files, in the order of texts.
+/// Returns the paths of the outputs of all files, sorted.
 fn sorted_paths(alloc: Global, options: &Options) -> Result<Vec<String>, AllocError> {
     let mut paths = Vec::new(alloc);
     for file in options.files.iter() {
@@ -82,7 +83,7 @@ fn sorted_paths(alloc: Global, options: &Options) -> Result<Vec<String>, AllocEr
     Ok(paths)
 }
 
-/// Returns a path that is that of the outputs of two files.
+/// Returns a path that two files have as their output.
 pub(crate) fn shared_path(alloc: Global, options: &Options) -> Result<Option<String>, AllocError> {
     let paths = sorted_paths(alloc, options)?;
     let mut previous = String::new(alloc);
@@ -129,7 +130,7 @@ fn fill(file: &mut File, permissions: Option<Permissions>, bytes: &[u8]) -> io::
     file.sync_all()
 }
 
-/// Writes a file under a temporary name, and gives it its name when it is whole. If that fails, the
+/// Writes a file under a temporary name, and renames it when it is complete. If that fails, the
 /// temporary file is removed.
 fn replace(
     rt: &HostRuntime,
@@ -158,14 +159,16 @@ fn replace_existing(rt: &HostRuntime, path: &str, bytes: &[u8]) -> io::Result<()
     replace(rt, path, Some(permissions), bytes)
 }
 
-/// Writes to what a path leads to.
+/// Writes to a device, a pipe, or the target of a link.
 fn write_through(rt: &HostRuntime, path: &str, bytes: &[u8]) -> io::Result<()> {
     let mut file = File::create(rt, path)?;
     file.write_all(bytes)
 }
 
-/// Writes a file, whole or not at all. What is no regular file, as a device, a pipe or a symbolic
-/// link, is written in place, because replacing it would end what it is for.
+/// Writes a file completely or not at all.
+///
+/// A device, a pipe or a symbolic link is written directly, because replacing it would break what
+/// it is used for.
 pub(crate) fn write_file(rt: &HostRuntime, path: &str, bytes: &[u8]) -> io::Result<()> {
     match fs::symlink_metadata(rt, path) {
         Ok(found) => {

@@ -1,4 +1,4 @@
-//! The sections of a binary module (binary format, modules).
+//! The sections of a binary module (binary format: modules).
 
 use std::alloc::{AllocError, Global};
 
@@ -11,7 +11,7 @@ const CUSTOM: u8 = 0;
 /// The name of the name section.
 const NAME: &[u8] = b"name";
 
-/// At most this many bytes encode a number of 32 bits.
+/// A 32-bit number is encoded in at most this many bytes.
 const LONGEST: usize = 5;
 
 /// A section at the start of bytes.
@@ -27,8 +27,8 @@ struct Section<'a> {
     rest: &'a [u8],
 }
 
-/// Returns the number in LEB128 at the start of bytes, and the bytes after it. One that is too large
-/// for a length saturates.
+/// Returns the LEB128 number at the start of bytes, and the bytes after it. A number that is too
+/// large for a length saturates.
 fn number_at(bytes: &[u8]) -> Option<(usize, &[u8])> {
     let mut number = 0usize;
     let mut scale = 1usize;
@@ -70,8 +70,8 @@ fn begins_with_name(contents: &[u8]) -> bool {
     }
 }
 
-/// Copies a module without its custom sections called `name`. Bytes that are no sections, which only
-/// `(module binary "..")` can have, are copied as they are.
+/// Copies a module without its custom sections called `name`. Bytes that are not sections, which
+/// only `(module binary "..")` can have, are copied unchanged.
 pub(crate) fn without_names(alloc: Global, bytes: &[u8]) -> Result<Vec<u8>, AllocError> {
     let Some((header, sections)) = bytes.split_at_checked(HEADER) else {
         return Vec::from_slice(alloc, bytes);

@@ -1,5 +1,6 @@
--- What the ids of a text denote: the names that resolving gives for a module that reading it may
--- give.
+-- The ids of a text and their indices: the names that resolving returns for a module that the parser may return.
+--
+--   (module (func) (func $f))      $f is the function 1
 use Rattle.std.specs.Prelude.{◌≡◌, ℕ, Bool, not, is_none, List, [], ◌∷◌, ◌++◌, map, All, Option, Result, Ok, Err, ◌⊎◌}
 use Rattle.std.specs.List.{filter}
 use Rattle.std.specs.List.Sorted.{IsPermutation, IsNonDecreasingBy}
@@ -24,8 +25,7 @@ use Rattle.wat_bytes.specs.declared.refusals.Refused.{Refused}
 use Rattle.wat_bytes.specs.declared.refusals.Refused.TheVariants as answer
 use Rattle.wat_bytes.specs.Texts.{IsUnready, module_of}
 
--- What resolving a module that is ready answers, as the headline theorem has it, with the id
--- counter at 1.
+-- The result of resolving a module that may be resolved, as the headline theorem states it, with the id counter at 1.
 pub record ResolvesReady (m : Module) (r : Result KnownNames Error) : Type 0 where
   pub ready : IsReady m 1
   pub left : ModuleKind
@@ -37,43 +37,42 @@ HasNoNames m (answer.Text e) = IsUnready m e
 HasNoNames m (answer.Module e) = ResolvesReady m (Err e)
 HasNoNames m (answer.Uncovered u) = ⊥
 
--- What resolving a module answers.
+-- The result of resolving a module.
 abbrev pub ResolvesModule : Module → Result KnownNames Refused → Type 0
 ResolvesModule m (Ok names) = ResolvesReady m (Ok names)
 ResolvesModule m (Err r) = HasNoNames m r
 
--- What resolving a module that was read answers.
+-- The result of resolving a parsed module.
 abbrev pub ResolvesText : TextModule → Result KnownNames Refused → Type 0
 ResolvesText t r = ResolvesModule (module_of t) r
 
--- Whether the name of an entry is a written one. That of `$f` is, and that of a generated id is
--- not.
+-- Whether the name of an entry is from the source. That of `$f` is, and that of a generated id is not.
 abbrev pub is_written : Key × ℕ → Bool
 is_written e = is_none e.0.1
 
--- whether the id of a pair is a written one
+-- Whether the id of a pair is from the source.
 abbrev pub is_written_pair : Id × ℕ → Bool
 is_written_pair e = not (is_generated (name_of e.0))
 
--- the written names of a space, each once, with the number that each denotes
+-- The source names of an index space, each once, with their indices.
 abbrev pub written_in : KnownNames → Space → List (Key × ℕ)
 written_in names s = filter is_written (finmap.entries (space_in names.spaces s).names)
 
--- what is listed of an id and its number
+-- The list entry of an id and its index.
 abbrev pub denoted_at : Space → Id × ℕ → Denoted
 denoted_at s e = record { space = s; id = e.0; number = e.1 }
 
--- the name of what is listed, with its number
+-- The name of a list entry, with its index.
 abbrev pub entry_listed : Denoted → Key × ℕ
 entry_listed d = entry_of (d.id, d.number)
 
--- The list of a space: its written names, no other and each once, by their numbers.
+-- The list of an index space: its source names, no other and each once, ordered by their indices.
 pub record AreOfSpace (names : KnownNames) (s : Space) (found : List Denoted) : Type 0 where
   pub of_space : All (λ d. d.space ≡ s) found
   pub exact : IsPermutation (written_in names s) (map entry_listed found)
   pub order : IsNonDecreasingBy (λ d. d.number) found
 
--- the list of the first space, and those of the others behind it
+-- The list of the first index space, and then those of the others.
 pub record BeginsWith (names : KnownNames) (s : Space) (is_rest : List Denoted → Type 0) (all : List Denoted) : Type 0 where
   pub found : List Denoted
   pub rest : List Denoted
@@ -81,39 +80,39 @@ pub record BeginsWith (names : KnownNames) (s : Space) (is_rest : List Denoted �
   pub of_space : AreOfSpace names s found
   pub others : is_rest rest
 
--- The lists of some spaces, one after another.
+-- The lists of some index spaces, one after another.
 abbrev pub AreListedIn : KnownNames → List Space → List Denoted → Type 0
 AreListedIn names [] all = all ≡ []
 AreListedIn names (s ∷ ss) all = BeginsWith names s (AreListedIn names ss) all
 
--- The lists of all spaces, in the order of their ranks.
+-- The lists of all index spaces, in the order of their ranks.
 abbrev pub AreListed : KnownNames → List Denoted → Type 0
 AreListed names all = AreListedIn names spaces all
 
--- the list of the names of a module
+-- The list of the names of a module.
 pub record Lists (m : Module) (all : List Denoted) : Type 0 where
   pub names : KnownNames
   pub resolves : ResolvesReady m (Ok names)
   pub listed : AreListed names all
 
--- Why a module has no list of names: it has no names, or the list has no memory.
+-- Why a module has no list of names: it has no names, or there is no memory for the list.
 abbrev pub HasNoList : Module → Refused → Type 0
 HasNoList m (answer.Text e) = IsUnready m e
 HasNoList m (answer.Module e) = ResolvesReady m (Err e) ⊎ (IsReady m 1 × (e ≡ out_of_memory))
 HasNoList m (answer.Uncovered u) = ⊥
 
--- What listing the names of a module that was read answers.
+-- The result of listing the names of a parsed module.
 abbrev pub ListsText : TextModule → Result (Vec Denoted) Refused → Type 0
 ListsText t (Ok all) = Lists (module_of t) all.items
 ListsText t (Err r) = HasNoList (module_of t) r
 
--- what a name denotes in a space of a module, if it denotes something
+-- The index of a name in an index space of a module, if there is one.
 pub record Numbers (space : Space) (name : List ℕ) (m : Module) (found : Option ℕ) : Type 0 where
   pub names : KnownNames
   pub resolves : ResolvesReady m (Ok names)
   pub denotes : found ≡ (known_to names).number space (Written name)
 
--- What looking a name up in a module that was read answers.
+-- The result of looking a name up in a parsed module.
 abbrev pub NumbersText : Space → List ℕ → TextModule → Result (Option ℕ) Refused → Type 0
 NumbersText space name t (Ok found) = Numbers space name (module_of t) found
 NumbersText space name t (Err r) = HasNoNames (module_of t) r

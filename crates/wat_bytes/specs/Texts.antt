@@ -1,4 +1,9 @@
--- What the bytes of a text are: what encoding answers for a module that reading it may give.
+-- The bytes of a text: what encoding returns for a module that the parser may return.
+--
+-- The parser is not proved to return the module of the text. So the definitions speak of some module that it may
+-- return.
+--
+--   (module (func))      the bytes of some well-formed module that parsing may return; tests check that it is this one
 use Rattle.std.specs.Prelude.{◌≡◌, ℕ, ◌≤◌, List, length, Option, Some, None, Result, Ok, Err, ⊤, IsTrue}
 use Rattle.std.specs.Option.{unwrap_or}
 use Rattle.std.specs.Global.{Vec}
@@ -24,59 +29,56 @@ use Rattle.wast_core.specs.Headline.{EncodesKind, name_of_module}
 use Rattle.wat_bytes.specs.declared.refusals.Refused.{Refused}
 use Rattle.wat_bytes.specs.declared.refusals.Refused.TheVariants as answer
 
--- What a module that was read holds, as what a module of wast_core holds: its fields, or the bytes
--- of a binary module.
+-- The content of a parsed module, as that of a module of wast_core: its fields, or the bytes of a binary module.
 abbrev pub kind_of : TextKind → ModuleKind
 kind_of (held.Fields fields) = kind.Text fields
 kind_of (held.Binary pieces) = kind.Binary pieces
 
--- A module that was read, as a module of wast_core.
+-- A parsed module, as a module of wast_core.
 abbrev pub module_of : TextModule → Module
 module_of t = record { span = t.span; id = t.id; name = t.name; kind = kind_of t.kind }
 
--- Why a module that is not ready is refused: the least clause of "well formed" that fails, and else
--- clause 6, on generated ids.
+-- Why a module may not be resolved: the first rule of well-formedness that it breaks, or else rule 6 about generated
+-- ids.
 abbrev pub unready : Module → TextError
 unready m = record { fault = text.IllFormed (unwrap_or (ill_formed m) 6); span = text_start }
 
--- A module that is not ready, and why.
+-- A module that may not be resolved, and why.
 pub record IsUnready (m : Module) (e : TextError) : Type 0 where
   pub is_not_ready : IsReady m 1 → ⊥
   pub why : e ≡ unready m
 
--- What encoding a module that is ready answers, as the headline theorem has it, with the id counter
--- at 1.
+-- The result of encoding a module that may be resolved, as the headline theorem states it, with the id counter at 1.
 pub record EncodesReady (m : Module) (r : Result (Vec ℕ) Error) : Type 0 where
   pub ready : IsReady m 1
   pub left : ModuleKind
   pub encodes : EncodesKind 1 (name_of_module m) m.kind r left
 
--- What encoding a module answers. The text of a form that no encoder covers is not part of it,
--- since a module has no text.
+-- The result of encoding a module. The token of an unsupported construct is not part of it, because a module has no
+-- text.
 abbrev pub EncodesModule : Module → Result (Vec ℕ) Refused → Type 0
 EncodesModule m (Ok bytes) = EncodesReady m (Ok bytes)
 EncodesModule m (Err (answer.Text e)) = IsUnready m e
 EncodesModule m (Err (answer.Module e)) = EncodesReady m (Err e)
 EncodesModule m (Err (answer.Uncovered u)) = EncodesReady m (Err (error_without_place (fault.Uncovered u.form)))
 
--- What encoding a module that was read answers.
+-- The result of encoding a parsed module.
 abbrev pub EncodesText : TextModule → Result (Vec ℕ) Refused → Type 0
 EncodesText t r = EncodesModule (module_of t) r
 
--- What reading a text may give: a module whose fields are well formed, or an error with a position
--- in the text. Reading itself is not proved, so more than this is not known. The definition is
--- opaque, and only the proof of `read_text` unfolds it: a function has no proof of "reading may
--- give it" unless it calls `read_text` with this text.
+-- What parsing a text may return: a module whose fields are well formed, or an error with a position in the text. The
+-- parser itself is not proved, so nothing more is known. The definition is opaque, and only the proof of `read_text`
+-- unfolds it. So a function has a proof of "parsing may return it" only if it calls `read_text` with this text.
 unfoldable pub IsRead : List ℕ → Result TextModule TextError → Type 0
 IsRead bytes (Ok t) = IsTrue (is_well_formed_text t.kind)
 IsRead bytes (Err e) = e.span.offset ≤ length bytes
 
--- What is answered after reading: what is answered for the module, or the error of reading.
+-- The result after parsing: that of the module, or the error of parsing.
 abbrev pub AfterReading : {A : Type 0} → (TextModule → Result A Refused → Type 0) → Result TextModule TextError → Result A Refused → Type 0
 AfterReading is_answer (Ok t) r = is_answer t r
 AfterReading is_answer (Err e) r = r ≡ Err (answer.Text e)
 
--- What is answered for a text: what is answered after reading it.
+-- The result for a text: the result after parsing it.
 pub record OfText {A : Type 0} (is_answer : TextModule → Result A Refused → Type 0) (bytes : List ℕ) (r : Result A Refused) : Type 0 where
   pub read : Result TextModule TextError
   pub is_read : IsRead bytes read
@@ -88,30 +90,30 @@ IsPlaced bytes (answer.Text e) = e.span.offset ≤ length bytes
 IsPlaced bytes (answer.Module e) = ⊤
 IsPlaced bytes (answer.Uncovered u) = ⊤
 
--- the number of a fault of a text: 12 if an allocation failed, and else none
+-- The number of an error of a text: 12 if an allocation failed, and otherwise none.
 abbrev pub number_of_text : TextFault → Option ℕ
 number_of_text text.Memory = Some 12
 number_of_text f = None
 
--- the number of why a text has no bytes
+-- The number of an error.
 abbrev pub number_of : Refused → Option ℕ
 number_of (answer.Text e) = number_of_text e.fault
 number_of (answer.Module e) = Some (fault_number (fault_of e))
 number_of (answer.Uncovered u) = Some 11
 
--- its position, if it has one
+-- The position of an error, if it has one.
 abbrev pub place_of : Refused → Option Span
 place_of (answer.Text e) = Some e.span
 place_of (answer.Module e) = span_of e
 place_of (answer.Uncovered u) = Some u.span
 
--- the first form that no encoder covers in what a module holds
+-- The first unsupported construct in the content of a module.
 abbrev pub first_form : ModuleKind → Option Form
 first_form (kind.Text fields) = head_of (uncovered_forms fields)
 first_form (kind.Binary pieces) = None
 first_form (kind.Refused e) = None
 
--- why a module has no bytes, from its error and from what it holds then
+-- The error of a module, from the error of encoding and from the content that it leaves.
 abbrev pub RefusesWith : ModuleKind → Error → Refused → Type 0
 RefusesWith left e (answer.Text t) = ⊥
 RefusesWith left e (answer.Module d) = d ≡ e

@@ -12,7 +12,7 @@ use wast_core::{EncodeOptions, Module, discard_module};
 use wast_tree::{Error, Fault, Gensym};
 use wat_text::{Strings, TextModule};
 
-/// Why a module has no bytes, with the position of a form that no encoder covers.
+/// Returns the error of a module, with the position of an unsupported construct.
 fn refusal<'a>(module: &mut Module<'_>, error: Error<'a>) -> Refused<'a>
     ensures { RefusesWith «module».old.kind error.entry result }
 {
@@ -30,7 +30,7 @@ fn refusal<'a>(module: &mut Module<'_>, error: Error<'a>) -> Refused<'a>
     }
 }
 
-/// The bytes of a module that is ready.
+/// Returns the bytes of a module that may be resolved with a counter at 1.
 fn encoded<'a>(alloc: Global, module: &mut Module<'a>) -> Result<Vec<u8>, Refused<'a>>
     requires ready { IsReady «module».old 1 }
     ensures { EncodesModule «module».old result }
@@ -43,7 +43,7 @@ fn encoded<'a>(alloc: Global, module: &mut Module<'a>) -> Result<Vec<u8>, Refuse
     }
 }
 
-/// Resolves and encodes a module, of which it may be told that it is well formed.
+/// Resolves and encodes a module. If `is_told` is true, it is known to be well formed.
 fn encoded_module<'a>(
     alloc: Global,
     text: TextModule<'a>,
@@ -61,31 +61,41 @@ fn encoded_module<'a>(
     answer
 }
 
-/// Resolves and encodes a module that was read (binary format, modules).
+/// Resolves and encodes a parsed module (binary format: modules).
+///
+/// # Example
+///
+///     let module = read(rt.alloc(), text, &strings).expect(&rt, "a module");
+///     assert!(rt;
+///         encoded_text(rt.alloc(), module)
+///             .expect(&rt, "bytes")
+///             .as_slice()
+///             == of_text.as_slice()
+///     );
 ///
 /// # Errors
 ///
-/// - [`Refused::Text`] if the module is not well formed, or has a generated id: the least clause of
-///   "well formed" that fails, or else clause 6, at offset 0. [`read`](wat_text::read) gives well
-///   formed modules, and no text has a generated id.
-/// - [`Refused::Module`] for each other error of `encode_module` of wast_core.
-/// - [`Refused::Uncovered`] for E11, with the position that
-///   [`first_uncovered`](wast_tree::first_uncovered) finds in the resolved fields, and no word.
-///   [`encode_text`] has the word.
+/// - [`Refused::Text`]: the module is not well formed, or has a generated id. It has the first rule
+///   of well-formedness that is broken, or else rule 6, at offset 0. [`read`](wat_text::read)
+///   returns well-formed modules, and no text has a generated id.
+/// - [`Refused::Uncovered`]: E11, with the position that
+///   [`first_uncovered`](wast_tree::first_uncovered) finds in the resolved fields, and no token.
+///   [`encode_text`] has the token.
+/// - [`Refused::Module`]: each other error of `encode_module` of `wast_core`.
 ///
 /// # Guarantees
 ///
-/// The answer is that of `encode_module` of wast_core for this module, with the id counter at 1
-/// (`EncodesText`). Like each call that allocates it may fail with E12; tests check that it does so
-/// only if an allocation fails.
+/// The result is that of `encode_module` of `wast_core` for this module, with the id counter at 1
+/// (`EncodesText`). The contract permits E12 from any call that allocates. Tests check that it
+/// comes only if an allocation fails.
 pub fn encoded_text<'a>(alloc: Global, text: TextModule<'a>) -> Result<Vec<u8>, Refused<'a>>
     ensures { EncodesText text.entry result }
 {
     encoded_module(alloc, text, false)
 }
 
-/// The bytes of the module of this text, which is well formed. A form that no encoder covers has its
-/// word.
+/// Returns the bytes of the module of this text, which is well formed. An unsupported construct has
+/// its token.
 fn encoded_in<'a>(
     alloc: Global,
     text: &'a str,
@@ -104,21 +114,25 @@ fn encoded_in<'a>(
     }
 }
 
-/// Reads a module in the text format, resolves it and encodes it (text format, modules; binary
-/// format, modules). Strings with escapes are kept in `strings`.
+/// Parses a module in the text format, resolves it and encodes it (text format: modules; binary
+/// format: modules). Strings with escapes are stored in `strings`.
+///
+/// # Example
+///
+///     let of_text = encode_text(rt.alloc(), text, &strings).expect(&rt, "bytes");
 ///
 /// # Errors
 ///
-/// - [`Refused::Text`] for each error of [`read`](wat_text::read).
-/// - [`Refused::Module`] and [`Refused::Uncovered`] as [`encoded_text`] of the module. For E11 the
-///   text is read again, so that the error has the word of the text that no encoder covers:
+/// - [`Refused::Text`]: each error of [`read`](wat_text::read).
+/// - [`Refused::Module`] and [`Refused::Uncovered`]: as [`encoded_text`] of the module. For E11 the
+///   text is read again, so that the error has the unsupported token. For example, that is
 ///   `i64.add128` at offset 14 in `(module (func i64.add128))`.
 ///
 /// # Guarantees
 ///
-/// - `answer`: the answer is that of [`encoded_text`] for some module that [`read`](wat_text::read)
-///   may give, or an error that it may give (`OfText`). That `read` gives the module of the text is
-///   tested, not proved.
+/// - `answer`: the result is that of [`encoded_text`] for some module that [`read`](wat_text::read)
+///   may return, or an error that it may return (`OfText`). That `read` returns the module of the
+///   text is tested, not proved.
 /// - `place`: an error of the text is in the text or at its end.
 pub fn encode_text<'a>(
     alloc: Global,

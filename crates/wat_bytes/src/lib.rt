@@ -1,6 +1,30 @@
-//! From a module in the text format to its bytes, and to what its ids denote.
+//! From a module in the text format to its bytes, and to the indices of its ids.
 //!
-//! A call takes memory only where its text says so. A call that can fail says when, and with what.
+//! The command `wat` and the C library `rigyomad_c` use this crate. It joins the parser `wat_text`
+//! and the encoder `wast_core`.
+//!
+//! # Example
+//!
+//!     let strings = Strings::new(rt.alloc());
+//!     let text = "(module (func) (func $f))";
+//!     let of_text = encode_text(rt.alloc(), text, &strings).expect(&rt, "bytes");
+//!
+//! # Modules
+//!
+//! - `encodes` has [`encode_text`], and [`encoded_text`] for a module that is already parsed.
+//! - `names` has [`names_of_text`] and [`number_in_text`], and the same for a parsed module.
+//! - `refusals` has the errors, and `uncovered` finds the token of an unsupported construct.
+//! - `modules` makes a module of `wast_core` from a parsed one.
+//!
+//! The rules are in `specs/`: `Texts` for the bytes of a text, and `Names` for its ids.
+//!
+//! # Guarantees
+//!
+//! - [`encode_text`], `answer`: the result is that of `encode_module` for some module that the
+//!   parser may return for this text, or an error that it may return. That it is the module of the
+//!   text is tested, not proved.
+//! - `place`: an error of the text has a position in the text or at its end.
+//! - A call without an allocator among its parameters does not allocate.
 #![tactic(auto)]
 
 mod encodes;

@@ -1,4 +1,4 @@
-//! A text as a module to resolve and encode.
+//! A parsed text as a module of `wast_core`.
 
 ghost use Rattle.std.specs.Prelude.{◌≡◌, ◌≤◌, length, IfOk, IfErr, IsTrue, IsFalse};
 ghost use Rattle.wast_core.specs.Modules.{IsReady, is_well_formed};
@@ -9,10 +9,10 @@ use wast_core::{Module, ModuleKind};
 use wast_tree::Span;
 use wat_text::{Strings, TextError, TextFault, TextKind, TextModule, read};
 
-/// The clause of "well formed" on generated ids.
+/// The rule of well-formedness about generated ids.
 const GENERATED: u8 = 6;
 
-/// Reads a text. What is proved of the answer to a text goes back to this call: see `IsRead`.
+/// Parses a text. All that is proved of the result for a text goes back to this call: see `IsRead`.
 pub(crate) fn read_text<'a>(
     alloc: Global,
     text: &'a str,
@@ -25,7 +25,7 @@ pub(crate) fn read_text<'a>(
     read(alloc, text, strings)
 }
 
-/// The module that was read.
+/// Returns the module that was parsed.
 pub(crate) fn module_of<'a>(text: TextModule<'a>) -> Module<'a>
     ensures { result ≡ module_of text.entry }
 {
@@ -47,10 +47,11 @@ pub(crate) fn module_of<'a>(text: TextModule<'a>) -> Module<'a>
     }
 }
 
-/// Whether a module can be resolved with a counter at 1. A module of which it is told that it is
-/// well formed, as each one is that was just read, is not walked over for that. It takes `&mut` and
-/// changes nothing, because the prover would compare the type of the whole tree with itself for a
-/// `&`.
+/// Returns whether a module may be resolved with a counter at 1.
+///
+/// If `is_told` is true, the module is known to be well formed, as after parsing, and is not
+/// walked. It takes `&mut` and changes nothing, because for a `&` the prover would compare the type
+/// of the whole tree with itself.
 pub(crate) fn is_ready(module: &mut Module<'_>, is_told: bool) -> bool
     requires told { IsTrue is_told → IsTrue (is_well_formed «module».old) }
     ensures ready { IsTrue result → IsReady «module».old 1 }
@@ -60,7 +61,8 @@ pub(crate) fn is_ready(module: &mut Module<'_>, is_told: bool) -> bool
     (is_told || module.well_formed()) && module.gensym_bound() < 1
 }
 
-/// Why a module cannot be resolved with a counter at 1. It takes `&mut` as [`is_ready`] does.
+/// Returns why a module cannot be resolved with a counter at 1. It takes `&mut` for the reason that
+/// [`is_ready`] has.
 pub(crate) fn unready(module: &mut Module<'_>) -> TextError
     ensures why { result ≡ unready «module».old }
     ensures stays { «module».new ≡ «module».old }

@@ -1,4 +1,4 @@
-//! What the ids of a text denote.
+//! The ids of a text and their indices.
 
 ghost use Rattle.std.specs.Prelude.{◌≡◌, map, IfOk, IfErr};
 ghost use Rattle.std.specs.List.{filter};
@@ -18,18 +18,25 @@ use wast_resolve::{Names, discard_names};
 use wast_tree::{Error, Gensym, Id, Index, Space, Span};
 use wat_text::{Strings, TextModule};
 
-/// What an id of a text denotes (text format, indices).
+/// An id of a text with its index space and its index (text format: indices).
+///
+/// # Example
+///
+///     for (denoted, (space, name, number)) in names.iter().zip(&told) {
+///         assert!(rt; denoted.space.is(*space) && denoted.id.name() == *name);
+///         assert!(rt; denoted.number == *number);
+///     }
 #[derive(Clone, Copy, Debug, PartialEq, Eq)]
 pub struct Denoted<'a> {
     /// The index space.
     pub space: Space,
-    /// The id, at its position.
+    /// The id, with its position.
     pub id: Id<'a>,
-    /// The number of what it denotes.
+    /// The index of the item with this id.
     pub number: u32,
 }
 
-/// The written ids among pairs of ids and numbers, in the order of the pairs.
+/// Returns the source ids among pairs of ids and indices, in the order of the pairs.
 fn written_pairs<'a>(
     alloc: Global,
     pairs: &[(Id<'a>, u32)],
@@ -47,7 +54,7 @@ fn written_pairs<'a>(
     Ok(found)
 }
 
-/// The written ids of a space with their numbers, the lowest number first.
+/// Returns the source ids of an index space, the lowest index first.
 fn written<'a>(
     alloc: Global,
     names: &Names<'a>,
@@ -60,7 +67,7 @@ fn written<'a>(
     Ok(found)
 }
 
-/// The written ids of some spaces with their numbers, one space after another.
+/// Returns the source ids of some index spaces, one index space after another.
 fn written_in<'a>(
     alloc: Global,
     names: &Names<'a>,
@@ -76,7 +83,7 @@ fn written_in<'a>(
     Ok(all)
 }
 
-/// The written ids of all spaces with their numbers.
+/// Returns the source ids of all index spaces.
 fn all_written<'a>(alloc: Global, names: &Names<'a>) -> Result<Vec<Denoted<'a>>, AllocError>
     ensures { IfOk result (λ all. AreListed names.now all.items) }
 {
@@ -84,7 +91,7 @@ fn all_written<'a>(alloc: Global, names: &Names<'a>) -> Result<Vec<Denoted<'a>>,
     written_in(alloc, names, &spaces)
 }
 
-/// The names of a module that is ready.
+/// Returns the names of a module that may be resolved with a counter at 1.
 fn resolved<'a>(alloc: Global, module: &mut Module<'a>) -> Result<Names<'a>, Error<'a>>
     requires ready { IsReady «module».old 1 }
     ensures { ResolvesReady «module».old result }
@@ -93,7 +100,7 @@ fn resolved<'a>(alloc: Global, module: &mut Module<'a>) -> Result<Names<'a>, Err
     module.resolve(alloc, &mut gensym)
 }
 
-/// The names of a module that was read.
+/// Returns the names of a parsed module.
 fn resolved_text<'a>(alloc: Global, text: TextModule<'a>) -> Result<Names<'a>, Refused<'a>>
     ensures { ResolvesText text.entry result }
 {
@@ -109,22 +116,26 @@ fn resolved_text<'a>(alloc: Global, text: TextModule<'a>) -> Result<Names<'a>, R
     answer
 }
 
-/// Resolves a module that was read, and returns what each id that it binds in an index space
-/// denotes (text format, indices): by the space, in the order of
-/// [`Space::ALL`](wast_tree::Space::ALL), then by the number.
+/// Resolves a parsed module, and returns each of its ids with its index (text format: indices).
 ///
-/// For `(module (func) (func $f) (type $t (func)))` these are `$f` of the functions with number 1,
-/// and `$t` of the types with number 0. Ids that resolving generates are not among them.
+/// The list is ordered by the index space, as [`Space::ALL`](wast_tree::Space::ALL) is, and then by
+/// the index. Ids that resolving generates are not in it. For example, for `(module (func) (func
+/// $f) (type $t (func)))` it has `$f`, the function 1, and `$t`, the type 0.
+///
+/// # Example
+///
+///     let module = read(rt.alloc(), text, &strings).expect(&rt, "a module");
+///     assert!(rt; names_of(rt.alloc(), module).expect(&rt, "names").len() == 1);
 ///
 /// # Errors
 ///
-/// - [`Refused::Text`] if the module is not well formed, or has a generated id, as
+/// - [`Refused::Text`]: the module is not well formed, or has a generated id, as
 ///   [`encoded_text`](crate::encoded_text).
-/// - [`Refused::Module`] for each error of `resolve` of a module of wast_core, and for E12.
+/// - [`Refused::Module`]: each error of `Module::resolve` of `wast_core`, and E12.
 ///
 /// # Guarantees
 ///
-/// The list has the written ids of the names that `resolve` gives for this module, each once
+/// The list has the source ids of the names that `resolve` returns for this module, each once
 /// (`ListsText`).
 pub fn names_of<'a>(alloc: Global, text: TextModule<'a>) -> Result<Vec<Denoted<'a>>, Refused<'a>>
     ensures { ListsText text.entry result }
@@ -142,20 +153,24 @@ pub fn names_of<'a>(alloc: Global, text: TextModule<'a>) -> Result<Vec<Denoted<'
     }
 }
 
-/// Reads a module in the text format, resolves it, and returns what each id that it binds in an
-/// index space denotes (text format, indices), as [`names_of`] does. Strings with escapes are kept
-/// in `strings`.
+/// Parses a module in the text format, resolves it, and returns each of its ids with its index
+/// (text format: indices), as [`names_of`] does. Strings with escapes are stored in `strings`.
+///
+/// # Example
+///
+///     let names = names_of_text(rt.alloc(), EACH_SPACE, &strings).expect(&rt, "names");
+///     assert!(rt; names.len() == 8);
 ///
 /// # Errors
 ///
-/// - [`Refused::Text`] for each error of [`read`](wat_text::read).
-/// - [`Refused::Module`] as [`names_of`] of the module.
+/// - [`Refused::Text`]: each error of [`read`](wat_text::read).
+/// - [`Refused::Module`]: as [`names_of`] of the module.
 ///
 /// # Guarantees
 ///
-/// - `answer`: the answer is that of [`names_of`] for some module that [`read`](wat_text::read) may
-///   give, or an error that it may give (`OfText`). That `read` gives the module of the text is
-///   tested, not proved.
+/// - `answer`: the result is that of [`names_of`] for some module that [`read`](wat_text::read) may
+///   return, or an error that it may return (`OfText`). That `read` returns the module of the text
+///   is tested, not proved.
 /// - `place`: an error of the text is in the text or at its end.
 pub fn names_of_text<'a>(
     alloc: Global,
@@ -171,7 +186,7 @@ pub fn names_of_text<'a>(
     }
 }
 
-/// Replaces an id by its number in a space, if it is known.
+/// Replaces an id by its index in an index space, if it is known.
 fn look_up<'a>(names: &Names<'a>, space: Space, index: &mut Index<'a>) -> Result<(), Error<'a>>
     requires { IsSettledFor (known_to names.now) space index.old }
     ensures { index.new ≡ numbered_at (known_to names.now) space index.old }
@@ -188,7 +203,7 @@ fn look_up<'a>(names: &Names<'a>, space: Space, index: &mut Index<'a>) -> Result
     }
 }
 
-/// The number of what a written name denotes in a space, if it denotes something.
+/// Returns the index of a source name in an index space, if there is one.
 fn number_of<'a>(names: &Names<'a>, space: Space, name: &'a str) -> Option<u32>
     ensures { result ≡ (known_to names.now).number space (Written name.now) }
 {
@@ -200,11 +215,18 @@ fn number_of<'a>(names: &Names<'a>, space: Space, name: &'a str) -> Option<u32>
     }
 }
 
-/// Resolves a module that was read, and returns the number of what a name, written without its `$`,
-/// denotes in a space (text format, indices); `None` if nothing of the space has the name.
+/// Resolves a parsed module, and returns the index of a name in an index space (text format:
+/// indices).
 ///
-/// For `f` among the functions of `(module (func) (func $f))` it is 1, and for `f` among the tables
-/// it is `None`.
+/// The name is without its `$`. The result is `None` if no item of the index space has the name.
+/// For example, for `(module (func) (func $f))` and `f` it is 1 among the functions, and `None`
+/// among the tables.
+///
+/// # Example
+///
+///     let module = read(rt.alloc(), text, &strings).expect(&rt, "a module");
+///     let number = number_in(rt.alloc(), module, Space::Func, "f").expect(&rt, "a number");
+///     assert!(rt; number == Some(1));
 ///
 /// # Errors
 ///
@@ -212,7 +234,7 @@ fn number_of<'a>(names: &Names<'a>, space: Space, name: &'a str) -> Option<u32>
 ///
 /// # Guarantees
 ///
-/// The answer is exactly what the names that `resolve` gives for this module say of the name
+/// The result is exactly what the names that `resolve` returns for this module have for the name
 /// (`NumbersText`).
 pub fn number_in<'a>(
     alloc: Global,
@@ -232,20 +254,25 @@ pub fn number_in<'a>(
     }
 }
 
-/// Reads a module in the text format, resolves it, and returns the number of what a name, written
-/// without its `$`, denotes in a space (text format, indices), as [`number_in`] does. Strings with
-/// escapes are kept in `strings`.
+/// Parses a module in the text format, resolves it, and returns the index of a name in an index
+/// space (text format: indices), as [`number_in`] does. Strings with escapes are stored in
+/// `strings`.
+///
+/// # Example
+///
+///     let found = number_in_text(rt.alloc(), EACH_SPACE, &strings, *other, name);
+///     let found = found.expect(&rt, "a number");
 ///
 /// # Errors
 ///
-/// - [`Refused::Text`] for each error of [`read`](wat_text::read).
-/// - [`Refused::Module`] as [`number_in`] of the module.
+/// - [`Refused::Text`]: each error of [`read`](wat_text::read).
+/// - [`Refused::Module`]: as [`number_in`] of the module.
 ///
 /// # Guarantees
 ///
-/// - `answer`: the answer is that of [`number_in`] for some module that [`read`](wat_text::read)
-///   may give, or an error that it may give (`OfText`). That `read` gives the module of the text is
-///   tested, not proved.
+/// - `answer`: the result is that of [`number_in`] for some module that [`read`](wat_text::read)
+///   may return, or an error that it may return (`OfText`). That `read` returns the module of the
+///   text is tested, not proved.
 /// - `place`: an error of the text is in the text or at its end.
 pub fn number_in_text<'a>(
     alloc: Global,

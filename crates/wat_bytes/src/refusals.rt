@@ -1,4 +1,4 @@
-//! Why a text has no bytes.
+//! The errors of a text.
 
 ghost use Rattle.std.specs.Prelude.{◌≡◌};
 ghost use Rattle.wat_bytes.specs.Texts.{number_of, place_of};
@@ -7,15 +7,21 @@ use std::fmt;
 use wast_tree::{Error, Form, Span};
 use wat_text::{TextError, TextFault};
 
-/// A form that no encoder covers, as a text has it. It is printed as E11, with the word.
+/// An unsupported construct in a text. It is printed as E11 with its token.
+///
+/// # Example
+///
+///     let at = uncovered.span.offset;
+///     assert!(rt; uncovered.form == form && at == offset, "{at}: {text}");
+///     assert!(rt; uncovered.word == Some(word), "{text}");
 #[derive(Clone, Copy, Debug, PartialEq, Eq)]
 pub struct UncoveredForm<'a> {
-    /// The form.
+    /// The construct.
     pub form: Form,
-    /// The position of the word; if there is none, the nearest position that is known.
+    /// The position of the token. Without a token it is the closest position known.
     pub span: Span,
-    /// The first word of the text that belongs to the form, in the field of the nearest position or
-    /// after it: `i64.add128`.
+    /// The first token of the text that belongs to the construct, in the field of the closest
+    /// position or after it. For example, `i64.add128`.
     pub word: Option<&'a str>,
 }
 
@@ -29,14 +35,22 @@ impl fmt::Display for UncoveredForm<'_> {
     }
 }
 
-/// Why a text has no bytes. It is printed as what is wrong, without the position.
+/// Why a text has no bytes. It is printed without the position.
+///
+/// # Example
+///
+///     let refused = encode_text(rt.alloc(), "(func i64.add128)", &strings).err();
+///     let refused = refused.expect(&rt, "it is covered");
+///     let printed = format!(in rt.alloc(); "{refused}").expect(&rt, "memory");
+///
+/// This prints ``uncovered form: instruction beyond the table: `i64.add128` ``.
 #[derive(Clone, Copy, Debug, PartialEq, Eq)]
 pub enum Refused<'a> {
-    /// It is no module in the text format, or one that is not well formed.
+    /// The text is not a module in the text format, or not well formed.
     Text(TextError),
-    /// Resolving or encoding its module fails with this.
+    /// Resolving or encoding the module fails with this error.
     Module(Error<'a>),
-    /// Its module resolves, and has a form that no encoder covers (E11).
+    /// The module resolves, and has an unsupported construct (E11).
     Uncovered(UncoveredForm<'a>),
 }
 
@@ -47,9 +61,11 @@ const UNCOVERED: u32 = 11;
 const MEMORY: u32 = 12;
 
 impl Refused<'_> {
-    /// Returns the number of the fault, 1 for E1 and so on to 13, and `None` if the text is no well
-    /// formed module. Returns that of E12 for each allocation that failed, also of one before the
-    /// text was read. Does not allocate.
+    /// Returns the number of the error, 1 for E1 to 13 for E13, or `None` if the text is not a
+    /// well-formed module.
+    ///
+    /// It is 12 for each failed allocation, also for one before the text was read. Does not
+    /// allocate.
     pub fn number(&self) -> Option<u32>
         ensures { result ≡ number_of self.now }
     {

@@ -1,4 +1,4 @@
-//! What texts answer.
+//! Tests of the results for texts.
 
 use crate::{
     Refused, UncoveredForm, encode_text, encoded_text, names_of, names_of_text, number_in,
@@ -8,7 +8,7 @@ use std::alloc::Global;
 use wast_tree::{Form, Space};
 use wat_text::{Strings, read};
 
-/// A module with an id in each space, behind an item without one.
+/// A module with an id in each index space, after an item without one.
 const EACH_SPACE: &str = r#"(module
     (type (func)) (type $ty (func))
     (func) (func $f)
@@ -19,10 +19,10 @@ const EACH_SPACE: &str = r#"(module
     (elem func) (elem $e func)
     (data "") (data $d ""))"#;
 
-/// The name of the id in each space, by the ranks of the spaces.
+/// The name of the id in each index space, by the rank of the index space.
 const NAMES: [&str; 8] = ["f", "t", "m", "g", "tag", "e", "d", "ty"];
 
-/// The uncovered form of a text.
+/// Returns the unsupported construct of a text.
 fn uncovered<'a>(alloc: Global, text: &'a str, strings: &'a Strings) -> Option<UncoveredForm<'a>> {
     match encode_text(alloc, text, strings) {
         Err(Refused::Uncovered(uncovered)) => Some(uncovered),
@@ -31,7 +31,7 @@ fn uncovered<'a>(alloc: Global, text: &'a str, strings: &'a Strings) -> Option<U
 }
 
 #[test]
-fn ids_are_listed_by_space_and_number(rt: HostRuntime) {
+fn ids_are_listed_by_index_space_and_index(rt: HostRuntime) {
     let strings = Strings::new(rt.alloc());
     let text =
         r#"(module (type $t (func)) (func) (func $z) (func $b) (memory $"a b" 1) (export "e" (func $z)))"#;
@@ -54,7 +54,7 @@ fn ids_are_listed_by_space_and_number(rt: HostRuntime) {
 }
 
 #[test]
-fn each_space_has_its_ids(rt: HostRuntime) {
+fn each_index_space_lists_its_ids(rt: HostRuntime) {
     let strings = Strings::new(rt.alloc());
     let names = names_of_text(rt.alloc(), EACH_SPACE, &strings).expect(&rt, "names");
     assert!(rt; names.len() == 8);
@@ -80,7 +80,7 @@ fn generated_ids_are_not_listed(rt: HostRuntime) {
 }
 
 #[test]
-fn a_module_that_was_read_answers_as_its_text(rt: HostRuntime) {
+fn parsed_module_encodes_as_its_text(rt: HostRuntime) {
     let strings = Strings::new(rt.alloc());
     let text = "(module (func) (func $f))";
     let of_text = encode_text(rt.alloc(), text, &strings).expect(&rt, "bytes");
@@ -99,7 +99,7 @@ fn a_module_that_was_read_answers_as_its_text(rt: HostRuntime) {
 }
 
 #[test]
-fn an_uncovered_form_has_its_word_and_position(rt: HostRuntime) {
+fn unsupported_construct_has_token_and_position(rt: HostRuntime) {
     let strings = Strings::new(rt.alloc());
     for (text, form, offset, word) in [
         (
@@ -161,7 +161,7 @@ fn an_uncovered_form_has_its_word_and_position(rt: HostRuntime) {
 }
 
 #[test]
-fn an_uncovered_form_is_printed_with_its_word(rt: HostRuntime) {
+fn unsupported_construct_is_printed_with_token(rt: HostRuntime) {
     let strings = Strings::new(rt.alloc());
     let refused = encode_text(rt.alloc(), "(func i64.add128)", &strings).err();
     let refused = refused.expect(&rt, "it is covered");
@@ -170,7 +170,7 @@ fn an_uncovered_form_is_printed_with_its_word(rt: HostRuntime) {
 }
 
 #[test]
-fn one_name_has_its_number_in_its_space(rt: HostRuntime) {
+fn name_has_index_in_its_index_space(rt: HostRuntime) {
     let strings = Strings::new(rt.alloc());
     let text = "(module (func) (func $f))";
     let found = number_in_text(rt.alloc(), text, &strings, Space::Func, "f").expect(&rt, "names");

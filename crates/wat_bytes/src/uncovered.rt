@@ -1,4 +1,4 @@
-//! Where a text has a form that no encoder covers.
+//! Finds the token of an unsupported construct in a text.
 
 ghost use Rattle.std.specs.Prelude.{◌≡◌, option_map};
 ghost use Rattle.wat_bytes.specs.Texts.{first_form};
@@ -11,8 +11,8 @@ use wast_tree::{Form, Span, Uncovered, first_uncovered};
 use wat_text::{Strings, TextModule, read};
 use wat_tokens::{Key, Placed, Token, UncoveredOp, Word, tokens_of};
 
-/// The first form of a module that no encoder covers. It takes `&mut` and changes nothing, because
-/// the prover would compare the type of the whole tree with itself for a `&`.
+/// Returns the first unsupported construct of a module. It takes `&mut` and changes nothing,
+/// because for a `&` the prover would compare the type of the whole tree with itself.
 pub(crate) fn first_form(module: &mut Module<'_>) -> Option<Uncovered>
     ensures form { option_map (λ u. u.form) result ≡ first_form «module».old.kind }
     ensures stays { «module».new ≡ «module».old }
@@ -23,7 +23,7 @@ pub(crate) fn first_form(module: &mut Module<'_>) -> Option<Uncovered>
     }
 }
 
-/// The position of the first form in a module that was read, if it is this form.
+/// Returns the position of the first unsupported construct of a parsed module, if it is this one.
 fn place_in(text: TextModule<'_>, form: Form) -> Option<Span> {
     let mut module = module_of(text);
     let first = first_form(&mut module);
@@ -34,9 +34,9 @@ fn place_in(text: TextModule<'_>, form: Form) -> Option<Span> {
     }
 }
 
-/// The position of the first form in the fields as the text has them, if it is this form. Resolving
-/// fills positions in, as the start of the text for an index that the text leaves out; reading does
-/// not.
+/// Returns the position of the first unsupported construct in the fields before resolving, if it is
+/// this one. Resolving adds positions, for example the start of the text for an index that the text
+/// leaves out.
 fn written_place<'a>(
     alloc: Global,
     text: &'a str,
@@ -49,7 +49,7 @@ fn written_place<'a>(
     }
 }
 
-/// Whether a word belongs to a form.
+/// Returns whether a token belongs to a construct.
 fn is_word_of(form: Form, word: &str) -> bool {
     match form {
         Form::StackSwitching => is_switching(word),
@@ -65,7 +65,7 @@ fn is_word_of(form: Form, word: &str) -> bool {
     }
 }
 
-/// Whether a word switches stacks, or is a type of what does.
+/// Returns whether a token is an instruction or a type of stack switching.
 fn is_switching(word: &str) -> bool {
     match word {
         "cont" | "contref" | "nullcontref" | "nocont" => true,
@@ -75,7 +75,7 @@ fn is_switching(word: &str) -> bool {
     }
 }
 
-/// The word of a token, if it belongs to a form.
+/// Returns the text of a token, if it belongs to a construct.
 fn word_of<'a>(form: Form, token: &Token<'a>) -> Option<&'a str> {
     let Token::Word(meaning, word) = *token else {
         return None;
@@ -90,8 +90,8 @@ fn word_of<'a>(form: Form, token: &Token<'a>) -> Option<&'a str> {
     }
 }
 
-/// How deep fields are nested in the parentheses of a text: 1 in `(module (func))`, and 0 in
-/// `(func)`.
+/// Returns how deep fields are nested in the parentheses of a text: 1 in `(module (func))`, and 0
+/// in `(func)`.
 fn field_depth(tokens: &[Placed<'_>]) -> usize {
     match tokens.get(1) {
         Some(placed) if matches!(placed.token, Token::Word(Word::Key(Key::Module), _)) => 1,
@@ -99,9 +99,9 @@ fn field_depth(tokens: &[Placed<'_>]) -> usize {
     }
 }
 
-/// The first word that belongs to a form, in the field of a position or after it. A word before the
-/// position counts, because the position may be that of an index behind its instruction: of `1` in
-/// `(type (cont 1))`.
+/// Returns the first token that belongs to a construct, in the field of a position or after it. A
+/// token before the position counts, because the position may be that of an index after its
+/// instruction. For example, that is `1` in `(type (cont 1))`.
 fn first_word<'a>(tokens: &[Placed<'a>], form: Form, from: Span) -> Option<(Span, &'a str)> {
     let field = field_depth(tokens);
     let mut depth = 0_usize;
@@ -128,8 +128,8 @@ fn first_word<'a>(tokens: &[Placed<'a>], form: Form, from: Span) -> Option<(Span
     None
 }
 
-/// A form at its first word, in the field of a position or after it; at the position if there is no
-/// such word.
+/// Returns a construct at its first token, in the field of a position or after it. Without such a
+/// token it is at the position.
 fn at_word<'a>(tokens: &[Placed<'a>], form: Form, from: Span) -> UncoveredForm<'a>
     ensures { result.form ≡ form }
 {
@@ -147,8 +147,8 @@ fn at_word<'a>(tokens: &[Placed<'a>], form: Form, from: Span) -> UncoveredForm<'
     }
 }
 
-/// A form that was found in resolved fields, as the text has it. It reads the text again, because
-/// E11 is rare and has neither position nor word.
+/// Returns an unsupported construct that was found in resolved fields, with its token. It reads the
+/// text again, because E11 is rare and has neither position nor token.
 pub(crate) fn as_written<'a>(
     alloc: Global,
     text: &'a str,

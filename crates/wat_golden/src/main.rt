@@ -1,10 +1,10 @@
-//! A test of the reader: prints a line for each line of its input, which is a module in the text
+//! A test of the parser: prints a line for each line of its input, which is a module in the text
 //! format. The line is the bytes of the module in hexadecimal, or the error and its offset.
 //!
-//! A text that has line feeds or control characters is stored with escapes, because a line is one
-//! text. Its line begins with `\`. After this `\n` is a line feed, `\r` a carriage return, `\t` a tab,
-//! `\\` a backslash, and a backslash with two hexadecimal digits is a byte. For example `\(module\n)`
-//! is a module of two lines.
+//! A text with line feeds or control characters is stored with escapes, because a line is one text.
+//! Its line begins with `\`. After this `\n` is a line feed, `\r` a carriage return, `\t` a tab,
+//! `\\` a backslash, and a backslash with two hexadecimal digits is a byte. For example,
+//! `\(module\n)` is a module of two lines.
 #![tactic(auto)]
 
 use std::alloc::{AllocError, Global};
@@ -13,7 +13,7 @@ use std::str;
 use wat_bytes::{Refused, encode_text};
 use wat_text::Strings;
 
-/// Prints why a text has no bytes.
+/// Prints the error of a text.
 fn print_refusal(rt: &impl Print, refused: Refused<'_>) -> io::Result<()> {
     if let Refused::Text(error) = refused {
         let offset = error.span.offset;
@@ -32,7 +32,7 @@ fn print_refusal(rt: &impl Print, refused: Refused<'_>) -> io::Result<()> {
     }
 }
 
-/// Prints the answer to a text.
+/// Prints the line of a text.
 fn print_answer(rt: &impl Print, alloc: Global, text: &str) -> io::Result<()> {
     let strings = Strings::new(alloc);
     match encode_text(alloc, text, &strings) {
@@ -41,18 +41,18 @@ fn print_answer(rt: &impl Print, alloc: Global, text: &str) -> io::Result<()> {
     }
 }
 
-/// How much of an escape is read.
+/// How much of an escape was read.
 #[derive(Clone, Copy)]
 enum Escape {
     /// Nothing.
     None,
     /// Its backslash.
     Begun,
-    /// Its backslash and a hexadecimal digit of this value.
+    /// Its backslash and a hexadecimal digit with this value.
     Digit(u8),
 }
 
-/// The value of a hexadecimal digit, or 0 of another character.
+/// Returns the value of a hexadecimal digit, or 0 for another character.
 fn hex_digit(byte: u8) -> u8 {
     match byte {
         b'0'..=b'9' => byte - b'0',
@@ -77,7 +77,7 @@ fn read_byte(out: &mut Vec<u8>, escape: Escape, byte: u8) -> Result<Escape, Allo
     Ok(Escape::None)
 }
 
-/// The text of a line with escapes, without the backslash at its start.
+/// Returns the text of a line with escapes, without the backslash at its start.
 fn unescaped(alloc: Global, line: &str) -> Result<Vec<u8>, AllocError> {
     let mut out = Vec::new(alloc);
     let mut escape = Escape::None;
@@ -87,7 +87,7 @@ fn unescaped(alloc: Global, line: &str) -> Result<Vec<u8>, AllocError> {
     Ok(out)
 }
 
-/// Prints the answer to the text of a line with escapes.
+/// Prints the line of a text that is stored with escapes.
 fn print_escaped(rt: &impl Print, alloc: Global, line: &str) -> io::Result<()> {
     let bytes = unescaped(alloc, line)?;
     match str::from_utf8(bytes.as_slice()) {

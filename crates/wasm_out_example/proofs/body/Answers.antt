@@ -3,8 +3,8 @@ use Rattle.wasm_ops.specs.Spelling.{val_type}
 use Rattle.wasm_ops.proofs.Codes.{spellable_vec}
 use Rattle.wasm_out.specs.Bodies.{locals, IsSpellableContent}
 use Rattle.wasm_out.proofs.Building.{spells_body}
-use Rattle.writer.specs.SumModule.{sum_instrs, sum_body}
-use Rattle.writer.proofs.body.Goals as goal
+use Rattle.wasm_out_example.specs.SumModule.{sum_instrs, sum_body}
+use Rattle.wasm_out_example.proofs.body.Goals as goal
 
 pub raw-requires : goal.raw-requires
 raw-requires c = record { list = sum_instrs; in_range = c.in_ok-instructions.ensures.rows; spelled = c.deref.ensures.value ∙ c.in_ok-instructions.ensures.bytes }

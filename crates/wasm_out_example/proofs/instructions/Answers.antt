@@ -6,7 +6,7 @@ use Rattle.wast_base.specs.declared.index_ops.IndexOp.TheVariants as op
 use Rattle.wasm_ops.specs.IndexInstrs.{index_instr}
 use Rattle.wasm_ops.specs.PlainInstrs.{plain_instr}
 use Rattle.wasm_ops.specs.Table.{IsInstr}
-use Rattle.writer.proofs.instructions.Goals as goal
+use Rattle.wasm_out_example.proofs.instructions.Goals as goal
 
 pub returns-clause-rows : goal.returns-clause-rows
 returns-clause-rows c =

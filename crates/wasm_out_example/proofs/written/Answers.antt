@@ -3,9 +3,9 @@ use Rattle.wasm_ops.specs.Spelling.{name, sub_type}
 use Rattle.wasm_out.specs.Built.{built_with, empty, behind_count}
 use Rattle.wasm_ops.specs.Leb128.{unsigned}
 use Rattle.wasm_out.specs.Reads.{Reads}
-use Rattle.writer.specs.SumModule.{sum_module}
-use Rattle.writer.proofs.Sum.{sum_reads, added, appended, joined}
-use Rattle.writer.proofs.written.Goals as goal
+use Rattle.wasm_out_example.specs.SumModule.{sum_module}
+use Rattle.wasm_out_example.proofs.Sum.{sum_reads, added, appended, joined}
+use Rattle.wasm_out_example.proofs.written.Goals as goal
 
 pub returns : goal.returns
 returns c =

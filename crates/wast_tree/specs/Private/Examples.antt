@@ -1,4 +1,7 @@
--- What the definitions say of worked modules.
+-- Examples that compute: the values of the definitions of the AST for small modules.
+--
+-- A row is an example module of docs/ROWS.md. For example, row 27 is
+-- `(module (type $t (func)) (func $f (type $t) call $f) (export "a" (func $f)))`.
 use Rattle.std.specs.Borrow.{Bor}
 use Rattle.std.specs.Prelude.{◌≡◌, ℕ, pos, Bool, true, false, List, [], ◌∷◌, map, Option, Some, None, codes}
 use Rattle.wast_tree.specs.Tree.{Id, Index, Space, RefType, ValType, StructField, FunctionType, TypeUse, TypeDef, BlockType, Instruction, BranchHint, Expression, TableType, GlobalType, InlineImport, Func, ElemPayload, Form, ModuleField}
@@ -47,11 +50,11 @@ made n = gensym_id n (place 0)
 abbrev pub made_index : ℕ → Index
 made_index n = index.Id (made n)
 
--- what a generated id is called at its place
+-- a generated id as a name with a position
 abbrev pub made_mark : ℕ → Mark
 made_mark n = mark_of (made n)
 
--- Places do not count, texts and generations do; `$gensym` is no generated id.
+-- Ids are compared by texts and generations, not by positions. `$gensym` is not a generated id.
 abbrev pub SameIds : Type 0
 SameIds = (a b : Address) →
     (same_id (id_at a (codes "f") 1) (id_at b (codes "f") 2) ≡ true)
@@ -71,7 +74,7 @@ ref_to i = value.Ref (record { nullable = true; heap = heap.Concrete i })
 abbrev pub ref_func : Bool → ValType
 ref_func shared = value.Ref (record { nullable = true; heap = heap.Abstract shared abstract.Func })
 
--- a field of a struct, of such an id and value type
+-- a struct field with such an id and value type
 abbrev pub field_of : Option Id → ValType → StructField
 field_of id t = record { id = id; name = None; mutable = true; ty = storage.Val t }
 
@@ -87,11 +90,11 @@ nothing_used = record { index = None; inline = None }
 abbrev pub block_of : Option Id → TypeUse FunctionType → BlockType
 block_of label u = record { label = label; label_name = None; ty = u }
 
--- a type use with a generated id in each place for one
+-- a type use with a generated id at each position for one
 abbrev pub used_everywhere : TypeUse FunctionType
 used_everywhere = record { index = Some (made_index 9); inline = Some (record { params = (Some (made 10), None, value.I32) ∷ []; results = [] }) }
 
--- blocks with a generated id in each place for one
+-- blocks with a generated id at each position for one
 abbrev pub everywhere_in_blocks : List Instruction
 everywhere_in_blocks =
     instr.try_table (record {
@@ -107,7 +110,7 @@ everywhere_in_blocks =
     ∷ instr.delegate (made_index 31)
     ∷ []
 
--- a module with a generated id in each place for one
+-- a module with a generated id at each position for one
 abbrev pub everywhere_generated : Address → List ModuleField
 everywhere_generated a =
     field.Ty (record (plain_type (Some (made 1)) 0) {
@@ -134,28 +137,28 @@ everywhere_generated a =
     ∷ export_field a 0 (made_index 11)
     ∷ []
 
--- an index where one is wanted
+-- a site of an index
 abbrev pub wanted : Space → Index → Site
 wanted s i = Asked (ItemIndex s i)
 
--- a form that is covered, or not
+-- a site of an unsupported form, and whether the module is free of it
 abbrev pub covers : Form → Bool → Site
 covers f holds = Asked (Covered f holds)
 
--- what may be shared, and is not
+-- the site of a part that may be shared, and is not
 abbrev pub unshared : Bool → Site
 unshared holds = covers form.Shared holds
 
--- the branch hints of a body stand on its instructions, or not
+-- the site of the rule for branch hints, and whether it holds
 abbrev pub hinted : Bool → Site
 hinted holds = Asked (Clause 2 holds)
 
--- a constant expression that closes what it opens, or not
+-- the site of the rule for the blocks of a constant expression, and whether it holds
 abbrev pub balanced : Bool → Site
 balanced holds = Asked (Clause 5 holds)
 
--- Row 27 has two items, and beside them a type use and two indices, the first of them in a body. They stand as they are
--- written, and so do numbers.
+-- Row 27 has two items. Its sites are a type use and two indices, the first of them in a body. Ids and numbers occur as they
+-- are in the source.
 abbrev pub StandsInRow27 : Type 0
 StandsInRow27 = (a b c d e f : Address) →
     (items (row27 a b c d e f)
@@ -177,8 +180,8 @@ StandsInRow27 = (a b c d e f : Address) →
     ∷ wanted space.Func (by_number 2 71)
     ∷ [])
 
--- An imported global and a memory are items of their spaces, and so is a data segment. Beside them stand the memory that
--- the segment fills and, in a body, the global that its offset is.
+-- An imported global, a memory and a data segment are items. The sites are the memory of the segment and the global of its
+-- offset.
 abbrev pub StandsInFilledMemory : Type 0
 StandsInFilledMemory = (a b c d e : Address) →
     (items (filled_memory a b c d e)
@@ -194,10 +197,10 @@ StandsInFilledMemory = (a b c d e : Address) →
     ∷ [])
     × (is_well_formed (filled_memory a b c d e) ≡ true)
 
--- A type has its parents before its descriptor, what it describes, its parameters and its results, and last whether it is
--- shared; a function has its type use before its locals and its body. Parameters and locals are declared before the body,
--- each behind the names of those before it. A clause of `try_table` reads its label outside of the block, and `delegate` once
--- its block has ended. The types of a group are items one by one, a struct among them with its fields.
+-- The order of the sites. A type has its supertypes, `descriptor`, `describes`, parameters, results, and whether it is
+-- shared. A function has its type use, locals and body. Parameters and locals are declared before the body, each after the
+-- names of those before it. A catch clause looks up its label outside of the block, and `delegate` after the end of its
+-- block. Each type of a group is an item, and a struct type has its fields.
 abbrev pub StandsEverywhere : Type 0
 StandsEverywhere = (a : Address) →
     (items (everywhere_generated a)
@@ -246,11 +249,11 @@ StandsEverywhere = (a : Address) →
     ∷ wanted space.Func (made_index 11)
     ∷ [])
 
--- the number of a name in a space, by a list of fields
+-- the index that a name refers to in a space, in a list of fields
 abbrev pub number_known : List ModuleField → Space → Name → Option ℕ
 number_known fields s name = (id_context (items fields)).number s name
 
--- In row 27 `$f` is function 0, `$t` is type 0, and nothing else is known; of two types `$t` the first counts.
+-- In row 27 `$f` is function 0 and `$t` is type 0, and no other name is defined. Of two types `$t` the first counts.
 abbrev pub KnownInRows : Type 0
 KnownInRows = (a b c d e f : Address) →
     (number_known (row27 a b c d e f) space.Func (Written (codes "f")) ≡ Some 0)
@@ -262,14 +265,14 @@ KnownInRows = (a b c d e f : Address) →
     × (number_known (row32 a b) space.Ty (Written (codes "t")) ≡ Some 0)
     × (number_known (field.Ty (plain_type None 0) ∷ row32 a b) space.Ty (Written (codes "t")) ≡ Some 1)
 
--- The worked modules are well formed, also where a name clashes or denotes nothing.
+-- The example modules are well formed, even if two items have the same id or an id is not defined.
 abbrev pub WellFormedRows : Type 0
 WellFormedRows = (a b c d e f : Address) →
     (is_well_formed (row27 a b c d e f) ≡ true)
     × (is_well_formed (row31 a b c d e) ≡ true)
     × (is_well_formed (row32 a b) ≡ true)
 
--- A generated id where an index is wanted is that of an item of the space.
+-- A generated id that is used as an index has to name an item of the space.
 abbrev pub SettledIndices : Type 0
 SettledIndices = (a : Address) →
     (is_well_formed (export_field a 0 (made_index 1) ∷ []) ≡ false)
@@ -281,15 +284,15 @@ SettledIndices = (a : Address) →
 abbrev pub nameless_func : Func
 nameless_func = plain_func None 8 (by_number 0 20) []
 
--- a type that is defined so, alone in a module
+-- a module of one type with this definition
 abbrev pub def_alone : TypeDef → List ModuleField
 def_alone def = field.Ty (record (plain_type None 8) { def = def }) ∷ []
 
--- a function alone in a module
+-- a module of one function
 abbrev pub func_alone : Func → List ModuleField
 func_alone f = field.Func f ∷ []
 
--- An id of no item is seen in a parent, a type use and a call. That of a parameter or a local stands there by right.
+-- A generated id that names no item is found in a supertype, a type use and a call. That of a parameter or a local is allowed.
 abbrev pub UnsettledIndices : Type 0
 UnsettledIndices =
     (is_well_formed (def_alone (record plain_def { parents = by_number 0 20 ∷ made_index 1 ∷ [] })) ≡ false)
@@ -298,21 +301,20 @@ UnsettledIndices =
     × (is_well_formed (def_alone (record plain_def { kind = inner.Func (record { params = (Some (made 1), None, value.I32) ∷ []; results = [] }) })) ≡ true)
     × (is_well_formed (func_alone (record nameless_func { kind = func.Inline (record { id = Some (made 1); name = None; ty = value.I32 } ∷ []) (expression_of []) })) ≡ true)
 
--- `(import "m" "m")` in place
+-- the inline import `(import "m" "m")`
 abbrev pub from_m : Address → InlineImport
 from_m a = record { «module» = text a (codes "m"); field = text a (codes "m") }
 
--- whether a function is well formed alone in a module
+-- whether a module of one function is well formed
 abbrev pub is_well_formed_func : Func → Bool
 is_well_formed_func f = is_well_formed (func_alone f)
 
--- whether a type that is defined so is well formed alone in a module
+-- whether a module of one type with this definition is well formed
 abbrev pub is_well_formed_def : TypeDef → Bool
 is_well_formed_def def = is_well_formed (def_alone def)
 
--- `(func (type 0))` is well formed, and so are `(func)`, one with a local, also with an id, and one with an inline type
--- beside its index or alone, and one with an inline export, or imported in place, also where that is exact, and one with a
--- local or a result of a shared type.
+-- Well-formed functions: `(func (type 0))`, `(func)`, one with a local, and one with an inline type, with or without an index.
+-- So are one with an inline export, one with an inline import, exact or not, and one with a local or result of a shared type.
 abbrev pub WellFormedFuncs : Type 0
 WellFormedFuncs = (a : Address) →
     (is_well_formed_func nameless_func ≡ true)
@@ -339,8 +341,8 @@ hinted_drops hints = let one = instr.Plain (plain.Bare bare.drop) in record { in
 abbrev pub are_well_formed_hints : List BranchHint → Bool
 are_well_formed_hints hints = is_well_formed_func (record nameless_func { kind = func.Inline [] (hinted_drops hints) })
 
--- Branch hints stand on the three instructions of a body, one on any of them: not so two on one, a hint before the one in front
--- of it, and a hint on a fourth instruction. Their values are 0 and 1. Of those of a constant expression nothing is asked.
+-- Each of the three instructions of a body may have one branch hint. Two hints on one, hints in decreasing order and a hint on
+-- a fourth instruction are not allowed. The values are 0 and 1. The hints of a constant expression are not checked.
 abbrev pub WellFormedHints : Type 0
 WellFormedHints =
     (are_well_formed_hints [] ≡ true)
@@ -352,9 +354,9 @@ WellFormedHints =
     × (are_well_formed_hints (hint 0 2 ∷ []) ≡ false)
     × (is_well_formed (field.Global (record { span = place 1; id = None; name = None; exports = record { names = [] }; ty = plain_global_type; kind = global.Inline (hinted_drops (hint 3 2 ∷ hint 3 2 ∷ [])) }) ∷ []) ≡ true)
 
--- `(func (param i32) (result i32))` is well formed, also open, with a parent, with references and with names; so are
--- structs and arrays, also where a field has an id, a shared type, one with a descriptor or what it describes, and one that
--- refers to a shared heap type.
+-- Well-formed types: `(func (param i32) (result i32))`, also not final, with a supertype, with references or with names. So
+-- are structs and arrays, with or without ids of fields, and a shared type. So are one with `descriptor` or `describes`, and
+-- one that refers to a shared heap type.
 abbrev pub WellFormedTypes : Type 0
 WellFormedTypes = (a : Address) →
     (is_well_formed_def (record plain_def { kind = inner.Func (record { params = (None, None, ref_func false) ∷ []; results = ref_to (by_number 0 20) ∷ [] }) }) ≡ true)
@@ -370,11 +372,11 @@ WellFormedTypes = (a : Address) →
     × (is_well_formed_def (record plain_def { kind = inner.Array (record { mutable = false; ty = storage.I8 }) }) ≡ true)
     × (is_well_formed_def (record plain_def { kind = inner.Array (record { mutable = false; ty = storage.Val (ref_func true) }) }) ≡ true)
 
--- an active segment of no expressions of this type
+-- an active segment without expressions, of this type
 abbrev pub elems_of : Option Index → RefType → ModuleField
 elems_of table ty = field.Elem (record { span = place 1; id = None; name = None; kind = elem.Active table (expression_of (instr.global_get (by_number 0 20) ∷ [])); payload = payload.Exprs ty [] })
 
--- An element segment without a table holds functions, or references of type `funcref`; one with a table holds others too.
+-- An element segment without a table has functions, or expressions of type `funcref`. One with a table may have others.
 abbrev pub WellFormedSegments : Type 0
 WellFormedSegments =
     (is_well_formed (elems_of None (record { nullable = true; heap = heap.Abstract false abstract.Func }) ∷ []) ≡ true)
@@ -416,8 +418,8 @@ memory_in_place a exponent = field.Memory (record (plain_memory None 0) { kind =
 abbrev pub funcref : RefType
 funcref = record { nullable = true; heap = heap.Abstract false abstract.Func }
 
--- Elements in place stand behind their type, and what they ask stands in the module; a function that is imported in place
--- has its type use and no body.
+-- Inline elements come after their type, and their checks are those of the module. A function with an inline import has its
+-- type use and no body.
 abbrev pub StandsInPlace : Type 0
 StandsInPlace = (a : Address) →
     (in_module (table_in_place (record { nullable = true; heap = heap.Concrete (made_index 1) }) false (payload.Indices (made_index 2 ∷ made_index 3 ∷ [])) ∷ [])
@@ -439,9 +441,9 @@ StandsInPlace = (a : Address) →
     ∷ [])
     × (in_module (memory_in_place a None ∷ []) ≡ Asked (Clause 3 true) ∷ [])
 
--- `(elem (table ..) (offset global.get ..) (ref null ..) ref.func ..)`: its table, its offset, and then what it holds,
+-- `(elem (table ..) (offset global.get ..) (ref null ..) ref.func ..)`: its table, its offset, and then its elements,
 -- expressions before their type. `(table 1 (ref null ..) ref.func ..)` and `(global (ref null ..) global.get ..)`: the
--- type, and then the value at first.
+-- type, and then the initial value.
 abbrev pub StandsInSegments : Type 0
 StandsInSegments =
     (in_module (field.Elem (record {
@@ -477,11 +479,11 @@ StandsInSegments =
     }) ∷ [])
     ≡ wanted space.Ty (made_index 1) ∷ unshared true ∷ wanted space.Global (made_index 2) ∷ balanced true ∷ [])
 
--- `$l`, which is written at n
+-- the source id `$l` at n
 abbrev pub label_at : Address → ℕ → Id
 label_at a n = id_at a (codes "l") n
 
--- a function of such a type use and such instructions
+-- a function with this type use and these instructions
 abbrev pub func_of : TypeUse FunctionType → List Instruction → Func
 func_of u instrs = record nameless_func { ty = u; kind = func.Inline [] (expression_of instrs) }
 
@@ -489,8 +491,8 @@ func_of u instrs = record nameless_func { ty = u; kind = func.Inline [] (express
 abbrev pub param_used : Address → TypeUse FunctionType
 param_used a = record { index = None; inline = Some (record { params = (Some (id_at a (codes "p") 20), None, value.I32) ∷ []; results = [] }) }
 
--- `(func (param $p i32) block $l local.get $p br_if $l end $l)`: a label and a local are read where they stand. `(func try $l
--- delegate $l)`: the label is read where the block has ended, so that none of this name is open.
+-- `(func (param $p i32) block $l local.get $p br_if $l end $l)`: a label and a local are looked up at their position. `(func
+-- try $l delegate $l)`: the label is looked up after the end of the block, so that no enclosing block has it.
 abbrev pub StandsInBlocks : Type 0
 StandsInBlocks = (a : Address) →
     (in_module (func_alone (func_of (param_used a) (
@@ -518,7 +520,7 @@ StandsInBlocks = (a : Address) →
     ∷ hinted true
     ∷ [])
 
--- a global whose value is this
+-- a global with this value
 abbrev pub global_as : List Instruction → ModuleField
 global_as instrs = field.Global (record { span = place 1; id = None; name = None; exports = record { names = [] }; ty = plain_global_type; kind = global.Inline (expression_of instrs) })
 
@@ -526,8 +528,8 @@ global_as instrs = field.Global (record { span = place 1; id = None; name = None
 abbrev pub plain_block : Instruction
 plain_block = instr.block (block_of None nothing_used)
 
--- A constant expression closes what it opens, and nothing before it is open: not so `i32.const 0 end`, `end block` and a block
--- that stays open. A function may hold these, and `delegate` closes a block. A generated id is no label and no local.
+-- The blocks of a constant expression are balanced, but those of `i32.const 0 end`, of `end block` and of a block without an
+-- end are not. A function may have these. `delegate` closes a block. A generated id must not be a label or a local.
 abbrev pub WellFormedBlocks : Type 0
 WellFormedBlocks =
     (is_well_formed (global_as (plain_block ∷ instr.end_ None ∷ instr.i32_const (pos 0) ∷ []) ∷ []) ≡ true)
@@ -540,7 +542,7 @@ WellFormedBlocks =
     × (is_well_formed_func (func_of nothing_used (instr.local_get (made_index 1) ∷ [])) ≡ false)
     × (is_well_formed_func (func_of nothing_used (instr.block (block_of (Some (made 1)) nothing_used) ∷ instr.br (made_index 1) ∷ [])) ≡ false)
 
--- Elements in place may be of any type that is not shared; the page of bytes in place has a size below 2 to the 64.
+-- Inline elements may have any type that is not shared. The page size of inline data is less than 2^64.
 abbrev pub WellFormedInPlace : Type 0
 WellFormedInPlace = (a : Address) →
     (is_well_formed (table_in_place (record { nullable = true; heap = heap.Abstract false abstract.Extern }) false (payload.Exprs (record { nullable = true; heap = heap.Abstract false abstract.Extern }) []) ∷ []) ≡ true)
@@ -551,11 +553,11 @@ WellFormedInPlace = (a : Address) →
     × (is_well_formed (memory_in_place a (Some 63) ∷ []) ≡ true)
     × (is_well_formed (memory_in_place a (Some 64) ∷ []) ≡ false)
 
--- `i32.load` of memory 0, whose alignment is no power of two
+-- `i32.load` of memory 0, with an alignment that is not a power of two
 abbrev pub misaligned : Instruction
 misaligned = instr.Mem mem_op.i32_load (record { align = 3; offset = 0; target = target.Memory (by_number 0 30); ordering = None })
 
--- Each clause fails alone; of two the least is told, and where all hold there is none.
+-- Each rule can fail alone. If two fail, `ill_formed` is the lesser, and if none does, it is None.
 abbrev pub IllFormedClauses : Type 0
 IllFormedClauses = (a : Address) →
     (ill_formed (func_alone (func_of nothing_used (misaligned ∷ []))) ≡ Some 1)
@@ -567,12 +569,12 @@ IllFormedClauses = (a : Address) →
     × (ill_formed (export_field a 0 (made_index 1) ∷ memory_in_place a (Some 64) ∷ global_as (plain_block ∷ []) ∷ []) ≡ Some 3)
     × (ill_formed (field.Func nameless_func ∷ memory_in_place a (Some 63) ∷ []) ≡ None)
 
--- a generated id as an index, which is written at a place
+-- a generated id as an index, at a position
 abbrev pub made_index_at : ℕ → ℕ → Index
 made_index_at n place_of_it = index.Id (gensym_id n (place place_of_it))
 
--- The first clause that fails has the place of its index, of the index before it in its field, or of its field. A segment is
--- asked before the table that it fills, and the memory that is read before the one that is written.
+-- The first rule that fails has the position of its index, of the index before it in its field, or of its field. A segment
+-- comes before its table, and the memory that is read before the one that is written.
 abbrev pub FirstIllFormed : Type 0
 FirstIllFormed = (a : Address) →
     (first_ill_formed (field.Func nameless_func ∷ export_field a 50 (index.Id (gensym_id 1 (place 57))) ∷ memory_in_place a (Some 64) ∷ []) ≡ Some (record { clause = 6; span = place 57 }))
@@ -582,7 +584,7 @@ FirstIllFormed = (a : Address) →
     × (first_ill_formed (func_alone (func_of nothing_used (instr.table_init (record { table = made_index_at 1 40; elem = made_index_at 2 45 }) ∷ []))) ≡ Some (record { clause = 6; span = place 45 }))
     × (first_ill_formed (func_alone (func_of nothing_used (instr.memory_copy (record { dst = made_index_at 1 40; src = made_index_at 2 45 }) ∷ []))) ≡ Some (record { clause = 6; span = place 45 }))
 
--- Row 27 is written out; what stands in place is not.
+-- Row 27 is desugared. Fields with inline parts are not.
 abbrev pub WrittenOutFields : Type 0
 WrittenOutFields = (a b c d e f : Address) →
     (is_written_out (row27 a b c d e f) ≡ true)
@@ -601,8 +603,8 @@ shared_import a id names =
       items = import_items.Group2 (text a (codes "m")) (record { span = place 9; id = id; name = None; kind = kind.Global (record plain_global_type { ty = ref_to (made_index 2) }) }) names;
     })
 
--- The id of a signature that names share is that of an item for each; where there is no name, it stands beside the items,
--- behind what the signature asks.
+-- The id of a signature that names share is that of an item for each name. If there is no name, it is a site of its own, after
+-- those of the signature.
 abbrev pub StandsInSharedImports : Type 0
 StandsInSharedImports = (a b : Address) →
     (items (shared_import a (Some (made 5)) [] ∷ []) ≡ [])
@@ -613,8 +615,7 @@ StandsInSharedImports = (a b : Address) →
     × (in_module (shared_import a (Some (made 5)) (text b (codes "n") ∷ text b (codes "n") ∷ []) ∷ [])
     ≡ wanted space.Ty (made_index 2) ∷ unshared true ∷ covers form.CompactImports false ∷ [])
 
--- The greatest generation is that of an item or of an id beside the items; a written id has 0. No id of a module is left
--- out.
+-- The greatest generation is that of an item or of another id. A source id has 0. All ids of a module count.
 abbrev pub GenerationsOfRows : Type 0
 GenerationsOfRows = (a b c d e f : Address) →
     (greatest_generation (row27 a b c d e f) ≡ 0)
@@ -628,11 +629,11 @@ GenerationsOfRows = (a b c d e f : Address) →
     × (map (λ x. generation_or_zero x.id) (items (everywhere_generated a)) ≡ 1 ∷ 14 ∷ 17 ∷ 6 ∷ [])
     × (map generation_in (checks_of (in_module (everywhere_generated a))) ≡ 3 ∷ 4 ∷ 0 ∷ 5 ∷ 0 ∷ 2 ∷ 12 ∷ 13 ∷ 0 ∷ 15 ∷ 16 ∷ 0 ∷ 18 ∷ 0 ∷ 9 ∷ 10 ∷ 19 ∷ 7 ∷ 8 ∷ 21 ∷ 22 ∷ 23 ∷ 20 ∷ 24 ∷ 25 ∷ 26 ∷ 27 ∷ 28 ∷ 29 ∷ 30 ∷ 31 ∷ 0 ∷ 11 ∷ [])
 
--- the forms in a function of these instructions that no encoder covers
+-- the unsupported forms of a function of these instructions
 abbrev pub uncovered_by : List Instruction → List Form
 uncovered_by instrs = uncovered_forms (func_alone (func_of (record { index = Some (by_number 0 20); inline = None }) instrs))
 
--- `(struct.get 0 $x)`: the field is that of the struct of the type at the index.
+-- `(struct.get 0 $x)`: the field belongs to the struct type at the index.
 abbrev pub StandsInAccess : Type 0
 StandsInAccess = (a : Address) →
     (in_module (func_alone (func_of nothing_used (instr.struct_get (record { owner = by_number 0 20; field = by_id a (codes "x") 30 }) ∷ [])))
@@ -641,7 +642,7 @@ StandsInAccess = (a : Address) →
     ∷ hinted true
     ∷ [])
 
--- Types, entities and instructions that no encoder covers, each by its form; of two the first is named first.
+-- Unsupported types, entities and instructions, each with its form. Of two forms the first in source order comes first.
 abbrev pub UncoveredForms : Type 0
 UncoveredForms = (a : Address) →
     (uncovered_forms (def_alone (record plain_def { shared = true })) ≡ form.Shared ∷ [])
@@ -654,7 +655,7 @@ UncoveredForms = (a : Address) →
     × (uncovered_by (instr.ref_null (heap.Exact (by_number 0 20)) ∷ instr.suspend (by_number 0 20) ∷ []) ≡ form.Descriptor ∷ form.StackSwitching ∷ [])
     × (uncovered_by (instr.Beyond (text a (codes "i64.add128")) ∷ []) ≡ form.Beyond ∷ [])
 
--- The first of them has the place of its index, of the index before it in its field, or of its field.
+-- The first of them has the position of its index, of the index before it in its field, or of its field.
 abbrev pub FirstUncovered : Type 0
 FirstUncovered =
     (first_uncovered (field.Func nameless_func ∷ table_of (record plain_table_type { shared = true }) ∷ []) ≡ Some (record { form = form.Shared; span = place 1 }))

@@ -1,4 +1,6 @@
--- What is asked in an instruction that stands alone, of each kind, with a generated id in each place for one: one row for each.
+-- Examples that compute: the checks of an instruction of each kind, with a generated id at each position for one.
+--
+--   call of the generated id 1      one check: an index of a function, the id 1
 use Rattle.std.specs.Prelude.{◌≡◌, ℕ, ◌+◌, pos, true, false, List, [], ◌∷◌, Some, None}
 use Rattle.std.specs.Borrow.{Bor}
 use Rattle.wast_tree.specs.Tree.{Space, RefType, FunctionType, TypeUse, Instruction, MemArg, ResumeTable, Form}
@@ -21,27 +23,27 @@ use Rattle.wast_tree_nodes.specs.declared.vectors.I8x16Shuffle.{I8x16Shuffle}
 use Rattle.wast_tree_nodes.specs.Sites.{Check, ItemIndex, InnerIndex, PlainId, Clause, Covered, constant_context, in_instr, checks_of}
 use Rattle.wast_tree.specs.Private.Examples.{made, made_index, made_mark, ref_to, block_of}
 
--- all that is asked in an instruction
+-- the checks of an instruction
 abbrev pub asks : Instruction → List Check
 asks i = checks_of (in_instr constant_context i)
 
--- an index of a space is wanted, the id of this generation
+-- a check of an index of a space, the id of this generation
 abbrev pub wants : Space → ℕ → Check
 wants s n = ItemIndex s (made_index n)
 
--- an index of a local, a label or a field, the id of this generation
+-- a check of an index of a local, a label or a field, the id of this generation
 abbrev pub within : ℕ → Check
 within n = InnerIndex (made_index n)
 
--- the id of a label, of this generation
+-- the id of a label, with this generation
 abbrev pub named : ℕ → Check
 named n = PlainId (made_mark n)
 
--- a form that no encoder covers
+-- a check of an unsupported form that the instruction has
 abbrev pub lacks : Form → Check
 lacks f = Covered f false
 
--- a type use of an index alone
+-- a type use with an index and no inline type
 abbrev pub used : ℕ → TypeUse FunctionType
 used n = record { index = Some (made_index n); inline = None }
 
@@ -57,7 +59,7 @@ mem_arg n = record { align = 4; offset = 0; target = target.Memory (made_index n
 abbrev pub handlers : ℕ → ResumeTable
 handlers n = record { handlers = handle.OnLabel (made_index n) (made_index (n + 1)) ∷ handle.OnSwitch (made_index (n + 2)) ∷ [] }
 
--- Each instruction asks what stands in it, in this order.
+-- Each instruction has these checks, in this order.
 abbrev pub InstructionsAsk : Type 0
 InstructionsAsk = (name : Bor (List ℕ)) (c : V128Const) (lanes : I8x16Shuffle) →
     (asks (instr.Plain (plain.Bare bare.drop)) ≡ [])

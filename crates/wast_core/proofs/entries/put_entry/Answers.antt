@@ -6,7 +6,7 @@ use Rattle.wast_core_conv.proofs.Ready.{type_ready, group_ready, import_ready, f
 use Rattle.wast_core.specs.Meaning as meaning
 use Rattle.wast_core.proofs.entries.put_entry.Goals as goal
 
--- what is encoded
+-- What is encoded.
 pub encode-requires : goal.encode-requires
 encode-requires g c = type_ready c.in-Types-Ty.ty (subst (λ x. is_encodable_field x ≡ true) c.in-Types-Ty.is-1 c.requires)
 
@@ -37,7 +37,7 @@ encode-requires-in-Elements-Elem g c = elem_ready c.in-Elements-Elem.elem (subst
 pub encode-requires-in-Data-Data : goal.encode-requires-in-Data-Data
 encode-requires-in-Data-Data g c = data_ready c.in-Data-Data.«data» (subst (λ x. is_encodable_field x ≡ true) c.in-Data-Data.is-1 c.requires)
 
--- the one entry of a field
+-- The one entry of a field.
 pub returns-in-Types-Ty : goal.returns-in-Types-Ty
 returns-in-Types-Ty g c =
     rw (c.in-Types-Ty.is-0, c.in-Types-Ty.is-1) (one_written g.S.Sink.rules (entry Types) (InRangeEntry Types) c.args.out.now c.encode.new.out (Single (meaning.as_sub_type c.in-Types-Ty.ty.def)) c.encode.result c.encode.ensures)
@@ -86,7 +86,7 @@ pub returns-in-Data-Data : goal.returns-in-Data-Data
 returns-in-Data-Data g c =
     rw (c.in-Data-Data.is-0, c.in-Data-Data.is-1) (one_written g.S.Sink.rules (entry Data) (InRangeEntry Data) c.args.out.now c.encode-in-Data-Data.new.out (meaning.as_data c.in-Data-Data.«data») c.encode-in-Data-Data.result c.encode-in-Data-Data.ensures)
 
--- or none
+-- Or no entry.
 pub returns-in_default : goal.returns-in_default
 returns-in_default g c = rw c.in_default.is-0 (search rules)
 

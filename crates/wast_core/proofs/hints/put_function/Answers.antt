@@ -8,12 +8,12 @@ use Rattle.wast_core.specs.Hints.{InRangeHinted}
 use Rattle.wast_core.proofs.Hinting.{hinted_if, unhinted_if}
 use Rattle.wast_core.proofs.hints.put_function.Goals as goal
 
--- without hints nothing is written
+-- Without hints nothing is written.
 pub returns-then-not-has_hints-clause-written : goal.returns-then-not-has_hints-clause-written
 returns-then-not-has_hints-clause-written g c =
     rw (unhinted_if c.args.kind.now (sym c.has_hints.ensures ∙ c.if-not-has_hints.true)) (λ n from. (g.met.S.Sink.laws.none c.args.out.now, All-nil InRangeHinted))
 
--- an index that is too large
+-- An index that is too large.
 pub returns-in_default-clause-written : goal.returns-in_default-clause-written
 returns-in_default-clause-written g c =
     rw (hinted_if c.args.kind.now (sym c.has_hints.ensures ∙ c.if-not-has_hints.false))

@@ -8,7 +8,7 @@ use Rattle.wast_core.proofs.Appended.{too_large}
 use Rattle.wast_core.proofs.Hinting.{alike}
 use Rattle.wast_core.proofs.hints.put_hints.Goals as goal
 
--- more functions than a number of 32 bits counts
+-- There are more functions than fit in 32 bits.
 pub returns-in_default : goal.returns-in_default
 returns-in_default g c =
     let fields = c.args.fields.now in

@@ -23,7 +23,7 @@ returns-then-is_err g c =
     cut_back g.S.Sink.rules (InRangeSized InRangePayload payload_of ss) (InRangeSized InRangePayload payload_of ss) c.args.out.now c.push_bytes.new.self c.put_with_length-second.new.out c.cut.new.self (0 ∷ []) (length_prefixed payload_of ss) (0 ∷ length_prefixed payload_of ss) c.size-start.result c.put_with_length-second.result
     g.met.S.Sink.laws (omega arith) (λ h. h) c.in_ok-push_bytes.ensures.0 c.put_with_length-second.ensures (sym c.is_err.ensures.value ∙ c.if-is_err.true) c.size-start.ensures c.cut.ensures
 
--- the id, and then the payload behind its length
+-- The id, and then the payload after its length.
 both_written : {S A : Type 0} (rules : SinkRules S) (part : Type 0) (a b c : S) (byte : ℕ) (y : List ℕ) (r : Result A Refusal)
     → AppendLaws rules → rules.appended a b (byte ∷ []) → Writes rules part b c y r → is_err r ≡ false → Writes rules part a c (byte ∷ y) r
 both_written rules part a b c byte y (Ok t) laws h p good = (laws.joins a b c (byte ∷ []) y h p.0, p.1)

@@ -19,7 +19,7 @@ returns-in_err-push_bytes g c =
     let p = err_from_is_err_and c.from_residual.result c.from_residual.ensures.1 in
     rw (p.1, p.2) (no_byte (Unit {0}) g.S.Sink.rules (InRangeSized InRangePayload payload_of ss) c.args.out.now c.push_bytes.new.self 0 (length y) y c.in_err-push_bytes.field-0.0 g.met.S.Sink.laws c.in_err-push_bytes.ensures)
 
--- the sink sets no number, and takes the length first
+-- The sink cannot overwrite a number, so the length comes first.
 pub returns-then-not-set_number : goal.returns-then-not-set_number
 returns-then-not-set_number g c =
     let ss = name_subsections (text_seen c.args.name) c.args.fields.now in
@@ -27,7 +27,7 @@ returns-then-not-set_number g c =
     put_anew g.S.Sink.rules all all c.args.out.now c.push_bytes.new.self c.set_number.new.self c.cut.new.self c.put_length_first.new.out 0 0 [] (length_prefixed payload_of ss) c.size-start.result c.set_number.result c.put_length_first.result
     g.met.S.Sink.laws c.in_ok-push_bytes.ensures.0 c.size-start.ensures c.set_number.ensures c.if-not-set_number.true c.cut.ensures (λ i. i) (λ i. i) c.put_length_first.ensures
 
--- a writer leaves no fewer bytes
+-- A sink never loses bytes that it had before.
 no_fewer : {S A : Type 0} (rules : SinkRules S) (part : Type 0) (a b : S) (y : List ℕ) (r : Result A Refusal) → AppendLaws rules → Writes rules part a b y r → rules.size_of a ≤ rules.size_of b
 no_fewer rules part a b y (Ok t) laws p = omega (arith, laws.grows a b y p.0)
 no_fewer rules part a b y (Err e) laws p = omega (arith, laws.grows a b [] p.0)
@@ -85,7 +85,7 @@ set_number-requires-2 g c =
     let put = both_put rules (InRangePayload ss) c.args.out.now c.set_number.new.self c.put_payload-payload.new.out 0 y c.put_payload-payload.result laws kept c.put_payload-payload.ensures (sym c.is_err.ensures.value ∙ c.if-is_err.false) in
     omega (arith, laws.grows c.args.out.now c.put_payload-payload.new.out (0 ∷ y) put.0, c.size-start.ensures)
 
--- who sets no number stays as it was
+-- If the sink cannot overwrite a number, it stays as it was.
 stays : {S : Type 0} (rules : SinkRules S) (a b : S) (at n : ℕ) (says : Bool) → Sets rules a b at n says → says ≡ false → rules.appended a b []
 stays rules a b at n true p h = absurd cc
 stays rules a b at n false p h = p

@@ -13,7 +13,7 @@ use Rattle.wast_resolve_passes.specs.Resolvers.{scope_of}
 use Rattle.wast_resolve_passes.proofs.Parts.{all_but_last, all_counts_but_last, walks_as}
 use Rattle.wast_resolve_passes.proofs.walks.walk_body.Goals as goal
 
--- of the branch hints nothing is demanded
+-- branch hints have no checks
 pub returns-in-Inline : goal.returns-in-Inline
 returns-in-Inline c l numbers =
     let s = scope_of c.args.names.now in

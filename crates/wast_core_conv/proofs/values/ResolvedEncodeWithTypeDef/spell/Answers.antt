@@ -13,7 +13,7 @@ use Rattle.wast_core_conv.proofs.Standing.{encodable_in}
 use Rattle.wast_core_conv.proofs.TypesReady.{def_parts}
 use Rattle.wast_core_conv.proofs.values.ResolvedEncodeWithTypeDef.spell.Goals as goal
 
--- the types above a type are numbers, and what it is may be encoded
+-- The supertypes are numbers, and the composite type may be encoded.
 parents_and_kind : (d : TypeDef) (ps : List Index) → ps ≡ d.parents → are_encodable (in_def d) ≡ true → (list_all is_number ps && are_encodable (in_inner d.kind)) ≡ true
 parents_and_kind d ps same e =
     let parts = def_parts is_encodable_ask d e in

@@ -10,7 +10,7 @@ import re
 
 from printing import natural
 
-OPS = (pathlib.Path(__file__).resolve().parent / "ops").read_text()
+OPS = (pathlib.Path(__file__).resolve().parent.parent / "ops").read_text()
 
 TOLD = r"""
 (module (func br ^$a))	fault at ^: unknown label: failed to find name `$a`

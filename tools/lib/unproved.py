@@ -13,7 +13,7 @@ import subprocess
 import sys
 import tempfile
 
-ROOT = pathlib.Path(__file__).resolve().parent.parent
+ROOT = pathlib.Path(__file__).resolve().parent.parent.parent
 
 # What `rt try` is made of, which looks for the kit beside itself: copied, so that it finds the folder of links.
 SCRIPTS = ("rt", "rtlib.py")

@@ -13,7 +13,7 @@ import pathlib
 import re
 import subprocess
 
-ROOT = pathlib.Path(__file__).resolve().parent.parent
+ROOT = pathlib.Path(__file__).resolve().parent.parent.parent
 
 LINE = re.compile(r"(file|old|new): ?(.*)")
 

@@ -9,7 +9,7 @@ import functools
 import pathlib
 import re
 
-ROOT = pathlib.Path(__file__).resolve().parent.parent
+ROOT = pathlib.Path(__file__).resolve().parent.parent.parent
 
 # What callers meet, in the order of the README.
 FACES = ["wast_tree", "wasm_ops", "wasm_out", "wast_expand", "wast_resolve", "wast_core", "wast_rows"]

@@ -1,6 +1,6 @@
 """Counts wording that the docs avoid, for `tools/check-docs`: sentences over 30 words, and words that have a plainer one.
 
-`tools/words.tsv` has the words: forms to avoid, what to write, and phrases in which a form is not counted. For example, "stands" has
+`tools/data/words.tsv` has the words: forms to avoid, what to write, and phrases in which a form is not counted. For example, "stands" has
 "is; occurs; appears", and "in place" is not counted in "in place of". Code, in backticks or in a block, is not read.
 """
 
@@ -19,7 +19,7 @@ LONGEST = 30
 def words():
     """The forms to avoid: a pattern for each line of the table, what to write instead, and a pattern of what is not counted."""
     found = []
-    for line in (ROOT / "tools/words.tsv").read_text(encoding="utf-8").split("\n")[1:]:
+    for line in (ROOT / "tools/data/words.tsv").read_text(encoding="utf-8").split("\n")[1:]:
         if line:
             avoid, write, within = line.split("\t")
             found.append((pattern(avoid), write, pattern(within) if within else None))
@@ -56,13 +56,18 @@ def paragraphs_of_page(lines):
             taken.append(re.sub(r"^(?:[-*]|\d+\.) ", "", text))
 
 
-def paragraphs_of_code(lines):
-    """The text of doc comments, as `paragraphs_of_page` gives it; an indented line is code."""
+def docs_of_code(lines):
+    """The text of doc comments, with an empty line for each other line; an indented line is code."""
     docs = []
     for line in lines:
         match = re.match(r"\s*//[/!] ?(.*)$", line)
         docs.append(match.group(1) if match and not match.group(1).startswith("    ") else "")
-    return paragraphs_of_page(docs)
+    return docs
+
+
+def paragraphs_of_code(lines):
+    """The text of doc comments, as `paragraphs_of_page` gives it."""
+    return paragraphs_of_page(docs_of_code(lines))
 
 
 def plain(text):
