@@ -15,7 +15,7 @@ use Rattle.wast_core_conv.proofs.TypesReady.{heap_covered, val_covered}
 pub table_covered : (t : TableType) → are_encodable (in_table_type t) ≡ true → (table_type (meaning.as_table_type t)).is_covered ≡ true
 table_covered t e =
     let both = both_lists is_encodable_ask (in_ref t.elem) _ e in
-    both_true (not t.shared) _ (both_pass (not t.shared) true both.1).0 (heap_covered t.elem.heap both.0)
+    both_true (not t.shared) _ (both_pass (not t.shared) true both.1).0 (both_true _ true (heap_covered t.elem.heap both.0) refl)
 
 pub global_covered : (t : GlobalType) → are_encodable (in_global_type t) ≡ true → (global_type (meaning.as_global_type t)).is_covered ≡ true
 global_covered t e =

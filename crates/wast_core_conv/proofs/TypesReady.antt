@@ -1,9 +1,7 @@
 -- Types that may be encoded become supported values, and the parts of a resolved type are resolved.
-use native.Mathlib.Omega.{arith}
 use Rattle.std.proofs.Common.{◌≡◌, Bool, true, false, ◌&&◌, List, [], ◌∷◌, map, refl, sym, ◌∙◌}
 use Rattle.std.specs.Prelude.{not, is_none, Option, Some, None, option_map}
 use Rattle.std.specs.List.{flat_map, list_all}
-use Rattle.std.proofs.lemmas.Grind.{common_steps}
 use Rattle.wast_base.specs.Ids.{is_number}
 use Rattle.wast_tree_nodes.specs.Sites.{Check, Covered, is_continuation, is_sequential, check_sites, if_there, in_index, in_heap, in_val, in_select, in_storage, in_param, in_signature, OfBlock, Used, in_type_use, in_use, in_struct_field, in_descriptor, in_inner, in_def, in_type, in_rec, in_local}
 use Rattle.wast_tree_nodes.specs.Resolved.{are_numbered}
@@ -19,6 +17,8 @@ use Rattle.wast_core_conv.specs.Tree.heap
 use Rattle.wast_core_conv.specs.Tree.ordering
 use Rattle.wast_core_conv.specs.Tree.inner
 use Rattle.wast_core_conv.specs.Tree.space
+use Rattle.wast_core_conv.specs.Tree.storage
+use Rattle.wast_core_conv.specs.Tree.value as val
 use Rattle.wast_core_conv.specs.Encodable.{is_number_if, is_encodable_ask, are_encodable, is_encodable_site, encodable, is_encodable_type}
 use Rattle.wast_core_conv.specs.Values.{short_block_type, short_type, use_as_block}
 use Rattle.wast_core_conv.specs.Meaning as meaning
@@ -62,14 +62,15 @@ abstract_covered abstract.NoCont e = e
 abstract_covered ty e = refl
 
 pub heap_covered : (h : HeapType) → are_encodable (in_heap h) ≡ true → (heap_type (meaning.as_heap_type h)).is_covered ≡ true
-heap_covered (heap.Abstract shared ty) e =
-    let both = both_pass (not shared) _ e in
-    both_true (not shared) _ both.0 (abstract_covered ty (both_pass (not (is_continuation ty)) true both.1).0)
+heap_covered (heap.Abstract false ty) e = abstract_covered ty (both_pass (not (is_continuation ty)) true e).0
+heap_covered (heap.Abstract true ty) e = e
 heap_covered (heap.Concrete i) e = refl
 heap_covered (heap.Exact i) e = (both_pass (is_number i) false e).1
 
 pub val_covered : (t : ValType) → are_encodable (in_val t) ≡ true → (val_type (meaning.as_val_type t)).is_covered ≡ true
-val_covered t e = grind (arith, common_steps, heap_covered)
+val_covered val.I32 e = refl
+val_covered (val.Ref r) e = heap_covered r.heap e
+val_covered t e = refl
 
 -- The types of `select`.
 select_all : (ts : List ValType) → are_encodable (flat_map in_val ts) ≡ true → list_all (λ x. (val_type x).is_covered) (map meaning.as_val_type ts) ≡ true
@@ -110,7 +111,9 @@ block_covered b e =
     use_covered b.ty.index b.ty.inline (both_lists is_encodable_ask (if_there (in_index space.Ty) b.ty.index) _ asks).1
 
 pub storage_covered : (t : StorageType) → are_encodable (in_storage t) ≡ true → (storage_type (meaning.as_storage_type t)).is_covered ≡ true
-storage_covered t e = grind (arith, common_steps, val_covered)
+storage_covered storage.I8 e = refl
+storage_covered (storage.Val t) e = val_covered t e
+storage_covered t e = refl
 
 param_covered : (p : Option Id × Option NameAnnotation × ValType) → are_encodable (in_param p) ≡ true → (val_type (meaning.as_val_type p.2)).is_covered ≡ true
 param_covered p e = val_covered p.2 (sym (behind_id p.0 (in_val p.2)) ∙ e)
