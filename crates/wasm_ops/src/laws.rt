@@ -6,27 +6,11 @@ ghost use Rattle.wasm_ops.specs.ConstExprs.{IsExpression, expression};
 ghost use Rattle.wasm_ops.specs.Control.{block_type, catch_clause};
 ghost use Rattle.wasm_ops.specs.Entities.{entity_type, global_type, memory_type, table_type, tag_type};
 ghost use Rattle.wasm_ops.specs.Leb128.{SpellsUnsigned, SpellsSigned, unsigned, signed};
-ghost use Rattle.wasm_ops.specs.Spelling.{Any, name, InRangeName, export_kind, Spellable, array_type, composite_type, field_type, func_type, heap_type, ref_type, storage_type, struct_type, sub_type, val_type};
+ghost use Rattle.wasm_ops.specs.Spelling.{Any, name, InRangeName, export_kind, array_type, composite_type, field_type, func_type, heap_type, ref_type, storage_type, struct_type, sub_type, val_type};
 ghost use Rattle.wasm_ops.specs.declared.opcodes.Opcode.TheVariants.{Byte};
 ghost use Rattle.wasm_ops.specs.Table.{Instr, IsInstr, table, kinds_of, ascends, all_apart, instr};
-ghost use Rattle.wasm_ops.specs.declared.blocks.BlockType.{BlockType};
 ghost use Rattle.wasm_ops.specs.declared.blocks.Catch.{Catch};
-ghost use Rattle.wasm_ops.specs.declared.entities.TableType.{TableType};
-ghost use Rattle.wasm_ops.specs.declared.entities.MemoryType.{MemoryType};
-ghost use Rattle.wasm_ops.specs.declared.entities.GlobalType.{GlobalType};
-ghost use Rattle.wasm_ops.specs.declared.entities.TagType.{TagType};
-ghost use Rattle.wasm_ops.specs.declared.entities.EntityType.{EntityType};
-ghost use Rattle.wasm_ops.specs.declared.ref_types.HeapType.{HeapType};
-ghost use Rattle.wasm_ops.specs.declared.ref_types.RefType.{RefType};
-ghost use Rattle.wasm_ops.specs.declared.types.ValType.{ValType};
-ghost use Rattle.wasm_ops.specs.declared.types.StorageType.{StorageType};
-ghost use Rattle.wasm_ops.specs.declared.types.FieldType.{FieldType};
 ghost use Rattle.wasm_ops.specs.declared.types.ExportKind.{ExportKind};
-ghost use Rattle.wasm_ops.specs.declared.types.FuncType.{FuncType};
-ghost use Rattle.wasm_ops.specs.declared.types.StructType.{StructType};
-ghost use Rattle.wasm_ops.specs.declared.types.ArrayType.{ArrayType};
-ghost use Rattle.wasm_ops.specs.declared.types.CompositeType.{CompositeType};
-ghost use Rattle.wasm_ops.specs.declared.types.SubType.{SubType};
 
 /// The theorem of unsigned numbers: bytes determine their number, and a number its bytes.
 ///
