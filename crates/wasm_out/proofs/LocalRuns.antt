@@ -1,5 +1,5 @@
 -- Runs of locals: they give the locals back, and are no longer than these.
-use Rattle.std.proofs.Common.{◌≡◌, ◌<◌, ◌≤◌, ◌+◌, ℕ, zero, suc, Bool, true, false, ◌&&◌, List, [], ◌∷◌, ◌++◌, length, map, drop, get_or, replicate, refl, sym, ap, ◌∙◌, subst, add-one, arith, drop-cons}
+use Rattle.std.proofs.Common.{◌≡◌, ◌==◌, ◌<◌, ◌≤◌, ◌+◌, ℕ, zero, suc, Bool, true, false, ◌&&◌, List, [], ◌∷◌, ◌++◌, length, map, drop, get_or, replicate, refl, sym, ap, ◌∙◌, subst, add-one, arith, drop-cons}
 use Rattle.std.specs.Prelude.{All}
 use Rattle.std.specs.List.{flat_map, list_all}
 use Rattle.std.proofs.lemmas.List.{drop_all, length-map}
@@ -37,8 +37,13 @@ replicate_more : (n : ℕ) (t : ValType) (us : List ValType) → replicate n t +
 replicate_more zero t us = refl
 replicate_more (suc n) t us = ap (λ l. t ∷ l) (replicate_more n t us)
 
+-- a list that is not empty
+pub some_items : (n : ℕ) → (n == 0) ≡ false → 0 < n
+some_items zero e = absurd cc
+some_items (suc n) e = omega arith
+
 -- an item and those behind it
-next_local : {X : Type 0} (f : X → ValType) (xs : List X) (at : ℕ) (u : ValType) (x : X) → at < length xs → x ≡ get_or xs at x → u ≡ f x → map f (drop at xs) ≡ u ∷ map f (drop (at + 1) xs)
+pub next_local : {X : Type 0} (f : X → ValType) (xs : List X) (at : ℕ) (u : ValType) (x : X) → at < length xs → x ≡ get_or xs at x → u ≡ f x → map f (drop at xs) ≡ u ∷ map f (drop (at + 1) xs)
 next_local f xs at u x lt is told =
     ap (map f) (drop-cons xs at x lt) ∙ ap (λ y. f y ∷ map f (drop (suc at) xs)) (sym is)
     ∙ ap (λ v. v ∷ map f (drop (suc at) xs)) (sym told) ∙ ap (λ k. u ∷ map f (drop k xs)) (sym (add-one at))
