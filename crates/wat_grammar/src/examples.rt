@@ -1,5 +1,6 @@
 //! Texts, and what the definitions compute of them.
 
+ghost use Rattle.wat_grammar.specs.WorkedFloats.{Fractions, Decimals, NoDecimals, Hexadecimals, Magnitudes, Singles, Specials, Doubles};
 ghost use Rattle.wat_grammar.specs.WorkedIntegers.{Digits, Numbers, Naturals, Unsigned, Signed, Integers, SignBefore};
 ghost use Rattle.wat_grammar.specs.WorkedStrings.{Escapes, Strings};
 
@@ -30,4 +31,22 @@ pub(crate) fn integers()
 pub(crate) fn strings()
     ensures escapes { Escapes }
     ensures whole { Strings }
+{}
+
+/// Floating-point numbers as fractions: decimal, hexadecimal, and what is none.
+#[tactic(auto, using(crate::proofs::WorkedFloats::fractions, crate::proofs::WorkedFloats::decimals, crate::proofs::WorkedFloats::no_decimals, crate::proofs::WorkedFloats::hexadecimals, crate::proofs::WorkedFloats::magnitudes))]
+pub(crate) fn floats()
+    ensures fractions { Fractions }
+    ensures decimals { Decimals }
+    ensures none { NoDecimals }
+    ensures hexadecimals { Hexadecimals }
+    ensures magnitudes { Magnitudes }
+{}
+
+/// The bits of floating-point numbers, rounded once.
+#[tactic(auto, using(crate::proofs::WorkedFloats::singles, crate::proofs::WorkedFloats::specials, crate::proofs::WorkedFloats::doubles))]
+pub(crate) fn float_bits()
+    ensures singles { Singles }
+    ensures specials { Specials }
+    ensures doubles { Doubles }
 {}

@@ -49,13 +49,13 @@ unfolding before
 digits_before f radix n c back apart is = rw (apart, before) is
 
 -- one digit more
-more_digit : (f : ℕ → Option ℕ) (radix c d : ℕ) {a : Bool} {n : ℕ} {back : List ℕ} → c == 0x5f ≡ false → f c ≡ Some d → Read f radix a n back → Read f radix true (radix * n + d) (c ∷ back)
+pub more_digit : (f : ℕ → Option ℕ) (radix c d : ℕ) {a : Bool} {n : ℕ} {back : List ℕ} → c == 0x5f ≡ false → f c ≡ Some d → Read f radix a n back → Read f radix true (radix * n + d) (c ∷ back)
 more_digit f radix c d other digit nothing = a_digit other (one_digit f radix c d digit)
 more_digit f radix c d other digit (a_digit {n = n} {c = b} {back = bs} apart is) = a_digit other (digit_more f radix c d n (b ∷ bs) digit (digits_before f radix n b bs apart is))
 more_digit f radix c d other digit (an_underscore {n = n} {back = bs} is) = a_digit other (digit_more f radix c d n (0x5f ∷ bs) digit (underscored f radix n bs is))
 
 -- an underscore after a digit
-more_underscore : (f : ℕ → Option ℕ) (radix : ℕ) {n : ℕ} {back : List ℕ} → Read f radix true n back → Read f radix false n (0x5f ∷ back)
+pub more_underscore : (f : ℕ → Option ℕ) (radix : ℕ) {n : ℕ} {back : List ℕ} → Read f radix true n back → Read f radix false n (0x5f ∷ back)
 more_underscore f radix (a_digit apart is) = an_underscore is
 
 -- No text is a number that begins so: neither what is there, nor what is before an underscore at its end.
@@ -76,7 +76,7 @@ unfolding before
 front_of f radix x back short long = elim (x == 0x5f) as (λ b. elim b as (λ b. Option ℕ) [ true ↦ backwards f radix back | false ↦ backwards f radix (x ∷ back) ] ≡ None) [ true ↦ short | false ↦ long ]
 
 -- more characters change nothing
-still_dead : (f : ℕ → Option ℕ) (radix c : ℕ) (back xs : List ℕ) → Dead f radix (c ∷ back) → Dead f radix (xs ++ c ∷ back)
+pub still_dead : (f : ℕ → Option ℕ) (radix c : ℕ) (back xs : List ℕ) → Dead f radix (c ∷ back) → Dead f radix (xs ++ c ∷ back)
 still_dead f radix c back [] h = h
 still_dead f radix c back (x ∷ []) h =
     let long = whole_more f radix x c back h.front in record { whole = long; front = front_of f radix x (c ∷ back) h.whole long }

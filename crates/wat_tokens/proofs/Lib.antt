@@ -1,2 +1,11 @@
 pub mod Backwards
+pub mod FloatBits
+pub mod Forwards
+pub mod Fractional
+pub mod Hexadecimal
+pub mod Kept
+pub mod Numerals
+pub mod Rounded
+pub mod Scanned
+pub mod SignedFloats
 pub mod TwosComplement
