@@ -198,7 +198,7 @@ impl<'a> Scan<'a> {
             }
         };
         if name.is_empty() {
-            return Err(TextFault::OpenAnnotation);
+            return Err(TextFault::EmptyAnnotation);
         }
         match annotation(name) {
             Some(annotation) if self.skipped == 0 => self.put(place, Token::Annotation(annotation)),

@@ -34,8 +34,8 @@ impl Strings {
     /// or a copy that is kept here if there are escapes, which allocates memory.
     ///
     /// # Errors
-    /// [`TextFault::Escape`]: a control character or a wrong escape, with its offset in `content`. [`TextFault::Memory`]:
-    /// allocation failed.
+    /// [`TextFault::Escape`]: a wrong escape, with its offset in `content`. [`TextFault::StringCharacter`]: a control character,
+    /// with its offset. [`TextFault::Memory`]: allocation failed.
     pub fn read<'a>(&'a self, alloc: Global, content: &'a [u8]) -> Result<&'a [u8], StringError> {
         if content.contains(&b'\\') {
             let bytes = unescaped(alloc, content)?;
@@ -46,7 +46,7 @@ impl Strings {
         }
         match content.iter().position(|byte| is_control(*byte)) {
             Some(offset) => Err(StringError {
-                fault: TextFault::Escape,
+                fault: TextFault::StringCharacter,
                 offset,
             }),
             None => Ok(content),
@@ -135,7 +135,7 @@ fn more(number: u32, after_digit: bool, byte: u8) -> Result<Escape, TextFault> {
 fn take(out: &mut Vec<u8>, escape: Escape, byte: u8) -> Result<Escape, TextFault> {
     match escape {
         Escape::None if byte == b'\\' => Ok(Escape::Begun),
-        Escape::None if is_control(byte) => Err(TextFault::Escape),
+        Escape::None if is_control(byte) => Err(TextFault::StringCharacter),
         Escape::None => {
             out.push(byte)?;
             Ok(Escape::None)
