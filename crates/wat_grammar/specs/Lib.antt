@@ -1,6 +1,9 @@
 pub mod Characters
 pub mod Integers
 pub mod Parts
+pub mod Space
 pub mod Strings
+pub mod Tokens
 pub mod WorkedIntegers
 pub mod WorkedStrings
+pub mod WorkedTokens

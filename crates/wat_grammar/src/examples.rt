@@ -2,6 +2,7 @@
 
 ghost use Rattle.wat_grammar.specs.WorkedIntegers.{Digits, Numbers, Naturals, Unsigned, Signed, Integers, SignBefore};
 ghost use Rattle.wat_grammar.specs.WorkedStrings.{Escapes, Strings};
+ghost use Rattle.wat_grammar.specs.WorkedTokens.{Comments, Places, Quoted, Annotations};
 
 /// Digits, and the characters beside them.
 #[tactic(auto, using(crate::proofs::Worked::digits))]
@@ -30,4 +31,13 @@ pub(crate) fn integers()
 pub(crate) fn strings()
     ensures escapes { Escapes }
     ensures whole { Strings }
+{}
+
+/// Comments, tokens at their places, strings and annotations.
+#[tactic(auto, using(crate::proofs::Worked::comments, crate::proofs::Worked::places, crate::proofs::Worked::quoted, crate::proofs::Worked::annotations))]
+pub(crate) fn tokens()
+    ensures comments { Comments }
+    ensures places { Places }
+    ensures quoted { Quoted }
+    ensures annotations { Annotations }
 {}
