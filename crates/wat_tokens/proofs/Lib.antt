@@ -1,2 +1,12 @@
 pub mod Backwards
 pub mod TwosComplement
+pub mod Fronts
+pub mod Braces
+pub mod Scalars
+pub mod Elements
+pub mod Comments
+pub mod Quotes
+pub mod Tables
+pub mod Idchars
+pub mod Parts
+pub mod Ascii

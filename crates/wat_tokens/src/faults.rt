@@ -1,5 +1,7 @@
 //! Why a text is refused.
 
+ghost use Rattle.std.specs.Prelude.{◌≡◌};
+
 use std::alloc::{AllocError, AllocFailed};
 use std::fmt;
 use wast_base::Span;
@@ -115,7 +117,10 @@ pub struct TextError {
 
 impl TextError {
     /// Returns the error of a fault at a position. Does not allocate.
-    pub fn new(span: Span, fault: TextFault) -> TextError {
+    pub fn new(span: Span, fault: TextFault) -> TextError
+        ensures fault { result.fault ≡ fault }
+        ensures span { result.span ≡ span }
+    {
         TextError { fault, span }
     }
 }

@@ -61,7 +61,7 @@ fn with_digit(value: Option<u64>, is_hex: bool, digit: u64) -> Option<u64>
 }
 
 /// The value of digits, with underscores between them.
-fn magnitude(digits: &[u8], is_hex: bool) -> Result<u64, TextFault>
+pub(crate) fn magnitude(digits: &[u8], is_hex: bool) -> Result<u64, TextFault>
     ensures { result ≡ sized (number_in is_hex digits.now) }
 {
     let mut value = Some(0);
