@@ -17,24 +17,24 @@ EDGES = r"""
 # White space, comments and tokens (text format, lexical format). A form feed is no white space.
 # `(;)` opens a comment, since `(;` is read first. Parentheses, comments and white space end a
 # token, and two tokens may not touch.
-\(^module\0c(func))	not read at ^: expected a blank or a parenthesis
+\(^module\0c(func))	not read at ^: expected whitespace or a parenthesis after token
 (module (;) ;) (func))	0061736d01000000010401600000030201000a040102000b
 (module (; (; ;) ;) (func))	0061736d01000000010401600000030201000a040102000b
-(module (func ^(;))	not read at ^: comment without an end
+(module (func ^(;))	not read at ^: unterminated block comment
 (module ^; (func))	not read at ^: unexpected character
 (module (func (;a;)nop(;b;)))	0061736d01000000010401600000030201000a05010300010b
 (module (func nop)(func))	0061736d0100000001040160000003030200000a08020300010b02000b
 (module(func)(func))	0061736d0100000001040160000003030200000a070202000b02000b
 (module (func i32.const 1(drop)))	0061736d01000000010401600000030201000a0701050041011a0b
-(module (data ^"a""b"))	not read at ^: expected a blank or a parenthesis
-(module (func ^$f"a"))	not read at ^: expected a blank or a parenthesis
+(module (data ^"a""b"))	not read at ^: expected whitespace or a parenthesis after token
+(module (func ^$f"a"))	not read at ^: expected whitespace or a parenthesis after token
 (module (func $a$b))	0061736d01000000010401600000030201000a040102000b000d046e616d650106010003612462
 (module (func $a`b))	0061736d01000000010401600000030201000a040102000b000d046e616d650106010003616062
 
 # Strings (text format, strings): the last and the first of what an escape may say, and control
 # characters.
-\(module (data "^\7f"))	not read at ^: invalid string element
-(module (data "^\u{1_}"))	not read at ^: invalid string element
+\(module (data "^\7f"))	not read at ^: invalid character in string
+(module (data "^\u{1_}"))	not read at ^: invalid string escape
 (module (data "\'"))	0061736d010000000b0401010127
 (module (data "\u{10ffff}"))	0061736d010000000b07010104f48fbfbf
 (module (data "\FF"))	0061736d010000000b04010101ff
@@ -68,18 +68,18 @@ EDGES = r"""
 
 # Modules: one, in parentheses or not, as fields, as bytes or as a text in quotes; and what is not a
 # module.
-(func)^)	not read at ^: unexpected token behind the module
+(func)^)	not read at ^: unexpected token after module
 (module (func^	not read at ^: expected `)`
-(module) ^(module)	not read at ^: unexpected token behind the module
+(module) ^(module)	not read at ^: unexpected token after module
 (module (func ^"a"))	not read at ^: unknown operator or unexpected token
-(module (func) ^"a")	not read at ^: expected a field of a module
-(module ^definition (func))	not read at ^: expected a field of a module
+(module (func) ^"a")	not read at ^: expected valid module field
+(module ^definition (func))	not read at ^: expected valid module field
 (module binary "\00asm\01\00\00\00")	0061736d01000000
 (module quote "(func)")	0061736d01000000010401600000030201000a040102000b
 
 # Types and type uses (text format, types). A parameter with an id or a name annotation is alone in
 # its form.
-(module (func (result i32) (^param i32)))	not read at ^: a parameter stands behind a result
+(module (func (result i32) (^param i32)))	not read at ^: `param` must come before `result`
 (module (func (param $a i32 ^i32)))	not read at ^: expected `)`
 (module (func block (param ^$a i32) end))	not read at ^: expected a value type
 (module (func (local (@name "x") i32 ^i32)))	not read at ^: expected `)`
@@ -158,7 +158,7 @@ EDGES = r"""
 # Branch hints (code metadata: branch hinting). A hint before a folded instruction is on the
 # instruction that the fold names, which is after its operands. The crate and wat2wasm put it on the
 # first operand: their offsets in the third and the fourth text are 3 and 1.
-(module (func (@metadata.code.branch_hint ^"\02") if end))	not read at ^: invalid value for a branch hint
+(module (func (@metadata.code.branch_hint ^"\02") if end))	not read at ^: invalid value for branch hint
 (module (func i32.const 1 (@metadata.code.branch_hint "\01") br_if 0))	0061736d01000000010401600000030201000020196d657461646174612e636f64652e6272616e63685f68696e740100010301010a0801060041010d000b
 (module (func i32.const 1 (drop (@metadata.code.branch_hint "\01") (if (result i32) (i32.const 1) (then (i32.const 1)) (else (i32.const 2))))))	0061736d01000000010401600000030201000020196d657461646174612e636f64652e6272616e63685f68696e740100010501010a11010f0041014101047f41010541020b1a0b
 (module (func (@metadata.code.branch_hint "\01") (br_if 0 (i32.const 1))))	0061736d01000000010401600000030201000020196d657461646174612e636f64652e6272616e63685f68696e740100010301010a0801060041010d000b
@@ -210,8 +210,8 @@ EDGES = r"""
 (module (func (@metadata.code.branch_hint "\00" ^nop) nop))	not read at ^: expected `)`
 (module (func (@metadata.code.branch_hint "\00" ^"\01") nop))	not read at ^: expected `)`
 (module (func (@metadata.code.branch_hint^) nop))	not read at ^: expected a string
-(module (func (@metadata.code.branch_hint ^"") nop))	not read at ^: invalid value for a branch hint
-(module (func (@metadata.code.branch_hint ^"\00\01") nop))	not read at ^: invalid value for a branch hint
+(module (func (@metadata.code.branch_hint ^"") nop))	not read at ^: invalid value for branch hint
+(module (func (@metadata.code.branch_hint ^"\00\01") nop))	not read at ^: invalid value for branch hint
 
 # Elements inline in a table. A segment of functions has no place for a type, so in a table that is
 # not `funcref` functions by index are expressions `ref.func` of the type of the table.
@@ -323,8 +323,8 @@ EDGES = r"""
 (module (table 1 funcref) (elem (table 0) (i32.const 0)^))	not read at ^: expected `func` or a reference type
 (module (func $f) (elem func $f) (elem declare func $f) (elem func))	0061736d0100000001040160000003020100090c0301000100030001000100000a040102000b000b046e616d65010401000166
 (module (func $f) (table 1 funcref) (elem (table 0) (i32.const 0) func $f) (elem (i32.const 0) $f) (elem (i32.const 0)) (elem (i32.const 0) func $f))	0061736d0100000001040160000003020100040401700001091a04020041000b0001000041000b01000041000b000041000b01000a040102000b000b046e616d65010401000166
-(module (func (result) (^param i32)))	not read at ^: a parameter stands behind a result
-(module (type (func (result) (^param))))	not read at ^: a parameter stands behind a result
+(module (func (result) (^param i32)))	not read at ^: `param` must come before `result`
+(module (type (func (result) (^param))))	not read at ^: `param` must come before `result`
 (module (func (param) (param i32) (result) (result i32) i32.const 0))	0061736d0100000001060160017f017f030201000a0601040041000b
 (module (memory $m 1) (data $n ^$m (i32.const 0) "a"))	not read at ^: expected `(`
 (module (table $t 1 funcref) (elem $e ^$t (i32.const 0) func))	not read at ^: expected `func` or a reference type
@@ -347,29 +347,29 @@ EDGES = r"""
 (module (func (@x i32.const) nop (@"x y" ,) (drop (@x) (i32.const 0))))	0061736d01000000010401600000030201000a080106000141001a0b
 (module (@"x" (; ) ;) ")" "(" (;;)) (func))	0061736d01000000010401600000030201000a040102000b
 \(module (@x ;; )\n) (func))	0061736d01000000010401600000030201000a040102000b
-(module ^(@) (func))	not read at ^: annotation without a name or an end
-(module ^(@ x) (func))	not read at ^: annotation without a name or an end
-(module ^(@"" x) (func))	not read at ^: annotation without a name or an end
-(module (@x "a^\q") (func))	not read at ^: invalid string element
-\(module (@x "^\7f") (func))	not read at ^: invalid string element
+(module ^(@) (func))	not read at ^: empty annotation id
+(module ^(@ x) (func))	not read at ^: empty annotation id
+(module ^(@"" x) (func))	not read at ^: empty annotation id
+(module (@x "a^\q") (func))	not read at ^: invalid string escape
+\(module (@x "^\7f") (func))	not read at ^: invalid character in string
 \(module (@x ^\7f) (func))	not read at ^: unexpected character
-(module (@x (func)^	not read at ^: annotation without a name or an end
-(module (@x ^(; ) (func))	not read at ^: comment without an end
+(module (@x (func)^	not read at ^: unterminated annotation
+(module (@x ^(; ) (func))	not read at ^: unterminated block comment
 
 # Offsets in strings: a wrong escape has its own, and a character that no string holds too. Line
 # feeds, carriage returns and tabs are white space, a line feed or a carriage return ends a line
 # comment, and all count as bytes.
-(module (data "ab^\q"))	not read at ^: invalid string element
-(module (data "\n\t^\u{d800}"))	not read at ^: invalid string element
-(module (data "a^\7g"))	not read at ^: invalid string element
-(module (data "a^\u41"))	not read at ^: invalid string element
-(module (export "é^\q" (func 0)))	not read at ^: invalid string element
-(module (func (export "a") (export "b^\zz")))	not read at ^: invalid string element
-(module $"a^\q")	not read at ^: invalid string element
-(module (@custom "a" "b^\q"))	not read at ^: invalid string element
-\(module (data "ab^\01"))	not read at ^: invalid string element
-\(module (data "a^\nb"))	not read at ^: invalid string element
-\(module (data "a\\n^\tb"))	not read at ^: invalid string element
+(module (data "ab^\q"))	not read at ^: invalid string escape
+(module (data "\n\t^\u{d800}"))	not read at ^: invalid string escape
+(module (data "a^\7g"))	not read at ^: invalid string escape
+(module (data "a^\u41"))	not read at ^: invalid string escape
+(module (export "é^\q" (func 0)))	not read at ^: invalid string escape
+(module (func (export "a") (export "b^\zz")))	not read at ^: invalid string escape
+(module $"a^\q")	not read at ^: invalid string escape
+(module (@custom "a" "b^\q"))	not read at ^: invalid string escape
+\(module (data "ab^\01"))	not read at ^: invalid character in string
+\(module (data "a^\nb"))	not read at ^: invalid character in string
+\(module (data "a\\n^\tb"))	not read at ^: invalid character in string
 (module (export ^"a\ff" (func 0)))	not read at ^: malformed UTF-8 encoding
 (module (func ^$"a\ff"))	not read at ^: malformed UTF-8 encoding
 \(module\n\t(func)\r\n\t(func $a) ;; (func)\n)\n	0061736d0100000001040160000003030200000a070202000b02000b000b046e616d65010401010161
@@ -395,10 +395,10 @@ EDGES = r"""
 (module quote "(data \"a\\n\")")	0061736d010000000b05010102610a
 (module quote "(fu" "nc nop)")	0061736d01000000010401600000030201000a05010300010b
 (module quote "(data \"a" "b\")")	0061736d010000000b050101026162
-(module quote "(func)" ^"(fnc)")	not read at ^: expected a field of a module
+(module quote "(func)" ^"(fnc)")	not read at ^: expected valid module field
 (module quote "(func nop" " " ^"end)")	not read at ^: unexpected `end`
 (module quote ^"(func call $x)")	fault at ^: unknown func: failed to find name `$x`
-(module quote "(func)" ^"(data \"\\q\")")	not read at ^: invalid string element
+(module quote "(func)" ^"(data \"\\q\")")	not read at ^: invalid string escape
 (module quote ^"(func)" "(func" )	not read at ^: expected `)`
 (module quote ^func)	not read at ^: expected a string
 (module quote ^"(func) \ff")	not read at ^: malformed UTF-8 encoding

@@ -2,9 +2,13 @@
 use Rattle.std.proofs.Common.{refl}
 use Rattle.std.specs.Char.{encode_utf8}
 use Rattle.wat_grammar.specs.Integers.{backwards}
+use Rattle.std.specs.Str.{is_utf8, chars}
+use Rattle.wat_grammar.specs.Space.{blockcomment}
 use Rattle.wat_grammar.specs.Strings.{braced, elements}
+use Rattle.wat_grammar.specs.Tokens.{string_length, skipped, parts}
 use Rattle.wat_grammar.specs.WorkedIntegers.{Digits, Numbers, Naturals, Unsigned, Signed, Integers, SignBefore}
 use Rattle.wat_grammar.specs.WorkedStrings.{Escapes, Strings}
+use Rattle.wat_grammar.specs.WorkedTokens.{Comments, Places, Quoted, Annotations}
 
 pub digits : Digits
 digits = (refl, refl, refl, refl, refl)
@@ -40,3 +44,19 @@ escapes = (refl, refl, refl, refl, refl, refl, refl, refl, refl, refl, refl, ref
 pub strings : Strings
 unfolding elements
 strings = (refl, refl, refl, refl, refl, refl, refl)
+
+pub comments : Comments
+unfolding blockcomment
+comments = (refl, refl, refl, refl, refl, refl)
+
+pub places : Places
+unfolding parts blockcomment
+places = (refl, refl, refl, refl, refl, refl, refl, refl)
+
+pub quoted : Quoted
+unfolding parts string_length elements is_utf8 chars encode_utf8
+quoted = (refl, refl, refl, refl, refl, refl, refl, refl, refl)
+
+pub annotations : Annotations
+unfolding parts skipped blockcomment
+annotations = (refl, refl, refl, refl, refl)

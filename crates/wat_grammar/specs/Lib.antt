@@ -2,7 +2,10 @@ pub mod Characters
 pub mod Floats
 pub mod Integers
 pub mod Parts
+pub mod Space
 pub mod Strings
+pub mod Tokens
 pub mod WorkedFloats
 pub mod WorkedIntegers
 pub mod WorkedStrings
+pub mod WorkedTokens

@@ -3,6 +3,7 @@
 ghost use Rattle.wat_grammar.specs.WorkedFloats.{Fractions, Decimals, NoDecimals, Hexadecimals, Magnitudes, Singles, Specials, Doubles};
 ghost use Rattle.wat_grammar.specs.WorkedIntegers.{Digits, Numbers, Naturals, Unsigned, Signed, Integers, SignBefore};
 ghost use Rattle.wat_grammar.specs.WorkedStrings.{Escapes, Strings};
+ghost use Rattle.wat_grammar.specs.WorkedTokens.{Comments, Places, Quoted, Annotations};
 
 /// Digits, and the characters beside them.
 #[tactic(auto, using(crate::proofs::Worked::digits))]
@@ -49,4 +50,13 @@ pub(crate) fn float_bits()
     ensures singles { Singles }
     ensures specials { Specials }
     ensures doubles { Doubles }
+{}
+
+/// Comments, tokens at their places, strings and annotations.
+#[tactic(auto, using(crate::proofs::Worked::comments, crate::proofs::Worked::places, crate::proofs::Worked::quoted, crate::proofs::Worked::annotations))]
+pub(crate) fn tokens()
+    ensures comments { Comments }
+    ensures places { Places }
+    ensures quoted { Quoted }
+    ensures annotations { Annotations }
 {}

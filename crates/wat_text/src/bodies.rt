@@ -311,9 +311,12 @@ impl<'a> Reader<'a> {
     fn operator(&mut self, word: Word, name: &'a str) -> Instruction<'a> {
         match word {
             Word::Plain(op) => Instruction::Plain(op),
-            Word::Mem(op, align) => Instruction::Mem(op, self.mem_arg(align)),
+            Word::Mem(op, align) => Instruction::Mem(op, self.mem_arg(align as u64)),
             Word::Lane(op) => Instruction::Lane(op, self.lane_arg()),
-            Word::MemLane(op, align) => Instruction::MemLane(op, self.load_or_store_lane(align)),
+            Word::MemLane(op, align) => Instruction::MemLane(
+                op,
+                self.load_or_store_lane(align as u64),
+            ),
             Word::Index(op) => with_index(op, self.index()),
             Word::IndexOrZero(op) => with_index(op, self.index_or_zero()),
             Word::Uncovered(op) => with_uncovered(op, self.index()),

@@ -62,7 +62,7 @@ impl<'a> Reader<'a> {
                 anchor
             }
             None => {
-                self.expected("the name of a section");
+                self.expected("a valid section name");
                 CustomPlaceAnchor::Data
             }
         }
@@ -284,7 +284,7 @@ impl<'a> Reader<'a> {
             Some(Key::RuntimePath) => Dylink0Subsection::RuntimePath(self.names()),
             Some(Key::TargetArch) => Dylink0Subsection::TargetArch(self.text()),
             _ => {
-                self.expected("the name of a subsection of `dylink.0`");
+                self.expected("`dylink.0` subsection name");
                 Dylink0Subsection::TargetArch("")
             }
         }

@@ -68,7 +68,7 @@ impl<'a> Reader<'a> {
 
     /// Where no field stands.
     fn no_field(&mut self) -> ModuleField<'a> {
-        self.expected("a field of a module");
+        self.expected("valid module field");
         ModuleField::Start(Index::from(0))
     }
 

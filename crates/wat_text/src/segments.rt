@@ -185,7 +185,7 @@ impl<'a> Reader<'a> {
         let key = match self.key(0) {
             Some(key @ (Key::I8 | Key::I16 | Key::I32 | Key::I64 | Key::F32 | Key::F64)) => key,
             _ => {
-                self.expected("a string or the type of numbers");
+                self.expected("a string or a number type");
                 Key::I8
             }
         };

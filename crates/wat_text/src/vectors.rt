@@ -135,7 +135,7 @@ impl<'a> Reader<'a> {
             return self.singles4();
         }
         if !self.accept(Key::F64x2) {
-            self.expected("the shape of a vector");
+            self.expected("a vector shape such as `i32x4`");
         }
         V128Const::F64x2([self.double(), self.double()])
     }

@@ -9,3 +9,13 @@ pub mod Rounded
 pub mod Scanned
 pub mod SignedFloats
 pub mod TwosComplement
+pub mod Fronts
+pub mod Braces
+pub mod Scalars
+pub mod Elements
+pub mod Comments
+pub mod Quotes
+pub mod Tables
+pub mod Idchars
+pub mod Parts
+pub mod Ascii

@@ -1,2 +1,4 @@
 pub mod Fractions
 pub mod Numbers
+pub mod Scans
+pub mod Strings

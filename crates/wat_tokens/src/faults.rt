@@ -1,5 +1,7 @@
 //! Why a text is refused.
 
+ghost use Rattle.std.specs.Prelude.{◌≡◌};
+
 use std::alloc::{AllocError, AllocFailed};
 use std::fmt;
 use wast_base::{Span, clause_text};
@@ -11,16 +13,20 @@ pub enum TextFault {
     Memory,
     /// No token begins with this character.
     Character,
-    /// A token ends where no blank, parenthesis or comment stands.
+    /// A token is followed directly by another one, as in `"a""b"`.
     Adjacent,
     /// A string has no end.
     OpenString,
-    /// A string holds a control character, or an escape that there is none of.
+    /// An escape of a string is wrong, as `\q`.
     Escape,
-    /// A comment has no end.
+    /// A string contains a control character.
+    StringCharacter,
+    /// A block comment has no end.
     OpenComment,
-    /// An annotation has no end, or no name.
+    /// An annotation has no end.
     OpenAnnotation,
+    /// An annotation has no id, as `(@)`.
+    EmptyAnnotation,
     /// An id has no name.
     EmptyId,
     /// A name is not UTF-8.
@@ -41,9 +47,9 @@ pub enum TextFault {
     PageSize,
     /// A branch hint is neither `"\00"` nor `"\01"`.
     Hint,
-    /// A parameter stands behind a result.
+    /// A parameter comes after a result.
     ParamBehindResult,
-    /// More stands behind the module.
+    /// A token comes after the module.
     Trailing,
     /// The fields are not well formed, by the clause of this number.
     IllFormed(u8),
@@ -55,11 +61,13 @@ impl TextFault {
         match self {
             TextFault::Memory => "out of memory",
             TextFault::Character => "unexpected character",
-            TextFault::Adjacent => "expected a blank or a parenthesis",
-            TextFault::OpenString => "string without an end",
-            TextFault::Escape => "invalid string element",
-            TextFault::OpenComment => "comment without an end",
-            TextFault::OpenAnnotation => "annotation without a name or an end",
+            TextFault::Adjacent => "expected whitespace or a parenthesis after token",
+            TextFault::OpenString => "unterminated string",
+            TextFault::Escape => "invalid string escape",
+            TextFault::StringCharacter => "invalid character in string",
+            TextFault::OpenComment => "unterminated block comment",
+            TextFault::OpenAnnotation => "unterminated annotation",
+            TextFault::EmptyAnnotation => "empty annotation id",
             TextFault::EmptyId => "empty identifier",
             TextFault::Utf8 => "malformed UTF-8 encoding",
             TextFault::Expected(what) | TextFault::Unexpected(what) => what,
@@ -68,9 +76,9 @@ impl TextFault {
             TextFault::Operator => "unknown operator or unexpected token",
             TextFault::Alignment => "alignment must be a power of two",
             TextFault::PageSize => "page size must be a power of two",
-            TextFault::Hint => "invalid value for a branch hint",
-            TextFault::ParamBehindResult => "a parameter stands behind a result",
-            TextFault::Trailing => "unexpected token behind the module",
+            TextFault::Hint => "invalid value for branch hint",
+            TextFault::ParamBehindResult => "`param` must come before `result`",
+            TextFault::Trailing => "unexpected token after module",
             TextFault::IllFormed(clause) => clause_text(clause),
         }
     }
@@ -96,8 +104,11 @@ pub struct TextError {
 }
 
 impl TextError {
-    /// What is wrong at a place. It takes no memory.
-    pub fn new(span: Span, fault: TextFault) -> TextError {
+    /// Returns the error of a fault at a position. Does not allocate.
+    pub fn new(span: Span, fault: TextFault) -> TextError
+        ensures fault { result.fault ≡ fault }
+        ensures span { result.span ≡ span }
+    {
         TextError { fault, span }
     }
 }

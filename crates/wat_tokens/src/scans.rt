@@ -1,5 +1,12 @@
 //! A text is cut into tokens.
 
+ghost use Rattle.std.specs.Prelude.{◌≡◌, ◌≢◌, ◌==◌, ◌&&◌, ◌||◌, ◌<◌, ◌≤◌, ◌+◌, true, false, length, drop, Some, None, IsUtf8, IsCharBoundary, IfErr, MatchOption, MatchResult};
+ghost use Rattle.wat_grammar.specs.Parts.{front};
+ghost use Rattle.wat_grammar.specs.Space.{is_blank, is_linechar, blockcomment};
+ghost use Rattle.wat_grammar.specs.Tokens.{is_idchar, is_reserved, id_chars, string_length, has_meaning, a_string, a_name, an_id, ends};
+ghost use Rattle.wat_tokens.specs.Scans.{id_of, placed, contents_of, IsRead, IsName, IsFault, IsInside, first_of};
+ghost use Rattle.wat_tokens.specs.declared.faults.TextFault.TheVariants as fault;
+
 use crate::faults::{TextError, TextFault};
 use crate::strings::Strings;
 use crate::tokens::{Annotation, Placed, Token};
@@ -8,7 +15,7 @@ use std::alloc::Global;
 use std::str;
 use wast_base::Span;
 
-/// Of each byte, whether names and numbers are made of it (text format, identifiers).
+/// For each byte, whether ids, keywords and numbers can contain it (text format: identifiers).
 static WORD_BYTES: [bool; 256] = [
     false, false, false, false, false, false, false, false, false, false, false, false, false,
     false, false, false, false, false, false, false, false, false, false, false, false, false,
@@ -31,88 +38,119 @@ static WORD_BYTES: [bool; 256] = [
     false, false, false, false, false, false, false, false,
 ];
 
-/// Whether names and numbers are made of it (text format, identifiers).
-fn is_word_byte(byte: u8) -> bool {
+/// Returns whether ids, keywords and numbers can contain a byte (text format: identifiers).
+fn is_word_byte(byte: u8) -> bool
+    ensures { result ≡ is_idchar byte }
+{
     WORD_BYTES[byte as usize]
 }
 
-/// Whether it is a blank (text format, white space).
-fn is_blank(byte: u8) -> bool {
-    matches!(byte, b' ' | b'\t' | b'\n' | b'\r')
+/// Returns how many bytes at the start of a text can be in an id, a keyword or a number.
+#[tactic(auto, using(crate::proofs::Fronts::front_more, crate::proofs::Fronts::front_stop, crate::proofs::Fronts::front_end))]
+fn word_length(text: &[u8]) -> usize
+    ensures short { result ≤ length text.now }
+    ensures front { result ≡ length (front is_idchar text.now) }
+{
+    for (count, byte) in text.iter().enumerate() {
+        if !is_word_byte(*byte) {
+            return count;
+        }
+    }
+    text.len()
 }
 
-/// How many bytes at the start of a text a name or a number is made of.
-fn word_length(text: &str) -> usize {
-    text.as_bytes()
-        .iter()
-        .position(|byte| !is_word_byte(*byte))
-        .unwrap_or(text.len())
+/// Returns how many spaces, tabs and line ends a text begins with. It skips four spaces at a time, because most lines of a
+/// printed module are indented.
+fn blank_length(text: &[u8]) -> usize
+    ensures short { result ≤ length text.now }
+    ensures front { result ≡ length (front is_blank text.now) }
+{
+    let mut rest = text;
+    for _ in 0..text.len() {
+        rest = match rest {
+            [b' ', b' ', b' ', b' ', more @ ..] => more,
+            [b' ' | b'\n' | b'\t' | b'\r', more @ ..] => more,
+            _ => break,
+        };
+    }
+    text.len() - rest.len()
 }
 
-/// How many blanks a text begins with.
-fn blank_length(text: &str) -> usize {
-    text.as_bytes()
-        .iter()
-        .position(|byte| !is_blank(*byte))
-        .unwrap_or(text.len())
+/// Returns how many bytes there are before the end of the line.
+#[tactic(auto, using(crate::proofs::Fronts::front_more, crate::proofs::Fronts::front_stop, crate::proofs::Fronts::front_end))]
+fn line_length(text: &[u8]) -> usize
+    ensures short { result ≤ length text.now }
+    ensures front { result ≡ length (front is_linechar text.now) }
+{
+    for (count, byte) in text.iter().enumerate() {
+        if *byte == b'\n' || *byte == b'\r' {
+            return count;
+        }
+    }
+    text.len()
 }
 
-/// How many bytes there are up to the end of the line.
-fn line_length(text: &str) -> usize {
-    let is_end = |byte: &u8| *byte == b'\n' || *byte == b'\r';
-    text.as_bytes()
-        .iter()
-        .position(is_end)
-        .unwrap_or(text.len())
+/// Returns whether two bytes are `(;`.
+fn is_comment_start(before: u8, byte: u8) -> bool
+    ensures { result ≡ (before == 0x28 && byte == 0x3b) }
+{
+    before == b'(' && byte == b';'
 }
 
-/// How many bytes a comment has that a text begins with, whatever comments stand in it; `None` where it has no end.
-fn comment_length(text: &str) -> Option<usize> {
+/// Returns whether two bytes are `;)`.
+fn is_comment_end(before: u8, byte: u8) -> bool
+    ensures { result ≡ (before == 0x3b && byte == 0x29) }
+{
+    before == b';' && byte == b')'
+}
+
+/// Returns how many bytes a block comment has after its `(;`, with its `;)`, or `None` if it has no end. Comments nest.
+#[tactic(auto, using(crate::proofs::Comments::begun, crate::proofs::Comments::starts_at, crate::proofs::Comments::closes_at, crate::proofs::Comments::ends_at, crate::proofs::Comments::goes_on_at, crate::proofs::Comments::no_end))]
+fn comment_length(text: &[u8]) -> Option<usize>
+    ensures { MatchOption result (blockcomment 0 text.now ≡ None) (λ n. (n ≤ length text.now) × (blockcomment 0 text.now ≡ Some (drop n text.now))) }
+{
     let mut depth = 0_usize;
     let mut before = 0;
-    for (count, byte) in text.as_bytes().iter().enumerate() {
-        match (before, *byte) {
-            (b'(', b';') => {
-                depth = depth.saturating_add(1);
-                before = 0;
+    for (count, byte) in text.iter().enumerate() {
+        if is_comment_start(before, *byte) {
+            depth += 1;
+            before = 0;
+        } else if is_comment_end(before, *byte) {
+            if depth == 0 {
+                return Some(count + 1);
             }
-            (b';', b')') => {
-                depth = depth.saturating_sub(1);
-                before = 0;
-                if depth == 0 {
-                    return Some(count.saturating_add(1));
-                }
-            }
-            (_, byte) => before = byte,
+            depth -= 1;
+            before = 0;
+        } else {
+            before = *byte;
         }
     }
     None
 }
 
-/// How many bytes stand between the quotes of a string, where a text begins behind the first; `None` where it has no end.
-fn string_length(text: &str) -> Option<usize> {
+/// Returns how many bytes a string has between its quotes, for the text after its first quote, or `None` if it has no end.
+#[tactic(auto, using(crate::proofs::Quotes::begun, crate::proofs::Quotes::escaped_at, crate::proofs::Quotes::ends_at, crate::proofs::Quotes::goes_on_at, crate::proofs::Quotes::no_end))]
+fn string_length(text: &[u8]) -> Option<usize>
+    ensures { MatchOption result (string_length false text.now ≡ None) (λ n. (n < length text.now) × (string_length false text.now ≡ Some n)) }
+{
     let mut is_escaped = false;
-    for (count, byte) in text.as_bytes().iter().enumerate() {
-        match *byte {
-            _ if is_escaped => is_escaped = false,
-            b'"' => return Some(count),
-            byte => is_escaped = byte == b'\\',
+    for (count, byte) in text.iter().enumerate() {
+        if is_escaped {
+            is_escaped = false;
+        } else if *byte == b'"' {
+            return Some(count);
+        } else {
+            is_escaped = *byte == b'\\';
         }
     }
     None
 }
 
-/// A text cut in two: the first has so many bytes. Where no character begins there, all stands in the first.
-fn cut(text: &str, count: usize) -> (&str, &str) {
-    match (text.get(..count), text.get(count..)) {
-        (Some(front), Some(back)) => (front, back),
-        _ => (text, ""),
-    }
-}
-
-/// The annotation of a name, where it means something.
-fn annotation(name: &str) -> Option<Annotation> {
-    match name {
+/// Returns the annotation with this id, if it has a meaning.
+fn annotation(id: &str) -> Option<Annotation>
+    ensures { MatchOption result (has_meaning id.now ≡ false) (λ a. (has_meaning id.now ≡ true) × (id_of a ≡ id.now)) }
+{
+    match id {
         "name" => Some(Annotation::Name),
         "custom" => Some(Annotation::Custom),
         "producers" => Some(Annotation::Producers),
@@ -122,219 +160,451 @@ fn annotation(name: &str) -> Option<Annotation> {
     }
 }
 
-/// A text that is cut into tokens: those that were found, and the rest.
-#[derive(Drop)]
-struct Scan<'a> {
-    alloc: Global,
-    /// Where strings with escapes are kept; if it is `None`, strings stay as they are written.
-    strings: Option<&'a Strings>,
-    length: usize,
-    rest: &'a str,
-    /// How many parentheses are open since an annotation that means nothing.
-    skipped: usize,
-    /// The place of a fault in a string.
-    wrong: Option<Span>,
-    tokens: Vec<Placed<'a>>,
+/// Returns whether a token may end before this text.
+fn ends(rest: &[u8]) -> bool
+    ensures { result ≡ ends rest.now }
+{
+    match rest {
+        [] | [b' ' | b'\n' | b'\t' | b'\r' | b'(' | b')' | b';', ..] => true,
+        _ => false,
+    }
 }
 
-impl<'a> Scan<'a> {
-    /// The place of the rest.
-    fn place(&self) -> Span {
-        Span {
-            offset: self.length.saturating_sub(self.rest.len()),
+/// Returns the error of a fault at a place.
+fn fault_at(place: usize, fault: TextFault) -> TextError
+    ensures fault { result.fault ≡ fault }
+    ensures place { result.span.offset ≡ place }
+{
+    TextError::new(Span { offset: place }, fault)
+}
+
+/// What a string stands for, and the place after it.
+#[derive(Clone, Copy)]
+struct Bytes<'a> {
+    bytes: &'a [u8],
+    end: usize,
+}
+
+/// A name or a word, and the place after it.
+#[derive(Clone, Copy)]
+struct Name<'a> {
+    name: &'a str,
+    end: usize,
+}
+
+/// A part of an annotation: whether it opens a parenthesis, and the place after it.
+#[derive(Clone, Copy)]
+struct Skipped {
+    opens: bool,
+    end: usize,
+}
+
+/// Returns the part of an annotation that ends at a place and opens no parenthesis.
+fn skipped_to(end: usize) -> Skipped
+    ensures opens { result.opens ≡ false }
+    ensures end { result.end ≡ end }
+{
+    Skipped { opens: false, end }
+}
+
+/// Returns whether a byte is white space, or makes reserved tokens alone.
+fn is_blank_or_reserved(byte: u8) -> bool
+    ensures { result ≡ (is_blank byte || is_reserved byte) }
+{
+    matches!(
+        byte,
+        b' ' | b'\n' | b'\t' | b'\r' | b',' | b';' | b'[' | b']' | b'{' | b'}'
+    )
+}
+
+/// A part of a text: its token, unless it is white space, and the place after it.
+#[derive(Clone, Copy)]
+struct Part<'a> {
+    token: Option<Placed<'a>>,
+    end: usize,
+}
+
+/// A text that is read.
+#[derive(Clone, Copy)]
+struct Source<'a> {
+    alloc: Global,
+    /// Where strings with escapes are kept. If it is `None`, strings stay as they are in the text.
+    strings: Option<&'a Strings>,
+    text: &'a str,
+}
+
+impl<'a> Source<'a> {
+    /// Returns the text from a place on.
+    fn rest(&self, from: usize) -> &'a [u8]
+        ensures { result.now ≡ drop from self.now.text.now }
+    {
+        match self.text.as_bytes().get(from..) {
+            Some(rest) => rest,
+            None => &[],
         }
     }
 
-    /// Takes so many bytes off the rest.
-    fn take(&mut self, count: usize) -> &'a str {
-        let (front, back) = cut(self.rest, count);
-        self.rest = back;
-        front
-    }
-
-    /// The byte behind so many of the rest.
-    fn byte(&self, ahead: usize) -> Option<u8> {
-        self.rest.as_bytes().get(ahead).copied()
-    }
-
-    /// Puts a token, where no annotation is passed over.
-    fn put(&mut self, span: Span, token: Token<'a>) -> Result<(), TextFault> {
-        if self.skipped == 0 {
-            self.tokens.push(Placed { token, span })?;
-        }
-        Ok(())
-    }
-
-    /// `(`, which may begin a comment or an annotation.
-    fn open(&mut self) -> Result<(), TextFault> {
-        match self.byte(1) {
-            Some(b';') => {
-                let count = comment_length(self.rest).ok_or(TextFault::OpenComment)?;
-                let _comment = self.take(count);
-                Ok(())
-            }
-            Some(b'@') => self.annotation(),
-            _ => {
-                let place = self.place();
-                let _parenthesis = self.take(1);
-                if self.skipped > 0 {
-                    self.skipped = self.skipped.saturating_add(1);
-                }
-                self.put(place, Token::Open)
-            }
-        }
-    }
-
-    /// `(@` and what follows.
-    fn annotation(&mut self) -> Result<(), TextFault> {
-        let _parenthesis = self.take(1);
-        let place = self.place();
-        let _sign = self.take(1);
-        let name = match self.byte(0) {
-            Some(b'"') => self.quoted_name()?,
-            _ => {
-                let count = word_length(self.rest);
-                self.take(count)
-            }
+    /// Reads the string of a token at `place`, after its first quote.
+    #[tactic(auto, using(crate::proofs::Parts::written_string, crate::proofs::Parts::kept_string, crate::proofs::Parts::open_string, crate::proofs::Parts::wrong_string))]
+    fn string_at(&self, place: usize, begin: usize) -> Result<Bytes<'a>, TextError>
+        requires place { place ≤ begin }
+        requires begin { begin ≤ length self.now.text.now }
+        ensures { MatchResult result (λ x. IsRead (a_string (contents_of self.now.strings) (drop begin self.now.text.now)) self.now.text.now begin x.bytes.now x.end) (λ e. IsFault (a_string (contents_of self.now.strings) (drop begin self.now.text.now)) self.now.text.now e) }
+    {
+        let rest = self.rest(begin);
+        let Some(count) = string_length(rest) else {
+            return Err(fault_at(place, TextFault::OpenString));
         };
-        if name.is_empty() {
-            return Err(TextFault::OpenAnnotation);
-        }
-        match annotation(name) {
-            Some(annotation) if self.skipped == 0 => self.put(place, Token::Annotation(annotation)),
-            _ => {
-                self.skipped = self.skipped.saturating_add(1);
-                Ok(())
-            }
-        }
-    }
-
-    /// `)`
-    fn close(&mut self) -> Result<(), TextFault> {
-        let place = self.place();
-        let _parenthesis = self.take(1);
-        if self.skipped > 0 {
-            self.skipped = self.skipped.saturating_sub(1);
-            return Ok(());
-        }
-        self.put(place, Token::Close)
-    }
-
-    /// Whether a token may end here. In an annotation that means nothing, tokens may stand side by side, because any tokens may
-    /// be there, reserved ones such as `x"y"2` too.
-    fn ends(&self) -> Result<(), TextFault> {
-        match self.byte(0) {
-            _ if self.skipped > 0 => Ok(()),
-            None | Some(b'(' | b')' | b';') => Ok(()),
-            Some(byte) if is_blank(byte) => Ok(()),
-            _ => Err(TextFault::Adjacent),
-        }
-    }
-
-    /// The bytes of a string that the rest begins with.
-    fn bytes(&mut self) -> Result<&'a [u8], TextFault> {
-        let _quote = self.take(1);
-        let count = string_length(self.rest).ok_or(TextFault::OpenString)?;
-        let begin = self.place();
-        let content = self.take(count);
-        let _quote = self.take(1);
-        let Some(strings) = self.strings else {
-            return Ok(content.as_bytes());
-        };
-        match strings.read(self.alloc, content.as_bytes()) {
-            Ok(bytes) => Ok(bytes),
-            Err(error) => {
-                let offset = begin.offset.saturating_add(error.offset);
-                self.wrong = Some(Span { offset });
-                Err(error.fault)
-            }
-        }
-    }
-
-    /// The name that a string is which the rest begins with.
-    fn quoted_name(&mut self) -> Result<&'a str, TextFault> {
-        let bytes = self.bytes()?;
-        str::from_utf8(bytes).map_err(|_| TextFault::Utf8)
-    }
-
-    /// A string.
-    fn string(&mut self) -> Result<(), TextFault> {
-        let place = self.place();
-        let bytes = self.bytes()?;
-        self.ends()?;
-        self.put(place, Token::String(bytes))
-    }
-
-    /// The name of an id behind its `$`.
-    fn id(&mut self, name: &'a str) -> Result<&'a str, TextFault> {
-        let name = match self.byte(0) {
-            Some(b'"') if name.is_empty() => self.quoted_name()?,
-            _ => name,
-        };
-        match name.is_empty() {
-            true => Err(TextFault::EmptyId),
-            false => Ok(name),
-        }
-    }
-
-    /// A name, a number or an id.
-    fn word(&mut self) -> Result<(), TextFault> {
-        let place = self.place();
-        let count = word_length(self.rest);
-        let word = self.take(count);
-        if self.skipped > 0 {
-            return Ok(());
-        }
-        let token = match word.strip_prefix('$') {
-            Some(name) => Token::Id(self.id(name)?),
-            None => match look_up(word) {
-                Some(known) => Token::Word(known, word),
-                None => Token::Other(word),
+        let content = &rest[..count];
+        let end = begin + count + 1;
+        match self.strings {
+            None => Ok(Bytes {
+                bytes: content,
+                end,
+            }),
+            Some(strings) => match strings.read(self.alloc, content) {
+                Ok(bytes) => Ok(Bytes { bytes, end }),
+                Err(error) => Err(fault_at(begin + error.offset, error.fault)),
             },
+        }
+    }
+
+    /// Reads the name of a token at `place`, after its first quote.
+    #[tactic(auto, using(crate::proofs::Parts::read_name, crate::proofs::Parts::no_string, crate::proofs::Parts::no_name))]
+    fn name_at(&self, place: usize, begin: usize) -> Result<Name<'a>, TextError>
+        requires place { place ≤ begin }
+        requires begin { begin ≤ length self.now.text.now }
+        ensures { MatchResult result (λ x. IsRead (a_name (contents_of self.now.strings) (drop begin self.now.text.now)) self.now.text.now begin x.name.now x.end) (λ e. IsFault (a_name (contents_of self.now.strings) (drop begin self.now.text.now)) self.now.text.now e) }
+    {
+        match self.string_at(place, begin) {
+            Ok(string) => match str::from_utf8(string.bytes) {
+                Ok(name) => Ok(Name {
+                    name,
+                    end: string.end,
+                }),
+                Err(_) => Err(fault_at(place, TextFault::Utf8)),
+            },
+            Err(error) => Err(error),
+        }
+    }
+
+    /// Returns the word that begins at a place, which may be empty.
+    #[tactic(auto, using(crate::proofs::Idchars::word_ends, crate::proofs::Idchars::word_is, crate::proofs::Idchars::word_inside))]
+    fn word_at(&self, begin: usize) -> Name<'a>
+        requires utf8 { IsUtf8 self.now.text.now }
+        requires begin { IsCharBoundary self.now.text.now begin }
+        ensures word { result.name.now ≡ front is_idchar (drop begin self.now.text.now) }
+        ensures end { result.end ≡ begin + length (front is_idchar (drop begin self.now.text.now)) }
+        ensures inside { result.end ≤ length self.now.text.now }
+    {
+        let end = begin + word_length(self.rest(begin));
+        let name = &self.text[begin..end];
+        Name { name, end }
+    }
+
+    /// Reads a name in quotes or a word, which may be empty, for a token at `place`.
+    fn id_chars_at(&self, place: usize, begin: usize) -> Result<Name<'a>, TextError>
+        requires utf8 { IsUtf8 self.now.text.now }
+        requires place { place ≤ begin }
+        requires begin { IsCharBoundary self.now.text.now begin }
+        ensures { MatchResult result (λ x. IsName (id_chars (contents_of self.now.strings) (drop begin self.now.text.now)) self.now.text.now begin x.name.now x.end) (λ e. IsFault (id_chars (contents_of self.now.strings) (drop begin self.now.text.now)) self.now.text.now e) }
+    {
+        match self.rest(begin) {
+            [b'"', ..] => self.name_at(place, begin + 1),
+            _ => Ok(self.word_at(begin)),
+        }
+    }
+
+    /// Reads an id without its `$` or `(@`, for a token at `place`.
+    #[tactic(auto, using(crate::proofs::Parts::not_empty_is, crate::proofs::Parts::empty_is_none, crate::proofs::Parts::no_id_chars))]
+    fn id_at(&self, place: usize, begin: usize, empty: TextFault) -> Result<Name<'a>, TextError>
+        requires utf8 { IsUtf8 self.now.text.now }
+        requires place { place ≤ begin }
+        requires begin { IsCharBoundary self.now.text.now begin }
+        ensures { MatchResult result (λ x. IsRead (an_id (contents_of self.now.strings) (drop begin self.now.text.now)) self.now.text.now begin x.name.now x.end) (λ e. IsFault (an_id (contents_of self.now.strings) (drop begin self.now.text.now)) self.now.text.now e) }
+    {
+        match self.id_chars_at(place, begin) {
+            Ok(id) => match id.name.is_empty() {
+                true => Err(fault_at(place, empty)),
+                false => Ok(id),
+            },
+            Err(error) => Err(error),
+        }
+    }
+
+    /// Returns the byte at a place, if the text does not end before it.
+    fn byte(&self, place: usize) -> Option<u8>
+        ensures { result ≡ first_of (drop place self.now.text.now) }
+    {
+        self.text.as_bytes().get(place).copied()
+    }
+
+    /// Returns the part that is this token, if a token may end at this place.
+    fn one_token(&self, token: Token<'a>, place: usize, end: usize) -> Result<Part<'a>, TextError>
+        requires place { place < end }
+        requires end { end ≤ length self.now.text.now }
+        ensures end { MatchResult result (λ x. IsInside self.now.text.now place x.end) (λ e. e.span.offset ≤ length self.now.text.now) }
+    {
+        match ends(self.rest(end)) {
+            true => {
+                let span = Span { offset: place };
+                let token = Some(Placed { token, span });
+                Ok(Part { token, end })
+            }
+            false => Err(fault_at(place, TextFault::Adjacent)),
+        }
+    }
+
+    /// Reads a block comment at `place`, and returns the place after it.
+    fn comment_at(&self, place: usize) -> Result<usize, TextError>
+        requires begin { place + 2 ≤ length self.now.text.now }
+        ensures { MatchResult result (λ end. (blockcomment 0 (drop (place + 2) self.now.text.now) ≡ Some (drop end self.now.text.now)) × (place < end) × (end ≤ length self.now.text.now)) (λ e. IsFault (blockcomment 0 (drop (place + 2) self.now.text.now)) self.now.text.now e) }
+    {
+        let begin = place + 2;
+        match comment_length(self.rest(begin)) {
+            Some(count) => Ok(begin + count),
+            None => Err(fault_at(place, TextFault::OpenComment)),
+        }
+    }
+
+    /// Reads the id of an annotation whose `(@` is at `place`.
+    #[tactic(auto, using(crate::proofs::Ascii::after_byte, crate::proofs::Ascii::below))]
+    fn annotation_id_at(&self, place: usize) -> Result<Name<'a>, TextError>
+        requires utf8 { IsUtf8 self.now.text.now }
+        requires at { first_of (drop (place + 1) self.now.text.now) ≡ Some 0x40 }
+        ensures { MatchResult result (λ x. IsRead (an_id (contents_of self.now.strings) (drop (place + 2) self.now.text.now)) self.now.text.now (place + 2) x.name.now x.end) (λ e. IsFault (an_id (contents_of self.now.strings) (drop (place + 2) self.now.text.now)) self.now.text.now e) }
+    {
+        self.id_at(place, place + 2, TextFault::EmptyAnnotation)
+    }
+
+    /// Reads `(` at `place` in an annotation without a meaning.
+    #[tactic(auto, using(crate::proofs::Ascii::below))]
+    fn skipped_open(&self, place: usize) -> Result<Skipped, TextError>
+        requires utf8 { IsUtf8 self.now.text.now }
+        requires begin { place < length self.now.text.now }
+        ensures end { MatchResult result (λ x. IsInside self.now.text.now place x.end) (λ e. e.span.offset ≤ length self.now.text.now) }
+    {
+        match self.byte(place + 1) {
+            Some(b';') => match self.comment_at(place) {
+                Ok(end) => Ok(Skipped { opens: false, end }),
+                Err(error) => Err(error),
+            },
+            Some(b'@') => match self.annotation_id_at(place) {
+                Ok(id) => Ok(Skipped {
+                    opens: true,
+                    end: id.end,
+                }),
+                Err(error) => Err(error),
+            },
+            _ => Ok(Skipped {
+                opens: true,
+                end: place + 1,
+            }),
+        }
+    }
+
+    /// Returns the place after a line comment whose `;;` is at `place`.
+    fn line_comment_end(&self, place: usize) -> usize
+        requires begin { place + 2 ≤ length self.now.text.now }
+        ensures end { result ≡ place + 2 + length (front is_linechar (drop (place + 2) self.now.text.now)) }
+        ensures inside { result ≤ length self.now.text.now }
+    {
+        place + 2 + line_length(self.rest(place + 2))
+    }
+
+    /// Returns whether two semicolons are at a place.
+    #[tactic(auto, using(crate::proofs::Ascii::below))]
+    fn begins_line_comment(&self, place: usize) -> bool
+        requires begin { place < length self.now.text.now }
+        ensures inside { result ≡ true → place + 2 ≤ length self.now.text.now }
+    {
+        match (self.byte(place), self.byte(place + 1)) {
+            (Some(b';'), Some(b';')) => true,
+            _ => false,
+        }
+    }
+
+    /// Reads a part of an annotation without a meaning, if it does not begin with `)`.
+    fn skipped_part(&self, place: usize) -> Result<Skipped, TextError>
+        requires utf8 { IsUtf8 self.now.text.now }
+        requires begin { place < length self.now.text.now }
+        ensures end { MatchResult result (λ x. IsInside self.now.text.now place x.end) (λ e. e.span.offset ≤ length self.now.text.now) }
+    {
+        if self.begins_line_comment(place) {
+            return Ok(skipped_to(self.line_comment_end(place)));
+        }
+        match self.byte(place) {
+            Some(b'(') => self.skipped_open(place),
+            Some(b'"') => match self.string_at(place, place + 1) {
+                Ok(string) => Ok(skipped_to(string.end)),
+                Err(error) => Err(error),
+            },
+            Some(byte) if is_blank_or_reserved(byte) => Ok(skipped_to(place + 1)),
+            _ => match word_length(self.rest(place)) {
+                0 => Err(fault_at(place, TextFault::Character)),
+                count => Ok(skipped_to(place + count)),
+            },
+        }
+    }
+
+    /// Reads the rest of an annotation after its id, up to its `)`, and returns the place after that. It can contain any tokens,
+    /// reserved ones such as `x"y"2` too.
+    fn skipped(&self, place: usize) -> Result<usize, TextError>
+        requires utf8 { IsUtf8 self.now.text.now }
+        requires begin { place ≤ length self.now.text.now }
+        ensures end { MatchResult result (λ x. IsInside self.now.text.now place x) (λ e. e.span.offset ≤ length self.now.text.now) }
+    {
+        let mut depth = 0_usize;
+        let mut at = place;
+        for _ in place..self.text.len() {
+            match self.byte(at) {
+                None => break,
+                Some(b')') => {
+                    at += 1;
+                    if depth == 0 {
+                        return Ok(at);
+                    }
+                    depth -= 1;
+                }
+                _ => match self.skipped_part(at) {
+                    Ok(part) => {
+                        at = part.end;
+                        if part.opens {
+                            depth += 1;
+                        }
+                    }
+                    Err(error) => return Err(error),
+                },
+            }
+        }
+        Err(fault_at(self.text.len(), TextFault::OpenAnnotation))
+    }
+
+    /// Reads `(@` and an id at `place`, and the whole annotation if it has no meaning.
+    fn annotation_at(&self, place: usize) -> Result<Part<'a>, TextError>
+        requires utf8 { IsUtf8 self.now.text.now }
+        requires at { first_of (drop (place + 1) self.now.text.now) ≡ Some 0x40 }
+        ensures end { MatchResult result (λ x. IsInside self.now.text.now place x.end) (λ e. e.span.offset ≤ length self.now.text.now) }
+    {
+        let id = match self.annotation_id_at(place) {
+            Ok(id) => id,
+            Err(error) => return Err(error),
         };
-        self.ends()?;
-        self.put(place, token)
-    }
-
-    /// The blanks, the comment or the token that the rest begins with.
-    fn step(&mut self, first: u8) -> Result<(), TextFault> {
-        match first {
-            b'(' => self.open(),
-            b')' => self.close(),
-            b'"' => self.string(),
-            b';' if self.byte(1) == Some(b';') => {
-                let count = line_length(self.rest);
-                let _comment = self.take(count);
-                Ok(())
+        match annotation(id.name) {
+            Some(kind) => {
+                let token = Token::Annotation(kind);
+                let span = Span { offset: place + 1 };
+                Ok(Part {
+                    token: Some(Placed { token, span }),
+                    end: id.end,
+                })
             }
-            _ if is_blank(first) => {
-                let count = blank_length(self.rest);
-                let _blanks = self.take(count);
-                Ok(())
-            }
-            _ if is_word_byte(first) => self.word(),
-            b',' | b';' | b'[' | b']' | b'{' | b'}' if self.skipped > 0 => {
-                let _reserved = self.take(1);
-                Ok(())
-            }
-            _ => Err(TextFault::Character),
+            None => match self.skipped(id.end) {
+                Ok(end) => Ok(Part { token: None, end }),
+                Err(error) => Err(error),
+            },
         }
     }
 
-    /// All steps, and the place where one fails.
-    fn run(&mut self) -> Result<(), TextError> {
-        for _ in 0..self.length {
-            let place = self.place();
-            let Some(first) = self.byte(0) else {
-                break;
-            };
-            if let Err(fault) = self.step(first) {
-                return Err(TextError::new(self.wrong.unwrap_or(place), fault));
-            }
+    /// Returns the part that is a parenthesis.
+    fn parenthesis(&self, token: Token<'a>, place: usize) -> Part<'a>
+        requires begin { place < length self.now.text.now }
+        ensures token { result.token ≡ Some (placed token.entry place) }
+        ensures end { result.end ≡ place + 1 }
+    {
+        let span = Span { offset: place };
+        Part {
+            token: Some(Placed { token, span }),
+            end: place + 1,
         }
-        match self.skipped == 0 {
-            true => Ok(()),
-            false => Err(TextError::new(self.place(), TextFault::OpenAnnotation)),
+    }
+
+    /// Reads `(` at `place`, which may begin a comment or an annotation.
+    #[tactic(auto, using(crate::proofs::Ascii::below))]
+    fn open_at(&self, place: usize) -> Result<Part<'a>, TextError>
+        requires utf8 { IsUtf8 self.now.text.now }
+        requires begin { place < length self.now.text.now }
+        ensures end { MatchResult result (λ x. IsInside self.now.text.now place x.end) (λ e. e.span.offset ≤ length self.now.text.now) }
+    {
+        match self.byte(place + 1) {
+            Some(b';') => match self.comment_at(place) {
+                Ok(end) => Ok(Part { token: None, end }),
+                Err(error) => Err(error),
+            },
+            Some(b'@') => self.annotation_at(place),
+            _ => Ok(self.parenthesis(Token::Open, place)),
+        }
+    }
+
+    /// Reads a word at `place`. If it begins with a letter, it may be a keyword, which has a meaning of its own.
+    #[tactic(auto, using(crate::proofs::Ascii::at_byte))]
+    fn word_token_at(&self, place: usize, first: u8) -> Result<Part<'a>, TextError>
+        requires utf8 { IsUtf8 self.now.text.now }
+        requires first { first_of (drop place self.now.text.now) ≡ Some first }
+        requires ascii { first < 128 }
+        ensures end { MatchResult result (λ x. IsInside self.now.text.now place x.end) (λ e. e.span.offset ≤ length self.now.text.now) }
+    {
+        let word = self.word_at(place);
+        if word.name.is_empty() {
+            return Err(fault_at(place, TextFault::Character));
+        }
+        if first < b'a' {
+            return self.one_token(Token::Other(word.name), place, word.end);
+        }
+        match look_up(word.name) {
+            Some(known) => self.one_token(Token::Word(known, word.name), place, word.end),
+            None => self.one_token(Token::Other(word.name), place, word.end),
+        }
+    }
+
+    /// Reads a string at `place`.
+    fn string_token_at(&self, place: usize) -> Result<Part<'a>, TextError>
+        requires begin { place < length self.now.text.now }
+        ensures end { MatchResult result (λ x. IsInside self.now.text.now place x.end) (λ e. e.span.offset ≤ length self.now.text.now) }
+    {
+        match self.string_at(place, place + 1) {
+            Ok(string) => self.one_token(Token::String(string.bytes), place, string.end),
+            Err(error) => Err(error),
+        }
+    }
+
+    /// Reads an id at `place`, whose name may be in quotes.
+    #[tactic(auto, using(crate::proofs::Ascii::after_first, crate::proofs::Ascii::below))]
+    fn id_token_at(&self, place: usize) -> Result<Part<'a>, TextError>
+        requires utf8 { IsUtf8 self.now.text.now }
+        requires dollar { first_of (drop place self.now.text.now) ≡ Some 0x24 }
+        ensures end { MatchResult result (λ x. IsInside self.now.text.now place x.end) (λ e. e.span.offset ≤ length self.now.text.now) }
+    {
+        match self.id_at(place, place + 1, TextFault::EmptyId) {
+            Ok(id) => self.one_token(Token::Id(id.name), place, id.end),
+            Err(error) => Err(error),
+        }
+    }
+
+    /// Reads what the text has at a place: white space, a comment, an annotation or a token.
+    fn part_at(&self, place: usize) -> Result<Part<'a>, TextError>
+        requires utf8 { IsUtf8 self.now.text.now }
+        requires begin { place < length self.now.text.now }
+        ensures end { MatchResult result (λ x. IsInside self.now.text.now place x.end) (λ e. e.span.offset ≤ length self.now.text.now) }
+    {
+        match self.byte(place) {
+            Some(b' ' | b'\n' | b'\t' | b'\r') => Ok(Part {
+                token: None,
+                end: place + 1 + blank_length(self.rest(place + 1)),
+            }),
+            Some(b'(') => self.open_at(place),
+            Some(b')') => Ok(self.parenthesis(Token::Close, place)),
+            Some(b'"') => self.string_token_at(place),
+            Some(b'$') => self.id_token_at(place),
+            Some(b';') => match self.begins_line_comment(place) {
+                true => Ok(Part {
+                    token: None,
+                    end: self.line_comment_end(place),
+                }),
+                false => Err(fault_at(place, TextFault::Character)),
+            },
+            Some(first) if first < 128 => self.word_token_at(place, first),
+            _ => Err(fault_at(place, TextFault::Character)),
         }
     }
 }
@@ -344,18 +614,33 @@ fn scanned<'a>(
     alloc: Global,
     text: &'a str,
     strings: Option<&'a Strings>,
-) -> Result<Vec<Placed<'a>>, TextError> {
-    let mut scan = Scan {
+) -> Result<Vec<Placed<'a>>, TextError>
+    ensures place { IfErr result (λ e. e.span.offset ≤ length text.now) }
+{
+    let source = Source {
         alloc,
         strings,
-        length: text.len(),
-        rest: text,
-        skipped: 0,
-        wrong: None,
-        tokens: Vec::new(alloc),
+        text,
     };
-    scan.run()?;
-    Ok(scan.tokens)
+    let mut found = Vec::new(alloc);
+    let mut place = 0;
+    for _ in 0..text.len() {
+        if place == text.len() {
+            break;
+        }
+        let part = match source.part_at(place) {
+            Ok(part) => part,
+            Err(error) => return Err(error),
+        };
+        if let Some(token) = part.token {
+            match found.push(token) {
+                Ok(()) => (),
+                Err(_) => return Err(fault_at(place, TextFault::Memory)),
+            }
+        }
+        place = part.end;
+    }
+    Ok(found)
 }
 
 /// Returns the tokens of a text, without white space, comments and annotations that mean nothing (text format, tokens). Strings
@@ -368,7 +653,9 @@ pub fn tokens_of<'a>(
     alloc: Global,
     text: &'a str,
     strings: &'a Strings,
-) -> Result<Vec<Placed<'a>>, TextError> {
+) -> Result<Vec<Placed<'a>>, TextError>
+    ensures place { IfErr result (λ e. e.span.offset ≤ length text.now) }
+{
     scanned(alloc, text, Some(strings))
 }
 
@@ -378,6 +665,8 @@ pub fn tokens_of<'a>(
 ///
 /// # Errors
 /// A [`TextFault`] with the position of the token or the comment that is wrong. No escape is wrong, because none is read.
-pub fn written_tokens_of<'a>(alloc: Global, text: &'a str) -> Result<Vec<Placed<'a>>, TextError> {
+pub fn written_tokens_of<'a>(alloc: Global, text: &'a str) -> Result<Vec<Placed<'a>>, TextError>
+    ensures place { IfErr result (λ e. e.span.offset ≤ length text.now) }
+{
     scanned(alloc, text, None)
 }

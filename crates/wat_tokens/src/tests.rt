@@ -45,16 +45,16 @@ fn strings_lose_their_escapes(rt: HostRuntime) {
         .expect(&rt, "memory");
     assert!(rt; bytes == b"a\n\xf0\x9d\x84\x9e\xff".as_slice());
     assert!(rt; strings.keep(b"a\\q") == Ok(b"a\\q".as_slice()));
-    for (content, offset) in [
-        (br"ab\q".as_slice(), 2_usize),
-        (br"\t\u{110000}", 2),
-        (br"\u{1_}", 0),
-        (br"a\", 1),
-        (b"ab\x7f", 2),
-        (b"\\n\n", 2),
+    let (escape, character) = (TextFault::Escape, TextFault::StringCharacter);
+    for (content, fault, offset) in [
+        (br"ab\q".as_slice(), escape, 2_usize),
+        (br"\t\u{110000}", escape, 2),
+        (br"\u{1_}", escape, 0),
+        (br"a\", escape, 1),
+        (b"ab\x7f", character, 2),
+        (b"\\n\n", character, 2),
     ] {
         let error = strings.read(rt.alloc(), content).err();
-        let fault = TextFault::Escape;
         assert!(rt; error == Some(StringError { fault, offset }));
     }
 }

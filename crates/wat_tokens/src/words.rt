@@ -11,11 +11,11 @@ pub enum Word {
     /// An instruction that has no immediate.
     Plain(Plain),
     /// One with a memory argument, and the bytes that it is aligned to where the text says nothing.
-    Mem(MemOp, u64),
+    Mem(MemOp, u8),
     /// One on a lane of a vector.
     Lane(LaneOp),
     /// A load or a store of a lane, and the bytes that it is aligned to where the text says nothing.
-    MemLane(MemLaneOp, u64),
+    MemLane(MemLaneOp, u8),
     /// One with an index.
     Index(IndexOp),
     /// One with an index that may be left out.
@@ -403,13 +403,13 @@ pub enum Key {
 }
 
 static WORDS_0: [(&str, Word); 16] = [
-    ("table.set", Word::IndexOrZero(IndexOp::TableSet)),
     ("i32.load8_u", Word::Mem(MemOp::i32_load8_u, 1)),
+    ("i32.add", Word::Plain(Plain::I32(I32Op::i32_add))),
+    ("i32.and", Word::Plain(Plain::I32(I32Op::i32_and))),
+    ("table.set", Word::IndexOrZero(IndexOp::TableSet)),
     ("i64.load8_u", Word::Mem(MemOp::i64_load8_u, 1)),
     ("i32.clz", Word::Plain(Plain::I32(I32Op::i32_clz))),
     ("i32.ctz", Word::Plain(Plain::I32(I32Op::i32_ctz))),
-    ("i32.add", Word::Plain(Plain::I32(I32Op::i32_add))),
-    ("i32.and", Word::Plain(Plain::I32(I32Op::i32_and))),
     ("i64.clz", Word::Plain(Plain::I64(I64Op::i64_clz))),
     ("i64.ctz", Word::Plain(Plain::I64(I64Op::i64_ctz))),
     ("i64.add", Word::Plain(Plain::I64(I64Op::i64_add))),
@@ -428,12 +428,12 @@ static WORDS_0: [(&str, Word); 16] = [
 ];
 
 static WORDS_1: [(&str, Word); 9] = [
+    ("return", Word::Plain(Plain::Bare(BareOp::return_))),
     (
         "struct.new_default_desc",
         Word::Uncovered(UncoveredOp::struct_new_default_desc),
     ),
     ("table.atomic.rmw.xchg", Word::Atomic(AtomicOp::Table)),
-    ("return", Word::Plain(Plain::Bare(BareOp::return_))),
     ("f32.abs", Word::Plain(Plain::F32(F32Op::f32_abs))),
     ("f64.abs", Word::Plain(Plain::F64(F64Op::f64_abs))),
     ("i8x16.eq", Word::Plain(Plain::I8x16(I8x16Op::i8x16_eq))),
@@ -558,9 +558,9 @@ static WORDS_5: [(&str, Word); 13] = [
 ];
 
 static WORDS_6: [(&str, Word); 13] = [
+    ("drop", Word::Plain(Plain::Bare(BareOp::drop))),
     ("array.init_elem", Word::Pair(PairOp::array_init_elem)),
     ("i64.mul_wide_s", Word::Beyond),
-    ("drop", Word::Plain(Plain::Bare(BareOp::drop))),
     ("i32.ge_u", Word::Plain(Plain::I32(I32Op::i32_ge_u))),
     ("i64.ge_u", Word::Plain(Plain::I64(I64Op::i64_ge_u))),
     ("f32.gt", Word::Plain(Plain::F32(F32Op::f32_gt))),
@@ -605,6 +605,7 @@ static WORDS_7: [(&str, Word); 10] = [
 ];
 
 static WORDS_8: [(&str, Word); 13] = [
+    ("i32.sub", Word::Plain(Plain::I32(I32Op::i32_sub))),
     ("rethrow", Word::Index(IndexOp::Rethrow)),
     (
         "memory.atomic.wait64",
@@ -614,7 +615,6 @@ static WORDS_8: [(&str, Word); 13] = [
         "i64.atomic.load32_u",
         Word::Mem(MemOp::i64_atomic_load32_u, 4),
     ),
-    ("i32.sub", Word::Plain(Plain::I32(I32Op::i32_sub))),
     ("i64.sub", Word::Plain(Plain::I64(I64Op::i64_sub))),
     ("f32.sub", Word::Plain(Plain::F32(F32Op::f32_sub))),
     ("f64.sub", Word::Plain(Plain::F64(F64Op::f64_sub))),
@@ -1035,8 +1035,8 @@ static WORDS_23: [(&str, Word); 8] = [
 
 static WORDS_24: [(&str, Word); 11] = [
     ("if", Word::Block(BlockOp::if_)),
-    ("switch", Word::Pair(PairOp::switch)),
     ("i32.or", Word::Plain(Plain::I32(I32Op::i32_or))),
+    ("switch", Word::Pair(PairOp::switch)),
     ("i64.or", Word::Plain(Plain::I64(I64Op::i64_or))),
     (
         "i32.trunc_f64_u",
@@ -1165,6 +1165,7 @@ static WORDS_29: [(&str, Word); 9] = [
 
 static WORDS_30: [(&str, Word); 10] = [
     ("local.tee", Word::Index(IndexOp::LocalTee)),
+    ("i32.shl", Word::Plain(Plain::I32(I32Op::i32_shl))),
     ("array.copy", Word::Pair(PairOp::array_copy)),
     ("v128.load32_zero", Word::Mem(MemOp::v128_load32_zero, 4)),
     ("v128.load64_zero", Word::Mem(MemOp::v128_load64_zero, 8)),
@@ -1176,7 +1177,6 @@ static WORDS_30: [(&str, Word); 10] = [
         "i64.atomic.rmw8.xchg_u",
         Word::Mem(MemOp::i64_atomic_rmw8_xchg_u, 1),
     ),
-    ("i32.shl", Word::Plain(Plain::I32(I32Op::i32_shl))),
     ("i64.shl", Word::Plain(Plain::I64(I64Op::i64_shl))),
     ("v128.not", Word::Plain(Plain::V128(V128Op::v128_not))),
     ("i8x16.shl", Word::Plain(Plain::I8x16(I8x16Op::i8x16_shl))),
@@ -1242,8 +1242,8 @@ static WORDS_32: [(&str, Word); 17] = [
 ];
 
 static WORDS_33: [(&str, Word); 14] = [
-    ("return_call_ref", Word::Index(IndexOp::ReturnCallRef)),
     ("select", Word::Own(OwnOp::select)),
+    ("return_call_ref", Word::Index(IndexOp::ReturnCallRef)),
     ("array.atomic.set", Word::Atomic(AtomicOp::Array)),
     (
         "i32.atomic.rmw.sub",
@@ -1437,9 +1437,9 @@ static WORDS_38: [(&str, Word); 15] = [
 ];
 
 static WORDS_39: [(&str, Word); 10] = [
-    ("struct.get", Word::Pair(PairOp::struct_get)),
     ("i32.load", Word::Mem(MemOp::i32_load, 4)),
     ("i64.load", Word::Mem(MemOp::i64_load, 8)),
+    ("struct.get", Word::Pair(PairOp::struct_get)),
     ("f32.load", Word::Mem(MemOp::f32_load, 4)),
     ("f64.load", Word::Mem(MemOp::f64_load, 8)),
     ("i32.load16_s", Word::Mem(MemOp::i32_load16_s, 2)),
@@ -1799,10 +1799,10 @@ static WORDS_53: [(&str, Word); 13] = [
 ];
 
 static WORDS_54: [(&str, Word); 15] = [
+    ("i32.eqz", Word::Plain(Plain::I32(I32Op::i32_eqz))),
     ("call_ref", Word::Index(IndexOp::CallRef)),
     ("global.atomic.rmw.or", Word::Atomic(AtomicOp::Global)),
     ("v128.load16x4_s", Word::Mem(MemOp::v128_load16x4_s, 8)),
-    ("i32.eqz", Word::Plain(Plain::I32(I32Op::i32_eqz))),
     ("i32.le_s", Word::Plain(Plain::I32(I32Op::i32_le_s))),
     ("i64.eqz", Word::Plain(Plain::I64(I64Op::i64_eqz))),
     ("i64.le_s", Word::Plain(Plain::I64(I64Op::i64_le_s))),
@@ -2002,12 +2002,12 @@ static WORDS_62: [(&str, Word); 16] = [
 ];
 
 static WORDS_63: [(&str, Word); 10] = [
+    ("i32.ne", Word::Plain(Plain::I32(I32Op::i32_ne))),
+    ("i32.lt_u", Word::Plain(Plain::I32(I32Op::i32_lt_u))),
     (
         "memory.discard",
         Word::UncoveredOrZero(UncoveredOp::memory_discard),
     ),
-    ("i32.ne", Word::Plain(Plain::I32(I32Op::i32_ne))),
-    ("i32.lt_u", Word::Plain(Plain::I32(I32Op::i32_lt_u))),
     ("i64.ne", Word::Plain(Plain::I64(I64Op::i64_ne))),
     ("i64.lt_u", Word::Plain(Plain::I64(I64Op::i64_lt_u))),
     ("f32.ne", Word::Plain(Plain::F32(F32Op::f32_ne))),

@@ -1,0 +1,218 @@
+-- Closes the loop over the elements of a string: each is read after those before it.
+use Rattle.std.proofs.Common.{◌≡◌, ◌∙◌, ℕ, zero, suc, ◌+◌, ◌-◌, ◌*◌, ◌≤◌, ◌==◌, Bool, true, false, List, [], ◌∷◌, ◌++◌, length, drop, Option, None, Some, Result, Ok, Err, append_assoc, append-nil, refl, sym, ap, subst, arith, eqb-true}
+use Rattle.std.proofs.lemmas.List.{drop-drop, length-drop}
+use Rattle.std.specs.Prelude.{if◌then◌else◌, codes, ◌&&◌, not, nat_le}
+use Rattle.std.specs.Char.{encode_utf8}
+use Rattle.wat_grammar.specs.Parts.{◌>>=◌, after, front}
+use Rattle.wat_grammar.specs.Characters.{hexdigit}
+use Rattle.wat_grammar.specs.Integers.{hexnum}
+use Rattle.wat_grammar.specs.Strings.{is_raw, is_scalar, named, braced, unicode, byte, escape, stringelem, joined, elements, string}
+use Rattle.wat_tokens.specs.Strings.{added, element_fault}
+use Rattle.wat_tokens.proofs.Fronts.{begins, stops}
+
+-- r is what is left of a text after a character or more
+record Suffix (r text : List ℕ) : Type 0 where
+  n : ℕ
+  is : r ≡ drop (suc n) text
+
+after_one : (c : ℕ) (r cs : List ℕ) → Suffix r cs → Suffix r (c ∷ cs)
+after_one c r cs s = record { n = suc s.n; is = s.is }
+
+record Bound {A B : Type 0} (o : Option A) (f : A → Option B) (y : B) : Type 0 where
+  x : A
+  first : o ≡ Some x
+  then_is : f x ≡ Some y
+
+bound : {A B : Type 0} (o : Option A) (f : A → Option B) (y : B) → (o >>= f) ≡ Some y → Bound o f y
+bound None f y h = absurd cc
+bound (Some x) f y h = record { x = x; first = refl; then_is = h }
+
+braced_suffix : (cs : List ℕ) (t : List ℕ × List ℕ) → braced cs ≡ Some t → Suffix t.1 cs
+unfolding braced
+braced_suffix [] t h = absurd cc
+braced_suffix (c ∷ cs) t h = go (c == 0x7d) (braced_suffix cs) h
+  where
+    go : (b : Bool) → ((t : List ℕ × List ℕ) → braced cs ≡ Some t → Suffix t.1 cs) → elim b as (λ x. Option (List ℕ × List ℕ)) [ true ↦ Some ([], cs) | false ↦ braced cs >>= λ t. Some (c ∷ t.0, t.1) ] ≡ Some t → Suffix t.1 (c ∷ cs)
+    go true inner e = record { n = zero; is = let same : (let p : List ℕ × List ℕ = ([], cs) in p) ≡ t = cc in sym (ap (λ p. p.1) same) }
+    go false inner e =
+        let b = bound (braced cs) (λ t. let p : List ℕ × List ℕ = (c ∷ t.0, t.1) in Some p) t e in
+        let same : (let p : List ℕ × List ℕ = (c ∷ b.x.0, b.x.1) in p) ≡ t = cc b.then_is in
+        subst (λ r. Suffix r (c ∷ cs)) (ap (λ p. p.1) same) (after_one c b.x.1 cs (inner b.x b.first))
+
+same_rest : (r cs b : List ℕ) (y : List ℕ × List ℕ) → (let p : List ℕ × List ℕ = (b, r) in Some p) ≡ Some y → y.1 ≡ r
+same_rest r cs b y h = let same : (let p : List ℕ × List ℕ = (b, r) in p) ≡ y = cc in sym (ap (λ p. p.1) same)
+
+unicode_suffix : (text : List ℕ) (y : List ℕ × List ℕ) → unicode text ≡ Some y → Suffix y.1 text
+unicode_suffix text y h =
+    let t = bound (braced text) (λ t. hexnum t.0 >>= λ n. if is_scalar n then (let p : List ℕ × List ℕ = (encode_utf8 n, t.1) in Some p) else None) y h in
+    let n = bound (hexnum t.x.0) (λ n. if is_scalar n then (let p : List ℕ × List ℕ = (encode_utf8 n, t.x.1) in Some p) else None) y t.then_is in
+    subst (λ r. Suffix r text) (sym (go n.x t.x.1 (is_scalar n.x) n.then_is)) (braced_suffix text t.x t.first)
+  where
+    go : (m : ℕ) (r : List ℕ) (b : Bool) → (if b then (let p : List ℕ × List ℕ = (encode_utf8 m, r) in Some p) else None) ≡ Some y → y.1 ≡ r
+    go m r true e = same_rest r [] (encode_utf8 m) y e
+    go m r false e = absurd cc
+
+byte_suffix : (text : List ℕ) (y : List ℕ × List ℕ) → byte text ≡ Some y → Suffix y.1 text
+byte_suffix [] y h = absurd cc
+byte_suffix (c ∷ []) y h = absurd cc
+byte_suffix (c ∷ d ∷ rest) y h =
+    let n = bound (hexdigit c) (λ n. hexdigit d >>= λ m. (let p : List ℕ × List ℕ = ((16 * n + m) ∷ [], rest) in Some p)) y h in
+    let m = bound (hexdigit d) (λ m. (let p : List ℕ × List ℕ = ((16 * n.x + m) ∷ [], rest) in Some p)) y n.then_is in
+    record { n = 1; is = same_rest rest [] ((16 * n.x + m.x) ∷ []) y m.then_is }
+
+after_u : (text digits : List ℕ) → after (codes "u{") text ≡ Some digits → Suffix digits text
+after_u [] digits h = absurd cc
+after_u (c ∷ []) digits h = go (c == 0x75) h
+  where
+    go : (b : Bool) → elim b as (λ x. Option (List ℕ)) [ true ↦ None | false ↦ None ] ≡ Some digits → Suffix digits (c ∷ [])
+    go true e = absurd cc
+    go false e = absurd cc
+after_u (c ∷ d ∷ rest) digits h = go (c == 0x75) (d == 0x7b) h
+  where
+    go : (a b : Bool) → elim a as (λ x. Option (List ℕ)) [ true ↦ elim b as (λ x. Option (List ℕ)) [ true ↦ Some rest | false ↦ None ] | false ↦ None ] ≡ Some digits → Suffix digits (c ∷ d ∷ rest)
+    go true true e = record { n = 1; is = let same : rest ≡ digits = cc in sym same }
+    go true false e = absurd cc
+    go false b e = absurd cc
+
+inner_suffix : (r digits text : List ℕ) → Suffix r digits → Suffix digits text → Suffix r text
+inner_suffix r digits text a b = record { n = b.n + suc a.n; is = a.is ∙ ap (drop (suc a.n)) b.is ∙ drop-drop (suc a.n) (suc b.n) text ∙ ap (λ k. drop k text) {x = suc b.n + suc a.n} {y = suc (b.n + suc a.n)} (omega arith) }
+
+escape_suffix : (text : List ℕ) (y : List ℕ × List ℕ) → escape text ≡ Some y → Suffix y.1 text
+escape_suffix [] y h = absurd cc
+escape_suffix (c ∷ cs) y h = go (named c) (after (codes "u{") (c ∷ cs)) refl h
+  where
+    go : (o : Option ℕ) (p : Option (List ℕ)) → after (codes "u{") (c ∷ cs) ≡ p
+        → elim o as (λ x. Option (List ℕ × List ℕ)) [ Some b ↦ Some (b ∷ [], cs) | None ↦ elim p as (λ x. Option (List ℕ × List ℕ)) [ Some digits ↦ unicode digits | None ↦ byte (c ∷ cs) ] ] ≡ Some y → Suffix y.1 (c ∷ cs)
+    go (Some b) p is e = record { n = 0; is = same_rest cs [] (b ∷ []) y e }
+    go None (Some digits) is e = inner_suffix y.1 digits (c ∷ cs) (unicode_suffix digits y e) (after_u (c ∷ cs) digits is)
+    go None None is e = byte_suffix (c ∷ cs) y e
+
+element_suffix : (text : List ℕ) (y : List ℕ × List ℕ) → stringelem text ≡ Some y → Suffix y.1 text
+element_suffix [] y h = absurd cc
+element_suffix (c ∷ cs) y h = go (c == 0x5c) (is_raw c) h
+  where
+    go : (a b : Bool) → elim a as (λ x. Option (List ℕ × List ℕ)) [ true ↦ escape cs | false ↦ if b then Some (c ∷ [], cs) else None ] ≡ Some y → Suffix y.1 (c ∷ cs)
+    go true b e = after_one c y.1 cs (escape_suffix cs y e)
+    go false true e = record { n = 0; is = same_rest cs [] (c ∷ []) y e }
+    go false false e = absurd cc
+
+-- a text that is cut, by the place of the cut
+place_of : (k : ℕ) (xs : List ℕ) → drop k xs ≡ drop (length xs - length (drop k xs)) xs
+place_of zero xs = ap (λ n. drop n xs) {x = 0} {y = length xs - length xs} (omega arith)
+place_of (suc k) [] = refl
+place_of (suc k) (x ∷ xs) =
+    let shorter : length (drop k xs) ≡ length xs - k = length-drop k xs in
+    place_of k xs ∙ ap (λ n. drop n (x ∷ xs)) {x = suc (length xs - length (drop k xs))} {y = suc (length xs) - length (drop k xs)} (omega (arith, shorter))
+
+-- What holds between two elements: what is read, and so many elements at most are left.
+pub record Reading (text out rest : List ℕ) (n : ℕ) : Type 0 where
+  pub at : ℕ
+  pub left : rest ≡ drop at text
+  pub is : elements (length text) text ≡ joined out (elements n rest)
+  pub enough : length rest ≤ n
+  pub shorter : length rest ≤ length text
+
+pub started : (text : List ℕ) → Reading text [] text (length text)
+started text = record { at = 0; left = refl; is = go (elements (length text) text); enough = omega arith; shorter = omega arith }
+  where
+    go : (r : Result (List ℕ) (List ℕ)) → r ≡ joined [] r
+    go (Ok x) = refl
+    go (Err x) = refl
+
+joined_twice : (a b : List ℕ) (r : Result (List ℕ) (List ℕ)) → joined a (joined b r) ≡ joined (a ++ b) r
+joined_twice a b (Ok x) = ap Ok (sym (append_assoc a b x))
+joined_twice a b (Err x) = refl
+
+one_element : (m c : ℕ) (cs bytes rest : List ℕ) → stringelem (c ∷ cs) ≡ Some (bytes, rest) → elements (suc m) (c ∷ cs) ≡ joined bytes (elements m rest)
+unfolding elements
+one_element m c cs bytes rest is = ap (λ o. elim o as (λ x. Result (List ℕ) (List ℕ)) [ Some e ↦ joined e.0 (elements m e.1) | None ↦ Err (c ∷ cs) ]) is
+
+no_element : (m c : ℕ) (cs : List ℕ) → stringelem (c ∷ cs) ≡ None → elements (suc m) (c ∷ cs) ≡ Err (c ∷ cs)
+unfolding elements
+no_element m c cs is = ap (λ o. elim o as (λ x. Result (List ℕ) (List ℕ)) [ Some e ↦ joined e.0 (elements m e.1) | None ↦ Err (c ∷ cs) ]) is
+
+nothing_left : (n : ℕ) → elements n [] ≡ Ok []
+unfolding elements
+nothing_left zero = refl
+nothing_left (suc n) = refl
+
+record Taken (old now rest text : List ℕ) : Type 0 where
+  bytes : List ℕ
+  reads : stringelem text ≡ Some (bytes, rest)
+  out : now ≡ old ++ bytes
+
+taken : (old now rest text : List ℕ) (o : Option (List ℕ × List ℕ)) → stringelem text ≡ o → added old o ≡ Some (now, rest) → Taken old now rest text
+taken old now rest text None e h = absurd cc
+taken old now rest text (Some x) e h =
+    let same : (let p : List ℕ × List ℕ = (old ++ x.0, x.1) in p) ≡ (now, rest) = cc in
+    record { bytes = x.0; reads = e ∙ ap (λ r. Some (x.0, r)) (ap (λ p. p.1) same); out = sym (ap (λ p. p.0) same) }
+
+-- an element is read
+pub past : (text old now rest more : List ℕ) (m n : ℕ) → m ≡ suc n → added old (stringelem rest) ≡ Some (now, more) → Reading text old rest m → Reading text now more n
+past text old now [] more m n one gives r = absurd cc
+past text old now (c ∷ cs) more m n one gives r =
+    let t = taken old now more (c ∷ cs) (stringelem (c ∷ cs)) refl gives in
+    let s = element_suffix (c ∷ cs) (t.bytes, more) t.reads in
+    let long : length (drop (suc s.n) (c ∷ cs)) ≡ length (c ∷ cs) - suc s.n = length-drop (suc s.n) (c ∷ cs) in
+    let short : length more ≡ length (drop (suc s.n) (c ∷ cs)) = ap length s.is in
+    let fits : suc (length cs) ≤ m = r.enough in
+    record {
+      at = r.at + suc s.n;
+      left = s.is ∙ ap (drop (suc s.n)) r.left ∙ drop-drop (suc s.n) r.at text;
+      is = r.is ∙ ap (λ k. joined old (elements k (c ∷ cs))) one ∙ ap (joined old) (one_element n c cs t.bytes more t.reads)
+          ∙ joined_twice old t.bytes (elements n more) ∙ ap (λ x. joined x (elements n more)) (sym t.out);
+      enough = omega (arith, long, short, fits, one);
+      shorter = let before : suc (length cs) ≤ length text = r.shorter in omega (arith, long, short, before);
+    }
+
+-- no element is there
+pub stuck : (text old rest : List ℕ) (m n : ℕ) → m ≡ suc n → (length rest == 0) ≡ false → stringelem rest ≡ None → Reading text old rest m
+    → (string text ≡ Err (length text - length rest)) × (element_fault rest ≡ element_fault (drop (length text - length rest) text))
+stuck text old [] m n one some none r = absurd cc
+stuck text old (c ∷ cs) m n one some none r = (
+  ap (λ r. elim r as (λ x. Result (List ℕ) ℕ) [ Ok bytes ↦ Ok bytes | Err rest ↦ Err (length text - length rest) ])
+      (r.is ∙ ap (λ k. joined old (elements k (c ∷ cs))) one ∙ ap (joined old) (no_element n c cs none)),
+  ap element_fault (place (c ∷ cs) r.left),
+)
+  where
+    place : (rest : List ℕ) → rest ≡ drop r.at text → rest ≡ drop (length text - length rest) text
+    place rest h = h ∙ place_of r.at text ∙ ap (λ x. drop (length text - length x) text) (sym h)
+
+-- the end of the text
+pub done : (text old rest : List ℕ) (m : ℕ) → rest ≡ [] → Reading text old rest m → string text ≡ Ok old
+done text old rest m none r = ap (λ r. elim r as (λ x. Result (List ℕ) ℕ) [ Ok bytes ↦ Ok bytes | Err rest ↦ Err (length text - length rest) ])
+    (r.is ∙ ap (λ x. joined old (elements m x)) none ∙ ap (joined old) (nothing_left m) ∙ ap Ok (append-nil old))
+
+pub empty_is : (xs : List ℕ) → (length xs == 0) ≡ true → xs ≡ []
+empty_is [] h = refl
+empty_is (x ∷ xs) h = absurd (let e : length (x ∷ xs) ≡ 0 = eqb-true (length (x ∷ xs)) 0 h in omega arith)
+
+pub run_out : (text old rest : List ℕ) (m : ℕ) → m ≡ 0 → Reading text old rest m → string text ≡ Ok old
+run_out text old [] m none r = done text old [] m refl r
+run_out text old (c ∷ cs) m none r = absurd (let e : length (c ∷ cs) ≤ m = r.enough in omega (arith, e, none))
+
+-- a string without escapes
+last_false : (a b d : Bool) → a && (b && (d && false)) ≡ true → ⊥
+last_false true true true h = absurd cc
+last_false true true false h = absurd cc
+last_false true false d h = absurd cc
+last_false false b d h = absurd cc
+
+raw_element : (c : ℕ) (cs : List ℕ) → is_raw c ≡ true → stringelem (c ∷ cs) ≡ Some (c ∷ [], cs)
+raw_element c cs h = go (c == 0x5c) refl
+  where
+    go : (x : Bool) → c == 0x5c ≡ x → stringelem (c ∷ cs) ≡ Some (c ∷ [], cs)
+    go true e = absurd (last_false (nat_le 0x20 c) (not (c == 0x7f)) (not (c == 0x22)) (subst (λ x. nat_le 0x20 c && (not (c == 0x7f) && (not (c == 0x22) && not x)) ≡ true) e h))
+    go false e = ap (λ b. elim b as (λ x. Option (List ℕ × List ℕ)) [ true ↦ escape cs | false ↦ if is_raw c then Some (c ∷ [], cs) else None ]) e ∙ ap (λ b. if b then (let p : List ℕ × List ℕ = (c ∷ [], cs) in Some p) else None) h
+
+all_elements : (xs : List ℕ) → length (front is_raw xs) ≡ length xs → elements (length xs) xs ≡ Ok xs
+all_elements [] h = nothing_left 0
+all_elements (c ∷ cs) h = go (is_raw c) refl (all_elements cs)
+  where
+    go : (b : Bool) → is_raw c ≡ b → (length (front is_raw cs) ≡ length cs → elements (length cs) cs ≡ Ok cs) → elements (suc (length cs)) (c ∷ cs) ≡ Ok (c ∷ cs)
+    go true e inner = one_element (length cs) c cs (c ∷ []) cs (raw_element c cs e)
+        ∙ ap (joined (c ∷ [])) (inner (let same : suc (length (front is_raw cs)) ≡ suc (length cs) = sym (ap length (begins is_raw c cs e)) ∙ h in omega (arith, same)))
+    go false e inner = absurd (let none : 0 ≡ suc (length cs) = sym (ap length (stops is_raw c cs e)) ∙ h in omega (arith, none))
+
+pub all_raw : (xs : List ℕ) → length (front is_raw xs) ≡ length xs → string xs ≡ Ok xs
+all_raw xs h = ap (λ r. elim r as (λ x. Result (List ℕ) ℕ) [ Ok bytes ↦ Ok bytes | Err rest ↦ Err (length xs - length rest) ]) (all_elements xs h)

@@ -1,0 +1,11 @@
+use Rattle.std.proofs.Common.{◌≡◌, ◌+◌, ◌-◌, ◌≤◌, length}
+use Rattle.wat_grammar.specs.Parts.{front}
+use Rattle.wat_grammar.specs.Space.{is_blank}
+use Rattle.wat_tokens.proofs.scans.blank_length.Given as goal
+
+abbrev pub invariant-loop : goal.invariant-loop
+invariant-loop l = record {
+  shorter : length l.rest ≤ length l.text;
+  enough : length l.rest ≤ l.end - l.counter;
+  counts : length (front is_blank l.text) + length l.rest ≡ length l.text + length (front is_blank l.rest);
+}

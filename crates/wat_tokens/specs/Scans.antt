@@ -1,0 +1,67 @@
+-- What cutting a text into tokens returns (text format: tokens). The rules are those of wat_grammar.
+use Rattle.std.specs.Prelude.{◌≡◌, ◌≢◌, ◌<◌, ◌≤◌, ℕ, List, [], ◌∷◌, length, drop, map, Option, None, Some, codes}
+use Rattle.wat_grammar.specs.Tokens as grammar
+use Rattle.wat_tokens.specs.declared.faults.TextError.{TextError}
+use Rattle.wat_tokens.specs.declared.faults.TextFault.TheVariants as fault
+use Rattle.wat_tokens.specs.declared.tokens.Annotation.{Annotation}
+use Rattle.wat_tokens.specs.declared.tokens.Annotation.TheVariants as annotation
+use Rattle.wat_tokens.specs.declared.tokens.Token.{Token}
+use Rattle.wat_tokens.specs.declared.tokens.Token.TheVariants as token
+use Rattle.wat_tokens.specs.declared.tokens.Placed.{Placed}
+
+-- the id of an annotation with a meaning
+abbrev pub id_of : Annotation → List ℕ
+id_of annotation.Name = codes "name"
+id_of annotation.Custom = codes "custom"
+id_of annotation.Producers = codes "producers"
+id_of annotation.Dylink0 = codes "dylink.0"
+id_of annotation.BranchHint = codes "metadata.code.branch_hint"
+
+-- A token as the rules have it: by its bytes, wherever they are kept.
+abbrev pub seen : Token → grammar.Token
+seen token.Open = grammar.Open
+seen token.Close = grammar.Close
+seen (token.Annotation kind) = grammar.Annotation (id_of kind)
+seen (token.Word word text) = grammar.Word text.now
+seen (token.Other text) = grammar.Word text.now
+seen (token.Id name) = grammar.Id name.now
+seen (token.String bytes) = grammar.String bytes.now
+
+-- a token at a place
+abbrev pub placed : Token → ℕ → Placed
+placed t place = record { token = t; span = record { offset = place } }
+
+-- tokens and their places
+abbrev pub seen_all : List Placed → List grammar.Placed
+seen_all found = map (λ p. (seen p.token, p.span.offset)) found
+
+-- what strings stand for: their bytes, if there is something to keep them in
+abbrev pub contents_of : {T : Type 0} → Option T → grammar.Contents
+contents_of None = grammar.as_written
+contents_of (Some strings) = grammar.bytes_of
+
+-- the first byte of a text
+abbrev pub first_of : List ℕ → Option ℕ
+first_of [] = None
+first_of (c ∷ cs) = Some c
+
+-- what is read at a place ends after it, and in the text
+abbrev pub IsInside : List ℕ → ℕ → ℕ → Type 0
+IsInside text place end = (place < end) × (end ≤ length text)
+
+-- A rule is read: it gives these bytes, and the text from `end` on is left.
+pub record IsRead (read : Option (List ℕ × List ℕ)) (text : List ℕ) (begin : ℕ) (bytes : List ℕ) (end : ℕ) : Type 0 where
+  pub gives : read ≡ Some (bytes, drop end text)
+  pub forward : begin < end
+  pub inside : end ≤ length text
+
+-- The same of what may be empty.
+pub record IsName (read : Option (List ℕ × List ℕ)) (text : List ℕ) (begin : ℕ) (bytes : List ℕ) (end : ℕ) : Type 0 where
+  pub gives : read ≡ Some (bytes, drop end text)
+  pub forward : 0 < length bytes → begin < end
+  pub inside : end ≤ length text
+
+-- The rules do not read the text, and the error is at a place in it. If memory is refused, the text may be right.
+pub record IsFault {A : Type 0} (read : Option A) (text : List ℕ) (e : TextError) : Type 0 where
+  pub refused : e.fault ≢ fault.Memory → read ≡ None
+  pub inside : e.span.offset ≤ length text
