@@ -53,7 +53,7 @@ fn error_has_number_position_and_message(rt: HostRuntime) {
     let mut cut = [b'.'; 7];
     let status = rigyomad_c_fault(rt.alloc(), b"(module (fun))", &mut cut, &mut diagnosis);
     assert!(rt; status == 2 && diagnosis.number == 0 && diagnosis.column == 10);
-    assert!(rt; cut.starts_with(b"expecte") && diagnosis.size == 28);
+    assert!(rt; cut.starts_with(b"expecte") && diagnosis.size == 27);
     let uncovered = b"(module (type (func)) (type (cont 0)))";
     let status = rigyomad_c_fault(rt.alloc(), uncovered, &mut message, &mut diagnosis);
     assert!(rt; status == 2 && diagnosis.number == 11);
