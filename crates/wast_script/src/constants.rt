@@ -6,7 +6,7 @@ use crate::words::{Constant, constant_of, heap_type_of};
 use std::alloc::Global;
 use wast_tree::{AbstractHeapType, HeapType, Index};
 use wat_tokens::{
-    TextFault, float32, float64, integer8, integer16, integer32, integer64, unsigned32,
+    TextFault, Token, float32, float64, integer8, integer16, integer32, integer64, unsigned32,
 };
 
 /// Whether a value is an argument, or what a result has to be.
@@ -191,6 +191,14 @@ impl<'a> Reader<'a> {
         HeapType::Abstract { shared: true, ty }
     }
 
+    /// The index of a type, which is the heap type if no word is.
+    fn type_index(&mut self) -> Index<'a> {
+        if !matches!(self.look(0), Some(Token::Id(_))) && !self.is_number() {
+            self.expected("a heap type");
+        }
+        self.index()
+    }
+
     /// A heap type (text format, heap types).
     fn heap_type(&mut self) -> HeapType<'a> {
         if self.accept_form("shared") {
@@ -198,7 +206,7 @@ impl<'a> Reader<'a> {
         }
         match self.abstract_heap() {
             Some(ty) => HeapType::of(ty),
-            None => HeapType::Concrete(self.index()),
+            None => HeapType::Concrete(self.type_index()),
         }
     }
 

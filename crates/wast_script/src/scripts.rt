@@ -199,18 +199,28 @@ impl<'a> Script<'a> {
         Ok(bytes)
     }
 
-    /// Returns the text of a module in the script, from its parenthesis to its end. Does not allocate.
-    pub fn source(&self, module: &ScriptModule<'a>) -> &'a str {
-        let start = match part_of(self.tokens.as_slice(), module.head).first() {
-            Some(placed) => placed.span.offset,
-            None => 0,
-        };
-        let end = match module.head.start == module.head.end {
+    /// Returns the position where the text of a module begins: that of its parenthesis, or the start of a script that is one module
+    /// without its parentheses. Does not allocate.
+    pub fn start(&self, module: &ScriptModule<'a>) -> Span {
+        match part_of(self.tokens.as_slice(), module.head).first() {
+            Some(placed) => placed.span,
+            None => Span::default(),
+        }
+    }
+
+    /// The offset after the text of a module.
+    fn end(&self, module: &ScriptModule<'a>) -> usize {
+        match module.head.start == module.head.end {
             true => self.text.len(),
             false => last_place(self.tokens.as_slice(), module.rest)
                 .offset
                 .saturating_add(1),
-        };
+        }
+    }
+
+    /// Returns the text of a module in the script, from its parenthesis to its end. Does not allocate.
+    pub fn source(&self, module: &ScriptModule<'a>) -> &'a str {
+        let (start, end) = (self.start(module).offset, self.end(module));
         self.text.get(start..end).unwrap_or("")
     }
 }

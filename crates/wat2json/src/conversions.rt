@@ -10,7 +10,7 @@ use wast_script::{
     Action, ActionKind, Command, CommandKind, Execution, ModuleForm, Part, Script, ScriptModule,
 };
 use wast_tree::{Id, Span};
-use wat_bytes::{Refused, encoded_text};
+use wat_bytes::{Refused, UncoveredForm, encode_text, encoded_text};
 use wat_text::Strings;
 
 /// A file of a module: its name, and its bytes.
@@ -51,6 +51,25 @@ struct Converter<'a> {
     stem: String,
 }
 
+/// Returns a form that no encoder covers with its word and the position of that, as encoding the text of the module finds them.
+fn as_written<'a>(
+    alloc: Global,
+    script: &Script<'a>,
+    strings: &'a Strings,
+    module: &ScriptModule<'a>,
+    found: UncoveredForm<'a>,
+) -> UncoveredForm<'a> {
+    let start = script.start(module).offset;
+    match encode_text(alloc, script.source(module), strings) {
+        Err(Refused::Uncovered(written)) => {
+            let offset = written.span.offset.saturating_add(start);
+            let span = Span { offset };
+            UncoveredForm { span, ..written }
+        }
+        _ => found,
+    }
+}
+
 /// Returns the bytes of a module that is instantiated or encoded.
 fn bytes_of<'a>(
     alloc: Global,
@@ -59,7 +78,13 @@ fn bytes_of<'a>(
     module: &ScriptModule<'a>,
 ) -> Result<Vec<u8>, Refused<'a>> {
     match script.read(alloc, module, strings) {
-        Ok(text) => encoded_text(alloc, text),
+        Ok(text) => match encoded_text(alloc, text) {
+            Err(Refused::Uncovered(found)) => {
+                let written = as_written(alloc, script, strings, module, found);
+                Err(Refused::Uncovered(written))
+            }
+            answer => answer,
+        },
         Err(error) => Err(Refused::Text(error)),
     }
 }
