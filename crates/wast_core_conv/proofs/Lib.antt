@@ -13,3 +13,4 @@ pub mod CustomsSpelled
 pub mod Segmented
 pub mod SegmentsReady
 pub mod Hinting
+pub mod Adding

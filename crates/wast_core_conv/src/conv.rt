@@ -14,7 +14,7 @@ ghost use Rattle.wast_base.specs.Ids.{is_number};
 ghost use Rattle.wast_base.specs.Faults.{out_of_memory};
 ghost use Rattle.wast_tree_nodes.specs.Sites.{in_heap, in_ref, in_val, in_param, in_storage, in_struct_field, in_array, in_struct, in_signature, in_inner, in_def, in_type};
 ghost use Rattle.wast_tree_nodes.specs.Resolved.{are_numbered};
-ghost use Rattle.wasm_ops.specs.ConstExprs.{expression};
+ghost use Rattle.wasm_ops.specs.ConstExprs as encodings;
 ghost use Rattle.wasm_ops.specs.Table.{instrs, instr};
 ghost use Rattle.wasm_out.specs.Built.{IsRefused};
 ghost use Rattle.wast_core_conv.specs.Encodable.{is_number_if, is_encodable_instr, is_encodable_expression};
@@ -438,8 +438,8 @@ pub fn const_expr<'e>(alloc: Global, expression: &Expression) -> Result<ConstExp
     requires { IsTrue (is_encodable_expression expression.now) }
     ensures value { IfOk result (λ made.
         (made ≡ instrs (meaning.as_expression expression.now))
-        × (expression (meaning.as_expression expression.now)).in_range) }
-    ensures refusal { IfErr result (IsRefused (expression (meaning.as_expression expression.now)).in_range) }
+        × (encodings.expression (meaning.as_expression expression.now)).in_range) }
+    ensures refusal { IfErr result (IsRefused (encodings.expression (meaning.as_expression expression.now)).in_range) }
 {
     let bytes = instrs_bytes(alloc, expression.instrs.as_slice())?;
     Ok(ConstExpr::raw(bytes))

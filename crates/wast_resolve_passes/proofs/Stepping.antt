@@ -68,7 +68,7 @@ along_more {s} {t} {u} {olds} {nows} {i} {x} y p lt is moves =
       len = length-set nows i y ∙ p.len;
       left = drop-set-lt (i + 1) nows i y (omega arith) ∙ rw (← drop-drop 1 i nows, ← drop-drop 1 i olds) (ap (drop 1) p.left);
       moved = λ l.
-          let h = here l s in
+          let h = context_of l s in
           let there = stands_by l s (in_instrs h (take i olds)) t (p.moved l) in
           moves l
           ∙ (ap (λ (g : BodyContext). (after_all g (in_instr g x)).blocks) there

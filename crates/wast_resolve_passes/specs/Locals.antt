@@ -71,7 +71,7 @@ NumbersIn c l (func.Inline locals e) s = Numbers c l s
 
 -- Two type uses have the same parameters: as many unnamed ones, and the same ids.
 pub record SaysAsMuch (c : Scope) (u v : TypeUse FunctionType) : Type 0 where
-  pub nameless : nameless c (Some v) ≡ nameless c (Some u)
+  pub nameless : implicit_param_count c (Some v) ≡ implicit_param_count c (Some u)
   pub marks : param_marks v.inline ≡ param_marks u.inline
 
 -- the number of parameters and locals of a function, and the numbers of enclosing blocks
