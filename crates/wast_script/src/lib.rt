@@ -16,7 +16,7 @@
 //!
 //! # Guarantees
 //!
-//! - `place` of [`read_script`]: the position of an error is in the text or at its end.
+//! - `places` and `place` of [`read_script`]: the positions of commands, and of an error, are in the text or at its end.
 //! - `well_formed` of [`Script::read`]: the fields of a module are well formed.
 #![tactic(auto)]
 

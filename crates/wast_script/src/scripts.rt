@@ -1,6 +1,6 @@
 //! Scripts, and what they give of their modules.
 
-ghost use Rattle.std.specs.Prelude.{◌≤◌, length, IsTrue, IfOk, IfErr};
+ghost use Rattle.std.specs.Prelude.{◌≤◌, length, All, IsTrue, IfOk, IfErr};
 ghost use Rattle.wat_text.specs.Texts.{is_well_formed_text};
 
 use crate::commands::{Command, ScriptModule};
@@ -46,25 +46,59 @@ fn error_within(text: &str, error: TextError) -> TextError
     }
 }
 
+/// Moves the positions of commands to the end of the text, if they are after it.
+fn commands_within<'a>(
+    alloc: Global,
+    text: &str,
+    commands: &[Command<'a>],
+) -> Result<Vec<Command<'a>>, AllocError>
+    ensures { IfOk result (λ found. All (λ c. c.span.offset ≤ length text.now) found.items) }
+{
+    let mut found = Vec::new(alloc);
+    for at in 0..commands.len() {
+        let Command { span, kind } = commands[at];
+        let span = within(text, span);
+        found.push(Command { span, kind })?;
+    }
+    Ok(found)
+}
+
+/// The script of what was read of a text.
+fn script_read<'a>(
+    alloc: Global,
+    text: &'a str,
+    reader: Reader<'a>,
+) -> Result<Script<'a>, AllocError>
+    ensures { IfOk result (λ s. All (λ c. c.span.offset ≤ length text.now) s.commands.items) }
+{
+    let commands = commands_within(alloc, text, reader.commands.as_slice())?;
+    Ok(Script {
+        text,
+        commands,
+        values: reader.values,
+        lanes: reader.lanes,
+        tokens: reader.tokens,
+    })
+}
+
 /// The script of a text, wherever its faults are.
 fn script_of<'a>(
     alloc: Global,
     text: &'a str,
     strings: &'a Strings,
-) -> Result<Script<'a>, TextError> {
+) -> Result<Script<'a>, TextError>
+    ensures { IfOk result (λ s. All (λ c. c.span.offset ≤ length text.now) s.commands.items) }
+{
     let tokens = tokens_of(alloc, text, strings)?;
     let end = Span { offset: text.len() };
     let mut reader = Reader::new(alloc, tokens, end);
     reader.script();
-    match reader.fault() {
-        Some(fault) => Err(fault),
-        None => Ok(Script {
-            text,
-            commands: reader.commands,
-            values: reader.values,
-            lanes: reader.lanes,
-            tokens: reader.tokens,
-        }),
+    if let Some(fault) = reader.fault() {
+        return Err(fault);
+    }
+    match script_read(alloc, text, reader) {
+        Ok(script) => Ok(script),
+        Err(_) => Err(TextError::new(end, TextFault::Memory)),
     }
 }
 
@@ -81,12 +115,14 @@ fn script_of<'a>(
 ///
 /// # Guarantees
 ///
-/// `place`: the position of an error is in the text or at its end.
+/// - `places`: the position of each command is in the text or at its end.
+/// - `place`: and so is that of an error.
 pub fn read_script<'a>(
     alloc: Global,
     text: &'a str,
     strings: &'a Strings,
 ) -> Result<Script<'a>, TextError>
+    ensures places { IfOk result (λ s. All (λ c. c.span.offset ≤ length text.now) s.commands.items) }
     ensures place { IfErr result (λ e. e.span.offset ≤ length text.now) }
 {
     match script_of(alloc, text, strings) {
