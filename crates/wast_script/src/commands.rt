@@ -27,6 +27,8 @@ pub struct ScriptModule<'a> {
     pub(crate) head: Part,
     /// Its other tokens, without the word `definition`.
     pub(crate) rest: Part,
+    /// The strings that a binary or quoted module has, among the tokens of the script.
+    pub(crate) strings: Part,
 }
 
 /// What an action does.

@@ -27,46 +27,53 @@ impl<'a> Reader<'a> {
         self.expected("`)`");
     }
 
-    /// Reads strings up to the end of the form, and its end.
-    fn skip_strings(&mut self) {
+    /// Reads strings up to the end of the form, and its end. Returns where the strings are.
+    fn skip_strings(&mut self) -> Part {
+        let start = self.at();
         for _ in 0..self.left() {
             if !self.is_string(0) {
                 break;
             }
             self.skip();
         }
+        let end = self.at();
         self.close();
+        Part { start, end }
+    }
+
+    /// Returns whether a name annotation is next.
+    fn is_name(&self) -> bool {
+        let is_annotation = matches!(self.look(0), Some(Token::Annotation(Annotation::Name)));
+        is_annotation && self.is_string(1) && matches!(self.look(2), Some(Token::Close))
     }
 
     /// Reads a name annotation, if there is one.
     fn skip_name(&mut self) {
-        if matches!(self.look(0), Some(Token::Annotation(Annotation::Name))) {
+        if self.is_name() {
             for _ in 0..NAME {
                 self.skip();
             }
         }
     }
 
-    /// Reads a module from its id or its contents on, up to its end, and returns its form.
-    fn contents(&mut self) -> ModuleForm {
+    /// Reads a module from its name annotation or its contents on, up to its end. Returns its form, and where its strings are.
+    fn contents(&mut self) -> (ModuleForm, Part) {
         self.skip_name();
         if self.accept("binary") {
-            self.skip_strings();
-            return ModuleForm::Binary;
+            return (ModuleForm::Binary, self.skip_strings());
         }
         if self.accept("quote") {
-            self.skip_strings();
-            return ModuleForm::Quote;
+            return (ModuleForm::Quote, self.skip_strings());
         }
         self.skip_form();
-        ModuleForm::Fields
+        (ModuleForm::Fields, Part { start: 0, end: 0 })
     }
 
     /// Reads a module after its head, which is a part of the tokens, and its keyword at a position.
     pub(crate) fn module_after(&mut self, span: Span, head: Part) -> ScriptModule<'a> {
         let start = self.at();
         let id = self.id();
-        let form = self.contents();
+        let (form, strings) = self.contents();
         let end = self.at();
         ScriptModule {
             span,
@@ -74,6 +81,7 @@ impl<'a> Reader<'a> {
             form,
             head,
             rest: Part { start, end },
+            strings,
         }
     }
 
@@ -100,6 +108,7 @@ impl<'a> Reader<'a> {
                 start: 0,
                 end: self.tokens.len(),
             },
+            strings: Part { start: 0, end: 0 },
         }
     }
 }

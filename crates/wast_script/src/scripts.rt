@@ -220,14 +220,14 @@ impl<'a> Script<'a> {
     }
 
     /// Returns the bytes of the strings of a module: of a binary module its bytes, and of a quoted one its text, which may be wrong
-    /// on purpose. Allocates memory for the bytes.
+    /// on purpose. A module with fields has none. Allocates memory for the bytes.
     ///
     /// # Errors
     ///
     /// [`AllocError`]: allocation failed.
     pub fn bytes(&self, alloc: Global, module: &ScriptModule<'a>) -> Result<Vec<u8>, AllocError> {
         let mut bytes = Vec::new(alloc);
-        for placed in part_of(self.tokens.as_slice(), module.rest) {
+        for placed in part_of(self.tokens.as_slice(), module.strings) {
             if let Token::String(piece) = placed.token {
                 bytes.extend_from_slice(piece)?;
             }
