@@ -1,39 +1,17 @@
 //! Converts one text.
 
-use crate::diagnostics::{report, report_malformed, warn};
-use crate::escapes::Escaped;
-use crate::failures::Failure;
 use crate::names::name_lines;
-use crate::options::{Options, Output, STANDARD};
-use crate::outputs::{output_path, print_bytes, write_file};
+use crate::options::{Options, Output};
+use crate::outputs::output_path;
 use crate::sections::without_names;
 use std::alloc::{AllocError, Global};
-use std::fs::File;
-use std::io::{self, Read};
 use std::str;
 use wat_bytes::{encode_text, names_of_text};
+use wat_command::{
+    Escaped, Failure, STANDARD, print_bytes, read_input, report, report_malformed, shown,
+    text_before, warn, write_file,
+};
 use wat_text::Strings;
-
-/// Returns the name of a file, as messages have it.
-fn shown(file: &str) -> Escaped<'_> {
-    if file == STANDARD {
-        return Escaped("<stdin>");
-    }
-    Escaped(file)
-}
-
-/// Reads all bytes of a file, or of standard input.
-fn input(rt: &HostRuntime, file: &str) -> io::Result<Vec<u8>> {
-    let mut bytes = Vec::new(rt.alloc());
-    if file == STANDARD {
-        let mut reader = rt.stdin();
-        let _count = reader.read_to_end(&mut bytes)?;
-    } else {
-        let mut reader = File::open(rt, file)?;
-        let _count = reader.read_to_end(&mut bytes)?;
-    }
-    Ok(bytes)
-}
 
 /// Removes the name section, if the options have `--no-names`.
 fn selected(alloc: Global, options: &Options, bytes: Vec<u8>) -> Result<Vec<u8>, AllocError> {
@@ -113,14 +91,6 @@ fn output_of_text(
     }
 }
 
-/// Returns the part of the bytes that is UTF-8, up to this offset.
-fn text_before(bytes: &[u8], offset: usize) -> &str {
-    match bytes.get(..offset) {
-        Some(part) => str::from_utf8(part).unwrap_or(""),
-        None => "",
-    }
-}
-
 /// Returns the output for the bytes of a file.
 fn output_of(
     rt: &HostRuntime,
@@ -182,7 +152,7 @@ fn write_output(
 
 /// Reads a file, and writes its output.
 pub(crate) fn convert_file(rt: &HostRuntime, options: &Options, file: &str) -> Result<(), Failure> {
-    let bytes = match input(rt, file) {
+    let bytes = match read_input(rt, file) {
         Ok(bytes) => bytes,
         Err(error) => return Err(Failure::of_read(rt, shown(file), error)),
     };

@@ -8,16 +8,13 @@
 //! # Modules
 //!
 //! - `options` reads the arguments, and `help` prints the help.
-//! - `conversions` converts one file, `outputs` writes its output, and `names` and `sections` make
+//! - `conversions` converts one file, `outputs` names its output, and `names` and `sections` make
 //!   what `--names` and `--no-names` print.
-//! - `failures` has the errors and their exit status. `diagnostics` prints an error of a text with
-//!   its source line, and `escapes` prints control characters as escapes.
+//! - `wat_command`, which `wat2json` uses too, has what reads and writes files, the diagnostics and
+//!   the exit statuses.
 #![tactic(auto)]
 
 mod conversions;
-mod diagnostics;
-mod escapes;
-mod failures;
 mod help;
 mod names;
 mod options;
@@ -25,14 +22,13 @@ mod outputs;
 mod sections;
 
 use conversions::convert_file;
-use escapes::Escaped;
-use failures::Failure;
 use help::print_help;
-use options::{Misuse, Options, Request, STANDARD};
+use options::{Misuse, Options, Request};
 use outputs::shared_path;
 use std::env;
 use std::io::{self, IsTerminal};
 use std::process::ExitCode;
+use wat_command::{Escaped, Failure, STANDARD};
 
 /// The version of the command.
 const VERSION: &str = "0.1.0";
@@ -52,12 +48,26 @@ fn convert_files(rt: &HostRuntime, options: &Options) -> Result<(), Failure> {
     }
 }
 
+/// Reports that two files would have the same output.
+fn shared_output(rt: &HostRuntime, file: Escaped<'_>) -> Failure {
+    let _ = eprintln!(rt; "error: more than one file has the output `{file}` (see `wat --help`)");
+    Failure::System
+}
+
+/// Reports that the bytes of a module would go to a terminal.
+fn terminal_output(rt: &HostRuntime) -> Failure {
+    let _ = eprintln!(rt;
+        "error: bytes are not written to a terminal: use `-o FILE`, `--hex`, or `-o -` (see `wat --help`)"
+    );
+    Failure::System
+}
+
 /// Reports two files that would have the same output, because only one of the outputs would be
 /// left.
 fn check_outputs(rt: &HostRuntime, options: &Options) -> Result<(), Failure> {
     match shared_path(rt.alloc(), options) {
         Ok(None) => Ok(()),
-        Ok(Some(path)) => Err(Failure::shared_output(rt, Escaped(path.as_str()))),
+        Ok(Some(path)) => Err(shared_output(rt, Escaped(path.as_str()))),
         Err(_) => Err(Failure::memory(rt)),
     }
 }
@@ -65,7 +75,7 @@ fn check_outputs(rt: &HostRuntime, options: &Options) -> Result<(), Failure> {
 /// Converts the files of the options.
 fn convert(rt: &HostRuntime, options: &Options) -> Result<(), Failure> {
     if options.prints_bytes() && rt.stdout().is_terminal() {
-        return Err(Failure::terminal(rt));
+        return Err(terminal_output(rt));
     }
     if options.names_outputs() {
         check_outputs(rt, options)?;
@@ -88,7 +98,7 @@ fn printed(rt: &HostRuntime, answer: io::Result<()>) -> Result<(), Failure> {
 fn run(rt: &HostRuntime) -> Result<(), Failure> {
     let arguments = match env::args(rt) {
         Ok(arguments) => arguments,
-        Err(error) => return Err(Failure::of_arguments(rt, error)),
+        Err(error) => return Err(Failure::of_arguments(rt, "wat", error)),
     };
     match Request::new(rt.alloc(), arguments) {
         Ok(Request::Convert(options)) => convert(rt, &options),

@@ -1,12 +1,9 @@
 //! The options of the command, and its arguments.
 
-use crate::escapes::Escaped;
 use std::alloc::{AllocError, Global};
 use std::env::Args;
 use std::fmt;
-
-/// The file name for standard input and standard output.
-pub(crate) const STANDARD: &str = "-";
+use wat_command::{Escaped, STANDARD};
 
 /// The effect of an option.
 #[derive(Clone, Copy)]

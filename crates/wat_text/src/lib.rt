@@ -15,5 +15,5 @@ mod segments;
 mod types;
 mod vectors;
 
-pub use modules::{TextKind, TextModule, read, read_tokens};
+pub use modules::{TextKind, TextModule, read, read_module_tokens, read_tokens};
 pub use wat_tokens::{Strings, TextError, TextFault};

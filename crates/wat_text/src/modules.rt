@@ -295,13 +295,7 @@ fn read_module<'a>(
 {
     let tokens = tokens_of(alloc, text, strings)?;
     let end = Span { offset: text.len() };
-    let mut reader = Reader::new(alloc, tokens, end);
-    let head = reader.module_head();
-    match reader.key(0) {
-        Some(Key::Binary) if head.keyword.is_some() => binary_module(reader, head),
-        Some(Key::Quote) if head.keyword.is_some() => quoted_module(reader, head, strings),
-        _ => module_of_fields(reader, head.keyword.unwrap_or_default(), head),
-    }
+    read_module_tokens(alloc, tokens, end, strings)
 }
 
 /// Reads a module in the text format (text format, modules): its fields, with its id and its name annotation.
@@ -362,4 +356,32 @@ pub fn read_tokens<'a>(
     let mut reader = Reader::new(alloc, tokens, end);
     let head = reader.module_head();
     rest_of_fields(reader, head.keyword.is_some())
+}
+
+/// Reads a module from its tokens, as [`read`] does from its text: its fields, or its pieces if it is binary, with its id and its
+/// name annotation. For example, the tokens are those of one module of a script. `end` is the position after the last one.
+///
+/// It allocates memory for the tree. The text in quotes of `(module quote ..)` is kept in `strings`.
+///
+/// # Errors
+/// A [`TextFault`] with its position, which is that of a token or `end`: the tokens are not a module, or its fields are not well
+/// formed, or allocation failed ([`TextFault::Memory`]).
+///
+/// # Guarantees
+/// `well_formed`: the fields are well formed.
+pub fn read_module_tokens<'a>(
+    alloc: Global,
+    tokens: Vec<Placed<'a>>,
+    end: Span,
+    strings: &'a Strings,
+) -> Result<TextModule<'a>, TextError>
+    ensures well_formed { IfOk result (λ m. IsTrue (is_well_formed_text m.kind)) }
+{
+    let mut reader = Reader::new(alloc, tokens, end);
+    let head = reader.module_head();
+    match reader.key(0) {
+        Some(Key::Binary) if head.keyword.is_some() => binary_module(reader, head),
+        Some(Key::Quote) if head.keyword.is_some() => quoted_module(reader, head, strings),
+        _ => module_of_fields(reader, head.keyword.unwrap_or_default(), head),
+    }
 }

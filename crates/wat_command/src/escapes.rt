@@ -60,7 +60,7 @@ fn write_blanks<W: fmt::Write>(f: &mut fmt::Formatter<W>, character: char) -> fm
 ///
 /// So a name from a text can neither begin a line of a log nor send a command to a terminal.
 #[derive(Clone, Copy)]
-pub(crate) struct Escaped<'a>(pub &'a str);
+pub struct Escaped<'a>(pub &'a str);
 
 impl fmt::Display for Escaped<'_> {
     fn fmt<W: fmt::Write>(&self, f: &mut fmt::Formatter<W>) -> fmt::Result {

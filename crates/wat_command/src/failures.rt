@@ -9,7 +9,7 @@ use std::process::ExitCode;
 /// Its message is printed on standard error when it is found. If it cannot be printed there, it is
 /// lost, and the exit status is the same.
 #[derive(Clone, Copy)]
-pub(crate) enum Failure {
+pub enum Failure {
     /// The text is not a module that can be encoded.
     Text,
     /// The arguments are wrong, or a file or a stream failed.
@@ -47,12 +47,12 @@ impl Failure {
         Failure::Memory
     }
 
-    /// Reports that the arguments cannot be read: one is not UTF-8, or allocation failed.
-    pub fn of_arguments(rt: &HostRuntime, error: io::Error) -> Failure {
+    /// Reports that the arguments of a command cannot be read: one is not UTF-8, or allocation failed.
+    pub fn of_arguments(rt: &HostRuntime, command: &str, error: io::Error) -> Failure {
         if let io::ErrorKind::OutOfMemory = error.kind() {
             return Failure::memory(rt);
         }
-        let _ = eprintln!(rt; "error: argument is not UTF-8 (see `wat --help`)");
+        let _ = eprintln!(rt; "error: argument is not UTF-8 (see `{command} --help`)");
         Failure::System
     }
 
@@ -80,22 +80,6 @@ impl Failure {
             return Failure::memory(rt);
         }
         let _ = eprintln!(rt; "error: cannot write {file}: {error}");
-        Failure::System
-    }
-
-    /// Reports that two files would have the same output.
-    pub fn shared_output(rt: &HostRuntime, file: Escaped<'_>) -> Failure {
-        let _ = eprintln!(rt;
-            "error: more than one file has the output `{file}` (see `wat --help`)"
-        );
-        Failure::System
-    }
-
-    /// Reports that the bytes of a module would go to a terminal.
-    pub fn terminal(rt: &HostRuntime) -> Failure {
-        let _ = eprintln!(rt;
-            "error: bytes are not written to a terminal: use `-o FILE`, `--hex`, or `-o -` (see `wat --help`)"
-        );
         Failure::System
     }
 }

@@ -106,7 +106,7 @@ fn message_of(alloc: Global, refused: &Refused<'_>) -> Result<String, AllocError
 }
 
 /// Reports the error of a text, with its position.
-pub(crate) fn report(
+pub fn report(
     rt: &HostRuntime,
     alloc: Global,
     file: Escaped<'_>,
@@ -132,7 +132,7 @@ pub(crate) fn report(
 }
 
 /// Reports bytes that are not UTF-8. The text is the bytes before the first wrong one.
-pub(crate) fn report_malformed(rt: &HostRuntime, file: Escaped<'_>, text: &str) -> Failure {
+pub fn report_malformed(rt: &HostRuntime, file: Escaped<'_>, text: &str) -> Failure {
     let offset = text.len();
     let _ = eprintln!(rt; "error: malformed UTF-8 encoding at byte {offset}");
     print_place(rt, file, text, Span { offset });
@@ -162,7 +162,7 @@ fn first_bidirectional_control(text: &str) -> Option<usize> {
 
 /// Warns of the first bidirectional control character of a text. The text is still read, because
 /// comments and strings may have such characters.
-pub(crate) fn warn(rt: &HostRuntime, file: Escaped<'_>, text: &str) {
+pub fn warn(rt: &HostRuntime, file: Escaped<'_>, text: &str) {
     if let Some(offset) = first_bidirectional_control(text) {
         let (line, column) = line_and_column(text, Span { offset });
         let _ = eprintln!(rt;

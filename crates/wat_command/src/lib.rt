@@ -1,0 +1,19 @@
+//! What the commands `wat` and `wat2json` have in common: how they read and write files, how they report errors, and how they end.
+//!
+//! # Modules
+//!
+//! - `diagnostics`: what is printed about a text, with its source line and a caret.
+//! - `escapes`: text as messages show it, with control characters as escapes.
+//! - `failures`: why a run fails, and its exit status.
+//! - `files`: input, and files that are written whole or not at all.
+#![tactic(auto)]
+
+mod diagnostics;
+mod escapes;
+mod failures;
+mod files;
+
+pub use diagnostics::{report, report_malformed, warn};
+pub use escapes::Escaped;
+pub use failures::Failure;
+pub use files::{STANDARD, print_bytes, read_input, shown, split_path, text_before, write_file};
