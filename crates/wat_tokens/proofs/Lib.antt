@@ -19,3 +19,5 @@ pub mod Tables
 pub mod Idchars
 pub mod Parts
 pub mod Ascii
+pub mod Steps
+pub mod FirstBytes

@@ -1,5 +1,6 @@
 -- What cutting a text into tokens returns (text format: tokens). The rules are those of wat_grammar.
-use Rattle.std.specs.Prelude.{◌≡◌, ◌≢◌, ◌<◌, ◌≤◌, ℕ, List, [], ◌∷◌, length, drop, map, Option, None, Some, codes}
+use Rattle.std.specs.Prelude.{◌≡◌, ◌≢◌, ◌<◌, ◌≤◌, ◌==◌, ℕ, Bool, true, false, if◌then◌else◌, List, [], ◌∷◌, length, drop, map, Option, None, Some, Result, MatchResult, codes}
+use Rattle.wat_grammar.specs.Space.{is_blank}
 use Rattle.wat_grammar.specs.Tokens as grammar
 use Rattle.wat_tokens.specs.declared.faults.TextError.{TextError}
 use Rattle.wat_tokens.specs.declared.faults.TextFault.TheVariants as fault
@@ -8,6 +9,10 @@ use Rattle.wat_tokens.specs.declared.tokens.Annotation.TheVariants as annotation
 use Rattle.wat_tokens.specs.declared.tokens.Token.{Token}
 use Rattle.wat_tokens.specs.declared.tokens.Token.TheVariants as token
 use Rattle.wat_tokens.specs.declared.tokens.Placed.{Placed}
+use Rattle.wat_tokens.specs.declared.scans.Kind.{Kind}
+use Rattle.wat_tokens.specs.declared.scans.Kind.TheVariants as kind
+use Rattle.wat_tokens.specs.declared.scans.Part.{Part}
+use Rattle.wat_tokens.specs.declared.scans.Skipped.{Skipped}
 
 -- the id of an annotation with a meaning
 abbrev pub id_of : Annotation → List ℕ
@@ -45,6 +50,21 @@ abbrev pub first_of : List ℕ → Option ℕ
 first_of [] = None
 first_of (c ∷ cs) = Some c
 
+-- whether this is the first byte of a text
+abbrev pub is_first : ℕ → List ℕ → Bool
+is_first c [] = false
+is_first c (d ∷ ds) = d == c
+
+-- whether a text begins with ';;'
+abbrev pub begins_of : List ℕ → Bool
+begins_of [] = false
+begins_of (c ∷ cs) = grammar.begins_comment c cs
+
+-- what a byte begins outside of strings and comments
+abbrev pub kind_of : ℕ → Kind
+kind_of c = if is_blank c then kind.Blank else (if c == 0x28 then kind.Open else (if c == 0x29 then kind.Close else (if c == 0x22 then kind.Quote else (if c == 0x24 then kind.Dollar else
+    (if c == 0x3b then kind.Semicolon else (if grammar.is_idchar c then kind.Word else kind.Other))))))
+
 -- what is read at a place ends after it, and in the text
 abbrev pub IsInside : List ℕ → ℕ → ℕ → Type 0
 IsInside text place end = (place < end) × (end ≤ length text)
@@ -60,6 +80,24 @@ pub record IsName (read : Option (List ℕ × List ℕ)) (text : List ℕ) (begi
   pub gives : read ≡ Some (bytes, drop end text)
   pub forward : 0 < length bytes → begin < end
   pub inside : end ≤ length text
+
+-- the token of a part, if it has one
+abbrev pub token_of : Option Placed → List grammar.Placed
+token_of None = []
+token_of (Some p) = (seen p.token, p.span.offset) ∷ []
+
+-- A part is what a rule reads. If memory is refused, the text may be right.
+abbrev pub Reads : Option (List grammar.Placed × List ℕ) → List ℕ → Result Part TextError → Type 0
+Reads read text result = MatchResult result (λ p. read ≡ Some (token_of p.token, drop p.end text)) (λ e. e.fault ≢ fault.Memory → read ≡ None)
+
+-- whether a part opens a parenthesis, as a number of them
+abbrev pub opens_of : Bool → ℕ
+opens_of true = 1
+opens_of false = 0
+
+-- A part of an annotation without a meaning is what a rule reads.
+abbrev pub Skips : Option (ℕ × List ℕ) → List ℕ → Result Skipped TextError → Type 0
+Skips read text result = MatchResult result (λ x. read ≡ Some (opens_of x.opens, drop x.end text)) (λ e. e.fault ≢ fault.Memory → read ≡ None)
 
 -- The rules do not read the text, and the error is at a place in it. If memory is refused, the text may be right.
 pub record IsFault {A : Type 0} (read : Option A) (text : List ℕ) (e : TextError) : Type 0 where

@@ -1,10 +1,10 @@
 //! A text is cut into tokens.
 
-ghost use Rattle.std.specs.Prelude.{◌≡◌, ◌≢◌, ◌==◌, ◌&&◌, ◌||◌, ◌<◌, ◌≤◌, ◌+◌, true, false, length, drop, Some, None, IsUtf8, IsCharBoundary, IfErr, MatchOption, MatchResult};
+ghost use Rattle.std.specs.Prelude.{◌≡◌, ◌≢◌, ◌==◌, ◌&&◌, ◌||◌, ◌<◌, ◌≤◌, ◌+◌, ◌++◌, suc, true, false, length, drop, Some, None, IsUtf8, IsCharBoundary, IfErr, MatchOption, MatchResult};
 ghost use Rattle.wat_grammar.specs.Parts.{front};
 ghost use Rattle.wat_grammar.specs.Space.{is_blank, is_linechar, blockcomment};
-ghost use Rattle.wat_grammar.specs.Tokens.{is_idchar, is_reserved, id_chars, string_length, has_meaning, a_string, a_name, an_id, ends};
-ghost use Rattle.wat_tokens.specs.Scans.{id_of, placed, contents_of, IsRead, IsName, IsFault, IsInside, first_of};
+ghost use Rattle.wat_grammar.specs.Tokens.{is_idchar, is_reserved, id_chars, string_length, has_meaning, a_string, a_name, an_id, ends, one_token, skipped_open, skipped_part, skipped, annotation, opened, string_token, id_token, word, part, tokens, bytes_of, as_written};
+ghost use Rattle.wat_tokens.specs.Scans.{id_of, seen, seen_all, placed, contents_of, token_of, first_of, is_first, begins_of, kind_of, IsRead, IsName, IsFault, IsInside, Reads, Skips};
 ghost use Rattle.wat_tokens.specs.declared.faults.TextFault.TheVariants as fault;
 
 use crate::faults::{TextError, TextFault};
@@ -178,6 +178,45 @@ fn fault_at(place: usize, fault: TextFault) -> TextError
     TextError::new(Span { offset: place }, fault)
 }
 
+/// What a byte begins outside of strings and comments.
+#[derive(Clone, Copy)]
+enum Kind {
+    /// White space.
+    Blank,
+    /// `(`
+    Open,
+    /// `)`
+    Close,
+    /// `"`
+    Quote,
+    /// `$`
+    Dollar,
+    /// `;`
+    Semicolon,
+    /// A word that is not an id.
+    Word,
+    /// Nothing.
+    Other,
+}
+
+/// Returns what a byte begins.
+fn byte_kind(byte: u8) -> Kind
+    ensures { result ≡ kind_of byte }
+{
+    match byte {
+        b' ' | b'\n' | b'\t' | b'\r' => Kind::Blank,
+        b'(' => Kind::Open,
+        b')' => Kind::Close,
+        b'"' => Kind::Quote,
+        b'$' => Kind::Dollar,
+        b';' => Kind::Semicolon,
+        byte => match is_word_byte(byte) {
+            true => Kind::Word,
+            false => Kind::Other,
+        },
+    }
+}
+
 /// What a string stands for, and the place after it.
 #[derive(Clone, Copy)]
 struct Bytes<'a> {
@@ -339,11 +378,22 @@ impl<'a> Source<'a> {
         self.text.as_bytes().get(place).copied()
     }
 
+    /// Returns whether this byte is at a place.
+    fn is_at(&self, place: usize, byte: u8) -> bool
+        ensures { result ≡ is_first byte (drop place self.now.text.now) }
+    {
+        match self.byte(place) {
+            Some(first) => first == byte,
+            None => false,
+        }
+    }
+
     /// Returns the part that is this token, if a token may end at this place.
     fn one_token(&self, token: Token<'a>, place: usize, end: usize) -> Result<Part<'a>, TextError>
         requires place { place < end }
         requires end { end ≤ length self.now.text.now }
         ensures end { MatchResult result (λ x. IsInside self.now.text.now place x.end) (λ e. e.span.offset ≤ length self.now.text.now) }
+        ensures read { Reads (one_token (seen token.entry) place (drop end self.now.text.now)) self.now.text.now result }
     {
         match ends(self.rest(end)) {
             true => {
@@ -368,39 +418,42 @@ impl<'a> Source<'a> {
     }
 
     /// Reads the id of an annotation whose `(@` is at `place`.
-    #[tactic(auto, using(crate::proofs::Ascii::after_byte, crate::proofs::Ascii::below))]
+    #[tactic(auto, using(crate::proofs::Ascii::after_byte, crate::proofs::Ascii::below, crate::proofs::Ascii::first_after, crate::proofs::Ascii::first_below))]
     fn annotation_id_at(&self, place: usize) -> Result<Name<'a>, TextError>
         requires utf8 { IsUtf8 self.now.text.now }
-        requires at { first_of (drop (place + 1) self.now.text.now) ≡ Some 0x40 }
+        requires at { is_first 0x40 (drop (place + 1) self.now.text.now) ≡ true }
         ensures { MatchResult result (λ x. IsRead (an_id (contents_of self.now.strings) (drop (place + 2) self.now.text.now)) self.now.text.now (place + 2) x.name.now x.end) (λ e. IsFault (an_id (contents_of self.now.strings) (drop (place + 2) self.now.text.now)) self.now.text.now e) }
     {
         self.id_at(place, place + 2, TextFault::EmptyAnnotation)
     }
 
     /// Reads `(` at `place` in an annotation without a meaning.
-    #[tactic(auto, using(crate::proofs::Ascii::below))]
+    #[tactic(auto, using(crate::proofs::Ascii::below, crate::proofs::Ascii::first_below))]
     fn skipped_open(&self, place: usize) -> Result<Skipped, TextError>
         requires utf8 { IsUtf8 self.now.text.now }
         requires begin { place < length self.now.text.now }
         ensures end { MatchResult result (λ x. IsInside self.now.text.now place x.end) (λ e. e.span.offset ≤ length self.now.text.now) }
+        ensures read { Skips (skipped_open (contents_of self.now.strings) (drop (place + 1) self.now.text.now)) self.now.text.now result }
     {
-        match self.byte(place + 1) {
-            Some(b';') => match self.comment_at(place) {
+        if self.is_at(place + 1, b';') {
+            return match self.comment_at(place) {
                 Ok(end) => Ok(Skipped { opens: false, end }),
                 Err(error) => Err(error),
-            },
-            Some(b'@') => match self.annotation_id_at(place) {
+            };
+        }
+        if self.is_at(place + 1, b'@') {
+            return match self.annotation_id_at(place) {
                 Ok(id) => Ok(Skipped {
                     opens: true,
                     end: id.end,
                 }),
                 Err(error) => Err(error),
-            },
-            _ => Ok(Skipped {
-                opens: true,
-                end: place + 1,
-            }),
+            };
         }
+        Ok(Skipped {
+            opens: true,
+            end: place + 1,
+        })
     }
 
     /// Returns the place after a line comment whose `;;` is at `place`.
@@ -413,15 +466,13 @@ impl<'a> Source<'a> {
     }
 
     /// Returns whether two semicolons are at a place.
-    #[tactic(auto, using(crate::proofs::Ascii::below))]
+    #[tactic(auto, using(crate::proofs::Ascii::below, crate::proofs::Ascii::first_below, crate::proofs::Ascii::begins))]
     fn begins_line_comment(&self, place: usize) -> bool
         requires begin { place < length self.now.text.now }
         ensures inside { result ≡ true → place + 2 ≤ length self.now.text.now }
+        ensures test { result ≡ begins_of (drop place self.now.text.now) }
     {
-        match (self.byte(place), self.byte(place + 1)) {
-            (Some(b';'), Some(b';')) => true,
-            _ => false,
-        }
+        self.is_at(place, b';') && self.is_at(place + 1, b';')
     }
 
     /// Reads a part of an annotation without a meaning, if it does not begin with `)`.
@@ -429,22 +480,31 @@ impl<'a> Source<'a> {
         requires utf8 { IsUtf8 self.now.text.now }
         requires begin { place < length self.now.text.now }
         ensures end { MatchResult result (λ x. IsInside self.now.text.now place x.end) (λ e. e.span.offset ≤ length self.now.text.now) }
+        ensures read { Skips (skipped_part (contents_of self.now.strings) (drop place self.now.text.now)) self.now.text.now result }
     {
+        if self.is_at(place, b'(') {
+            return self.skipped_open(place);
+        }
+        if self.is_at(place, b'"') {
+            return match self.string_at(place, place + 1) {
+                Ok(string) => Ok(skipped_to(string.end)),
+                Err(error) => Err(error),
+            };
+        }
         if self.begins_line_comment(place) {
             return Ok(skipped_to(self.line_comment_end(place)));
         }
-        match self.byte(place) {
-            Some(b'(') => self.skipped_open(place),
-            Some(b'"') => match self.string_at(place, place + 1) {
-                Ok(string) => Ok(skipped_to(string.end)),
-                Err(error) => Err(error),
-            },
-            Some(byte) if is_blank_or_reserved(byte) => Ok(skipped_to(place + 1)),
-            _ => match word_length(self.rest(place)) {
-                0 => Err(fault_at(place, TextFault::Character)),
-                count => Ok(skipped_to(place + count)),
-            },
+        let Some(first) = self.byte(place) else {
+            return Err(fault_at(place, TextFault::Character));
+        };
+        if is_blank_or_reserved(first) {
+            return Ok(skipped_to(place + 1));
         }
+        if is_word_byte(first) {
+            let count = word_length(self.rest(place + 1));
+            return Ok(skipped_to(place + 1 + count));
+        }
+        Err(fault_at(place, TextFault::Character))
     }
 
     /// Reads the rest of an annotation after its id, up to its `)`, and returns the place after that. It can contain any tokens,
@@ -453,20 +513,22 @@ impl<'a> Source<'a> {
         requires utf8 { IsUtf8 self.now.text.now }
         requires begin { place ≤ length self.now.text.now }
         ensures end { MatchResult result (λ x. IsInside self.now.text.now place x) (λ e. e.span.offset ≤ length self.now.text.now) }
+        ensures read { MatchResult result (λ end. skipped (contents_of self.now.strings) (length (drop place self.now.text.now)) 0 (drop place self.now.text.now) ≡ Some (drop end self.now.text.now)) (λ e. e.fault ≢ fault.Memory → skipped (contents_of self.now.strings) (length (drop place self.now.text.now)) 0 (drop place self.now.text.now) ≡ None) }
     {
         let mut depth = 0_usize;
         let mut at = place;
         for _ in place..self.text.len() {
-            match self.byte(at) {
-                None => break,
-                Some(b')') => {
-                    at += 1;
-                    if depth == 0 {
-                        return Ok(at);
-                    }
-                    depth -= 1;
+            if at == self.text.len() {
+                break;
+            }
+            if self.is_at(at, b')') {
+                at += 1;
+                if depth == 0 {
+                    return Ok(at);
                 }
-                _ => match self.skipped_part(at) {
+                depth -= 1;
+            } else {
+                match self.skipped_part(at) {
                     Ok(part) => {
                         at = part.end;
                         if part.opens {
@@ -474,7 +536,7 @@ impl<'a> Source<'a> {
                         }
                     }
                     Err(error) => return Err(error),
-                },
+                }
             }
         }
         Err(fault_at(self.text.len(), TextFault::OpenAnnotation))
@@ -483,8 +545,9 @@ impl<'a> Source<'a> {
     /// Reads `(@` and an id at `place`, and the whole annotation if it has no meaning.
     fn annotation_at(&self, place: usize) -> Result<Part<'a>, TextError>
         requires utf8 { IsUtf8 self.now.text.now }
-        requires at { first_of (drop (place + 1) self.now.text.now) ≡ Some 0x40 }
+        requires at { is_first 0x40 (drop (place + 1) self.now.text.now) ≡ true }
         ensures end { MatchResult result (λ x. IsInside self.now.text.now place x.end) (λ e. e.span.offset ≤ length self.now.text.now) }
+        ensures read { Reads (annotation (contents_of self.now.strings) (suc place) (drop (place + 2) self.now.text.now)) self.now.text.now result }
     {
         let id = match self.annotation_id_at(place) {
             Ok(id) => id,
@@ -520,34 +583,35 @@ impl<'a> Source<'a> {
     }
 
     /// Reads `(` at `place`, which may begin a comment or an annotation.
-    #[tactic(auto, using(crate::proofs::Ascii::below))]
+    #[tactic(auto, using(crate::proofs::Ascii::below, crate::proofs::Ascii::first_below))]
     fn open_at(&self, place: usize) -> Result<Part<'a>, TextError>
         requires utf8 { IsUtf8 self.now.text.now }
         requires begin { place < length self.now.text.now }
         ensures end { MatchResult result (λ x. IsInside self.now.text.now place x.end) (λ e. e.span.offset ≤ length self.now.text.now) }
+        ensures read { Reads (opened (contents_of self.now.strings) place (drop (place + 1) self.now.text.now)) self.now.text.now result }
     {
-        match self.byte(place + 1) {
-            Some(b';') => match self.comment_at(place) {
+        if self.is_at(place + 1, b';') {
+            return match self.comment_at(place) {
                 Ok(end) => Ok(Part { token: None, end }),
                 Err(error) => Err(error),
-            },
-            Some(b'@') => self.annotation_at(place),
-            _ => Ok(self.parenthesis(Token::Open, place)),
+            };
         }
+        if self.is_at(place + 1, b'@') {
+            return self.annotation_at(place);
+        }
+        Ok(self.parenthesis(Token::Open, place))
     }
 
     /// Reads a word at `place`. If it begins with a letter, it may be a keyword, which has a meaning of its own.
-    #[tactic(auto, using(crate::proofs::Ascii::at_byte))]
+    #[tactic(auto, using(crate::proofs::Ascii::at_byte, crate::proofs::Ascii::idchar_boundary, crate::proofs::Ascii::some_word))]
     fn word_token_at(&self, place: usize, first: u8) -> Result<Part<'a>, TextError>
         requires utf8 { IsUtf8 self.now.text.now }
         requires first { first_of (drop place self.now.text.now) ≡ Some first }
-        requires ascii { first < 128 }
+        requires word { is_idchar first ≡ true }
         ensures end { MatchResult result (λ x. IsInside self.now.text.now place x.end) (λ e. e.span.offset ≤ length self.now.text.now) }
+        ensures read { Reads (word place (drop place self.now.text.now)) self.now.text.now result }
     {
         let word = self.word_at(place);
-        if word.name.is_empty() {
-            return Err(fault_at(place, TextFault::Character));
-        }
         if first < b'a' {
             return self.one_token(Token::Other(word.name), place, word.end);
         }
@@ -561,6 +625,7 @@ impl<'a> Source<'a> {
     fn string_token_at(&self, place: usize) -> Result<Part<'a>, TextError>
         requires begin { place < length self.now.text.now }
         ensures end { MatchResult result (λ x. IsInside self.now.text.now place x.end) (λ e. e.span.offset ≤ length self.now.text.now) }
+        ensures read { Reads (string_token (contents_of self.now.strings) place (drop (place + 1) self.now.text.now)) self.now.text.now result }
     {
         match self.string_at(place, place + 1) {
             Ok(string) => self.one_token(Token::String(string.bytes), place, string.end),
@@ -574,6 +639,7 @@ impl<'a> Source<'a> {
         requires utf8 { IsUtf8 self.now.text.now }
         requires dollar { first_of (drop place self.now.text.now) ≡ Some 0x24 }
         ensures end { MatchResult result (λ x. IsInside self.now.text.now place x.end) (λ e. e.span.offset ≤ length self.now.text.now) }
+        ensures read { Reads (id_token (contents_of self.now.strings) place (drop (place + 1) self.now.text.now)) self.now.text.now result }
     {
         match self.id_at(place, place + 1, TextFault::EmptyId) {
             Ok(id) => self.one_token(Token::Id(id.name), place, id.end),
@@ -582,30 +648,49 @@ impl<'a> Source<'a> {
     }
 
     /// Reads what the text has at a place: white space, a comment, an annotation or a token.
+    #[tactic(auto, using(crate::proofs::FirstBytes::word_is_idchar, crate::proofs::FirstBytes::is_dollar))]
     fn part_at(&self, place: usize) -> Result<Part<'a>, TextError>
         requires utf8 { IsUtf8 self.now.text.now }
         requires begin { place < length self.now.text.now }
         ensures end { MatchResult result (λ x. IsInside self.now.text.now place x.end) (λ e. e.span.offset ≤ length self.now.text.now) }
+        ensures read { Reads (part (contents_of self.now.strings) place (drop place self.now.text.now)) self.now.text.now result }
     {
-        match self.byte(place) {
-            Some(b' ' | b'\n' | b'\t' | b'\r') => Ok(Part {
+        let Some(first) = self.byte(place) else {
+            return Err(fault_at(place, TextFault::Character));
+        };
+        match byte_kind(first) {
+            Kind::Word => self.word_token_at(place, first),
+            Kind::Blank => Ok(Part {
                 token: None,
                 end: place + 1 + blank_length(self.rest(place + 1)),
             }),
-            Some(b'(') => self.open_at(place),
-            Some(b')') => Ok(self.parenthesis(Token::Close, place)),
-            Some(b'"') => self.string_token_at(place),
-            Some(b'$') => self.id_token_at(place),
-            Some(b';') => match self.begins_line_comment(place) {
+            Kind::Open => self.open_at(place),
+            Kind::Close => Ok(self.parenthesis(Token::Close, place)),
+            Kind::Quote => self.string_token_at(place),
+            Kind::Dollar => self.id_token_at(place),
+            Kind::Semicolon => match self.begins_line_comment(place) {
                 true => Ok(Part {
                     token: None,
                     end: self.line_comment_end(place),
                 }),
                 false => Err(fault_at(place, TextFault::Character)),
             },
-            Some(first) if first < 128 => self.word_token_at(place, first),
-            _ => Err(fault_at(place, TextFault::Character)),
+            Kind::Other => Err(fault_at(place, TextFault::Character)),
         }
+    }
+}
+
+/// Appends a token, if there is one.
+#[tactic(auto, using(crate::proofs::Steps::seen_more))]
+fn put<'a>(found: &mut Vec<Placed<'a>>, token: Option<Placed<'a>>) -> Result<(), TextFault>
+    ensures { MatchResult result (λ u. seen_all found.new.items ≡ seen_all found.old.items ++ token_of token.entry) (λ f. f ≡ fault.Memory) }
+{
+    match token {
+        Some(token) => match found.push(token) {
+            Ok(()) => Ok(()),
+            Err(_) => Err(TextFault::Memory),
+        },
+        None => Ok(()),
     }
 }
 
@@ -616,6 +701,7 @@ fn scanned<'a>(
     strings: Option<&'a Strings>,
 ) -> Result<Vec<Placed<'a>>, TextError>
     ensures place { IfErr result (λ e. e.span.offset ≤ length text.now) }
+    ensures read { MatchResult result (λ found. tokens (contents_of strings.entry) text.now ≡ Some (seen_all found.items)) (λ e. e.fault ≢ fault.Memory → tokens (contents_of strings.entry) text.now ≡ None) }
 {
     let source = Source {
         alloc,
@@ -632,13 +718,10 @@ fn scanned<'a>(
             Ok(part) => part,
             Err(error) => return Err(error),
         };
-        if let Some(token) = part.token {
-            match found.push(token) {
-                Ok(()) => (),
-                Err(_) => return Err(fault_at(place, TextFault::Memory)),
-            }
+        match put(&mut found, part.token) {
+            Ok(()) => place = part.end,
+            Err(_) => return Err(fault_at(place, TextFault::Memory)),
         }
-        place = part.end;
     }
     Ok(found)
 }
@@ -654,6 +737,7 @@ pub fn tokens_of<'a>(
     text: &'a str,
     strings: &'a Strings,
 ) -> Result<Vec<Placed<'a>>, TextError>
+    ensures read { MatchResult result (λ found. tokens bytes_of text.now ≡ Some (seen_all found.items)) (λ e. e.fault ≢ fault.Memory → tokens bytes_of text.now ≡ None) }
     ensures place { IfErr result (λ e. e.span.offset ≤ length text.now) }
 {
     scanned(alloc, text, Some(strings))
@@ -666,6 +750,7 @@ pub fn tokens_of<'a>(
 /// # Errors
 /// A [`TextFault`] with the position of the token or the comment that is wrong. No escape is wrong, because none is read.
 pub fn written_tokens_of<'a>(alloc: Global, text: &'a str) -> Result<Vec<Placed<'a>>, TextError>
+    ensures read { MatchResult result (λ found. tokens as_written text.now ≡ Some (seen_all found.items)) (λ e. e.fault ≢ fault.Memory → tokens as_written text.now ≡ None) }
     ensures place { IfErr result (λ e. e.span.offset ≤ length text.now) }
 {
     scanned(alloc, text, None)
