@@ -30,8 +30,8 @@ TOLD = r"""
 (module (func if $l else $l end $l))	0061736d01000000010401600000030201000a080106000440050b0b000d046e616d65030601000100016c
 (module (func ^else $m))	not read at ^: unexpected `else`
 (module (func block ^else end))	not read at ^: unexpected `else`
-(module (global i32 i32.const 0 ^end))	not read at ^: a constant expression closes other blocks than it opens
-(module (global i32 ^end block i32.const 0))	not read at ^: a constant expression closes other blocks than it opens
+(module (global i32 i32.const 0 ^end))	not read at ^: unbalanced blocks in constant expression
+(module (global i32 ^end block i32.const 0))	not read at ^: unbalanced blocks in constant expression
 (module (global i32 local.get ^$x))	fault at ^: unknown local: failed to find name `$x`
 (module (type $t (func (param $p i32))) (func (type $t) local.get ^$p))	fault at ^: unknown local: failed to find name `$p`
 (module (type (struct)) (func block (type ^0) (result i32) end))	fault at ^: invalid type: not a function type

@@ -195,14 +195,14 @@ EDGES = r"""
 
 # Hints that are on no instruction: before `)`, before an arm of a folded block, and in expressions
 # outside of a body; and annotations of hints that hold anything but one string.
-(module (func (if (i32.const 0) (then) (^@metadata.code.branch_hint "\00"))))	not read at ^: a branch hint stands on no instruction of its own
-(module (func (if (i32.const 0) (then) (^@metadata.code.branch_hint "\00") (else))))	not read at ^: a branch hint stands on no instruction of its own
-(module (func (if (i32.const 0) (^@metadata.code.branch_hint "\00") (then))))	not read at ^: a branch hint stands on no instruction of its own
-(module (func (if (i32.const 0) (then (^@metadata.code.branch_hint "\00")))))	not read at ^: a branch hint stands on no instruction of its own
-(module (func (drop (i32.const 0) (^@metadata.code.branch_hint "\00"))))	not read at ^: a branch hint stands on no instruction of its own
-(module (func (block nop (^@metadata.code.branch_hint "\00"))))	not read at ^: a branch hint stands on no instruction of its own
-(module (func (try (do) (^@metadata.code.branch_hint "\00") (catch_all))))	not read at ^: a branch hint stands on no instruction of its own
-(module (func (^@metadata.code.branch_hint "\00")))	not read at ^: a branch hint stands on no instruction of its own
+(module (func (if (i32.const 0) (then) (^@metadata.code.branch_hint "\00"))))	not read at ^: branch hints must be on instructions, in increasing order, with value 0 or 1
+(module (func (if (i32.const 0) (then) (^@metadata.code.branch_hint "\00") (else))))	not read at ^: branch hints must be on instructions, in increasing order, with value 0 or 1
+(module (func (if (i32.const 0) (^@metadata.code.branch_hint "\00") (then))))	not read at ^: branch hints must be on instructions, in increasing order, with value 0 or 1
+(module (func (if (i32.const 0) (then (^@metadata.code.branch_hint "\00")))))	not read at ^: branch hints must be on instructions, in increasing order, with value 0 or 1
+(module (func (drop (i32.const 0) (^@metadata.code.branch_hint "\00"))))	not read at ^: branch hints must be on instructions, in increasing order, with value 0 or 1
+(module (func (block nop (^@metadata.code.branch_hint "\00"))))	not read at ^: branch hints must be on instructions, in increasing order, with value 0 or 1
+(module (func (try (do) (^@metadata.code.branch_hint "\00") (catch_all))))	not read at ^: branch hints must be on instructions, in increasing order, with value 0 or 1
+(module (func (^@metadata.code.branch_hint "\00")))	not read at ^: branch hints must be on instructions, in increasing order, with value 0 or 1
 (module (table 1 funcref) (elem (i32.const 0) funcref (item (^@metadata.code.branch_hint "\00") ref.func 0)) (func))	not read at ^: unexpected branch hint
 (module (memory 1) (data (offset (^@metadata.code.branch_hint "\00") i32.const 0) "a"))	not read at ^: unexpected branch hint
 (module (memory 1) (data (i32.add (^@metadata.code.branch_hint "\00") (i32.const 0) (i32.const 1)) "a"))	not read at ^: unexpected branch hint
@@ -270,10 +270,10 @@ EDGES = r"""
 (module (func try delegate 0 ^end))	not read at ^: unexpected `end`
 (module (tag) (func try catch 0 ^delegate 0))	not read at ^: unexpected `delegate`
 (module (func block ^delegate 0))	not read at ^: unexpected `delegate`
-(module (global i32 ^block i32.const 0))	not read at ^: a constant expression closes other blocks than it opens
-(module (memory 1) (data (offset i32.const 0 ^end) "a"))	not read at ^: a constant expression closes other blocks than it opens
-(module (table 1 funcref) (elem (offset ^loop) func))	not read at ^: a constant expression closes other blocks than it opens
-(module (table 1 funcref) (elem (i32.const 0) funcref (item ref.null func ^end)))	not read at ^: a constant expression closes other blocks than it opens
+(module (global i32 ^block i32.const 0))	not read at ^: unbalanced blocks in constant expression
+(module (memory 1) (data (offset i32.const 0 ^end) "a"))	not read at ^: unbalanced blocks in constant expression
+(module (table 1 funcref) (elem (offset ^loop) func))	not read at ^: unbalanced blocks in constant expression
+(module (table 1 funcref) (elem (i32.const 0) funcref (item ref.null func ^end)))	not read at ^: unbalanced blocks in constant expression
 (module (func block loop end end if else end if end))	0061736d01000000010401600000030201000a11010f00024003400b0b0440050b04400b0b
 (module (tag) (func try catch 0 catch 0 catch_all end try catch 0 end try end))	0061736d01000000010401600000030201000d030100000a14011200064007000700190b064007000b06400b0b
 (module (func block try delegate 0 end))	0061736d01000000010401600000030201000a0b0109000240064018000b0b

@@ -1,30 +1,19 @@
 -- An end behind instructions in which each block is closed closes a block that was not opened.
-use Rattle.std.proofs.Common.{◌≡◌, ◌≤◌, ◌+◌, ℕ, zero, suc, eqb, true, List, [], ◌∷◌, ◌++◌, length, take, map, refl, sym, ap, ◌∙◌, subst, append_assoc, arith, inl, inr, length-append}
-use Rattle.std.specs.Prelude.{nat_le}
-use Rattle.std.proofs.lemmas.Bool.{eqb-true, leb-true, cases_lt}
+use Rattle.std.proofs.Common.{◌≡◌, ◌≤◌, ◌+◌, eqb, true, List, [], ◌∷◌, ◌++◌, length, map, refl, sym, ap, ◌∙◌, subst, append_assoc, arith, length-append}
+use Rattle.std.proofs.lemmas.Bool.{eqb-true}
 use Rattle.std.proofs.lemmas.List.{map-append, take_at}
-use Rattle.wast_base.specs.Blocks.{BlockEffect, Opens, Closes, Stays, openers, closers, never_closed, stays_open, is_balanced}
+use Rattle.wast_base.specs.Blocks.{BlockEffect, Opens, Closes, Stays, openers, closers, stays_open, is_balanced}
+use Rattle.wast_base.proofs.BlockCounts.{never_within, openers-append}
 use Rattle.wasm_ops.specs.Table.{Instr}
 use Rattle.wasm_ops.specs.Turns.{turn_of, are_balanced}
 use Rattle.wasm_ops.proofs.Everywhere.{both_true}
-
-never_at : (ts : List BlockEffect) (n m : ℕ) → never_closed ts n ≡ true → m ≤ n → closers (take m ts) ≤ openers (take m ts)
-never_at ts n zero h le = omega arith
-never_at ts zero (suc m) h le = absurd (omega (arith, le))
-never_at ts (suc n) (suc m) h le =
-    let both = both_true (never_closed ts n) (nat_le (closers (take (suc n) ts)) (openers (take (suc n) ts))) h in
-    elim (cases_lt m n) [
-      | inl lt ↦ never_at ts n (suc m) both.0 (omega (arith, lt))
-      | inr ge ↦
-          let same : suc n ≡ suc m = omega (arith, le, ge) in
-          subst (λ k. closers (take k ts) ≤ openers (take k ts)) same (leb-true (closers (take (suc n) ts)) (openers (take (suc n) ts)) both.1)
-    ]
 
 -- a front has at most as many closers as openers
 front_open : (a b : List BlockEffect) → stays_open (a ++ b) ≡ true → closers a ≤ openers a
 unfolding stays_open
 front_open a b h =
-    subst (λ l. closers l ≤ openers l) (take_at a b (length a) refl) (never_at (a ++ b) (length (a ++ b)) (length a) h (omega (arith, length-append a b)))
+    subst (λ l. closers l ≤ openers l) (take_at a b (length a) refl)
+    (omega (arith, never_within (a ++ b) (length (a ++ b)) h (length a) (omega (arith, length-append a b))))
 
 closers_behind : (ts us : List BlockEffect) → closers (ts ++ us) ≡ closers ts + closers us
 closers_behind [] us = omega arith
@@ -32,19 +21,13 @@ closers_behind (Opens l ∷ ts) us = closers_behind ts us
 closers_behind (Closes ∷ ts) us = omega (arith, closers_behind ts us)
 closers_behind (Stays ∷ ts) us = closers_behind ts us
 
-openers_behind : (ts us : List BlockEffect) → openers (ts ++ us) ≡ openers ts + openers us
-openers_behind [] us = omega arith
-openers_behind (Opens l ∷ ts) us = omega (arith, openers_behind ts us)
-openers_behind (Closes ∷ ts) us = openers_behind ts us
-openers_behind (Stays ∷ ts) us = openers_behind ts us
-
 closed_once_more : (a b : List BlockEffect) → is_balanced a ≡ true → is_balanced (a ++ (Closes ∷ b)) ≡ true → ⊥
 closed_once_more a b p q =
     let one = both_true (stays_open a) (eqb (closers a) (openers a)) p in
     let two = both_true (stays_open (a ++ (Closes ∷ b))) (eqb (closers (a ++ (Closes ∷ b))) (openers (a ++ (Closes ∷ b)))) q in
     let end = Closes ∷ [] in
     let front = front_open (a ++ end) b (subst (λ l. stays_open l ≡ true) (sym (append_assoc a end b)) two.0) in
-    omega (arith, front, closers_behind a end, openers_behind a end, eqb-true (closers a) (openers a) one.1)
+    omega (arith, front, closers_behind a end, openers-append a end, eqb-true (closers a) (openers a) one.1)
 
 -- what closes a block cannot stand where each block is closed
 pub end_beyond : (front rest : List Instr) (i : Instr) → turn_of i ≡ Closes → are_balanced front ≡ true → are_balanced (front ++ (i ∷ rest)) ≡ true → ⊥

@@ -1,14 +1,13 @@
 -- How spellings that show their value are put together.
-use Rattle.std.proofs.Common.{◌≡◌, ◌<◌, ℕ, ℤ, Bool, List, [], ◌∷◌, ◌++◌, length, refl, sym, ap, ◌∙◌, append_assoc, arith}
+use Rattle.std.proofs.Common.{◌≡◌, ◌<◌, ℕ, ℤ, List, [], ◌∷◌, ◌++◌, length, refl, sym, ap, ◌∙◌, append_assoc, arith}
 use Rattle.std.specs.Prelude.{All, IsTrue}
 use Rattle.std.proofs.lemmas.List.{length-append, append_cancel_right}
 use Rattle.std.proofs.lemmas.List.Concat.{flat_map-cons}
 use Rattle.std.proofs.lemmas.List.Elements.{All-head, All-tail}
-use Rattle.std.specs.List.{flat_map, list_all}
+use Rattle.std.specs.List.{flat_map}
 use Rattle.wasm_ops.specs.Codes.{IsCode, IsWhole}
-use Rattle.wasm_ops.specs.Covered.{Spellable}
 use Rattle.wasm_ops.specs.Leb128.{unsigned, signed}
-use Rattle.wasm_ops.specs.Spelling.{Any, InRangeU32, vec, InRangeVec, length_prefixed, InRangeSized, name, InRangeName}
+use Rattle.wasm_ops.specs.Spelling.{Encoding, Spellable, Any, InRangeU32, vec, InRangeVec, length_prefixed, list_of, InRangeSized, name, InRangeName}
 use Rattle.wasm_ops.proofs.Everywhere.{all_both, all_tested}
 use Rattle.wasm_ops.proofs.Numbers.{unsigned_begins}
 use Rattle.wasm_ops.proofs.SignedNumbers.{signed_begins}
@@ -94,8 +93,9 @@ vec_code {F = F} {f = f} c = record {
 }
 
 -- items that are covered each, and in range
-pub spellable_vec : {A : Type 0} (is_covered : A → Bool) (InRange : A → Type 0) (xs : List A) → IsTrue (list_all is_covered xs) → InRangeVec InRange xs → InRangeVec (Spellable is_covered InRange) xs
-spellable_vec is_covered InRange xs c r = (r.0, all_both (λ x. IsTrue (is_covered x)) InRange (Spellable is_covered InRange) (λ x p q. (p, q)) xs (all_tested is_covered xs c) r.1)
+pub spellable_vec : {A : Type 0} (item : A → Encoding) (xs : List A) → IsTrue (list_of item xs).is_covered → (list_of item xs).in_range → InRangeVec (λ x. Spellable (item x)) xs
+spellable_vec item xs c r =
+    (r.0, all_both (λ x. IsTrue (item x).is_covered) (λ x. (item x).in_range) (λ x. Spellable (item x)) (λ x p q. (p, q)) xs (all_tested (λ x. (item x).is_covered) xs c) r.1)
 
 -- items that fill the rest, none of them empty
 filled : {A : Type 0} (F : A → Type 0) (f : A → List ℕ) → ((x : A) → F x → 0 < length (f x)) → IsCode A F f → (xs ys : List A) → All F xs → All F ys → flat_map f xs ≡ flat_map f ys → xs ≡ ys

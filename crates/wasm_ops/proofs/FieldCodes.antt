@@ -3,14 +3,12 @@ use Rattle.std.proofs.Common.{◌≡◌, ◌<◌, ◌+◌, ◌*◌, ℕ, Bool, t
 use Rattle.std.proofs.lemmas.Bool.{eqb-true}
 use Rattle.std.proofs.lemmas.Nat.{from_le_bytes-to_le_bytes_4, from_le_bytes-to_le_bytes_8}
 use Rattle.std.specs.Int.{Width, w32, w64, to_le_bytes, from_le_bytes}
-use Rattle.std.specs.List.{list_all}
 use Rattle.std.specs.Prelude.{nat_eq, is_none}
-use Rattle.wasm_ops.specs.Codes.{IsCode}
-use Rattle.wasm_ops.specs.Covered.{Spellable, is_covered_val_type}
+use Rattle.wasm_ops.specs.Codes.{IsCode, IsPrefixCode}
 use Rattle.wasm_ops.specs.Leb128.{unsigned}
 use Rattle.wasm_ops.specs.Entities.{bit}
-use Rattle.wasm_ops.specs.Memargs.{ordering_byte, index_of, is_covered_target, memarg_bytes, memarg, is_covered_memarg, IsSpellableMemArg}
-use Rattle.wasm_ops.specs.Spelling.{Any, InRangeU32, InRangeU64, vec, InRangeVec, val_type, InRangeValType}
+use Rattle.wasm_ops.specs.Memargs.{ordering_byte, index_of, is_covered_target, memarg_bytes, memarg}
+use Rattle.wasm_ops.specs.Spelling.{list_of, Any, InRangeU32, InRangeU64, Spellable, val_type}
 use Rattle.wasm_ops.specs.declared.memargs.MemArg.{MemArg}
 use Rattle.wasm_ops.specs.declared.memargs.MemArgTarget.{MemArgTarget}
 use Rattle.wasm_ops.specs.declared.memargs.MemArgTarget.TheVariants.{Memory, Array}
@@ -40,8 +38,8 @@ bits64_code = bits_code w64 8 (λ n. refl) from_le_bytes-to_le_bytes_8
 
 -- ---- lists of value types
 
-pub types_code : IsCode (List ValType) (Spellable (list_all is_covered_val_type) (InRangeVec InRangeValType)) (vec val_type)
-types_code = code_within (λ ts p. spellable_vec is_covered_val_type InRangeValType ts p.0 p.1) (vec_code val_type_code)
+pub types_code : IsCode (List ValType) (λ ts. Spellable (list_of val_type ts)) (λ ts. (list_of val_type ts).bytes)
+types_code = code_within (λ ts p. spellable_vec val_type ts p.0 p.1) (vec_code val_type_code)
 
 -- ---- memory arguments
 
@@ -89,10 +87,10 @@ made_by align offset (Memory index) None h = refl
 made_by align offset (Memory index) (Some o) h = absurd cc
 made_by align offset (Array index) ordering h = absurd cc
 
-is_made : (m : MemArg) → is_covered_memarg m ≡ true → m ≡ made (seen m)
+is_made : (m : MemArg) → (memarg m).is_covered ≡ true → m ≡ made (seen m)
 is_made m h = made_by m.align m.offset m.target m.ordering h
 
-pub memarg_code : IsCode MemArg IsSpellableMemArg memarg
+pub memarg_code : IsPrefixCode memarg
 memarg_code = record {
   begins = λ x y r s p q e.
       let one = parts_code.begins (seen x) (seen y) r s p.1 q.1 e in

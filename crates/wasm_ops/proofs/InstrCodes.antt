@@ -6,13 +6,13 @@ use Rattle.wasm_ops.specs.Leb128.{unsigned}
 use Rattle.wasm_ops.specs.Opcodes.{opcode_bytes, same_opcode, is_apart}
 use Rattle.wasm_ops.specs.declared.opcodes.Opcode.{Opcode}
 use Rattle.wasm_ops.specs.declared.opcodes.Opcode.TheVariants.{Byte, Prefixed}
-use Rattle.wasm_ops.specs.Table.{Kind, Index, Signed32, Signed64, Bits32, Bits64, Heap, Types, Memarg, Block, Labels, Catches, Lane, Lanes, Nullables, Order, Row, Field, field, InRangeField, Fields, fields, InRangeFields, is_covered_field, is_covered_fields, Instr, instr, table, kinds_of, ascends, all_apart, IsInstr}
+use Rattle.wasm_ops.specs.Table.{Kind, Index, Signed32, Signed64, Bits32, Bits64, Heap, Types, Memarg, Block, Labels, Catches, Lane, Lanes, Nullables, Order, Row, Field, Fields, Instr, table, kinds_of, ascends, all_apart, IsInstr, field, fields, instr}
 use Rattle.wasm_ops.proofs.Numbers.{unsigned_begins}
-use Rattle.wasm_ops.specs.Covered.{Spellable}
 use Rattle.wasm_ops.proofs.Codes.{number_code, signed_code, byte_code, code_within, pair_code}
 use Rattle.wasm_ops.proofs.ControlCodes.{block_type_code, labels_code, catches_code}
 use Rattle.wasm_ops.proofs.Everywhere.{both_true}
 use Rattle.wasm_ops.proofs.FieldCodes.{bits32_code, bits64_code, types_code, memarg_code, lanes_code, nullables_code, ordering_code}
+use Rattle.wasm_ops.specs.Spelling.{Spellable}
 use Rattle.wasm_ops.proofs.RefTypeCodes.{heap_type_code}
 
 -- ---- the table, computed
@@ -28,9 +28,9 @@ table_apart = refl
 -- ---- immediates
 
 abbrev IsSpellableField : (kind : Kind) → Field kind → Type 0
-IsSpellableField kind x = Spellable (is_covered_field kind) (InRangeField kind) x
+IsSpellableField kind x = Spellable (field kind x)
 
-pub field_code : (kind : Kind) → IsCode (Field kind) (IsSpellableField kind) (field kind)
+pub field_code : (kind : Kind) → IsCode (Field kind) (IsSpellableField kind) (λ x. (field kind x).bytes)
 field_code Index = number_code
 field_code Signed32 = signed_code
 field_code Signed64 = signed_code
@@ -48,12 +48,12 @@ field_code Nullables = code_within (λ x p. p.1) nullables_code
 field_code Order = code_within (λ o p. p.1) ordering_code
 
 abbrev IsSpellableFields : (kinds : List Kind) → Fields kinds → Type 0
-IsSpellableFields kinds x = Spellable (is_covered_fields kinds) (InRangeFields kinds) x
+IsSpellableFields kinds x = Spellable (fields kinds x)
 
-pub fields_code : (kinds : List Kind) → IsCode (Fields kinds) (IsSpellableFields kinds) (fields kinds)
+pub fields_code : (kinds : List Kind) → IsCode (Fields kinds) (IsSpellableFields kinds) (λ x. (fields kinds x).bytes)
 fields_code [] = record { begins = λ x y r s p q e. (refl, e) }
 fields_code (kind ∷ kinds) =
-    code_within (λ x p. let both = both_true (is_covered_field kind x.0) (is_covered_fields kinds x.1) p.0 in ((both.0, p.1.0), (both.1, p.1.1)))
+    code_within (λ x p. let both = both_true (field kind x.0).is_covered (fields kinds x.1).is_covered p.0 in ((both.0, p.1.0), (both.1, p.1.1)))
     (pair_code (field_code kind) (fields_code kinds))
 
 -- ---- opcodes
@@ -100,10 +100,10 @@ abbrev instruction : (row : Row) → Fields row.kinds → Instr
 instruction row numbers = record { row = row; numbers = numbers }
 
 -- numbers of two rows that are one
-numbers_begin : (i j : Row) (x : Fields i.kinds) (y : Fields j.kinds) (r s : List ℕ) → i ≡ j → IsSpellableFields i.kinds x → IsSpellableFields j.kinds y → fields i.kinds x ++ r ≡ fields j.kinds y ++ s
+numbers_begin : (i j : Row) (x : Fields i.kinds) (y : Fields j.kinds) (r s : List ℕ) → i ≡ j → IsSpellableFields i.kinds x → IsSpellableFields j.kinds y → (fields i.kinds x).bytes ++ r ≡ (fields j.kinds y).bytes ++ s
     → (instruction i x ≡ instruction j y) × (r ≡ s)
 numbers_begin i j x y r s e p q h =
-    let Motive : Row → Type 0 = λ l. (z : Fields l.kinds) → IsSpellableFields l.kinds z → fields i.kinds x ++ r ≡ fields l.kinds z ++ s → (instruction i x ≡ instruction l z) × (r ≡ s) in
+    let Motive : Row → Type 0 = λ l. (z : Fields l.kinds) → IsSpellableFields l.kinds z → (fields i.kinds x).bytes ++ r ≡ (fields l.kinds z).bytes ++ s → (instruction i x ≡ instruction l z) × (r ≡ s) in
     let here : Motive i = λ z t f. let one = (fields_code i.kinds).begins x z r s p t f in (ap (instruction i) one.0, one.1) in
     subst Motive e here y q h
 
@@ -113,11 +113,11 @@ some x = Some x
 some_is : {A : Type 0} (x y : A) → some x ≡ some y → x ≡ y
 some_is x y e = cc
 
-pub instr_code : IsCode Instr IsInstr instr
+pub instr_code : IsCode Instr IsInstr (λ x. (instr x).bytes)
 instr_code = record {
   begins = λ x y r s p q e.
-      let xs = fields x.row.kinds x.numbers in
-      let ys = fields y.row.kinds y.numbers in
+      let xs = (fields x.row.kinds x.numbers).bytes in
+      let ys = (fields y.row.kinds y.numbers).bytes in
       let one = opcode_begins x.row.opcode y.row.opcode (xs ++ r) (ys ++ s) (apart_at x.row.opcode table x.row.kinds table_apart p.row) (apart_at y.row.opcode table y.row.kinds table_apart q.row) (sym (append_assoc (opcode_bytes x.row.opcode) xs r) ∙ e ∙ append_assoc (opcode_bytes y.row.opcode) ys s) in
       let kinds : x.row.kinds ≡ y.row.kinds = some_is x.row.kinds y.row.kinds (sym p.row ∙ ap (λ k. kinds_of k table) one.0 ∙ q.row) in
       let f : Opcode → Row = λ k. record { opcode = k; kinds = x.row.kinds } in
@@ -131,5 +131,5 @@ opcode_nonempty : (k : Opcode) (xs : List ℕ) → 0 < length (opcode_bytes k ++
 opcode_nonempty (Byte b) xs = omega arith
 opcode_nonempty (Prefixed p n) xs = omega arith
 
-pub instr-nonempty : (i : Instr) → 0 < length (instr i)
-instr-nonempty i = opcode_nonempty i.row.opcode (fields i.row.kinds i.numbers)
+pub instr-nonempty : (i : Instr) → 0 < length (instr i).bytes
+instr-nonempty i = opcode_nonempty i.row.opcode (fields i.row.kinds i.numbers).bytes

@@ -63,16 +63,15 @@ use Rattle.wasm_ops.specs.declared.sink.Refusal.{Refusal}
 use Rattle.wasm_ops.specs.declared.types.ValType.{ValType}
 use Rattle.wasm_ops.specs.declared.vectors.LanesOp.{LanesOp}
 use Rattle.wasm_ops.specs.CastInstrs.{cast_key, br_cast_key, br_cast_instr, nullables}
-use Rattle.wasm_ops.specs.Control.{InRangeBlockType, catch_clause, InRangeCatch}
+use Rattle.wasm_ops.specs.Control.{block_type, catch_clause}
 use Rattle.wasm_ops.specs.ControlInstrs.{block_key, delimiter_key, br_table_instr, br_table_bytes, try_table_instr, try_table_bytes}
-use Rattle.wasm_ops.specs.Covered.{is_covered_val_type}
 use Rattle.wasm_ops.specs.Leb128.{unsigned}
 use Rattle.wasm_ops.specs.Keys.{bare_key, index_key, index_pair_key, mem_key, i32_key, i64_key, f32_key, f64_key, ref_key, array_key, any_key, extern_key, i31_key, i8x16_key, i16x8_key, i32x4_key, i64x2_key, f32x4_key, f64x2_key, lane_key, v128_key, mem_lane_key, plain_key}
 use Rattle.wasm_ops.specs.Opcodes.{opcode_of, opcode_bytes, InRangeOpcode}
 use Rattle.wasm_ops.specs.SelectInstrs.{select_instr, select_bytes}
 use Rattle.wasm_ops.specs.Sinks.{SinkRules, Writes}
-use Rattle.wasm_ops.specs.Spelling.{InRangeU32, vec, InRangeVec, heap_type, InRangeHeapType, val_type, InRangeValType}
-use Rattle.wasm_ops.specs.Table.{Kind, Index, Signed32, Signed64, Bits32, Bits64, Heap, Memarg, Block, Labels, Catches, Lane, Lanes, Nullables, Order, Field, field, InRangeField, kinds_of, table, Instr, InRangeInstr, is_covered_instr, HasRow, instr}
+use Rattle.wasm_ops.specs.Spelling.{InRangeU32, vec, InRangeVec, heap_type, val_type}
+use Rattle.wasm_ops.specs.Table.{Kind, Index, Signed32, Signed64, Bits32, Bits64, Heap, Memarg, Block, Labels, Catches, Lane, Lanes, Nullables, Order, Field, kinds_of, table, Instr, HasRow, field, instr}
 use Rattle.wasm_ops.specs.VectorInstrs.{lanes_key}
 use Rattle.wasm_ops.proofs.Everywhere.{all_map, all_one}
 use Rattle.wasm_ops.proofs.Sinking.{puts_as, written_as}
@@ -295,72 +294,72 @@ abbrev two : ℕ → (kind other : Kind) → Field kind → Field other → Inst
 two key kind other x y = record { row = record { opcode = opcode_of key; kinds = kind ∷ other ∷ [] }; numbers = (x, (y, tt)) }
 
 pub one_written : {S A : Type 0} (rules : SinkRules S) (a b : S) (key : ℕ) (kind : Kind) (x : Field kind) (InRange : Type 0) (r : Result A Refusal)
-    → (InRange → InRangeField kind x) → (InRangeField kind x → InRange) → Writes rules InRange a b (opcode_bytes (opcode_of key) ++ field kind x) r
-    → Writes rules (InRangeInstr (one key kind x)) a b (instr (one key kind x)) r
+    → (InRange → (field kind x).in_range) → ((field kind x).in_range → InRange) → Writes rules InRange a b (opcode_bytes (opcode_of key) ++ (field kind x).bytes) r
+    → Writes rules (instr (one key kind x)).in_range a b (instr (one key kind x)).bytes r
 one_written rules a b key kind x InRange r f g p =
-    written_as rules InRange (InRangeInstr (one key kind x)) a b (opcode_bytes (opcode_of key) ++ field kind x) (instr (one key kind x)) r (λ h. (f h, tt)) (λ i. g i.0)
-    (ap (λ bytes. opcode_bytes (opcode_of key) ++ bytes) (sym (append-nil (field kind x)))) p
+    written_as rules InRange (instr (one key kind x)).in_range a b (opcode_bytes (opcode_of key) ++ (field kind x).bytes) (instr (one key kind x)).bytes r (λ h. (f h, tt)) (λ i. g i.0)
+    (ap (λ bytes. opcode_bytes (opcode_of key) ++ bytes) (sym (append-nil (field kind x).bytes))) p
 
 pub two_written : {S A : Type 0} (rules : SinkRules S) (a b : S) (key : ℕ) (kind other : Kind) (x : Field kind) (y : Field other) (InRange : Type 0) (r : Result A Refusal)
-    → (InRange → InRangeField kind x × InRangeField other y) → (InRangeField kind x × InRangeField other y → InRange)
-    → Writes rules InRange a b (opcode_bytes (opcode_of key) ++ (field kind x ++ field other y)) r
-    → Writes rules (InRangeInstr (two key kind other x y)) a b (instr (two key kind other x y)) r
+    → (InRange → (field kind x).in_range × (field other y).in_range) → ((field kind x).in_range × (field other y).in_range → InRange)
+    → Writes rules InRange a b (opcode_bytes (opcode_of key) ++ ((field kind x).bytes ++ (field other y).bytes)) r
+    → Writes rules (instr (two key kind other x y)).in_range a b (instr (two key kind other x y)).bytes r
 two_written rules a b key kind other x y InRange r f g p =
-    written_as rules InRange (InRangeInstr (two key kind other x y)) a b (opcode_bytes (opcode_of key) ++ (field kind x ++ field other y)) (instr (two key kind other x y)) r
+    written_as rules InRange (instr (two key kind other x y)).in_range a b (opcode_bytes (opcode_of key) ++ ((field kind x).bytes ++ (field other y).bytes)) (instr (two key kind other x y)).bytes r
     (λ h. let both = f h in (both.0, (both.1, tt))) (λ i. g (i.0, i.1.0))
-    (ap (λ bytes. opcode_bytes (opcode_of key) ++ (field kind x ++ bytes)) (sym (append-nil (field other y)))) p
+    (ap (λ bytes. opcode_bytes (opcode_of key) ++ ((field kind x).bytes ++ bytes)) (sym (append-nil (field other y).bytes))) p
 
 -- a branch on a cast, by its flags, label and heap types
 pub br_cast_written : {S A : Type 0} (rules : SinkRules S) (a b : S) (op : BrCastOp) (label : ℕ) (from to : RefType) (InRange : Type 0) (r : Result A Refusal)
-    → (InRange → InRangeU32 label × (InRangeHeapType from.heap_type × InRangeHeapType to.heap_type)) → (InRangeU32 label × (InRangeHeapType from.heap_type × InRangeHeapType to.heap_type) → InRange)
-    → Writes rules InRange a b (opcode_bytes (opcode_of (br_cast_key op)) ++ (nullables from.nullable to.nullable ∷ (unsigned label ++ (heap_type from.heap_type ++ heap_type to.heap_type)))) r
-    → Writes rules (InRangeInstr (br_cast_instr op label from to)) a b (instr (br_cast_instr op label from to)) r
+    → (InRange → InRangeU32 label × ((heap_type from.heap_type).in_range × (heap_type to.heap_type).in_range)) → (InRangeU32 label × ((heap_type from.heap_type).in_range × (heap_type to.heap_type).in_range) → InRange)
+    → Writes rules InRange a b (opcode_bytes (opcode_of (br_cast_key op)) ++ (nullables from.nullable to.nullable ∷ (unsigned label ++ ((heap_type from.heap_type).bytes ++ (heap_type to.heap_type).bytes)))) r
+    → Writes rules (instr (br_cast_instr op label from to)).in_range a b (instr (br_cast_instr op label from to)).bytes r
 br_cast_written rules a b op label from to InRange r f g p =
     let front = opcode_bytes (opcode_of (br_cast_key op)) in
-    written_as rules InRange (InRangeInstr (br_cast_instr op label from to)) a b (front ++ (nullables from.nullable to.nullable ∷ (unsigned label ++ (heap_type from.heap_type ++ heap_type to.heap_type)))) (instr (br_cast_instr op label from to)) r
+    written_as rules InRange (instr (br_cast_instr op label from to)).in_range a b (front ++ (nullables from.nullable to.nullable ∷ (unsigned label ++ ((heap_type from.heap_type).bytes ++ (heap_type to.heap_type).bytes)))) (instr (br_cast_instr op label from to)).bytes r
     (λ h. let is = f h in (tt, (is.0, (is.1.0, (is.1.1, tt))))) (λ i. g (i.1.0, (i.1.1.0, i.1.1.1.0)))
-    (ap (λ bytes. front ++ (nullables from.nullable to.nullable ∷ (unsigned label ++ (heap_type from.heap_type ++ bytes)))) (sym (append-nil (heap_type to.heap_type)))) p
+    (ap (λ bytes. front ++ (nullables from.nullable to.nullable ∷ (unsigned label ++ ((heap_type from.heap_type).bytes ++ bytes)))) (sym (append-nil (heap_type to.heap_type).bytes))) p
 
 -- ---- branches by a table, with what spells their labels, and blocks, with what spells their clauses
 
 pub br_table_written : {S A : Type 0} (rules : SinkRules S) (a b : S) (labels : List ℕ) (default : ℕ) (bytes : List ℕ) (InRange : Type 0) (r : Result A Refusal)
     → bytes ≡ vec unsigned labels → (InRange → InRangeVec InRangeU32 labels) → (InRangeVec InRangeU32 labels → InRange)
     → Writes rules (InRange × InRangeU32 default) a b (br_table_bytes bytes default) r
-    → Writes rules (InRangeInstr (br_table_instr labels default)) a b (instr (br_table_instr labels default)) r
+    → Writes rules (instr (br_table_instr labels default)).in_range a b (instr (br_table_instr labels default)).bytes r
 br_table_written rules a b labels default bytes InRange r same f g p =
     two_written rules a b 0x0e Labels Index labels default (InRange × InRangeU32 default) r (λ h. (f h.0, h.1)) (λ h. (g h.0, h.1))
     (subst (λ l. Writes rules (InRange × InRangeU32 default) a b (br_table_bytes l default) r) same p)
 
 pub try_table_written : {S A : Type 0} (rules : SinkRules S) (a b : S) (ty : BlockType) (clauses : List Catch) (bytes : List ℕ) (InRange : Type 0) (r : Result A Refusal)
-    → bytes ≡ vec catch_clause clauses → (InRange → InRangeVec InRangeCatch clauses) → (InRangeVec InRangeCatch clauses → InRange)
-    → Writes rules (InRangeBlockType ty × InRange) a b (try_table_bytes ty bytes) r
-    → Writes rules (InRangeInstr (try_table_instr ty clauses)) a b (instr (try_table_instr ty clauses)) r
+    → bytes ≡ vec (λ x. (catch_clause x).bytes) clauses → (InRange → InRangeVec (λ x. (catch_clause x).in_range) clauses) → (InRangeVec (λ x. (catch_clause x).in_range) clauses → InRange)
+    → Writes rules ((block_type ty).in_range × InRange) a b (try_table_bytes ty bytes) r
+    → Writes rules (instr (try_table_instr ty clauses)).in_range a b (instr (try_table_instr ty clauses)).bytes r
 try_table_written rules a b ty clauses bytes InRange r same f g p =
-    two_written rules a b 0x1f Block Catches ty clauses (InRangeBlockType ty × InRange) r (λ h. (h.0, f h.1)) (λ h. (h.0, g h.1))
-    (subst (λ l. Writes rules (InRangeBlockType ty × InRange) a b (try_table_bytes ty l) r) same p)
+    two_written rules a b 0x1f Block Catches ty clauses ((block_type ty).in_range × InRange) r (λ h. (h.0, f h.1)) (λ h. (h.0, g h.1))
+    (subst (λ l. Writes rules ((block_type ty).in_range × InRange) a b (try_table_bytes ty l) r) same p)
 
 -- ---- choices, with what spells their types
 
 pub select_written : {S A X : Type 0} (rules : SinkRules S) (spell : X → List ℕ) (InRange : X → Type 0) (types : X → List ValType) (a b : S) (o : Option X) (r : Result A Refusal)
-    → ((x : X) → spell x ≡ vec val_type (types x)) → ((x : X) → InRange x → InRangeVec InRangeValType (types x)) → ((x : X) → InRangeVec InRangeValType (types x) → InRange x)
+    → ((x : X) → spell x ≡ vec (λ x. (val_type x).bytes) (types x)) → ((x : X) → InRange x → InRangeVec (λ x. (val_type x).in_range) (types x)) → ((x : X) → InRangeVec (λ x. (val_type x).in_range) (types x) → InRange x)
     → Writes rules (All InRange (option_to_list o)) a b (select_bytes (option_map spell o)) r
-    → Writes rules (InRangeInstr (select_instr (option_map types o))) a b (instr (select_instr (option_map types o))) r
+    → Writes rules (instr (select_instr (option_map types o))).in_range a b (instr (select_instr (option_map types o))).bytes r
 select_written rules spell InRange types a b None r same f g p =
     puts_as rules (All InRange []) (Unit {0}) a b (0x1b ∷ []) r (λ h. tt) (λ h. All-nil InRange) p
 select_written rules spell InRange types a b (Some x) r same f g p =
-    written_as rules (All InRange (x ∷ [])) (InRangeInstr (select_instr (Some (types x)))) a b (0x1c ∷ spell x) (instr (select_instr (Some (types x)))) r
+    written_as rules (All InRange (x ∷ [])) (instr (select_instr (Some (types x)))).in_range a b (0x1c ∷ spell x) (instr (select_instr (Some (types x)))).bytes r
     (λ h. (f x (All-head InRange x [] h), tt)) (λ i. all_one InRange x (g x i.0))
-    (ap (λ bytes. 0x1c ∷ bytes) (same x ∙ sym (append-nil (vec val_type (types x))))) p
+    (ap (λ bytes. 0x1c ∷ bytes) (same x ∙ sym (append-nil (vec (λ x. (val_type x).bytes) (types x))))) p
 
-pub select_covered : (o : Option (List ValType)) → list_all (list_all is_covered_val_type) (option_to_list o) ≡ true → is_covered_instr (select_instr o) ≡ true
+pub select_covered : (o : Option (List ValType)) → list_all (list_all (λ x. (val_type x).is_covered)) (option_to_list o) ≡ true → (instr (select_instr o)).is_covered ≡ true
 select_covered None h = refl
 select_covered (Some types) h = h
 
 -- the same of what holds value types
-pub lists_covered : {X : Type 0} (types : X → List ValType) (o : Option X) → list_all (λ x. list_all is_covered_val_type (types x)) (option_to_list o) ≡ true → is_covered_instr (select_instr (option_map types o)) ≡ true
+pub lists_covered : {X : Type 0} (types : X → List ValType) (o : Option X) → list_all (λ x. list_all (λ x. (val_type x).is_covered) (types x)) (option_to_list o) ≡ true → (instr (select_instr (option_map types o))).is_covered ≡ true
 lists_covered types None h = refl
 lists_covered types (Some x) h = h
 
 -- value types of another kind, in range
-pub types_in_range : {X : Type 0} (f : X → ValType) (xs : List X) → InRangeVec (λ x. InRangeValType (f x)) xs → InRangeVec InRangeValType (map f xs)
-types_in_range f xs h = (subst InRangeU32 (sym (length-map xs f)) h.0, all_map InRangeValType f xs h.1)
+pub types_in_range : {X : Type 0} (f : X → ValType) (xs : List X) → InRangeVec (λ x. (val_type (f x)).in_range) xs → InRangeVec (λ x. (val_type x).in_range) (map f xs)
+types_in_range f xs h = (subst InRangeU32 (sym (length-map xs f)) h.0, all_map (λ x. (val_type x).in_range) f xs h.1)

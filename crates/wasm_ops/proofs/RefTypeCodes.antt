@@ -1,10 +1,9 @@
 -- The spellings of heap types and reference types show their value.
 use Rattle.std.proofs.Common.{◌≡◌, ◌<◌, ◌≤◌, ◌-◌, ℕ, Bool, true, false, List, [], ◌∷◌, ◌++◌, get_or, refl, sym, ap, ◌∙◌, arith}
 use Rattle.std.specs.Prelude.{pos, IsTrue}
-use Rattle.wasm_ops.specs.Codes.{IsCode}
+use Rattle.wasm_ops.specs.Codes.{IsCode, IsPrefixCode}
 use Rattle.wasm_ops.specs.Leb128.{last_byte, signed}
-use Rattle.wasm_ops.specs.Covered.{IsSpellableHeapType, IsSpellableRefType}
-use Rattle.wasm_ops.specs.Spelling.{Any, abstract_byte, heap_type, is_short, ref_bytes, ref_type}
+use Rattle.wasm_ops.specs.Spelling.{Any, abstract_byte, is_short, ref_bytes, Spellable, heap_type, ref_type}
 use Rattle.wasm_ops.specs.declared.ref_types.AbstractHeapType.{AbstractHeapType}
 use Rattle.wasm_ops.specs.declared.ref_types.AbstractHeapType.TheVariants as heaps
 use Rattle.wasm_ops.specs.declared.ref_types.HeapType.{HeapType}
@@ -54,7 +53,7 @@ abstract_apart t n r s e = let h = abstract_range t in index_apart n (abstract_b
 pub not_true : {A : Type 0} → IsTrue false → A
 not_true h = absurd cc
 
-heap_begins : (x y : HeapType) (r s : List ℕ) → IsSpellableHeapType x → IsSpellableHeapType y → heap_type x ++ r ≡ heap_type y ++ s → (x ≡ y) × (r ≡ s)
+heap_begins : (x y : HeapType) (r s : List ℕ) → Spellable (heap_type x) → Spellable (heap_type y) → (heap_type x).bytes ++ r ≡ (heap_type y).bytes ++ s → (x ≡ y) × (r ≡ s)
 heap_begins (heap.Abstract false a) (heap.Abstract false b) r s p q e =
     let one = abstract_code.begins a b r s tt tt e in
     let f : AbstractHeapType → HeapType = λ t. heap.Abstract false t in
@@ -71,18 +70,18 @@ heap_begins (heap.Exact m) y r s p q e = not_true p.0
 heap_begins x (heap.Abstract true b) r s p q e = not_true q.0
 heap_begins x (heap.Exact n) r s p q e = not_true q.0
 
-pub heap_type_code : IsCode HeapType IsSpellableHeapType heap_type
+pub heap_type_code : IsPrefixCode heap_type
 heap_type_code = record { begins = heap_begins }
 
 -- ---- reference types
 
-short_front : (h : HeapType) (r : List ℕ) → IsSpellableHeapType h → is_short h ≡ true → (0x68 ≤ front (heap_type h ++ r)) × (front (heap_type h ++ r) ≤ 0x75)
+short_front : (h : HeapType) (r : List ℕ) → Spellable (heap_type h) → is_short h ≡ true → (0x68 ≤ front ((heap_type h).bytes ++ r)) × (front ((heap_type h).bytes ++ r) ≤ 0x75)
 short_front (heap.Abstract false ty) r p short = abstract_range ty
 short_front (heap.Abstract true ty) r p short = not_true p.0
 short_front (heap.Concrete n) r p short = not_true short
 short_front (heap.Exact n) r p short = not_true short
 
-ref_begins : (m n a b : Bool) (h k : HeapType) (r s : List ℕ) → IsSpellableHeapType h → IsSpellableHeapType k → is_short h ≡ a → is_short k ≡ b → ref_bytes m a (heap_type h) ++ r ≡ ref_bytes n b (heap_type k) ++ s
+ref_begins : (m n a b : Bool) (h k : HeapType) (r s : List ℕ) → Spellable (heap_type h) → Spellable (heap_type k) → is_short h ≡ a → is_short k ≡ b → ref_bytes m a (heap_type h).bytes ++ r ≡ ref_bytes n b (heap_type k).bytes ++ s
     → (m ≡ n) × (h ≡ k) × (r ≡ s)
 ref_begins true true true true h k r s p q u v e = let one = heap_begins h k r s p q e in (refl, one.0, one.1)
 ref_begins true true false false h k r s p q u v e = let one = (after_byte 0x63 heap_type_code).begins h k r s p q e in (refl, one.0, one.1)
@@ -94,7 +93,7 @@ ref_begins true false false b h k r s p q u v e = absurd (omega (arith, ap front
 ref_begins false true a true h k r s p q u v e = absurd (omega (arith, (short_front k s q v).0, ap front e))
 ref_begins false true a false h k r s p q u v e = absurd (omega (arith, ap front e))
 
-pub ref_type_code : IsCode RefType IsSpellableRefType ref_type
+pub ref_type_code : IsPrefixCode ref_type
 ref_type_code = record {
   begins = λ x y r s p q e.
       let one = ref_begins x.nullable y.nullable (is_short x.heap_type) (is_short y.heap_type) x.heap_type y.heap_type r s p q refl refl e in
@@ -103,10 +102,10 @@ ref_type_code = record {
       (ap f one.0 ∙ ap g one.1, one.2);
 }
 
-pub ref_front : (t : RefType) (r : List ℕ) → IsSpellableRefType t → (0x63 ≤ front (ref_type t ++ r)) × (front (ref_type t ++ r) ≤ 0x75)
+pub ref_front : (t : RefType) (r : List ℕ) → Spellable (ref_type t) → (0x63 ≤ front ((ref_type t).bytes ++ r)) × (front ((ref_type t).bytes ++ r) ≤ 0x75)
 ref_front t r p = by_bytes t.nullable (is_short t.heap_type) t.heap_type r p refl
   where
-    by_bytes : (m a : Bool) (h : HeapType) (r : List ℕ) → IsSpellableHeapType h → is_short h ≡ a → (0x63 ≤ front (ref_bytes m a (heap_type h) ++ r)) × (front (ref_bytes m a (heap_type h) ++ r) ≤ 0x75)
+    by_bytes : (m a : Bool) (h : HeapType) (r : List ℕ) → Spellable (heap_type h) → is_short h ≡ a → (0x63 ≤ front (ref_bytes m a (heap_type h).bytes ++ r)) × (front (ref_bytes m a (heap_type h).bytes ++ r) ≤ 0x75)
     by_bytes true true h r p u = let one = short_front h r p u in (omega (arith, one.0), one.1)
     by_bytes true false h r p u = (omega arith, omega arith)
     by_bytes false a h r p u = (omega arith, omega arith)

@@ -1,11 +1,9 @@
 -- The spellings of types show their value.
 use Rattle.std.proofs.Common.{◌≡◌, ◌≢◌, ◌<◌, ◌&&◌, ℕ, Bool, true, false, Option, Some, None, List, [], ◌∷◌, ◌++◌, refl, sym, ap, ◌∙◌, arith}
 use Rattle.std.specs.Prelude.{nat_eq, IsTrue, not, is_none}
-use Rattle.std.specs.List.{list_all}
-use Rattle.wasm_ops.specs.Codes.{IsCode}
+use Rattle.wasm_ops.specs.Codes.{IsCode, IsPrefixCode}
 use Rattle.wasm_ops.specs.Leb128.{unsigned}
-use Rattle.wasm_ops.specs.Covered.{is_covered_val_type, is_covered_field_type, is_covered_composite_inner_type, is_covered_composite_type, is_covered_sub_type, IsSpellableValType, IsSpellableStorageType, IsSpellableFieldType, IsSpellableFuncType, IsSpellableStructType, IsSpellableArrayType, IsSpellableCompositeInnerType, IsSpellableCompositeType, IsSpellableSubType}
-use Rattle.wasm_ops.specs.Spelling.{Any, InRangeU32, vec, InRangeVec, val_type, InRangeValType, storage_type, mutability, field_type, InRangeFieldType, export_kind, func_type, struct_type, array_type, composite_inner_type, composite_type, sub_bytes, sub_type}
+use Rattle.wasm_ops.specs.Spelling.{list_of, Any, InRangeU32, vec, InRangeVec, mutability, export_kind, sub_bytes, Spellable, array_type, composite_inner_type, composite_type, field_type, func_type, storage_type, struct_type, sub_type, val_type}
 use Rattle.wasm_ops.specs.declared.types.ValType.{ValType}
 use Rattle.wasm_ops.specs.declared.types.ValType.TheVariants as val
 use Rattle.wasm_ops.specs.declared.types.StorageType.{StorageType}
@@ -26,7 +24,7 @@ use Rattle.wasm_ops.proofs.Everywhere.{both_true}
 
 -- ---- value types, storage types and fields
 
-val_begins : (x y : ValType) (r s : List ℕ) → IsSpellableValType x → IsSpellableValType y → val_type x ++ r ≡ val_type y ++ s → (x ≡ y) × (r ≡ s)
+val_begins : (x y : ValType) (r s : List ℕ) → Spellable (val_type x) → Spellable (val_type y) → (val_type x).bytes ++ r ≡ (val_type y).bytes ++ s → (x ≡ y) × (r ≡ s)
 val_begins val.I32 val.I32 r s p q e = (refl, cc)
 val_begins val.I64 val.I64 r s p q e = (refl, cc)
 val_begins val.F32 val.F32 r s p q e = (refl, cc)
@@ -37,16 +35,16 @@ val_begins (val.Ref x) y r s p q e = absurd (omega (arith, ap front e, (ref_fron
 val_begins x (val.Ref y) r s p q e = absurd (omega (arith, ap front e, (ref_front y s q).1))
 val_begins x y r s p q e = absurd (omega (arith, ap front e))
 
-pub val_type_code : IsCode ValType IsSpellableValType val_type
+pub val_type_code : IsPrefixCode val_type
 val_type_code = record { begins = val_begins }
 
 -- no value type begins with the byte of a packed type
-val_front : (t : ValType) (r : List ℕ) → IsSpellableValType t → (front (val_type t ++ r) ≢ 0x77) × (front (val_type t ++ r) ≢ 0x78)
+val_front : (t : ValType) (r : List ℕ) → Spellable (val_type t) → (front ((val_type t).bytes ++ r) ≢ 0x77) × (front ((val_type t).bytes ++ r) ≢ 0x78)
 val_front val.I32 r p = (omega arith, omega arith)
 val_front (val.Ref t) r p = let one = ref_front t r p in (omega (arith, one.1), omega (arith, one.1))
 val_front t r p = (omega arith, omega arith)
 
-storage_begins : (x y : StorageType) (r s : List ℕ) → IsSpellableStorageType x → IsSpellableStorageType y → storage_type x ++ r ≡ storage_type y ++ s → (x ≡ y) × (r ≡ s)
+storage_begins : (x y : StorageType) (r s : List ℕ) → Spellable (storage_type x) → Spellable (storage_type y) → (storage_type x).bytes ++ r ≡ (storage_type y).bytes ++ s → (x ≡ y) × (r ≡ s)
 storage_begins storage.I8 storage.I8 r s p q e = (refl, cc)
 storage_begins storage.I16 storage.I16 r s p q e = (refl, cc)
 storage_begins (storage.Val x) (storage.Val y) r s p q e = let one = val_begins x y r s p q e in (ap storage.Val one.0, one.1)
@@ -54,7 +52,7 @@ storage_begins (storage.Val x) y r s p q e = absurd (omega (arith, ap front e, (
 storage_begins x (storage.Val y) r s p q e = absurd (omega (arith, ap front e, (val_front y s q).0, (val_front y s q).1))
 storage_begins x y r s p q e = absurd (omega (arith, ap front e))
 
-pub storage_type_code : IsCode StorageType IsSpellableStorageType storage_type
+pub storage_type_code : IsPrefixCode storage_type
 storage_type_code = record { begins = storage_begins }
 
 mutability_shown : (m : Bool) → nat_eq (mutability m) 1 ≡ m
@@ -64,7 +62,7 @@ mutability_shown true = refl
 pub mutability_code : IsCode Bool Any (λ m. mutability m ∷ [])
 mutability_code = code_by mutability (λ byte. nat_eq byte 1) mutability_shown byte_code
 
-pub field_type_code : IsCode FieldType IsSpellableFieldType field_type
+pub field_type_code : IsPrefixCode field_type
 field_type_code = code_within (λ f p. (p, tt)) (code_by (λ (f : FieldType). (f.element_type, f.mutable)) (λ p. record { element_type = p.0; mutable = p.1 }) (λ f. refl) (pair_code storage_type_code mutability_code))
 
 -- ---- kinds of exports
@@ -82,20 +80,20 @@ export_kind_code = record { begins = kind_begins }
 
 -- ---- composite types
 
-pub func_type_code : IsCode FuncType IsSpellableFuncType func_type
+pub func_type_code : IsPrefixCode func_type
 func_type_code =
-    code_within (λ f p. let both = both_true (list_all is_covered_val_type f.params) (list_all is_covered_val_type f.results) p.0 in (spellable_vec is_covered_val_type InRangeValType f.params both.0 p.1.0, spellable_vec is_covered_val_type InRangeValType f.results both.1 p.1.1))
+    code_within (λ f p. let both = both_true (list_of val_type f.params).is_covered (list_of val_type f.results).is_covered p.0 in (spellable_vec val_type f.params both.0 p.1.0, spellable_vec val_type f.results both.1 p.1.1))
     (code_by (λ (f : FuncType). (f.params, f.results)) (λ p. record { params = p.0; results = p.1 }) (λ x. refl) (after_byte 0x60 (pair_code (vec_code val_type_code) (vec_code val_type_code))))
 
-pub struct_type_code : IsCode StructType IsSpellableStructType struct_type
+pub struct_type_code : IsPrefixCode struct_type
 struct_type_code =
-    code_within (λ t p. spellable_vec is_covered_field_type InRangeFieldType t.fields p.0 p.1)
+    code_within (λ t p. spellable_vec field_type t.fields p.0 p.1)
     (code_by (λ (t : StructType). t.fields) (λ fields. record { fields = fields }) (λ x. refl) (after_byte 0x5f (vec_code field_type_code)))
 
-pub array_type_code : IsCode ArrayType IsSpellableArrayType array_type
+pub array_type_code : IsPrefixCode array_type
 array_type_code = code_by (λ (a : ArrayType). a.0) (λ f. record { 0 = f }) (λ a. refl) (after_byte 0x5e field_type_code)
 
-inner_begins : (x y : CompositeInnerType) (r s : List ℕ) → IsSpellableCompositeInnerType x → IsSpellableCompositeInnerType y → composite_inner_type x ++ r ≡ composite_inner_type y ++ s → (x ≡ y) × (r ≡ s)
+inner_begins : (x y : CompositeInnerType) (r s : List ℕ) → Spellable (composite_inner_type x) → Spellable (composite_inner_type y) → (composite_inner_type x).bytes ++ r ≡ (composite_inner_type y).bytes ++ s → (x ≡ y) × (r ≡ s)
 inner_begins (inner.Func x) (inner.Func y) r s p q e = let one = func_type_code.begins x y r s p q e in (ap inner.Func one.0, one.1)
 inner_begins (inner.Struct x) (inner.Struct y) r s p q e = let one = struct_type_code.begins x y r s p q e in (ap inner.Struct one.0, one.1)
 inner_begins (inner.Array x) (inner.Array y) r s p q e = let one = array_type_code.begins x y r s p q e in (ap inner.Array one.0, one.1)
@@ -114,20 +112,20 @@ plain_by i false (Some n) describes e = absurd cc
 plain_by i false None (Some n) e = absurd cc
 
 -- what is asked of it, and of what it is made of
-covered_both : (x : CompositeType) → IsTrue (is_covered_composite_type x) → IsTrue (not x.shared && (is_none x.descriptor && is_none x.describes)) × IsTrue (is_covered_composite_inner_type x.inner)
-covered_both x e = both_true (not x.shared && (is_none x.descriptor && is_none x.describes)) (is_covered_composite_inner_type x.inner) e
+covered_both : (x : CompositeType) → IsTrue (composite_type x).is_covered → IsTrue (not x.shared && (is_none x.descriptor && is_none x.describes)) × IsTrue (composite_inner_type x.inner).is_covered
+covered_both x e = both_true (not x.shared && (is_none x.descriptor && is_none x.describes)) (composite_inner_type x.inner).is_covered e
 
-is_plain : (x : CompositeType) → IsTrue (is_covered_composite_type x) → x ≡ plain x.inner
+is_plain : (x : CompositeType) → IsTrue (composite_type x).is_covered → x ≡ plain x.inner
 is_plain x e = plain_by x.inner x.shared x.descriptor x.describes (covered_both x e).0
 
-pub composite_type_code : IsCode CompositeType IsSpellableCompositeType composite_type
+pub composite_type_code : IsPrefixCode composite_type
 composite_type_code = record {
   begins = λ x y r s p q e.
       let one = inner_begins x.inner y.inner r s ((covered_both x p.0).1, p.1) ((covered_both y q.0).1, q.1) e in
       (is_plain x p.0 ∙ ap plain one.0 ∙ sym (is_plain y q.0), one.1);
 }
 
-composite_front : (i : CompositeInnerType) (r : List ℕ) → IsTrue (is_covered_composite_inner_type i) → 0x50 < front (composite_inner_type i ++ r)
+composite_front : (i : CompositeInnerType) (r : List ℕ) → IsTrue (composite_inner_type i).is_covered → 0x50 < front ((composite_inner_type i).bytes ++ r)
 composite_front (inner.Func f) r h = omega arith
 composite_front (inner.Struct t) r h = omega arith
 composite_front (inner.Array t) r h = omega arith
@@ -140,13 +138,13 @@ Below = List ℕ × CompositeType
 abbrev below : List ℕ → CompositeType → Below
 below ps c = (ps, c)
 
-below_code : IsCode Below (λ p. InRangeVec InRangeU32 p.0 × IsSpellableCompositeType p.1) (λ p. vec unsigned p.0 ++ composite_type p.1)
+below_code : IsCode Below (λ p. InRangeVec InRangeU32 p.0 × Spellable (composite_type p.1)) (λ p. vec unsigned p.0 ++ (composite_type p.1).bytes)
 below_code = pair_code (vec_code index_code) composite_type_code
 
 abbrev Fine : List ℕ → CompositeType → Type 0
-Fine ps c = InRangeVec InRangeU32 ps × IsSpellableCompositeType c
+Fine ps c = InRangeVec InRangeU32 ps × Spellable (composite_type c)
 
-sub_begins : (m n : Bool) (ps qs : List ℕ) (c d : CompositeType) (r s : List ℕ) → Fine ps c → Fine qs d → sub_bytes m ps (composite_type c) ++ r ≡ sub_bytes n qs (composite_type d) ++ s → (m ≡ n) × (below ps c ≡ below qs d) × (r ≡ s)
+sub_begins : (m n : Bool) (ps qs : List ℕ) (c d : CompositeType) (r s : List ℕ) → Fine ps c → Fine qs d → sub_bytes m ps (composite_type c).bytes ++ r ≡ sub_bytes n qs (composite_type d).bytes ++ s → (m ≡ n) × (below ps c ≡ below qs d) × (r ≡ s)
 sub_begins true true [] [] c d r s p q e =
     let one = composite_type_code.begins c d r s p.1 q.1 e in
     let f : CompositeType → Below = λ t. ([], t) in
@@ -164,7 +162,7 @@ sub_begins true false (x ∷ xs) qs c d r s p q e = absurd (omega (arith, ap fro
 sub_begins false true ps [] c d r s p q e = absurd (omega (arith, ap front e, composite_front d.inner s (covered_both d q.1.0).1))
 sub_begins false true ps (y ∷ ys) c d r s p q e = absurd (omega (arith, ap front e))
 
-pub sub_type_code : IsCode SubType IsSpellableSubType sub_type
+pub sub_type_code : IsPrefixCode sub_type
 sub_type_code = record {
   begins = λ x y r s p q e.
       let one = sub_begins x.is_final y.is_final x.supertype_idxs y.supertype_idxs x.composite_type y.composite_type r s (p.1.0, (p.0, p.1.1)) (q.1.0, (q.0, q.1.1)) e in
@@ -174,10 +172,10 @@ sub_type_code = record {
 }
 
 -- no type begins with the byte of a group
-pub sub_front : (s : SubType) (r : List ℕ) → IsTrue (is_covered_sub_type s) → 0x4e < front (sub_type s ++ r)
+pub sub_front : (s : SubType) (r : List ℕ) → IsTrue (sub_type s).is_covered → 0x4e < front ((sub_type s).bytes ++ r)
 sub_front s r h = sub_bytes_front s.is_final s.supertype_idxs s.composite_type.inner r (covered_both s.composite_type h).1
   where
-    sub_bytes_front : (m : Bool) (ps : List ℕ) (i : CompositeInnerType) (r : List ℕ) → IsTrue (is_covered_composite_inner_type i) → 0x4e < front (sub_bytes m ps (composite_inner_type i) ++ r)
+    sub_bytes_front : (m : Bool) (ps : List ℕ) (i : CompositeInnerType) (r : List ℕ) → IsTrue (composite_inner_type i).is_covered → 0x4e < front (sub_bytes m ps (composite_inner_type i).bytes ++ r)
     sub_bytes_front true [] i r h = omega (arith, composite_front i r h)
     sub_bytes_front true (p ∷ ps) i r h = omega arith
     sub_bytes_front false ps i r h = omega arith

@@ -45,4 +45,4 @@ try_table_instr ty clauses = record { row = record { opcode = opcode_of 0x1f; ki
 
 -- its bytes, by those of the clauses
 abbrev pub try_table_bytes : BlockType → List ℕ → List ℕ
-try_table_bytes ty clauses = 0x1f ∷ (block_type ty ++ clauses)
+try_table_bytes ty clauses = 0x1f ∷ ((block_type ty).bytes ++ clauses)

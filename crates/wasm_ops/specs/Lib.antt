@@ -12,7 +12,6 @@ pub mod ConstExprs
 pub mod ConstantInstrs
 pub mod Control
 pub mod ControlInstrs
-pub mod Covered
 pub mod Entities
 pub mod IndexInstrs
 pub mod Keys

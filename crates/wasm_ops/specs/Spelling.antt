@@ -1,7 +1,16 @@
--- The spellings of values and types, and that their numbers, counts and lengths are in range (binary format, values and types).
-use Rattle.std.specs.Prelude.{ℕ, ◌<◌, ◌^◌, ℤ, pos, Bool, true, false, List, [], ◌∷◌, ◌++◌, length, All, FitsSigned}
+-- How numbers, names, lists and types are encoded (binary format: values, types).
+--
+-- An `Encoding` has the bytes of a value, the condition that its numbers, counts and lengths are in range, and whether the
+-- encoder supports its form. Each type of the binary format is described once, by cases, as an `Encoding`. So its bytes, its
+-- range and its support cannot disagree about what the value consists of.
+--
+--   (val_type I32).bytes          7f
+--   func_type (param i32)         bytes 60 01 7f 00; in range, because the counts 1 and 0 are below 2^32; supported
+--   heap_type (Exact 3)           not supported, because exact types are a construct that no encoder covers
+use Rattle.std.specs.Prelude.{ℕ, ◌<◌, ◌^◌, ℤ, pos, Bool, true, false, not, ◌&&◌, Option, is_none, List, [], ◌∷◌, ◌++◌, length, All, IsTrue, FitsSigned}
 use Rattle.std.specs.Int.{w32, w64}
-use Rattle.std.specs.List.{flat_map}
+use Rattle.std.specs.List.{flat_map, list_all}
+use Rattle.std.specs.Option.{option_to_list}
 use Rattle.wasm_ops.specs.Leb128.{unsigned, signed}
 use Rattle.wasm_ops.specs.declared.ref_types.AbstractHeapType.{AbstractHeapType}
 use Rattle.wasm_ops.specs.declared.ref_types.AbstractHeapType.TheVariants as heaps
@@ -23,51 +32,134 @@ use Rattle.wasm_ops.specs.declared.types.CompositeInnerType.TheVariants as inner
 use Rattle.wasm_ops.specs.declared.types.CompositeType.{CompositeType}
 use Rattle.wasm_ops.specs.declared.types.SubType.{SubType}
 
--- what has no number, count or length
+-- Values without a number, count or length.
 abbrev pub Any : {A : Type 0} → A → Type 0
 Any x = Unit {0}
 
--- an index, a count or a length
+-- An index, a count or a length.
 abbrev pub InRangeU32 : ℕ → Type 0
 InRangeU32 n = n < 2 ^ 32
 
--- a number of 64 bits
+-- A number of 64 bits.
 abbrev pub InRangeU64 : ℕ → Type 0
 InRangeU64 n = n < 2 ^ 64
 
--- a count, and so many items
+-- The bytes of a list: the number of its items, and the items.
 abbrev pub vec : {A : Type 0} → (A → List ℕ) → List A → List ℕ
 vec item xs = unsigned (length xs) ++ flat_map item xs
 
--- the count is in range, and each item
+-- The number of items is in range, and each item.
 abbrev pub InRangeVec : {A : Type 0} → (A → Type 0) → List A → Type 0
 InRangeVec InRange xs = InRangeU32 (length xs) × All InRange xs
 
--- a length, and so many bytes
+-- The bytes of a value after their number.
 abbrev pub length_prefixed : {A : Type 0} → (A → List ℕ) → A → List ℕ
 length_prefixed spell x = unsigned (length (spell x)) ++ spell x
 
--- the length is in range, and what it is of
+-- The number of bytes of a value is in range, and the value.
 abbrev pub InRangeSized : {A : Type 0} → (A → Type 0) → (A → List ℕ) → A → Type 0
 InRangeSized InRange spell x = InRangeU32 (length (spell x)) × InRange x
 
--- a name, of these bytes
+-- The bytes of a name: its length, and its text.
 abbrev pub name : List ℕ → List ℕ
 name text = unsigned (length text) ++ text
 
--- the length of a name is in range
+-- The length of a name is in range.
 abbrev pub InRangeName : List ℕ → Type 0
 InRangeName text = InRangeU32 (length text)
 
--- a signed number from -2^31 to 2^31 - 1, and one from -2^63 to 2^63 - 1
+-- A signed number from -2^31 to 2^31 - 1.
 abbrev pub InRangeS32 : ℤ → Type 0
 InRangeS32 z = FitsSigned w32 z
 
--- a signed number from -2^63 to 2^63 - 1
+-- A signed number from -2^63 to 2^63 - 1.
 abbrev pub InRangeS64 : ℤ → Type 0
 InRangeS64 z = FitsSigned w64 z
 
--- the byte of an abstract heap type
+-- ---- encodings
+
+-- The encoding of a value: its bytes, the condition that its numbers, counts and lengths are in range, and whether the
+-- encoder supports its form. The bytes of a value that is not supported have no meaning.
+pub record Encoding : Type 1 where
+  pub bytes : List ℕ
+  pub in_range : Type 0
+  pub is_covered : Bool
+
+-- The encoder can write the value: its form is supported, and its numbers, counts and lengths are in range.
+abbrev pub Spellable : Encoding → Type 0
+Spellable e = IsTrue e.is_covered × e.in_range
+
+-- These bytes, under a condition on the range of the numbers in them.
+abbrev pub within : Type 0 → List ℕ → Encoding
+within in_range bytes = record { bytes = bytes; in_range = in_range; is_covered = true }
+
+-- Bytes without a number that could be out of range.
+abbrev pub fixed : List ℕ → Encoding
+fixed bytes = within (Unit {0}) bytes
+
+-- A form that the encoder does not support.
+abbrev pub unsupported : Encoding
+unsupported = record { bytes = []; in_range = Unit {0}; is_covered = false }
+
+-- An unsigned number of 32 bits: an index, a count or a length.
+abbrev pub u32 : ℕ → Encoding
+u32 n = within (InRangeU32 n) (unsigned n)
+
+-- An unsigned number of 64 bits.
+abbrev pub u64 : ℕ → Encoding
+u64 n = within (InRangeU64 n) (unsigned n)
+
+-- An index where other forms begin with the bytes of negative numbers. For example the type index 64 is c0 00.
+abbrev pub s33 : ℕ → Encoding
+s33 index = within (InRangeU32 index) (signed (pos index))
+
+-- A name.
+abbrev pub named : List ℕ → Encoding
+named text = within (InRangeName text) (name text)
+
+-- An encoding with other bytes, made of its bytes.
+abbrev pub respelled : (List ℕ → List ℕ) → Encoding → Encoding
+respelled change e = record { bytes = change e.bytes; in_range = e.in_range; is_covered = e.is_covered }
+
+-- A byte, and then an encoding.
+abbrev pub byte_then : ℕ → Encoding → Encoding
+byte_then byte e = respelled (λ bytes. byte ∷ bytes) e
+
+-- An encoding, and then a byte.
+abbrev pub then_byte : Encoding → ℕ → Encoding
+then_byte e byte = respelled (λ bytes. bytes ++ byte ∷ []) e
+
+-- One encoding, and then another.
+abbrev pub seq : Encoding → Encoding → Encoding
+seq a b = record { bytes = a.bytes ++ b.bytes; in_range = a.in_range × b.in_range; is_covered = a.is_covered && b.is_covered }
+
+-- Items one after another, without their number.
+abbrev pub items_of : {A : Type 0} → (A → Encoding) → List A → Encoding
+items_of item xs = record { bytes = flat_map (λ x. (item x).bytes) xs; in_range = All (λ x. (item x).in_range) xs; is_covered = list_all (λ x. (item x).is_covered) xs }
+
+-- A list: the number of its items, and the items (binary format: lists).
+abbrev pub list_of : {A : Type 0} → (A → Encoding) → List A → Encoding
+list_of item xs = seq (u32 (length xs)) (items_of item xs)
+
+-- A value that may be missing. Without it there are no bytes.
+abbrev pub optional : {A : Type 0} → (A → Encoding) → Option A → Encoding
+optional item x = items_of item (option_to_list x)
+
+-- An encoding after the number of its bytes.
+abbrev pub with_length : Encoding → Encoding
+with_length e = seq (u32 (length e.bytes)) e
+
+-- An encoding that is supported only under one more condition.
+abbrev pub only_if : Bool → Encoding → Encoding
+only_if condition e = record { bytes = e.bytes; in_range = e.in_range; is_covered = condition && e.is_covered }
+
+-- An encoding whose parts are all supported.
+abbrev pub always : Encoding → Encoding
+always e = within e.in_range e.bytes
+
+-- ---- types
+
+-- The byte of an abstract heap type.
 abbrev pub abstract_byte : AbstractHeapType → ℕ
 abstract_byte heaps.Func = 0x70
 abstract_byte heaps.Extern = 0x6f
@@ -84,20 +176,20 @@ abstract_byte heaps.I31 = 0x6c
 abstract_byte heaps.Cont = 0x68
 abstract_byte heaps.NoCont = 0x75
 
--- an index is a signed number; what is shared or exact is not covered, and has no bytes
-abbrev pub heap_type : HeapType → List ℕ
-heap_type (heap.Abstract false ty) = abstract_byte ty ∷ []
-heap_type (heap.Abstract true ty) = []
-heap_type (heap.Concrete index) = signed (pos index)
-heap_type (heap.Exact index) = []
+-- Whether the encoder supports an abstract heap type: each but those of continuations.
+abbrev pub is_covered_abstract_heap_type : AbstractHeapType → Bool
+is_covered_abstract_heap_type heaps.Cont = false
+is_covered_abstract_heap_type heaps.NoCont = false
+is_covered_abstract_heap_type ty = true
 
--- the index of a heap type, if it has one, is in range
-abbrev pub InRangeHeapType : HeapType → Type 0
-InRangeHeapType (heap.Abstract shared ty) = Unit {0}
-InRangeHeapType (heap.Concrete index) = InRangeU32 index
-InRangeHeapType (heap.Exact index) = InRangeU32 index
+-- A heap type: a byte, or the index of a type. Shared and exact types are not supported.
+abbrev pub heap_type : HeapType → Encoding
+heap_type (heap.Abstract false ty) = record { bytes = abstract_byte ty ∷ []; in_range = Unit {0}; is_covered = is_covered_abstract_heap_type ty }
+heap_type (heap.Abstract true ty) = unsupported
+heap_type (heap.Concrete index) = s33 index
+heap_type (heap.Exact index) = unsupported
 
--- func and extern are short: a nullable reference to one of them is the heap type alone
+-- Whether a nullable reference to this heap type is the heap type alone: `funcref` is 70.
 abbrev pub is_short : HeapType → Bool
 is_short (heap.Abstract shared heaps.Func) = true
 is_short (heap.Abstract shared heaps.Extern) = true
@@ -105,64 +197,41 @@ is_short (heap.Abstract shared ty) = false
 is_short (heap.Concrete index) = false
 is_short (heap.Exact index) = false
 
--- whether it is nullable, whether its heap type is short, and the bytes of its heap type
+-- The bytes of a reference type: whether it is nullable, whether its heap type is short, and the bytes of the heap type.
 abbrev pub ref_bytes : Bool → Bool → List ℕ → List ℕ
 ref_bytes true true bytes = bytes
 ref_bytes true false bytes = 0x63 ∷ bytes
 ref_bytes false short bytes = 0x64 ∷ bytes
 
--- a reference type, by its heap type and whether it is nullable
-abbrev pub ref_type : RefType → List ℕ
-ref_type r = ref_bytes r.nullable (is_short r.heap_type) (heap_type r.heap_type)
+-- A reference type. For example (ref null 3) is 63 03.
+abbrev pub ref_type : RefType → Encoding
+ref_type r = respelled (ref_bytes r.nullable (is_short r.heap_type)) (heap_type r.heap_type)
 
--- the index in a reference type, if one is there, is in range
-abbrev pub InRangeRefType : RefType → Type 0
-InRangeRefType r = InRangeHeapType r.heap_type
-
--- a value type: one byte, or a reference type
-abbrev pub val_type : ValType → List ℕ
-val_type val.I32 = 0x7f ∷ []
-val_type val.I64 = 0x7e ∷ []
-val_type val.F32 = 0x7d ∷ []
-val_type val.F64 = 0x7c ∷ []
-val_type val.V128 = 0x7b ∷ []
+-- A value type: one byte, or a reference type.
+abbrev pub val_type : ValType → Encoding
+val_type val.I32 = fixed (0x7f ∷ [])
+val_type val.I64 = fixed (0x7e ∷ [])
+val_type val.F32 = fixed (0x7d ∷ [])
+val_type val.F64 = fixed (0x7c ∷ [])
+val_type val.V128 = fixed (0x7b ∷ [])
 val_type (val.Ref r) = ref_type r
 
--- the index in a value type, if one is there, is in range
-abbrev pub InRangeValType : ValType → Type 0
-InRangeValType val.I32 = Unit {0}
-InRangeValType val.I64 = Unit {0}
-InRangeValType val.F32 = Unit {0}
-InRangeValType val.F64 = Unit {0}
-InRangeValType val.V128 = Unit {0}
-InRangeValType (val.Ref r) = InRangeRefType r
-
--- what a field is stored as: the byte of a packed integer, or a value type
-abbrev pub storage_type : StorageType → List ℕ
-storage_type storage.I8 = 0x78 ∷ []
-storage_type storage.I16 = 0x77 ∷ []
+-- A storage type: the byte of a packed integer, or a value type.
+abbrev pub storage_type : StorageType → Encoding
+storage_type storage.I8 = fixed (0x78 ∷ [])
+storage_type storage.I16 = fixed (0x77 ∷ [])
 storage_type (storage.Val t) = val_type t
 
--- the index in a storage type, if one is there, is in range
-abbrev pub InRangeStorageType : StorageType → Type 0
-InRangeStorageType storage.I8 = Unit {0}
-InRangeStorageType storage.I16 = Unit {0}
-InRangeStorageType (storage.Val t) = InRangeValType t
-
--- a byte that says whether it can be changed
+-- The byte that says whether a field or a global is mutable.
 abbrev pub mutability : Bool → ℕ
 mutability false = 0x00
 mutability true = 0x01
 
--- a field type: what it is stored as, and then whether it can be changed
-abbrev pub field_type : FieldType → List ℕ
-field_type f = storage_type f.element_type ++ mutability f.mutable ∷ []
+-- A field type: its storage type, and whether it is mutable.
+abbrev pub field_type : FieldType → Encoding
+field_type f = then_byte (storage_type f.element_type) (mutability f.mutable)
 
--- the index in a field type, if one is there, is in range
-abbrev pub InRangeFieldType : FieldType → Type 0
-InRangeFieldType f = InRangeStorageType f.element_type
-
--- the byte of what is exported
+-- The byte of the kind of an export.
 abbrev pub export_kind : ExportKind → List ℕ
 export_kind kind.Func = 0x00 ∷ []
 export_kind kind.Table = 0x01 ∷ []
@@ -170,62 +239,35 @@ export_kind kind.Memory = 0x02 ∷ []
 export_kind kind.Global = 0x03 ∷ []
 export_kind kind.Tag = 0x04 ∷ []
 
--- a function type: 0x60, its parameters, and then its results
-abbrev pub func_type : FuncType → List ℕ
-func_type f = 0x60 ∷ (vec val_type f.params ++ vec val_type f.results)
+-- A function type: 60, its parameters and its results.
+abbrev pub func_type : FuncType → Encoding
+func_type f = byte_then 0x60 (seq (list_of val_type f.params) (list_of val_type f.results))
 
--- the numbers of parameters and results are in range, and the indices in their types
-abbrev pub InRangeFuncType : FuncType → Type 0
-InRangeFuncType f = InRangeVec InRangeValType f.params × InRangeVec InRangeValType f.results
+-- A struct type: 5f and its fields.
+abbrev pub struct_type : StructType → Encoding
+struct_type s = byte_then 0x5f (list_of field_type s.fields)
 
--- a struct type: 0x5f, and then its fields
-abbrev pub struct_type : StructType → List ℕ
-struct_type s = 0x5f ∷ vec field_type s.fields
+-- An array type: 5e and the type of its elements.
+abbrev pub array_type : ArrayType → Encoding
+array_type a = byte_then 0x5e (field_type a.0)
 
--- the number of fields is in range, and the indices in their types
-abbrev pub InRangeStructType : StructType → Type 0
-InRangeStructType s = InRangeVec InRangeFieldType s.fields
-
--- an array type: 0x5e, and then the type of its elements
-abbrev pub array_type : ArrayType → List ℕ
-array_type a = 0x5e ∷ field_type a.0
-
--- the index in the type of its elements, if one is there, is in range
-abbrev pub InRangeArrayType : ArrayType → Type 0
-InRangeArrayType a = InRangeFieldType a.0
-
--- a continuation is not covered, and has no bytes
-abbrev pub composite_inner_type : CompositeInnerType → List ℕ
+-- A function, struct or array type. Continuations are not supported.
+abbrev pub composite_inner_type : CompositeInnerType → Encoding
 composite_inner_type (inner.Func f) = func_type f
 composite_inner_type (inner.Struct s) = struct_type s
 composite_inner_type (inner.Array a) = array_type a
-composite_inner_type (inner.Cont c) = []
+composite_inner_type (inner.Cont c) = unsupported
 
--- the numbers in a function, struct or array type are in range, or the index of a continuation
-abbrev pub InRangeCompositeInnerType : CompositeInnerType → Type 0
-InRangeCompositeInnerType (inner.Func f) = InRangeFuncType f
-InRangeCompositeInnerType (inner.Struct s) = InRangeStructType s
-InRangeCompositeInnerType (inner.Array a) = InRangeArrayType a
-InRangeCompositeInnerType (inner.Cont c) = InRangeU32 c.0
+-- A composite type. It is supported if it is not shared, has no descriptor and describes nothing.
+abbrev pub composite_type : CompositeType → Encoding
+composite_type c = only_if (not c.shared && (is_none c.descriptor && is_none c.describes)) (composite_inner_type c.inner)
 
--- a composite type, as what it is made of: what is shared, has a descriptor or describes is not covered
-abbrev pub composite_type : CompositeType → List ℕ
-composite_type c = composite_inner_type c.inner
-
--- the numbers in what it is made of are in range
-abbrev pub InRangeCompositeType : CompositeType → Type 0
-InRangeCompositeType c = InRangeCompositeInnerType c.inner
-
--- whether it is final, the types above it, and the bytes of its composite type
+-- The bytes of a subtype: whether it is final, its supertypes, and the bytes of its composite type.
 abbrev pub sub_bytes : Bool → List ℕ → List ℕ → List ℕ
 sub_bytes true [] composite = composite
 sub_bytes true parents composite = 0x4f ∷ (vec unsigned parents ++ composite)
 sub_bytes false parents composite = 0x50 ∷ (vec unsigned parents ++ composite)
 
--- a subtype: a final one without parents is its composite type alone
-abbrev pub sub_type : SubType → List ℕ
-sub_type s = sub_bytes s.is_final s.supertype_idxs (composite_type s.composite_type)
-
--- the number of parents is in range, their indices, and the numbers in its composite type
-abbrev pub InRangeSubType : SubType → Type 0
-InRangeSubType s = InRangeVec InRangeU32 s.supertype_idxs × InRangeCompositeType s.composite_type
+-- A subtype. A final one without supertypes is its composite type alone.
+abbrev pub sub_type : SubType → Encoding
+sub_type s = record { bytes = sub_bytes s.is_final s.supertype_idxs (composite_type s.composite_type).bytes; in_range = InRangeVec InRangeU32 s.supertype_idxs × (composite_type s.composite_type).in_range; is_covered = (composite_type s.composite_type).is_covered }

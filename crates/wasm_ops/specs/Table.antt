@@ -6,16 +6,15 @@
 --
 --   (0x07, 3, Index ∷ [])      three opcodes from 07, each with an index: catch, throw, rethrow
 --   instr (call with 3)        10 03
-use Rattle.std.specs.Prelude.{◌≡◌, ℕ, zero, suc, ◌+◌, ◌*◌, ℤ, Bool, true, false, ◌&&◌, nat_lt, Option, Some, None, List, [], ◌∷◌, ◌++◌, length, All, IsTrue}
+use Rattle.std.specs.Prelude.{◌≡◌, ℕ, zero, suc, ◌+◌, ◌*◌, ℤ, Bool, true, false, nat_lt, Option, Some, None, List, [], ◌∷◌, ◌++◌, length, All, IsTrue}
 use Rattle.std.specs.Int.{w32, w64, to_le_bytes}
-use Rattle.std.specs.List.{flat_map, list_all}
-use Rattle.wasm_ops.specs.Control.{block_type, InRangeBlockType, is_covered_block_type, catch_clause, InRangeCatch}
-use Rattle.wasm_ops.specs.Covered.{is_covered_heap_type, is_covered_val_type}
+use Rattle.std.specs.List.{flat_map}
+use Rattle.wasm_ops.specs.Control.{block_type, catch_clause}
 use Rattle.wasm_ops.specs.Entities.{bit}
-use Rattle.wasm_ops.specs.Leb128.{unsigned, signed}
-use Rattle.wasm_ops.specs.Memargs.{ordering_byte, is_covered_ordering, memarg, InRangeMemArg, is_covered_memarg}
+use Rattle.wasm_ops.specs.Leb128.{signed}
+use Rattle.wasm_ops.specs.Memargs.{ordering_byte, is_covered_ordering, memarg}
 use Rattle.wasm_ops.specs.Opcodes.{opcode_of, opcode_order, opcode_bytes, same_opcode, is_apart}
-use Rattle.wasm_ops.specs.Spelling.{InRangeU32, InRangeU64, InRangeS32, InRangeS64, vec, InRangeVec, heap_type, InRangeHeapType, val_type, InRangeValType}
+use Rattle.wasm_ops.specs.Spelling.{InRangeU32, InRangeU64, InRangeS32, InRangeS64, Encoding, within, fixed, u32, respelled, seq, list_of, always, heap_type, val_type}
 use Rattle.wasm_ops.specs.declared.blocks.BlockType.{BlockType}
 use Rattle.wasm_ops.specs.declared.blocks.Catch.{Catch}
 use Rattle.wasm_ops.specs.declared.memargs.MemArg.{MemArg}
@@ -67,92 +66,46 @@ Field Lanes = List ℕ
 Field Nullables = Bool × Bool
 Field Order = Ordering
 
--- The bytes of an immediate.
-abbrev pub field : (kind : Kind) → Field kind → List ℕ
-field Index n = unsigned n
-field Signed32 z = signed z
-field Signed64 z = signed z
-field Bits32 n = to_le_bytes w32 n
-field Bits64 n = to_le_bytes w64 n
+-- An immediate. There are 16 lane numbers.
+abbrev pub field : (kind : Kind) → Field kind → Encoding
+field Index n = u32 n
+field Signed32 z = within (InRangeS32 z) (signed z)
+field Signed64 z = within (InRangeS64 z) (signed z)
+field Bits32 n = within (InRangeU32 n) (to_le_bytes w32 n)
+field Bits64 n = within (InRangeU64 n) (to_le_bytes w64 n)
 field Heap h = heap_type h
-field Types ts = vec val_type ts
+field Types ts = list_of val_type ts
 field Memarg m = memarg m
 field Block b = block_type b
-field Labels ls = vec unsigned ls
-field Catches cs = vec catch_clause cs
-field Lane n = n ∷ []
-field Lanes ls = ls
-field Nullables p = (bit p.0 + 2 * bit p.1) ∷ []
-field Order o = ordering_byte o ∷ []
-
--- An immediate is in range. There are 16 lane numbers.
-abbrev pub InRangeField : (kind : Kind) → Field kind → Type 0
-InRangeField Index n = InRangeU32 n
-InRangeField Signed32 z = InRangeS32 z
-InRangeField Signed64 z = InRangeS64 z
-InRangeField Bits32 n = InRangeU32 n
-InRangeField Bits64 n = InRangeU64 n
-InRangeField Heap h = InRangeHeapType h
-InRangeField Types ts = InRangeVec InRangeValType ts
-InRangeField Memarg m = InRangeMemArg m
-InRangeField Block b = InRangeBlockType b
-InRangeField Labels ls = InRangeVec InRangeU32 ls
-InRangeField Catches cs = InRangeVec InRangeCatch cs
-InRangeField Lane n = Unit {0}
-InRangeField Lanes ls = length ls ≡ 16
-InRangeField Nullables p = Unit {0}
-InRangeField Order o = Unit {0}
-
--- Whether the encoder supports an immediate.
-abbrev pub is_covered_field : (kind : Kind) → Field kind → Bool
-is_covered_field Index n = true
-is_covered_field Signed32 z = true
-is_covered_field Signed64 z = true
-is_covered_field Bits32 n = true
-is_covered_field Bits64 n = true
-is_covered_field Heap h = is_covered_heap_type h
-is_covered_field Types ts = list_all is_covered_val_type ts
-is_covered_field Memarg m = is_covered_memarg m
-is_covered_field Block b = is_covered_block_type b
-is_covered_field Labels ls = true
-is_covered_field Catches cs = true
-is_covered_field Lane n = true
-is_covered_field Lanes ls = true
-is_covered_field Nullables p = true
-is_covered_field Order o = is_covered_ordering o
+field Labels ls = always (list_of u32 ls)
+field Catches cs = always (list_of catch_clause cs)
+field Lane n = fixed (n ∷ [])
+field Lanes ls = within (length ls ≡ 16) ls
+field Nullables p = fixed ((bit p.0 + 2 * bit p.1) ∷ [])
+field Order o = record { bytes = ordering_byte o ∷ []; in_range = Unit {0}; is_covered = is_covered_ordering o }
 
 -- The immediates of an instruction.
 abbrev pub Fields : List Kind → Type 0
 Fields [] = Unit {0}
 Fields (kind ∷ kinds) = Field kind × Fields kinds
 
--- The bytes of immediates, one after another.
-abbrev pub fields : (kinds : List Kind) → Fields kinds → List ℕ
-fields [] x = []
-fields (kind ∷ kinds) x = field kind x.0 ++ fields kinds x.1
-
--- Each immediate is in range.
-abbrev pub InRangeFields : (kinds : List Kind) → Fields kinds → Type 0
-InRangeFields [] x = Unit {0}
-InRangeFields (kind ∷ kinds) x = InRangeField kind x.0 × InRangeFields kinds x.1
-
--- Whether the encoder supports each immediate.
-abbrev pub is_covered_fields : (kinds : List Kind) → Fields kinds → Bool
-is_covered_fields [] x = true
-is_covered_fields (kind ∷ kinds) x = is_covered_field kind x.0 && is_covered_fields kinds x.1
+-- Immediates, one after another.
+abbrev pub fields : (kinds : List Kind) → Fields kinds → Encoding
+fields [] x = fixed []
+fields (kind ∷ kinds) x = seq (field kind x.0) (fields kinds x.1)
 
 -- An instruction: an entry with its immediates.
 pub record Instr : Type 0 where
   pub row : Row
   pub numbers : Fields row.kinds
 
--- The bytes of an instruction: its opcode, then its immediates.
-abbrev pub instr : Instr → List ℕ
-instr i = opcode_bytes i.row.opcode ++ fields i.row.kinds i.numbers
+-- An instruction: its opcode, then its immediates.
+abbrev pub instr : Instr → Encoding
+instr i = respelled (λ immediates. opcode_bytes i.row.opcode ++ immediates) (fields i.row.kinds i.numbers)
 
 -- The bytes of instructions, one after another.
 abbrev pub instrs : List Instr → List ℕ
-instrs is = flat_map instr is
+instrs is = flat_map (λ i. (instr i).bytes) is
 
 -- Entries of consecutive keys: the first key, their number, and the kinds of their immediates.
 abbrev pub consecutive : ℕ → ℕ → List Kind → List Row
@@ -253,14 +206,6 @@ kinds_of opcode [] = None
 kinds_of opcode (r ∷ rs) =
     elim (same_opcode r.opcode opcode) [ true ↦ Some r.kinds | false ↦ kinds_of opcode rs ]
 
--- The immediates of an instruction are in range.
-abbrev pub InRangeInstr : Instr → Type 0
-InRangeInstr i = InRangeFields i.row.kinds i.numbers
-
--- Whether the encoder supports the immediates of an instruction.
-abbrev pub is_covered_instr : Instr → Bool
-is_covered_instr i = is_covered_fields i.row.kinds i.numbers
-
 -- The entry of an instruction is in the table.
 abbrev pub HasRow : Instr → Type 0
 HasRow i = kinds_of i.row.opcode table ≡ Some i.row.kinds
@@ -268,8 +213,8 @@ HasRow i = kinds_of i.row.opcode table ≡ Some i.row.kinds
 -- A valid instruction: an entry of the table, with supported immediates in range.
 pub record IsInstr (i : Instr) : Type 0 where
   pub row : HasRow i
-  pub numbers : InRangeInstr i
-  pub covered : IsTrue (is_covered_instr i)
+  pub numbers : (instr i).in_range
+  pub covered : IsTrue (instr i).is_covered
 
 -- The bytes are the encoding of a list of instructions.
 pub record SpellsInstrs (bytes : List ℕ) : Type 0 where

@@ -1,7 +1,7 @@
 //! Block types, and the clauses of `try_table`.
 
 ghost use Rattle.std.specs.Prelude.{◌≡◌, true, false};
-ghost use Rattle.wasm_ops.specs.Control.{block_type, InRangeBlockType, is_covered_block_type, catch_clause, InRangeCatch};
+ghost use Rattle.wasm_ops.specs.Control.{block_type, catch_clause};
 
 use crate::encode::Encode;
 use crate::leb128::push_signed;
@@ -24,7 +24,7 @@ pub enum BlockType {
 impl BlockType {
     /// Returns whether the encoder supports it: its value type, if it has one.
     pub fn is_covered(&self) -> bool
-        ensures { result ≡ is_covered_block_type self.now }
+        ensures { result ≡ (block_type self.now).is_covered }
     {
         match self {
             BlockType::Empty => true,
@@ -36,11 +36,11 @@ impl BlockType {
 
 /// An index is encoded as a signed number, because negative numbers are the value types.
 impl Encode for BlockType {
-    ghost spelling = { block_type };
+    ghost spelling = { λ x. (block_type x).bytes };
 
-    ghost in_range = { InRangeBlockType };
+    ghost in_range = { λ x. (block_type x).in_range };
 
-    ghost is_ready = { is_covered_block_type };
+    ghost is_ready = { λ x. (block_type x).is_covered };
 
     fn encode<S: Sink>(&self, out: &mut S) -> Result<(), Refusal> {
         match self {
@@ -93,9 +93,9 @@ impl Catch {
 
 /// A byte for the form, then the tag if there is one, and the label.
 impl Encode for Catch {
-    ghost spelling = { catch_clause };
+    ghost spelling = { λ x. (catch_clause x).bytes };
 
-    ghost in_range = { InRangeCatch };
+    ghost in_range = { λ x. (catch_clause x).in_range };
 
     ghost is_ready = { λ _. true };
 

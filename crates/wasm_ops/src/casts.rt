@@ -2,10 +2,10 @@
 
 ghost use Rattle.std.specs.Prelude.{◌≡◌, ◌&&◌};
 ghost use Rattle.wasm_ops.specs.CastInstrs.{cast_key, cast_instr, br_cast_key, br_cast_instr, fence_instr, nullables};
-ghost use Rattle.wasm_ops.specs.Covered.{is_covered_ref_type};
 ghost use Rattle.wasm_ops.specs.Memargs.{is_covered_ordering};
 ghost use Rattle.wasm_ops.specs.Opcodes.{opcode_of};
-ghost use Rattle.wasm_ops.specs.Table.{instr, InRangeInstr};
+ghost use Rattle.wasm_ops.specs.Spelling.{ref_type};
+ghost use Rattle.wasm_ops.specs.Table.{instr};
 
 use crate::encode::Encode;
 use crate::memargs::Ordering;
@@ -50,11 +50,11 @@ pub struct CastInstr {
 }
 
 impl Encode for CastInstr {
-    ghost spelling = { λ i. instr (cast_instr i.op i.ty) };
+    ghost spelling = { λ i. (instr (cast_instr i.op i.ty)).bytes };
 
-    ghost in_range = { λ i. InRangeInstr (cast_instr i.op i.ty) };
+    ghost in_range = { λ i. (instr (cast_instr i.op i.ty)).in_range };
 
-    ghost is_ready = { λ i. is_covered_ref_type i.ty };
+    ghost is_ready = { λ i. (ref_type i.ty).is_covered };
 
     fn encode<S: Sink>(&self, out: &mut S) -> Result<(), Refusal> {
         (self.op.opcode(self.ty.nullable), self.ty.heap_type).encode(out)
@@ -105,11 +105,11 @@ fn nullables(from: bool, to: bool) -> u8
 
 /// A byte states which of the two types are nullable; the label and both heap types follow.
 impl Encode for BrCastInstr {
-    ghost spelling = { λ i. instr (br_cast_instr i.op i.label i.from i.to) };
+    ghost spelling = { λ i. (instr (br_cast_instr i.op i.label i.from i.to)).bytes };
 
-    ghost in_range = { λ i. InRangeInstr (br_cast_instr i.op i.label i.from i.to) };
+    ghost in_range = { λ i. (instr (br_cast_instr i.op i.label i.from i.to)).in_range };
 
-    ghost is_ready = { λ i. is_covered_ref_type i.from && is_covered_ref_type i.to };
+    ghost is_ready = { λ i. (ref_type i.from).is_covered && (ref_type i.to).is_covered };
 
     fn encode<S: Sink>(&self, out: &mut S) -> Result<(), Refusal> {
         let flags = nullables(self.from.nullable, self.to.nullable);
@@ -125,9 +125,9 @@ impl Encode for BrCastInstr {
 pub struct Fence(pub Ordering);
 
 impl Encode for Fence {
-    ghost spelling = { λ f. instr (fence_instr f.0) };
+    ghost spelling = { λ f. (instr (fence_instr f.0)).bytes };
 
-    ghost in_range = { λ f. InRangeInstr (fence_instr f.0) };
+    ghost in_range = { λ f. (instr (fence_instr f.0)).in_range };
 
     ghost is_ready = { λ f. is_covered_ordering f.0 };
 

@@ -1,11 +1,11 @@
 //! Blocks, the ends of blocks, `br_table` and `try_table`.
 
 ghost use Rattle.std.specs.Prelude.{◌≡◌, ◌&&◌, true};
-ghost use Rattle.wasm_ops.specs.Control.{InRangeBlockType, is_covered_block_type};
+ghost use Rattle.wasm_ops.specs.Control.{block_type};
 ghost use Rattle.wasm_ops.specs.ControlInstrs.{block_key, block_instr, delimiter_key, delimiter_instr, br_table_bytes, try_table_bytes};
 ghost use Rattle.wasm_ops.specs.Opcodes.{opcode_of};
 ghost use Rattle.wasm_ops.specs.Spelling.{InRangeU32};
-ghost use Rattle.wasm_ops.specs.Table.{instr, InRangeInstr};
+ghost use Rattle.wasm_ops.specs.Table.{instr};
 
 use crate::blocks::BlockType;
 use crate::encode::Encode;
@@ -49,11 +49,11 @@ pub struct BlockInstr {
 }
 
 impl Encode for BlockInstr {
-    ghost spelling = { λ i. instr (block_instr i.op i.ty) };
+    ghost spelling = { λ i. (instr (block_instr i.op i.ty)).bytes };
 
-    ghost in_range = { λ i. InRangeInstr (block_instr i.op i.ty) };
+    ghost in_range = { λ i. (instr (block_instr i.op i.ty)).in_range };
 
-    ghost is_ready = { λ i. is_covered_block_type i.ty };
+    ghost is_ready = { λ i. (block_type i.ty).is_covered };
 
     fn encode<S: Sink>(&self, out: &mut S) -> Result<(), Refusal> {
         (self.op.opcode(), self.ty).encode(out)
@@ -81,9 +81,9 @@ impl Delimiter {
 }
 
 impl Encode for Delimiter {
-    ghost spelling = { λ d. instr (delimiter_instr d) };
+    ghost spelling = { λ d. (instr (delimiter_instr d)).bytes };
 
-    ghost in_range = { λ d. InRangeInstr (delimiter_instr d) };
+    ghost in_range = { λ d. (instr (delimiter_instr d)).in_range };
 
     ghost is_ready = { λ _. true };
 
@@ -131,9 +131,9 @@ pub struct TryTable<C> {
 impl<C: Encode> Encode for TryTable<C> {
     ghost spelling = { λ i. try_table_bytes i.ty (C.spelling i.catches) };
 
-    ghost in_range = { λ i. InRangeBlockType i.ty × C.in_range i.catches };
+    ghost in_range = { λ i. (block_type i.ty).in_range × C.in_range i.catches };
 
-    ghost is_ready = { λ i. is_covered_block_type i.ty && C.is_ready i.catches };
+    ghost is_ready = { λ i. (block_type i.ty).is_covered && C.is_ready i.catches };
 
     fn encode<S: Sink>(&self, out: &mut S) -> Result<(), Refusal> {
         (0x1fu8, (self.ty, &self.catches)).encode(out)

@@ -1,7 +1,7 @@
 //! The types of tables, memories, globals, tags and imports.
 
 ghost use Rattle.std.specs.Prelude.{◌≡◌, true};
-ghost use Rattle.wasm_ops.specs.Entities.{limits_flags, limits, InRangeLimits, table_type, InRangeTableType, is_covered_table_type, memory_type, InRangeMemoryType, is_covered_memory_type, global_type, InRangeGlobalType, is_covered_global_type, tag_type, InRangeTagType, is_covered_tag_type, entity_type, InRangeEntityType, is_covered_entity_type};
+ghost use Rattle.wasm_ops.specs.Entities.{limits_flags, limits, entity_type, global_type, memory_type, table_type, tag_type};
 
 use crate::encode::Encode;
 use crate::ref_types::RefType;
@@ -26,9 +26,9 @@ struct Limits {
 }
 
 impl Encode for Limits {
-    ghost spelling = { λ l. limits l.shared l.wide l.minimum l.maximum l.page_size_log2 };
+    ghost spelling = { λ l. (limits l.shared l.wide l.minimum l.maximum l.page_size_log2).bytes };
 
-    ghost in_range = { λ l. InRangeLimits l.minimum l.maximum l.page_size_log2 };
+    ghost in_range = { λ l. (limits l.shared l.wide l.minimum l.maximum l.page_size_log2).in_range };
 
     ghost is_ready = { λ _. true };
 
@@ -63,18 +63,18 @@ pub struct TableType {
 impl TableType {
     /// Returns whether the encoder supports it: an unshared table with a supported element type.
     pub fn is_covered(&self) -> bool
-        ensures { result ≡ is_covered_table_type self.now }
+        ensures { result ≡ (table_type self.now).is_covered }
     {
         !self.shared && self.element_type.is_covered()
     }
 }
 
 impl Encode for TableType {
-    ghost spelling = { table_type };
+    ghost spelling = { λ x. (table_type x).bytes };
 
-    ghost in_range = { InRangeTableType };
+    ghost in_range = { λ x. (table_type x).in_range };
 
-    ghost is_ready = { is_covered_table_type };
+    ghost is_ready = { λ x. (table_type x).is_covered };
 
     fn encode<S: Sink>(&self, out: &mut S) -> Result<(), Refusal> {
         let limits = Limits {
@@ -109,18 +109,18 @@ pub struct MemoryType {
 impl MemoryType {
     /// Returns whether the encoder supports it: always. It writes the page size unchecked.
     pub fn is_covered(&self) -> bool
-        ensures { result ≡ is_covered_memory_type self.now }
+        ensures { result ≡ (memory_type self.now).is_covered }
     {
         true // since no memory type is a form that is not covered
     }
 }
 
 impl Encode for MemoryType {
-    ghost spelling = { memory_type };
+    ghost spelling = { λ x. (memory_type x).bytes };
 
-    ghost in_range = { InRangeMemoryType };
+    ghost in_range = { λ x. (memory_type x).in_range };
 
-    ghost is_ready = { is_covered_memory_type };
+    ghost is_ready = { λ x. (memory_type x).is_covered };
 
     fn encode<S: Sink>(&self, out: &mut S) -> Result<(), Refusal> {
         let limits = Limits {
@@ -150,18 +150,18 @@ pub struct GlobalType {
 impl GlobalType {
     /// Returns whether the encoder supports it: an unshared global with a supported value type.
     pub fn is_covered(&self) -> bool
-        ensures { result ≡ is_covered_global_type self.now }
+        ensures { result ≡ (global_type self.now).is_covered }
     {
         !self.shared && self.val_type.is_covered()
     }
 }
 
 impl Encode for GlobalType {
-    ghost spelling = { global_type };
+    ghost spelling = { λ x. (global_type x).bytes };
 
-    ghost in_range = { InRangeGlobalType };
+    ghost in_range = { λ x. (global_type x).in_range };
 
-    ghost is_ready = { is_covered_global_type };
+    ghost is_ready = { λ x. (global_type x).is_covered };
 
     fn encode<S: Sink>(&self, out: &mut S) -> Result<(), Refusal> {
         (self.val_type, u8::from(self.mutable)).encode(out)
@@ -180,18 +180,18 @@ pub struct TagType {
 impl TagType {
     /// Returns whether the encoder supports it: always.
     pub fn is_covered(&self) -> bool
-        ensures { result ≡ is_covered_tag_type self.now }
+        ensures { result ≡ (tag_type self.now).is_covered }
     {
         true // since no tag type is a form that is not covered
     }
 }
 
 impl Encode for TagType {
-    ghost spelling = { tag_type };
+    ghost spelling = { λ x. (tag_type x).bytes };
 
-    ghost in_range = { InRangeTagType };
+    ghost in_range = { λ x. (tag_type x).in_range };
 
-    ghost is_ready = { is_covered_tag_type };
+    ghost is_ready = { λ x. (tag_type x).is_covered };
 
     fn encode<S: Sink>(&self, out: &mut S) -> Result<(), Refusal> {
         (0x00u8, self.func_type_idx).encode(out)
@@ -221,7 +221,7 @@ impl EntityType {
     /// Returns whether the encoder supports it: a supported type inside, and never an exact
     /// function.
     pub fn is_covered(&self) -> bool
-        ensures { result ≡ is_covered_entity_type self.now }
+        ensures { result ≡ (entity_type self.now).is_covered }
     {
         match self {
             EntityType::Function(_) => true,
@@ -235,11 +235,11 @@ impl EntityType {
 }
 
 impl Encode for EntityType {
-    ghost spelling = { entity_type };
+    ghost spelling = { λ x. (entity_type x).bytes };
 
-    ghost in_range = { InRangeEntityType };
+    ghost in_range = { λ x. (entity_type x).in_range };
 
-    ghost is_ready = { is_covered_entity_type };
+    ghost is_ready = { λ x. (entity_type x).is_covered };
 
     fn encode<S: Sink>(&self, out: &mut S) -> Result<(), Refusal> {
         match self {

@@ -5,16 +5,18 @@ ghost use Rattle.std.specs.Option.{option_map, option_to_list};
 ghost use Rattle.std.specs.Prelude.{◌≡◌, true, IsTrue};
 ghost use Rattle.wasm_ops.specs.CastInstrs.{cast_instr, br_cast_instr, fence_instr};
 ghost use Rattle.wasm_ops.specs.ConstantInstrs.{i32_const_instr, i64_const_instr, f32_const_instr, f64_const_instr, ref_null_instr};
-ghost use Rattle.wasm_ops.specs.Control.{is_covered_block_type};
+ghost use Rattle.wasm_ops.specs.Control.{block_type};
 ghost use Rattle.wasm_ops.specs.ControlInstrs.{block_instr, delimiter_instr, br_table_instr, try_table_instr};
-ghost use Rattle.wasm_ops.specs.Covered.{is_covered_heap_type, is_covered_ref_type, is_covered_val_type};
 ghost use Rattle.wasm_ops.specs.IndexInstrs.{index_instr, index_pair_instr};
-ghost use Rattle.wasm_ops.specs.Memargs.{is_aligned, is_covered_memarg, is_covered_ordering};
+ghost use Rattle.wasm_ops.specs.Memargs.{is_aligned, is_covered_ordering};
+ghost use Rattle.wasm_ops.specs.Memargs as memargs;
 ghost use Rattle.wasm_ops.specs.MemoryInstrs.{mem_instr};
 ghost use Rattle.wasm_ops.specs.PlainInstrs.{plain_instr};
 ghost use Rattle.wasm_ops.specs.SelectInstrs.{select_instr};
 ghost use Rattle.wasm_ops.specs.Sinks.{Puts};
-ghost use Rattle.wasm_ops.specs.Table.{instr, InRangeInstr, IsInstr};
+ghost use Rattle.wasm_ops.specs.Spelling as encodings;
+ghost use Rattle.wasm_ops.specs.Spelling.{ref_type, val_type};
+ghost use Rattle.wasm_ops.specs.Table.{IsInstr, instr};
 ghost use Rattle.wasm_ops.specs.VectorInstrs.{lanes_instr, lane_instr, mem_lane_instr};
 
 use crate::blocks::{BlockType, Catch};
@@ -37,11 +39,11 @@ use wast_base::{Error, IndexOp, IndexPairOp, LaneOp, MemLaneOp, MemOp, Plain};
 struct TypedSelect<'a>(Option<&'a [ValType]>);
 
 impl<'a> Encode for TypedSelect<'a> {
-    ghost spelling = { λ s. instr (select_instr (option_map (λ list. list.now) s.0)) };
+    ghost spelling = { λ s. (instr (select_instr (option_map (λ list. list.now) s.0))).bytes };
 
-    ghost in_range = { λ s. InRangeInstr (select_instr (option_map (λ list. list.now) s.0)) };
+    ghost in_range = { λ s. (instr (select_instr (option_map (λ list. list.now) s.0))).in_range };
 
-    ghost is_ready = { λ s. list_all (λ list. list_all is_covered_val_type list.now) (option_to_list s.0) };
+    ghost is_ready = { λ s. list_all (λ list. list_all (λ x. (val_type x).is_covered) list.now) (option_to_list s.0) };
 
     fn encode<S: Sink>(&self, out: &mut S) -> Result<(), Refusal> {
         match self.0 {
@@ -56,9 +58,9 @@ impl<'a> Encode for TypedSelect<'a> {
 struct LabelTable<'a>(&'a [u32], u32);
 
 impl<'a> Encode for LabelTable<'a> {
-    ghost spelling = { λ s. instr (br_table_instr s.0.now s.1) };
+    ghost spelling = { λ s. (instr (br_table_instr s.0.now s.1)).bytes };
 
-    ghost in_range = { λ s. InRangeInstr (br_table_instr s.0.now s.1) };
+    ghost in_range = { λ s. (instr (br_table_instr s.0.now s.1)).in_range };
 
     ghost is_ready = { λ _. true };
 
@@ -76,11 +78,11 @@ impl<'a> Encode for LabelTable<'a> {
 struct CatchTable<'a>(BlockType, &'a [Catch]);
 
 impl<'a> Encode for CatchTable<'a> {
-    ghost spelling = { λ s. instr (try_table_instr s.0 s.1.now) };
+    ghost spelling = { λ s. (instr (try_table_instr s.0 s.1.now)).bytes };
 
-    ghost in_range = { λ s. InRangeInstr (try_table_instr s.0 s.1.now) };
+    ghost in_range = { λ s. (instr (try_table_instr s.0 s.1.now)).in_range };
 
-    ghost is_ready = { λ s. is_covered_block_type s.0 };
+    ghost is_ready = { λ s. (block_type s.0).is_covered };
 
     fn encode<S: Sink>(&self, out: &mut S) -> Result<(), Refusal> {
         TryTable {
@@ -136,7 +138,7 @@ impl<'s, S: Sink> InstructionSink<'s, S> {
     ///     sink.plain(Plain::Bare(BareOp::drop))?;     // 1a
     pub fn plain<'e>(&mut self, op: Plain) -> Result<(), Error<'e>>
         ensures appended { Puts S.rules (IsInstr (plain_instr op)) self.old.out.now self.new.out.now
-            (instr (plain_instr op)) result }
+            (instr (plain_instr op)).bytes result }
         ensures same { self.new.out.ghost_name ≡ self.old.out.ghost_name }
     {
         Ok(op.encode(self.out)?)
@@ -149,7 +151,7 @@ impl<'s, S: Sink> InstructionSink<'s, S> {
     ///     sink.index(IndexOp::Call, 300)?;        // 10 ac 02
     pub fn index<'e>(&mut self, op: IndexOp, index: u32) -> Result<(), Error<'e>>
         ensures appended { Puts S.rules (IsInstr (index_instr op index)) self.old.out.now self.new.out.now
-            (instr (index_instr op index)) result }
+            (instr (index_instr op index)).bytes result }
         ensures same { self.new.out.ghost_name ≡ self.old.out.ghost_name }
     {
         Ok(IndexInstr { op, index }.encode(self.out)?)
@@ -162,7 +164,7 @@ impl<'s, S: Sink> InstructionSink<'s, S> {
     ///     sink.i32_const(64)?;        // 41 c0 00
     pub fn i32_const<'e>(&mut self, value: i32) -> Result<(), Error<'e>>
         ensures appended { Puts S.rules (IsInstr (i32_const_instr value)) self.old.out.now self.new.out.now
-            (instr (i32_const_instr value)) result }
+            (instr (i32_const_instr value)).bytes result }
         ensures same { self.new.out.ghost_name ≡ self.old.out.ghost_name }
     {
         Ok(I32Const(value).encode(self.out)?)
@@ -175,7 +177,7 @@ impl<'s, S: Sink> InstructionSink<'s, S> {
     ///     sink.i64_const(-1)?;        // 42 7f
     pub fn i64_const<'e>(&mut self, value: i64) -> Result<(), Error<'e>>
         ensures appended { Puts S.rules (IsInstr (i64_const_instr value)) self.old.out.now self.new.out.now
-            (instr (i64_const_instr value)) result }
+            (instr (i64_const_instr value)).bytes result }
         ensures same { self.new.out.ghost_name ≡ self.old.out.ghost_name }
     {
         Ok(I64Const(value).encode(self.out)?)
@@ -191,9 +193,9 @@ impl<'s, S: Sink> InstructionSink<'s, S> {
     ///
     /// A supported heap type ([`HeapType::is_covered`]).
     pub fn ref_null<'e>(&mut self, heap_type: HeapType) -> Result<(), Error<'e>>
-        requires { IsTrue (is_covered_heap_type heap_type) }
+        requires { IsTrue (encodings.heap_type heap_type).is_covered }
         ensures appended { Puts S.rules (IsInstr (ref_null_instr heap_type)) self.old.out.now self.new.out.now
-            (instr (ref_null_instr heap_type)) result }
+            (instr (ref_null_instr heap_type)).bytes result }
         ensures same { self.new.out.ghost_name ≡ self.old.out.ghost_name }
     {
         Ok(RefNull(heap_type).encode(self.out)?)
@@ -211,7 +213,7 @@ impl<'s, S: Sink> InstructionSink<'s, S> {
         second: u32,
     ) -> Result<(), Error<'e>>
         ensures appended { Puts S.rules (IsInstr (index_pair_instr op first second)) self.old.out.now
-            self.new.out.now (instr (index_pair_instr op first second)) result }
+            self.new.out.now (instr (index_pair_instr op first second)).bytes result }
         ensures same { self.new.out.ghost_name ≡ self.old.out.ghost_name }
     {
         Ok(IndexPair { op, first, second }.encode(self.out)?)
@@ -227,9 +229,9 @@ impl<'s, S: Sink> InstructionSink<'s, S> {
     /// - `covered`: a supported memory argument ([`MemArg::is_covered`]).
     pub fn mem<'e>(&mut self, op: MemOp, memarg: MemArg) -> Result<(), Error<'e>>
         requires aligned { IsTrue (is_aligned memarg) }
-        requires covered { IsTrue (is_covered_memarg memarg) }
+        requires covered { IsTrue (memargs.memarg memarg).is_covered }
         ensures appended { Puts S.rules (IsInstr (mem_instr op memarg)) self.old.out.now self.new.out.now
-            (instr (mem_instr op memarg)) result }
+            (instr (mem_instr op memarg)).bytes result }
         ensures same { self.new.out.ghost_name ≡ self.old.out.ghost_name }
     {
         Ok(MemInstr { op, memarg }.encode(self.out)?)
@@ -244,7 +246,7 @@ impl<'s, S: Sink> InstructionSink<'s, S> {
     ///     sink.f32_const(1065353216)?;        // 43 00 00 80 3f
     pub fn f32_const<'e>(&mut self, bits: u32) -> Result<(), Error<'e>>
         ensures appended { Puts S.rules (IsInstr (f32_const_instr bits)) self.old.out.now self.new.out.now
-            (instr (f32_const_instr bits)) result }
+            (instr (f32_const_instr bits)).bytes result }
         ensures same { self.new.out.ghost_name ≡ self.old.out.ghost_name }
     {
         Ok(F32Const(bits).encode(self.out)?)
@@ -259,7 +261,7 @@ impl<'s, S: Sink> InstructionSink<'s, S> {
     ///     sink.f64_const(4607182418800017408)?;       // 44 00 00 00 00 00 00 f0 3f
     pub fn f64_const<'e>(&mut self, bits: u64) -> Result<(), Error<'e>>
         ensures appended { Puts S.rules (IsInstr (f64_const_instr bits)) self.old.out.now self.new.out.now
-            (instr (f64_const_instr bits)) result }
+            (instr (f64_const_instr bits)).bytes result }
         ensures same { self.new.out.ghost_name ≡ self.old.out.ghost_name }
     {
         Ok(F64Const(bits).encode(self.out)?)
@@ -275,10 +277,10 @@ impl<'s, S: Sink> InstructionSink<'s, S> {
     ///
     /// Supported types ([`ValType::is_covered`]).
     pub fn select<'e>(&mut self, types: Option<&[ValType]>) -> Result<(), Error<'e>>
-        requires { IsTrue (list_all (λ list. list_all is_covered_val_type list.now) (option_to_list types)) }
+        requires { IsTrue (list_all (λ list. list_all (λ x. (val_type x).is_covered) list.now) (option_to_list types)) }
         ensures appended { Puts S.rules (IsInstr (select_instr (option_map (λ list. list.now) types.entry)))
             self.old.out.now self.new.out.now
-            (instr (select_instr (option_map (λ list. list.now) types.entry))) result }
+            (instr (select_instr (option_map (λ list. list.now) types.entry))).bytes result }
         ensures same { self.new.out.ghost_name ≡ self.old.out.ghost_name }
     {
         Ok(TypedSelect(types).encode(self.out)?)
@@ -294,9 +296,9 @@ impl<'s, S: Sink> InstructionSink<'s, S> {
     ///
     /// A supported block type ([`BlockType::is_covered`]).
     pub fn block<'e>(&mut self, op: BlockOp, ty: BlockType) -> Result<(), Error<'e>>
-        requires { IsTrue (is_covered_block_type ty) }
+        requires { IsTrue (block_type ty).is_covered }
         ensures appended { Puts S.rules (IsInstr (block_instr op ty)) self.old.out.now self.new.out.now
-            (instr (block_instr op ty)) result }
+            (instr (block_instr op ty)).bytes result }
         ensures same { self.new.out.ghost_name ≡ self.old.out.ghost_name }
     {
         Ok(BlockInstr { op, ty }.encode(self.out)?)
@@ -309,7 +311,7 @@ impl<'s, S: Sink> InstructionSink<'s, S> {
     ///     sink.delimiter(Delimiter::Else)?;       // 05
     pub fn delimiter<'e>(&mut self, op: Delimiter) -> Result<(), Error<'e>>
         ensures appended { Puts S.rules (IsInstr (delimiter_instr op)) self.old.out.now self.new.out.now
-            (instr (delimiter_instr op)) result }
+            (instr (delimiter_instr op)).bytes result }
         ensures same { self.new.out.ghost_name ≡ self.old.out.ghost_name }
     {
         Ok(op.encode(self.out)?)
@@ -323,7 +325,7 @@ impl<'s, S: Sink> InstructionSink<'s, S> {
     ///     sink.br_table(&[1, 2], 0)?;     // 0e 02 01 02 00
     pub fn br_table<'e>(&mut self, labels: &[u32], default: u32) -> Result<(), Error<'e>>
         ensures appended { Puts S.rules (IsInstr (br_table_instr labels.now default)) self.old.out.now
-            self.new.out.now (instr (br_table_instr labels.now default)) result }
+            self.new.out.now (instr (br_table_instr labels.now default)).bytes result }
         ensures same { self.new.out.ghost_name ≡ self.old.out.ghost_name }
     {
         Ok(LabelTable(labels, default).encode(self.out)?)
@@ -337,9 +339,9 @@ impl<'s, S: Sink> InstructionSink<'s, S> {
     ///
     /// A supported block type ([`BlockType::is_covered`]).
     pub fn try_table<'e>(&mut self, ty: BlockType, catches: &[Catch]) -> Result<(), Error<'e>>
-        requires { IsTrue (is_covered_block_type ty) }
+        requires { IsTrue (block_type ty).is_covered }
         ensures appended { Puts S.rules (IsInstr (try_table_instr ty catches.now)) self.old.out.now
-            self.new.out.now (instr (try_table_instr ty catches.now)) result }
+            self.new.out.now (instr (try_table_instr ty catches.now)).bytes result }
         ensures same { self.new.out.ghost_name ≡ self.old.out.ghost_name }
     {
         Ok(CatchTable(ty, catches).encode(self.out)?)
@@ -357,7 +359,7 @@ impl<'s, S: Sink> InstructionSink<'s, S> {
     ///     sink.lanes(LanesOp::Const, lanes)?;
     pub fn lanes<'e>(&mut self, op: LanesOp, lanes: [u8; 16]) -> Result<(), Error<'e>>
         ensures appended { Puts S.rules (IsInstr (lanes_instr op lanes)) self.old.out.now self.new.out.now
-            (instr (lanes_instr op lanes)) result }
+            (instr (lanes_instr op lanes)).bytes result }
         ensures same { self.new.out.ghost_name ≡ self.old.out.ghost_name }
     {
         Ok(LanesInstr { op, lanes }.encode(self.out)?)
@@ -368,7 +370,7 @@ impl<'s, S: Sink> InstructionSink<'s, S> {
     /// For example, `i8x16.extract_lane_s 3` is `fd 15 03`.
     pub fn lane<'e>(&mut self, op: LaneOp, lane: u8) -> Result<(), Error<'e>>
         ensures appended { Puts S.rules (IsInstr (lane_instr op lane)) self.old.out.now self.new.out.now
-            (instr (lane_instr op lane)) result }
+            (instr (lane_instr op lane)).bytes result }
         ensures same { self.new.out.ghost_name ≡ self.old.out.ghost_name }
     {
         Ok(LaneInstr { op, lane }.encode(self.out)?)
@@ -384,9 +386,9 @@ impl<'s, S: Sink> InstructionSink<'s, S> {
     /// - `covered`: a supported memory argument ([`MemArg::is_covered`]).
     pub fn mem_lane<'e>(&mut self, op: MemLaneOp, memarg: MemArg, lane: u8) -> Result<(), Error<'e>>
         requires aligned { IsTrue (is_aligned memarg) }
-        requires covered { IsTrue (is_covered_memarg memarg) }
+        requires covered { IsTrue (memargs.memarg memarg).is_covered }
         ensures appended { Puts S.rules (IsInstr (mem_lane_instr op memarg lane)) self.old.out.now self.new.out.now
-            (instr (mem_lane_instr op memarg lane)) result }
+            (instr (mem_lane_instr op memarg lane)).bytes result }
         ensures same { self.new.out.ghost_name ≡ self.old.out.ghost_name }
     {
         Ok(MemLaneInstr { op, memarg, lane }.encode(self.out)?)
@@ -402,9 +404,9 @@ impl<'s, S: Sink> InstructionSink<'s, S> {
     ///
     /// A supported reference type ([`RefType::is_covered`]).
     pub fn cast<'e>(&mut self, op: CastOp, ty: RefType) -> Result<(), Error<'e>>
-        requires { IsTrue (is_covered_ref_type ty) }
+        requires { IsTrue (ref_type ty).is_covered }
         ensures appended { Puts S.rules (IsInstr (cast_instr op ty)) self.old.out.now self.new.out.now
-            (instr (cast_instr op ty)) result }
+            (instr (cast_instr op ty)).bytes result }
         ensures same { self.new.out.ghost_name ≡ self.old.out.ghost_name }
     {
         Ok(CastInstr { op, ty }.encode(self.out)?)
@@ -427,10 +429,10 @@ impl<'s, S: Sink> InstructionSink<'s, S> {
         from: RefType,
         to: RefType,
     ) -> Result<(), Error<'e>>
-        requires from { IsTrue (is_covered_ref_type from) }
-        requires to { IsTrue (is_covered_ref_type to) }
+        requires from { IsTrue (ref_type from).is_covered }
+        requires to { IsTrue (ref_type to).is_covered }
         ensures appended { Puts S.rules (IsInstr (br_cast_instr op label from to)) self.old.out.now self.new.out.now
-            (instr (br_cast_instr op label from to)) result }
+            (instr (br_cast_instr op label from to)).bytes result }
         ensures same { self.new.out.ghost_name ≡ self.old.out.ghost_name }
     {
         Ok(BrCastInstr {
@@ -454,7 +456,7 @@ impl<'s, S: Sink> InstructionSink<'s, S> {
     pub fn fence<'e>(&mut self, ordering: Ordering) -> Result<(), Error<'e>>
         requires { IsTrue (is_covered_ordering ordering) }
         ensures appended { Puts S.rules (IsInstr (fence_instr ordering)) self.old.out.now self.new.out.now
-            (instr (fence_instr ordering)) result }
+            (instr (fence_instr ordering)).bytes result }
         ensures same { self.new.out.ghost_name ≡ self.old.out.ghost_name }
     {
         Ok(Fence(ordering).encode(self.out)?)

@@ -4,15 +4,15 @@ ghost use Rattle.std.specs.List.{All, list_all};
 ghost use Rattle.std.specs.Option.{option_map, option_to_list};
 ghost use Rattle.std.specs.Prelude.{◌≡◌, ◌&&◌, ℕ, true};
 ghost use Rattle.wasm_ops.specs.ConstantInstrs.{i32_const_instr, i64_const_instr, f32_const_instr, f64_const_instr, ref_null_instr};
-ghost use Rattle.wasm_ops.specs.Covered.{is_covered_heap_type};
 ghost use Rattle.wasm_ops.specs.IndexInstrs.{index_instr, index_pair_instr};
 ghost use Rattle.wasm_ops.specs.Keys.{index_key, index_pair_key};
-ghost use Rattle.wasm_ops.specs.Memargs.{is_aligned, is_covered_memarg};
+ghost use Rattle.wasm_ops.specs.Memargs.{is_aligned, memarg};
 ghost use Rattle.wasm_ops.specs.MemoryInstrs.{mem_instr};
 ghost use Rattle.wasm_ops.specs.Opcodes.{opcode_of};
 ghost use Rattle.wasm_ops.specs.PlainInstrs.{plain_instr};
 ghost use Rattle.wasm_ops.specs.SelectInstrs.{select_bytes};
-ghost use Rattle.wasm_ops.specs.Table.{instr, InRangeInstr};
+ghost use Rattle.wasm_ops.specs.Spelling.{heap_type};
+ghost use Rattle.wasm_ops.specs.Table.{instr};
 
 use crate::encode::{Encode, Raw};
 use crate::memargs::MemArg;
@@ -70,9 +70,9 @@ pub struct IndexInstr {
 }
 
 impl Encode for IndexInstr {
-    ghost spelling = { λ i. instr (index_instr i.op i.index) };
+    ghost spelling = { λ i. (instr (index_instr i.op i.index)).bytes };
 
-    ghost in_range = { λ i. InRangeInstr (index_instr i.op i.index) };
+    ghost in_range = { λ i. (instr (index_instr i.op i.index)).in_range };
 
     ghost is_ready = { λ _. true };
 
@@ -99,9 +99,9 @@ pub struct IndexPair {
 }
 
 impl Encode for IndexPair {
-    ghost spelling = { λ i. instr (index_pair_instr i.op i.first i.second) };
+    ghost spelling = { λ i. (instr (index_pair_instr i.op i.first i.second)).bytes };
 
-    ghost in_range = { λ i. InRangeInstr (index_pair_instr i.op i.first i.second) };
+    ghost in_range = { λ i. (instr (index_pair_instr i.op i.first i.second)).in_range };
 
     ghost is_ready = { λ _. true };
 
@@ -112,9 +112,9 @@ impl Encode for IndexPair {
 
 /// An instruction without immediates: `drop` is `1a` (binary format: instructions).
 impl Encode for Plain {
-    ghost spelling = { λ p. instr (plain_instr p) };
+    ghost spelling = { λ p. (instr (plain_instr p)).bytes };
 
-    ghost in_range = { λ p. InRangeInstr (plain_instr p) };
+    ghost in_range = { λ p. (instr (plain_instr p)).in_range };
 
     ghost is_ready = { λ _. true };
 
@@ -131,9 +131,9 @@ impl Encode for Plain {
 pub struct I32Const(pub i32);
 
 impl Encode for I32Const {
-    ghost spelling = { λ c. instr (i32_const_instr c.0) };
+    ghost spelling = { λ c. (instr (i32_const_instr c.0)).bytes };
 
-    ghost in_range = { λ c. InRangeInstr (i32_const_instr c.0) };
+    ghost in_range = { λ c. (instr (i32_const_instr c.0)).in_range };
 
     ghost is_ready = { λ _. true };
 
@@ -150,9 +150,9 @@ impl Encode for I32Const {
 pub struct I64Const(pub i64);
 
 impl Encode for I64Const {
-    ghost spelling = { λ c. instr (i64_const_instr c.0) };
+    ghost spelling = { λ c. (instr (i64_const_instr c.0)).bytes };
 
-    ghost in_range = { λ c. InRangeInstr (i64_const_instr c.0) };
+    ghost in_range = { λ c. (instr (i64_const_instr c.0)).in_range };
 
     ghost is_ready = { λ _. true };
 
@@ -170,9 +170,9 @@ pub struct F32Const(pub u32);
 
 /// The four bytes of the bits, the lowest first.
 impl Encode for F32Const {
-    ghost spelling = { λ c. instr (f32_const_instr c.0) };
+    ghost spelling = { λ c. (instr (f32_const_instr c.0)).bytes };
 
-    ghost in_range = { λ c. InRangeInstr (f32_const_instr c.0) };
+    ghost in_range = { λ c. (instr (f32_const_instr c.0)).in_range };
 
     ghost is_ready = { λ _. true };
 
@@ -190,9 +190,9 @@ pub struct F64Const(pub u64);
 
 /// The eight bytes of the bits, the lowest first.
 impl Encode for F64Const {
-    ghost spelling = { λ c. instr (f64_const_instr c.0) };
+    ghost spelling = { λ c. (instr (f64_const_instr c.0)).bytes };
 
-    ghost in_range = { λ c. InRangeInstr (f64_const_instr c.0) };
+    ghost in_range = { λ c. (instr (f64_const_instr c.0)).in_range };
 
     ghost is_ready = { λ _. true };
 
@@ -221,11 +221,11 @@ pub struct MemInstr {
 }
 
 impl Encode for MemInstr {
-    ghost spelling = { λ i. instr (mem_instr i.op i.memarg) };
+    ghost spelling = { λ i. (instr (mem_instr i.op i.memarg)).bytes };
 
-    ghost in_range = { λ i. InRangeInstr (mem_instr i.op i.memarg) };
+    ghost in_range = { λ i. (instr (mem_instr i.op i.memarg)).in_range };
 
-    ghost is_ready = { λ i. is_aligned i.memarg && is_covered_memarg i.memarg };
+    ghost is_ready = { λ i. is_aligned i.memarg && (memarg i.memarg).is_covered };
 
     #[inline(always)]
     fn encode<S: Sink>(&self, out: &mut S) -> Result<(), Refusal> {
@@ -266,11 +266,11 @@ impl<T: Encode> Encode for Select<T> {
 pub struct RefNull(pub HeapType);
 
 impl Encode for RefNull {
-    ghost spelling = { λ c. instr (ref_null_instr c.0) };
+    ghost spelling = { λ c. (instr (ref_null_instr c.0)).bytes };
 
-    ghost in_range = { λ c. InRangeInstr (ref_null_instr c.0) };
+    ghost in_range = { λ c. (instr (ref_null_instr c.0)).in_range };
 
-    ghost is_ready = { λ c. is_covered_heap_type c.0 };
+    ghost is_ready = { λ c. (heap_type c.0).is_covered };
 
     fn encode<S: Sink>(&self, out: &mut S) -> Result<(), Refusal> {
         (0xd0u8, self.0).encode(out)

@@ -1,33 +1,16 @@
 //! Theorems about the encodings: each value has exactly one, and none is the beginning of another.
 
 ghost use Rattle.std.specs.Prelude.{◌≡◌, ℕ, ℤ, true, List, [], ◌++◌, Some};
-ghost use Rattle.wasm_ops.specs.Codes.{IsCode};
-ghost use Rattle.wasm_ops.specs.ConstExprs.{expression, IsExpression};
-ghost use Rattle.wasm_ops.specs.Control.{block_type, IsSpellableBlockType, catch_clause, InRangeCatch};
-ghost use Rattle.wasm_ops.specs.Covered.{IsSpellableHeapType, IsSpellableRefType, IsSpellableValType, IsSpellableStorageType, IsSpellableFieldType, IsSpellableFuncType, IsSpellableStructType, IsSpellableArrayType, IsSpellableCompositeType, IsSpellableSubType};
-ghost use Rattle.wasm_ops.specs.Entities.{table_type, IsSpellableTableType, memory_type, IsSpellableMemoryType, global_type, IsSpellableGlobalType, tag_type, IsSpellableTagType, entity_type, IsSpellableEntityType};
+ghost use Rattle.wasm_ops.specs.Codes.{IsCode, IsPrefixCode};
+ghost use Rattle.wasm_ops.specs.ConstExprs.{IsExpression, expression};
+ghost use Rattle.wasm_ops.specs.Control.{block_type, catch_clause};
+ghost use Rattle.wasm_ops.specs.Entities.{entity_type, global_type, memory_type, table_type, tag_type};
 ghost use Rattle.wasm_ops.specs.Leb128.{SpellsUnsigned, SpellsSigned, unsigned, signed};
-ghost use Rattle.wasm_ops.specs.Spelling.{Any, name, InRangeName, heap_type, ref_type, val_type, storage_type, field_type, export_kind, func_type, struct_type, array_type, composite_type, sub_type};
+ghost use Rattle.wasm_ops.specs.Spelling.{Any, name, InRangeName, export_kind, array_type, composite_type, field_type, func_type, heap_type, ref_type, storage_type, struct_type, sub_type, val_type};
 ghost use Rattle.wasm_ops.specs.declared.opcodes.Opcode.TheVariants.{Byte};
-ghost use Rattle.wasm_ops.specs.Table.{Instr, instr, IsInstr, table, kinds_of, ascends, all_apart};
-ghost use Rattle.wasm_ops.specs.declared.blocks.BlockType.{BlockType};
+ghost use Rattle.wasm_ops.specs.Table.{Instr, IsInstr, table, kinds_of, ascends, all_apart, instr};
 ghost use Rattle.wasm_ops.specs.declared.blocks.Catch.{Catch};
-ghost use Rattle.wasm_ops.specs.declared.entities.TableType.{TableType};
-ghost use Rattle.wasm_ops.specs.declared.entities.MemoryType.{MemoryType};
-ghost use Rattle.wasm_ops.specs.declared.entities.GlobalType.{GlobalType};
-ghost use Rattle.wasm_ops.specs.declared.entities.TagType.{TagType};
-ghost use Rattle.wasm_ops.specs.declared.entities.EntityType.{EntityType};
-ghost use Rattle.wasm_ops.specs.declared.ref_types.HeapType.{HeapType};
-ghost use Rattle.wasm_ops.specs.declared.ref_types.RefType.{RefType};
-ghost use Rattle.wasm_ops.specs.declared.types.ValType.{ValType};
-ghost use Rattle.wasm_ops.specs.declared.types.StorageType.{StorageType};
-ghost use Rattle.wasm_ops.specs.declared.types.FieldType.{FieldType};
 ghost use Rattle.wasm_ops.specs.declared.types.ExportKind.{ExportKind};
-ghost use Rattle.wasm_ops.specs.declared.types.FuncType.{FuncType};
-ghost use Rattle.wasm_ops.specs.declared.types.StructType.{StructType};
-ghost use Rattle.wasm_ops.specs.declared.types.ArrayType.{ArrayType};
-ghost use Rattle.wasm_ops.specs.declared.types.CompositeType.{CompositeType};
-ghost use Rattle.wasm_ops.specs.declared.types.SubType.{SubType};
 
 /// The theorem of unsigned numbers: bytes determine their number, and a number its bytes.
 ///
@@ -75,24 +58,24 @@ pub fn signed_law()
 /// encoding of this kind of value is such a code (`IsCode`).
 pub fn type_spelling_law()
     ensures names { IsCode (List ℕ) InRangeName name }
-    ensures heap_types { IsCode HeapType IsSpellableHeapType heap_type }
-    ensures ref_types { IsCode RefType IsSpellableRefType ref_type }
-    ensures val_types { IsCode ValType IsSpellableValType val_type }
-    ensures block_types { IsCode BlockType IsSpellableBlockType block_type }
-    ensures catches { IsCode Catch InRangeCatch catch_clause }
-    ensures storage_types { IsCode StorageType IsSpellableStorageType storage_type }
-    ensures field_types { IsCode FieldType IsSpellableFieldType field_type }
+    ensures heap_types { IsPrefixCode heap_type }
+    ensures ref_types { IsPrefixCode ref_type }
+    ensures val_types { IsPrefixCode val_type }
+    ensures block_types { IsPrefixCode block_type }
+    ensures catches { IsCode Catch (λ x. (catch_clause x).in_range) (λ x. (catch_clause x).bytes) }
+    ensures storage_types { IsPrefixCode storage_type }
+    ensures field_types { IsPrefixCode field_type }
     ensures export_kinds { IsCode ExportKind Any export_kind }
-    ensures func_types { IsCode FuncType IsSpellableFuncType func_type }
-    ensures struct_types { IsCode StructType IsSpellableStructType struct_type }
-    ensures array_types { IsCode ArrayType IsSpellableArrayType array_type }
-    ensures composite_types { IsCode CompositeType IsSpellableCompositeType composite_type }
-    ensures sub_types { IsCode SubType IsSpellableSubType sub_type }
-    ensures table_types { IsCode TableType IsSpellableTableType table_type }
-    ensures memory_types { IsCode MemoryType IsSpellableMemoryType memory_type }
-    ensures global_types { IsCode GlobalType IsSpellableGlobalType global_type }
-    ensures tag_types { IsCode TagType IsSpellableTagType tag_type }
-    ensures entity_types { IsCode EntityType IsSpellableEntityType entity_type }
+    ensures func_types { IsPrefixCode func_type }
+    ensures struct_types { IsPrefixCode struct_type }
+    ensures array_types { IsPrefixCode array_type }
+    ensures composite_types { IsPrefixCode composite_type }
+    ensures sub_types { IsPrefixCode sub_type }
+    ensures table_types { IsPrefixCode table_type }
+    ensures memory_types { IsPrefixCode memory_type }
+    ensures global_types { IsPrefixCode global_type }
+    ensures tag_types { IsPrefixCode tag_type }
+    ensures entity_types { IsPrefixCode entity_type }
 {}
 
 /// The theorem of instructions: bytes begin with at most one instruction, and with one expression.
@@ -111,7 +94,7 @@ pub fn type_spelling_law()
 pub fn instruction_law()
     ensures distinct { ascends 0 table ≡ true }
     ensures apart { all_apart table ≡ true }
-    ensures instructions { IsCode Instr IsInstr instr }
+    ensures instructions { IsCode Instr IsInstr (λ x. (instr x).bytes) }
     ensures end { kinds_of (Byte 0x0b) table ≡ Some [] }
-    ensures expressions { IsCode (List Instr) IsExpression expression }
+    ensures expressions { IsCode (List Instr) IsExpression (λ x. (expression x).bytes) }
 {}

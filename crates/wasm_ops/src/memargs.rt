@@ -2,7 +2,7 @@
 
 ghost use Rattle.std.specs.Prelude.{◌≡◌, ◌&&◌, ◌∷◌, []};
 ghost use Rattle.wasm_ops.specs.Spelling.{Any};
-ghost use Rattle.wasm_ops.specs.Memargs.{ordering_byte, is_covered_ordering, is_covered_memarg_ordering, index_of, is_covered_target, memarg, is_aligned, is_covered_memarg, InRangeMemArg};
+ghost use Rattle.wasm_ops.specs.Memargs.{ordering_byte, is_covered_ordering, is_covered_memarg_ordering, index_of, is_covered_target, is_aligned, memarg};
 
 use crate::encode::Encode;
 use crate::sink::{Refusal, Sink};
@@ -127,7 +127,7 @@ impl MemArg {
 
     /// Returns whether the encoder supports it: an access to a memory without an ordering.
     pub fn is_covered(&self) -> bool
-        ensures { result ≡ is_covered_memarg self.now }
+        ensures { result ≡ (memarg self.now).is_covered }
     {
         self.target.is_covered() && self.ordering.is_none()
     }
@@ -136,11 +136,11 @@ impl MemArg {
 /// The memory index is left out for memory 0. Otherwise 64 is added to the logarithm of the
 /// alignment, and the index follows: `align=4`, memory 1 and `offset=4` are `42 01 04`.
 impl Encode for MemArg {
-    ghost spelling = { memarg };
+    ghost spelling = { λ x. (memarg x).bytes };
 
-    ghost in_range = { InRangeMemArg };
+    ghost in_range = { λ x. (memarg x).in_range };
 
-    ghost is_ready = { λ m. is_aligned m && is_covered_memarg m };
+    ghost is_ready = { λ m. is_aligned m && (memarg m).is_covered };
 
     fn encode<S: Sink>(&self, out: &mut S) -> Result<(), Refusal> {
         let memory = self.target.index();

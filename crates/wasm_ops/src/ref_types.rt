@@ -1,8 +1,7 @@
 //! Reference types and heap types.
 
 ghost use Rattle.std.specs.Prelude.{◌≡◌, true, [], ◌∷◌};
-ghost use Rattle.wasm_ops.specs.Covered.{is_covered_abstract_heap_type, is_covered_heap_type, is_covered_ref_type};
-ghost use Rattle.wasm_ops.specs.Spelling.{heap_type, InRangeHeapType, is_short, ref_type, InRangeRefType};
+ghost use Rattle.wasm_ops.specs.Spelling.{is_short, heap_type, ref_type, is_covered_abstract_heap_type};
 
 use crate::encode::Encode;
 use crate::leb128::push_signed;
@@ -150,7 +149,7 @@ impl HeapType {
     /// Returns whether the encoder supports it: an unshared abstract type other than `cont` and
     /// `nocont`, or the type at an index, unless it is exact.
     pub fn is_covered(&self) -> bool
-        ensures { result ≡ is_covered_heap_type self.now }
+        ensures { result ≡ (heap_type self.now).is_covered }
     {
         match self {
             HeapType::Abstract { shared, ty } => !*shared && ty.is_covered(),
@@ -177,11 +176,11 @@ impl HeapType {
 
 /// An index is encoded as a signed number, because negative numbers are the other heap types.
 impl Encode for HeapType {
-    ghost spelling = { heap_type };
+    ghost spelling = { λ x. (heap_type x).bytes };
 
-    ghost in_range = { InRangeHeapType };
+    ghost in_range = { λ x. (heap_type x).in_range };
 
-    ghost is_ready = { is_covered_heap_type };
+    ghost is_ready = { λ x. (heap_type x).is_covered };
 
     fn encode<S: Sink>(&self, out: &mut S) -> Result<(), Refusal> {
         match self {
@@ -286,7 +285,7 @@ impl RefType {
 
     /// Returns whether the encoder supports it: its heap type.
     pub fn is_covered(&self) -> bool
-        ensures { result ≡ is_covered_ref_type self.now }
+        ensures { result ≡ (ref_type self.now).is_covered }
     {
         self.heap_type.is_covered()
     }
@@ -295,11 +294,11 @@ impl RefType {
 /// Nullable references to `func` and `extern` are encoded as their heap type alone: `funcref` is
 /// `70`.
 impl Encode for RefType {
-    ghost spelling = { ref_type };
+    ghost spelling = { λ x. (ref_type x).bytes };
 
-    ghost in_range = { InRangeRefType };
+    ghost in_range = { λ x. (ref_type x).in_range };
 
-    ghost is_ready = { is_covered_ref_type };
+    ghost is_ready = { λ x. (ref_type x).is_covered };
 
     fn encode<S: Sink>(&self, out: &mut S) -> Result<(), Refusal> {
         if !self.nullable {
@@ -314,16 +313,16 @@ impl Encode for RefType {
 
 /// The bytes of the constants of [`RefType`] (binary format: reference types).
 pub(crate) fn constant_ref_types()
-    ensures func { ref_type RefType.FUNCREF ≡ 0x70 ∷ [] }
-    ensures extern_ { ref_type RefType.EXTERNREF ≡ 0x6f ∷ [] }
-    ensures exn { ref_type RefType.EXNREF ≡ 0x63 ∷ 0x69 ∷ [] }
-    ensures no_exn { ref_type RefType.NULLEXNREF ≡ 0x63 ∷ 0x74 ∷ [] }
-    ensures any { ref_type RefType.ANYREF ≡ 0x63 ∷ 0x6e ∷ [] }
-    ensures eq { ref_type RefType.EQREF ≡ 0x63 ∷ 0x6d ∷ [] }
-    ensures struct_ { ref_type RefType.STRUCTREF ≡ 0x63 ∷ 0x6b ∷ [] }
-    ensures array { ref_type RefType.ARRAYREF ≡ 0x63 ∷ 0x6a ∷ [] }
-    ensures no_func { ref_type RefType.NULLFUNCREF ≡ 0x63 ∷ 0x73 ∷ [] }
-    ensures no_extern { ref_type RefType.NULLEXTERNREF ≡ 0x63 ∷ 0x72 ∷ [] }
-    ensures none { ref_type RefType.NULLREF ≡ 0x63 ∷ 0x71 ∷ [] }
-    ensures i31 { ref_type RefType.I31REF ≡ 0x63 ∷ 0x6c ∷ [] }
+    ensures func { (ref_type RefType.FUNCREF).bytes ≡ 0x70 ∷ [] }
+    ensures extern_ { (ref_type RefType.EXTERNREF).bytes ≡ 0x6f ∷ [] }
+    ensures exn { (ref_type RefType.EXNREF).bytes ≡ 0x63 ∷ 0x69 ∷ [] }
+    ensures no_exn { (ref_type RefType.NULLEXNREF).bytes ≡ 0x63 ∷ 0x74 ∷ [] }
+    ensures any { (ref_type RefType.ANYREF).bytes ≡ 0x63 ∷ 0x6e ∷ [] }
+    ensures eq { (ref_type RefType.EQREF).bytes ≡ 0x63 ∷ 0x6d ∷ [] }
+    ensures struct_ { (ref_type RefType.STRUCTREF).bytes ≡ 0x63 ∷ 0x6b ∷ [] }
+    ensures array { (ref_type RefType.ARRAYREF).bytes ≡ 0x63 ∷ 0x6a ∷ [] }
+    ensures no_func { (ref_type RefType.NULLFUNCREF).bytes ≡ 0x63 ∷ 0x73 ∷ [] }
+    ensures no_extern { (ref_type RefType.NULLEXTERNREF).bytes ≡ 0x63 ∷ 0x72 ∷ [] }
+    ensures none { (ref_type RefType.NULLREF).bytes ≡ 0x63 ∷ 0x71 ∷ [] }
+    ensures i31 { (ref_type RefType.I31REF).bytes ≡ 0x63 ∷ 0x6c ∷ [] }
 {}

@@ -2,8 +2,7 @@
 
 ghost use Rattle.std.specs.Prelude.{◌≡◌, true, false, [], ◌∷◌};
 ghost use Rattle.std.specs.List.{list_all};
-ghost use Rattle.wasm_ops.specs.Covered.{is_covered_val_type, is_covered_storage_type, is_covered_field_type, is_covered_func_type, is_covered_struct_type, is_covered_array_type, is_covered_composite_inner_type, is_covered_composite_type, is_covered_sub_type};
-ghost use Rattle.wasm_ops.specs.Spelling.{Any, val_type, InRangeValType, storage_type, InRangeStorageType, field_type, InRangeFieldType, export_kind, func_type, InRangeFuncType, struct_type, InRangeStructType, array_type, InRangeArrayType, composite_inner_type, InRangeCompositeInnerType, composite_type, InRangeCompositeType, sub_type, InRangeSubType};
+ghost use Rattle.wasm_ops.specs.Spelling.{Any, export_kind, array_type, composite_inner_type, composite_type, field_type, func_type, storage_type, struct_type, sub_type, val_type};
 
 use crate::encode::{AsItself, Counted, Encode};
 use crate::ref_types::RefType;
@@ -38,7 +37,7 @@ impl ValType {
 
     /// Returns whether the encoder supports it: all but references to unsupported heap types.
     pub fn is_covered(&self) -> bool
-        ensures { result ≡ is_covered_val_type self.now }
+        ensures { result ≡ (val_type self.now).is_covered }
     {
         match self {
             ValType::I32 | ValType::I64 | ValType::F32 | ValType::F64 | ValType::V128 => true,
@@ -48,11 +47,11 @@ impl ValType {
 }
 
 impl Encode for ValType {
-    ghost spelling = { val_type };
+    ghost spelling = { λ x. (val_type x).bytes };
 
-    ghost in_range = { InRangeValType };
+    ghost in_range = { λ x. (val_type x).in_range };
 
-    ghost is_ready = { is_covered_val_type };
+    ghost is_ready = { λ x. (val_type x).is_covered };
 
     #[inline(always)]
     fn encode<S: Sink>(&self, out: &mut S) -> Result<(), Refusal> {
@@ -69,8 +68,8 @@ impl Encode for ValType {
 
 /// The bytes of the constants of [`ValType`] (binary format: value types).
 pub(crate) fn constant_val_types()
-    ensures func { val_type ValType.FUNCREF ≡ 0x70 ∷ [] }
-    ensures extern_ { val_type ValType.EXTERNREF ≡ 0x6f ∷ [] }
+    ensures func { (val_type ValType.FUNCREF).bytes ≡ 0x70 ∷ [] }
+    ensures extern_ { (val_type ValType.EXTERNREF).bytes ≡ 0x6f ∷ [] }
 {}
 
 /// The type of a struct field or an array element in storage (binary format: composite types).
@@ -89,7 +88,7 @@ pub enum StorageType {
 impl StorageType {
     /// Returns whether the encoder supports it: a packed type, or a supported value type.
     pub fn is_covered(&self) -> bool
-        ensures { result ≡ is_covered_storage_type self.now }
+        ensures { result ≡ (storage_type self.now).is_covered }
     {
         match self {
             StorageType::I8 => true,
@@ -111,11 +110,11 @@ impl From<ValType> for StorageType {
 }
 
 impl Encode for StorageType {
-    ghost spelling = { storage_type };
+    ghost spelling = { λ x. (storage_type x).bytes };
 
-    ghost in_range = { InRangeStorageType };
+    ghost in_range = { λ x. (storage_type x).in_range };
 
-    ghost is_ready = { is_covered_storage_type };
+    ghost is_ready = { λ x. (storage_type x).is_covered };
 
     fn encode<S: Sink>(&self, out: &mut S) -> Result<(), Refusal> {
         match self {
@@ -147,18 +146,18 @@ pub struct FieldType {
 impl FieldType {
     /// Returns whether the encoder supports it, that is, its type in storage.
     pub fn is_covered(&self) -> bool
-        ensures { result ≡ is_covered_field_type self.now }
+        ensures { result ≡ (field_type self.now).is_covered }
     {
         self.element_type.is_covered()
     }
 }
 
 impl Encode for FieldType {
-    ghost spelling = { field_type };
+    ghost spelling = { λ x. (field_type x).bytes };
 
-    ghost in_range = { InRangeFieldType };
+    ghost in_range = { λ x. (field_type x).in_range };
 
-    ghost is_ready = { is_covered_field_type };
+    ghost is_ready = { λ x. (field_type x).is_covered };
 
     fn encode<S: Sink>(&self, out: &mut S) -> Result<(), Refusal> {
         (self.element_type, u8::from(self.mutable)).encode(out)
@@ -205,7 +204,7 @@ impl Encode for ExportKind {
 
 /// Returns whether the encoder supports each of these types.
 fn are_covered(types: &[ValType]) -> bool
-    ensures { result ≡ list_all is_covered_val_type types.now }
+    ensures { result ≡ list_all (λ x. (val_type x).is_covered) types.now }
 {
     types.iter().all(|ty| ty.is_covered())
 }
@@ -229,18 +228,18 @@ pub struct FuncType {
 impl FuncType {
     /// Returns whether the encoder supports it: the types of its parameters and results.
     pub fn is_covered(&self) -> bool
-        ensures { result ≡ is_covered_func_type self.now }
+        ensures { result ≡ (func_type self.now).is_covered }
     {
         are_covered(self.params.as_slice()) && are_covered(self.results.as_slice())
     }
 }
 
 impl Encode for FuncType {
-    ghost spelling = { func_type };
+    ghost spelling = { λ x. (func_type x).bytes };
 
-    ghost in_range = { InRangeFuncType };
+    ghost in_range = { λ x. (func_type x).in_range };
 
-    ghost is_ready = { is_covered_func_type };
+    ghost is_ready = { λ x. (func_type x).is_covered };
 
     fn encode<S: Sink>(&self, out: &mut S) -> Result<(), Refusal> {
         let params = Counted(self.params.as_slice(), AsItself);
@@ -261,7 +260,7 @@ pub struct StructType {
 impl StructType {
     /// Returns whether the encoder supports it: each of its fields.
     pub fn is_covered(&self) -> bool
-        ensures { result ≡ is_covered_struct_type self.now }
+        ensures { result ≡ (struct_type self.now).is_covered }
     {
         self.fields
             .as_slice()
@@ -271,11 +270,11 @@ impl StructType {
 }
 
 impl Encode for StructType {
-    ghost spelling = { struct_type };
+    ghost spelling = { λ x. (struct_type x).bytes };
 
-    ghost in_range = { InRangeStructType };
+    ghost in_range = { λ x. (struct_type x).in_range };
 
-    ghost is_ready = { is_covered_struct_type };
+    ghost is_ready = { λ x. (struct_type x).is_covered };
 
     fn encode<S: Sink>(&self, out: &mut S) -> Result<(), Refusal> {
         (0x5fu8, Counted(self.fields.as_slice(), AsItself)).encode(out)
@@ -291,18 +290,18 @@ pub struct ArrayType(pub FieldType);
 impl ArrayType {
     /// Returns whether the encoder supports it: the type of its elements.
     pub fn is_covered(&self) -> bool
-        ensures { result ≡ is_covered_array_type self.now }
+        ensures { result ≡ (array_type self.now).is_covered }
     {
         self.0.is_covered()
     }
 }
 
 impl Encode for ArrayType {
-    ghost spelling = { array_type };
+    ghost spelling = { λ x. (array_type x).bytes };
 
-    ghost in_range = { InRangeArrayType };
+    ghost in_range = { λ x. (array_type x).in_range };
 
-    ghost is_ready = { is_covered_array_type };
+    ghost is_ready = { λ x. (array_type x).is_covered };
 
     fn encode<S: Sink>(&self, out: &mut S) -> Result<(), Refusal> {
         (0x5eu8, self.0).encode(out)
@@ -338,7 +337,7 @@ pub enum CompositeInnerType {
 impl CompositeInnerType {
     /// Returns whether the encoder supports it: the type inside, and never a continuation type.
     pub fn is_covered(&self) -> bool
-        ensures { result ≡ is_covered_composite_inner_type self.now }
+        ensures { result ≡ (composite_inner_type self.now).is_covered }
     {
         match self {
             CompositeInnerType::Func(ty) => ty.is_covered(),
@@ -350,11 +349,11 @@ impl CompositeInnerType {
 }
 
 impl Encode for CompositeInnerType {
-    ghost spelling = { composite_inner_type };
+    ghost spelling = { λ x. (composite_inner_type x).bytes };
 
-    ghost in_range = { InRangeCompositeInnerType };
+    ghost in_range = { λ x. (composite_inner_type x).in_range };
 
-    ghost is_ready = { is_covered_composite_inner_type };
+    ghost is_ready = { λ x. (composite_inner_type x).is_covered };
 
     fn encode<S: Sink>(&self, out: &mut S) -> Result<(), Refusal> {
         match self {
@@ -392,7 +391,7 @@ impl CompositeType {
     /// Returns whether the encoder supports it: an unshared type without descriptor and describes
     /// clauses, if the type inside is supported.
     pub fn is_covered(&self) -> bool
-        ensures { result ≡ is_covered_composite_type self.now }
+        ensures { result ≡ (composite_type self.now).is_covered }
     {
         !self.shared
             && self.descriptor.is_none()
@@ -402,11 +401,11 @@ impl CompositeType {
 }
 
 impl Encode for CompositeType {
-    ghost spelling = { composite_type };
+    ghost spelling = { λ x. (composite_type x).bytes };
 
-    ghost in_range = { InRangeCompositeType };
+    ghost in_range = { λ x. (composite_type x).in_range };
 
-    ghost is_ready = { is_covered_composite_type };
+    ghost is_ready = { λ x. (composite_type x).is_covered };
 
     fn encode<S: Sink>(&self, out: &mut S) -> Result<(), Refusal> {
         self.inner.encode(out)
@@ -438,7 +437,7 @@ pub struct SubType {
 impl SubType {
     /// Returns whether the encoder supports it: its composite type.
     pub fn is_covered(&self) -> bool
-        ensures { result ≡ is_covered_sub_type self.now }
+        ensures { result ≡ (sub_type self.now).is_covered }
     {
         self.composite_type.is_covered()
     }
@@ -447,11 +446,11 @@ impl SubType {
 /// A final type without supertypes is encoded as its composite type alone, because the binary
 /// format has this abbreviation. Others begin with `4f` (final) or `50`.
 impl Encode for SubType {
-    ghost spelling = { sub_type };
+    ghost spelling = { λ x. (sub_type x).bytes };
 
-    ghost in_range = { InRangeSubType };
+    ghost in_range = { λ x. (sub_type x).in_range };
 
-    ghost is_ready = { is_covered_sub_type };
+    ghost is_ready = { λ x. (sub_type x).is_covered };
 
     fn encode<S: Sink>(&self, out: &mut S) -> Result<(), Refusal> {
         let parents = Counted(self.supertype_idxs.as_slice(), AsItself);

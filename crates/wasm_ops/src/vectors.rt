@@ -1,10 +1,10 @@
 //! Vector instructions: constants, lanes, and loads and stores of lanes.
 
 ghost use Rattle.std.specs.Prelude.{◌≡◌, ◌&&◌, true};
-ghost use Rattle.wasm_ops.specs.Memargs.{is_aligned, is_covered_memarg};
+ghost use Rattle.wasm_ops.specs.Memargs.{is_aligned, memarg};
 ghost use Rattle.wasm_ops.specs.VectorInstrs.{lanes_key, lanes_instr, lane_instr, mem_lane_instr};
 ghost use Rattle.wasm_ops.specs.Opcodes.{opcode_of};
-ghost use Rattle.wasm_ops.specs.Table.{instr, InRangeInstr};
+ghost use Rattle.wasm_ops.specs.Table.{instr};
 
 use crate::encode::{Encode, Raw};
 use crate::memargs::MemArg;
@@ -45,9 +45,9 @@ pub struct LanesInstr {
 }
 
 impl Encode for LanesInstr {
-    ghost spelling = { λ i. instr (lanes_instr i.op i.lanes) };
+    ghost spelling = { λ i. (instr (lanes_instr i.op i.lanes)).bytes };
 
-    ghost in_range = { λ i. InRangeInstr (lanes_instr i.op i.lanes) };
+    ghost in_range = { λ i. (instr (lanes_instr i.op i.lanes)).in_range };
 
     ghost is_ready = { λ _. true };
 
@@ -69,9 +69,9 @@ pub struct LaneInstr {
 }
 
 impl Encode for LaneInstr {
-    ghost spelling = { λ i. instr (lane_instr i.op i.lane) };
+    ghost spelling = { λ i. (instr (lane_instr i.op i.lane)).bytes };
 
-    ghost in_range = { λ i. InRangeInstr (lane_instr i.op i.lane) };
+    ghost in_range = { λ i. (instr (lane_instr i.op i.lane)).in_range };
 
     ghost is_ready = { λ _. true };
 
@@ -94,11 +94,11 @@ pub struct MemLaneInstr {
 }
 
 impl Encode for MemLaneInstr {
-    ghost spelling = { λ i. instr (mem_lane_instr i.op i.memarg i.lane) };
+    ghost spelling = { λ i. (instr (mem_lane_instr i.op i.memarg i.lane)).bytes };
 
-    ghost in_range = { λ i. InRangeInstr (mem_lane_instr i.op i.memarg i.lane) };
+    ghost in_range = { λ i. (instr (mem_lane_instr i.op i.memarg i.lane)).in_range };
 
-    ghost is_ready = { λ i. is_aligned i.memarg && is_covered_memarg i.memarg };
+    ghost is_ready = { λ i. is_aligned i.memarg && (memarg i.memarg).is_covered };
 
     fn encode<S: Sink>(&self, out: &mut S) -> Result<(), Refusal> {
         (mem_lane_opcode(self.op), (self.memarg, self.lane)).encode(out)

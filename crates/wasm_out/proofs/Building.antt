@@ -5,7 +5,7 @@ use Rattle.std.proofs.lemmas.List.{flat_map_more}
 use Rattle.std.proofs.lemmas.List.Elements.{All-nil, All-cons}
 use Rattle.wast_base.specs.Blocks.{Stays, stays_open, is_balanced}
 use Rattle.wasm_ops.specs.ConstExprs.{SpellsExpression}
-use Rattle.wasm_ops.specs.Table.{Instr, instr, instrs, IsInstr, SpellsInstrs}
+use Rattle.wasm_ops.specs.Table.{Instr, instrs, IsInstr, SpellsInstrs, instr}
 use Rattle.wasm_ops.specs.Turns.{turn_of}
 use Rattle.wasm_out.specs.Bodies.{Body, locals, IsSpellableContent, SpellsBody}
 use Rattle.wasm_out.specs.Built.{Built, built_with, builder_of}
@@ -18,11 +18,11 @@ built_with-built spell items item =
     ap f (sym (length-append items (item ∷ []))) ∙ ap g (flat_map_more spell [] items item)
 
 -- one instruction
-pub spells_instr : (i : Instr) → IsInstr i → SpellsInstrs (instr i)
-spells_instr i p = record { list = i ∷ []; in_range = All-cons IsInstr i [] p (All-nil IsInstr); spelled = sym (append-nil (instr i)) }
+pub spells_instr : (i : Instr) → IsInstr i → SpellsInstrs (instr i).bytes
+spells_instr i p = record { list = i ∷ []; in_range = All-cons IsInstr i [] p (All-nil IsInstr); spelled = sym (append-nil (instr i).bytes) }
 
 -- an expression of one instruction, which opens and closes no block
-pub spells_expression : (i : Instr) → IsInstr i → turn_of i ≡ Stays → SpellsExpression (instr i)
+pub spells_expression : (i : Instr) → IsInstr i → turn_of i ≡ Stays → SpellsExpression (instr i).bytes
 unfolding stays_open spells_instr
 spells_expression i p stays =
     let one = spells_instr i p in

@@ -6,13 +6,13 @@ use Rattle.wasm_out.specs.declared.elements.ElementKind.{ElementKind}
 use Rattle.wasm_out.specs.declared.elements.SegmentMode.{SegmentMode}
 use Rattle.wasm_out.specs.declared.elements.SegmentMode.TheVariants as mode
 use Rattle.wasm_out.specs.BuiltElements.{is_ready_mode, is_form}
-use Rattle.wasm_out.specs.ElementSegments.{is_covered_element_kind}
+use Rattle.wasm_out.specs.ElementSegments.{element_type}
 
 mode_ready : {O : Type 0} (m : SegmentMode O) → is_ready_mode (λ x. true) m ≡ true
 mode_ready mode.Passive = refl
 mode_ready mode.Declared = refl
 mode_ready (mode.Active table offset) = refl
 
-pub segment_ready : {O X : Type 0} (m : SegmentMode O) (kind : ElementKind) (xs : List X) → is_form m kind ≡ true → is_covered_element_kind kind ≡ true
-    → (is_form m kind && (is_covered_element_kind kind && (is_ready_mode (λ x. true) m && list_all (λ x. true) xs))) ≡ true
+pub segment_ready : {O X : Type 0} (m : SegmentMode O) (kind : ElementKind) (xs : List X) → is_form m kind ≡ true → (element_type kind).is_covered ≡ true
+    → (is_form m kind && ((element_type kind).is_covered && (is_ready_mode (λ x. true) m && list_all (λ x. true) xs))) ≡ true
 segment_ready m kind xs form covered = rw (form, covered, mode_ready m, all_covered (λ x. true) xs (λ x. refl)) refl

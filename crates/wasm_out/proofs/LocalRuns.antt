@@ -1,13 +1,13 @@
 -- Runs of locals: they give the locals back, and are no longer than these.
-use Rattle.std.proofs.Common.{◌≡◌, ◌<◌, ◌≤◌, ◌+◌, ℕ, zero, suc, Bool, true, false, ◌&&◌, List, [], ◌∷◌, ◌++◌, length, map, drop, get_or, replicate, refl, sym, ap, ◌∙◌, subst, add-one, arith, drop-cons}
+use Rattle.std.proofs.Common.{◌≡◌, ◌==◌, ◌<◌, ◌≤◌, ◌+◌, ℕ, zero, suc, Bool, true, false, ◌&&◌, List, [], ◌∷◌, ◌++◌, length, map, drop, get_or, replicate, refl, sym, ap, ◌∙◌, subst, add-one, arith, drop-cons}
 use Rattle.std.specs.Prelude.{All}
 use Rattle.std.specs.List.{flat_map, list_all}
 use Rattle.std.proofs.lemmas.List.{drop_all, length-map}
 use Rattle.std.proofs.lemmas.List.Concat.{flat_map-cons}
-use Rattle.std.proofs.lemmas.List.Folds.{list_all_at}
 use Rattle.std.proofs.lemmas.List.Elements.{All-nil, All-cons, All-head, All-tail}
 use Rattle.wasm_ops.specs.declared.types.ValType.{ValType}
 use Rattle.wasm_ops.specs.Spelling.{InRangeU32, InRangeVec}
+use Rattle.wast_base.proofs.ListTests.{item_passes}
 use Rattle.wasm_ops.proofs.Everywhere.{all_one, both_true}
 use Rattle.wasm_out.specs.Bodies.{LocalRun, is_same_type, in_front, with_local, local_runs}
 use Rattle.wasm_out.proofs.SameTypes.{type_is, own_type}
@@ -37,8 +37,13 @@ replicate_more : (n : ℕ) (t : ValType) (us : List ValType) → replicate n t +
 replicate_more zero t us = refl
 replicate_more (suc n) t us = ap (λ l. t ∷ l) (replicate_more n t us)
 
+-- a list that is not empty
+pub some_items : (n : ℕ) → (n == 0) ≡ false → 0 < n
+some_items zero e = absurd cc
+some_items (suc n) e = omega arith
+
 -- an item and those behind it
-next_local : {X : Type 0} (f : X → ValType) (xs : List X) (at : ℕ) (u : ValType) (x : X) → at < length xs → x ≡ get_or xs at x → u ≡ f x → map f (drop at xs) ≡ u ∷ map f (drop (at + 1) xs)
+pub next_local : {X : Type 0} (f : X → ValType) (xs : List X) (at : ℕ) (u : ValType) (x : X) → at < length xs → x ≡ get_or xs at x → u ≡ f x → map f (drop at xs) ≡ u ∷ map f (drop (at + 1) xs)
 next_local f xs at u x lt is told =
     ap (map f) (drop-cons xs at x lt) ∙ ap (λ y. f y ∷ map f (drop (suc at) xs)) (sym is)
     ∙ ap (λ v. v ∷ map f (drop (suc at) xs)) (sym told) ∙ ap (λ k. u ∷ map f (drop k xs)) (sym (add-one at))
@@ -151,9 +156,5 @@ pub types_in_range : (P : ValType → Type 0) (ts : List ValType) → InRangeU32
 types_in_range P ts few h = (few, runs_held P ts (λ k d lt. (h.1 k d lt).1))
 
 -- what is tested of each item with something else
-pub item_passes : {A : Type 0} (p q : A → Bool) (xs : List A) (i : ℕ) (d : A) → i < length xs → list_all (λ x. p x && q x) xs ≡ true → q (get_or xs i d) ≡ true
-item_passes p q xs i d lt h = (both_true (p (get_or xs i d)) (q (get_or xs i d)) (by_test (p (get_or xs i d) && q (get_or xs i d)) (λ e. list_all_at (λ x. p x && q x) xs i d lt e) h)).1
-  where
-    by_test : (b : Bool) {c : Bool} → (b ≡ false → c ≡ false) → c ≡ true → b ≡ true
-    by_test true f h = refl
-    by_test false f h = let e = f refl in absurd cc
+pub second_passes : {A : Type 0} (p q : A → Bool) (xs : List A) (i : ℕ) (d : A) → i < length xs → list_all (λ x. p x && q x) xs ≡ true → q (get_or xs i d) ≡ true
+second_passes p q xs i d lt h = (both_true (p (get_or xs i d)) (q (get_or xs i d)) (item_passes (λ x. p x && q x) xs i d lt h)).1

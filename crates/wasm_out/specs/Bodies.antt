@@ -6,15 +6,14 @@
 --   local_runs [i32, i32, i64]       [(2, i32), (1, i64)]
 --   locals [i32, i32, i64]           02 02 7f 01 7e
 use Rattle.std.specs.Prelude.{◌≡◌, ◌==◌, ◌&&◌, ◌+◌, ℕ, Bool, true, false, List, [], ◌∷◌, ◌++◌, All}
-use Rattle.wasm_ops.specs.Covered.{IsSpellableValType}
-use Rattle.wasm_ops.specs.Leb128.{unsigned}
+use Rattle.wasm_ops.specs.ConstExprs.{expression}
 use Rattle.wasm_ops.specs.declared.ref_types.HeapType.{HeapType}
 use Rattle.wasm_ops.specs.declared.ref_types.HeapType.TheVariants as heap
 use Rattle.wasm_ops.specs.declared.ref_types.RefType.{RefType}
 use Rattle.wasm_ops.specs.declared.types.ValType.{ValType}
 use Rattle.wasm_ops.specs.declared.types.ValType.TheVariants as val
-use Rattle.wasm_ops.specs.Spelling.{InRangeU32, InRangeVec, abstract_byte, val_type, InRangeValType, vec}
-use Rattle.wasm_ops.specs.Table.{Instr, instrs, InRangeInstr, IsInstr}
+use Rattle.wasm_ops.specs.Spelling.{InRangeVec, Encoding, Spellable, u32, seq, list_of, abstract_byte, val_type}
+use Rattle.wasm_ops.specs.Table.{Instr, IsInstr}
 
 -- A body: the types of its locals one by one, and its instructions without the final `end`.
 pub record Body : Type 0 where
@@ -67,34 +66,25 @@ abbrev pub local_runs : List ValType → List LocalRun
 local_runs [] = []
 local_runs (t ∷ ts) = with_local t (local_runs ts)
 
--- The bytes of a run: the number of locals, and their type.
-abbrev pub local_run : LocalRun → List ℕ
-local_run r = unsigned r.0 ++ val_type r.1
-
--- The number of locals of a run and its type are in range.
-abbrev pub InRangeRun : LocalRun → Type 0
-InRangeRun r = InRangeU32 r.0 × InRangeValType r.1
+-- A run: the number of locals, and their type.
+abbrev pub local_run : LocalRun → Encoding
+local_run r = seq (u32 r.0) (val_type r.1)
 
 -- The bytes of the locals of a body, as runs.
 abbrev pub locals : List ValType → List ℕ
-locals types = vec local_run (local_runs types)
+locals types = (list_of local_run (local_runs types)).bytes
 
--- The bytes of a body, after its length.
-abbrev pub body_content : Body → List ℕ
-body_content b = locals b.locals ++ (instrs b.instrs ++ 0x0b ∷ [])
-
--- There are fewer than 2^32 locals, and their types and the instructions are in range.
-pub record InRangeContent (b : Body) : Type 0 where
-  pub locals : InRangeVec InRangeValType b.locals
-  pub instrs : All InRangeInstr b.instrs
+-- A body, without its length: its locals as runs, its instructions and an `end`. There are fewer than 2^32 locals.
+abbrev pub body_content : Body → Encoding
+body_content b = record { bytes = locals b.locals ++ (expression b.instrs).bytes; in_range = (list_of val_type b.locals).in_range × (expression b.instrs).in_range; is_covered = (list_of val_type b.locals).is_covered && (expression b.instrs).is_covered }
 
 -- In addition the encoder supports the types of the locals, and the instructions are in the opcode table.
 pub record IsSpellableContent (b : Body) : Type 0 where
-  pub locals : InRangeVec IsSpellableValType b.locals
+  pub locals : InRangeVec (λ t. Spellable (val_type t)) b.locals
   pub instrs : All IsInstr b.instrs
 
 -- The bytes are the encoding of a body.
 pub record SpellsBody (bytes : List ℕ) : Type 0 where
   pub body : Body
   pub in_range : IsSpellableContent body
-  pub spelled : bytes ≡ body_content body
+  pub spelled : bytes ≡ (body_content body).bytes

@@ -4,16 +4,15 @@
 -- The offset is given by a function to bytes, because callers keep expressions in types of their own. For example,
 -- `Active None` with the offset bytes 41 01 0b and the functions 0 and 1 is 00 41 01 0b 02 00 01.
 use Rattle.std.specs.Prelude.{ℕ, Bool, true, List, [], ◌∷◌, ◌++◌, length, IsTrue}
-use Rattle.wasm_ops.specs.Covered.{is_covered_ref_type}
 use Rattle.wasm_ops.specs.Leb128.{unsigned}
-use Rattle.wasm_ops.specs.Spelling.{InRangeU32, vec, InRangeVec, InRangeRefType}
+use Rattle.wasm_ops.specs.Spelling.{InRangeU32, vec, InRangeVec, ref_type}
 use Rattle.wasm_out.specs.declared.elements.ElementKind.{ElementKind}
 use Rattle.wasm_out.specs.declared.elements.ElementKind.TheVariants as kind
 use Rattle.wasm_out.specs.declared.elements.SegmentMode.{SegmentMode}
 use Rattle.wasm_out.specs.declared.elements.SegmentMode.TheVariants as mode
 use Rattle.wasm_out.specs.declared.elements.Elements.{Elements}
 use Rattle.wasm_out.specs.declared.elements.Elements.TheVariants as elements
-use Rattle.wasm_out.specs.ElementSegments.{passive_bytes, declared_bytes, active_bytes, InRangeTable, has_active_form}
+use Rattle.wasm_out.specs.ElementSegments.{passive_bytes, declared_bytes, active_bytes, table_index, has_active_form}
 
 -- The bytes of a segment, from the bytes of its offset.
 abbrev pub segment_bytes : {O : Type 0} → (O → List ℕ) → SegmentMode O → ElementKind → List ℕ → List ℕ
@@ -25,7 +24,7 @@ segment_bytes spell (mode.Active table offset) kind list = active_bytes table (s
 abbrev pub InRangeMode : {O : Type 0} → (O → Type 0) → SegmentMode O → Type 0
 InRangeMode InRange mode.Passive = Unit {0}
 InRangeMode InRange mode.Declared = Unit {0}
-InRangeMode InRange (mode.Active table offset) = InRangeTable table × InRange offset
+InRangeMode InRange (mode.Active table offset) = (table_index table).in_range × InRange offset
 
 -- Whether the offset can be encoded.
 abbrev pub is_ready_mode : {O : Type 0} → (O → Bool) → SegmentMode O → Bool
@@ -56,9 +55,9 @@ listed_in (elements.Expressions ty expressions) = vec ended expressions.items
 -- The number of elements, and the numbers in them, are in range.
 abbrev pub InRangeElements : Elements → Type 0
 InRangeElements (elements.Functions functions) = InRangeVec InRangeU32 functions.items
-InRangeElements (elements.Expressions ty expressions) = InRangeRefType ty × InRangeU32 (length expressions.items)
+InRangeElements (elements.Expressions ty expressions) = (ref_type ty).in_range × InRangeU32 (length expressions.items)
 
 -- The encoder supports the type of the expressions.
 abbrev pub AreElements : Elements → Type 0
 AreElements (elements.Functions functions) = Unit {0}
-AreElements (elements.Expressions ty expressions) = IsTrue (is_covered_ref_type ty)
+AreElements (elements.Expressions ty expressions) = IsTrue (ref_type ty).is_covered

@@ -1,75 +1,51 @@
--- Segments of data: bytes, and where they stand (binary format, data section).
-use Rattle.std.specs.Prelude.{ℕ, zero, suc, Bool, true, List, ◌∷◌, ◌++◌, length}
-use Rattle.wasm_ops.specs.ConstExprs.{expression, InRangeExpression, is_covered_expression, HasRowsExpression}
+-- Data segments (binary format: data section).
+--
+-- A passive segment is 01 and its bytes. An active one has the memory and the offset before the bytes. For example
+-- (data (i32.const 8) "A") is 00 41 08 0b 01 41: the first memory has no index.
+use Rattle.std.specs.Prelude.{ℕ, zero, suc, List, [], ◌∷◌, ◌++◌, length}
+use Rattle.wasm_ops.specs.ConstExprs.{expression}
 use Rattle.wasm_ops.specs.Leb128.{unsigned}
-use Rattle.wasm_ops.specs.Spelling.{InRangeU32}
+use Rattle.wasm_ops.specs.Spelling.{InRangeU32, Encoding, fixed, u32, seq}
 use Rattle.wasm_ops.specs.Table.{Instr}
-use Rattle.wasm_ops.specs.Turns.{are_balanced}
 
--- bytes that are there for instructions that copy them, or that stand in a memory from an offset on
+-- Where the bytes of a segment are: in no memory, or in a memory from an offset on.
 pub data DataMode : Type 0 where
   Kept : DataMode
   Placed : ℕ → List Instr → DataMode
 
--- a segment: where its bytes stand, and the bytes
+-- A data segment.
 pub record DataEntry : Type 0 where
   pub mode : DataMode
   pub bytes : List ℕ
 
--- behind their number
+-- Bytes after their number.
 abbrev pub counted_bytes : List ℕ → List ℕ
 counted_bytes bytes = unsigned (length bytes) ++ bytes
 
--- a passive segment
+-- The bytes of a passive segment.
 abbrev pub kept_bytes : List ℕ → List ℕ
 kept_bytes bytes = 0x01 ∷ counted_bytes bytes
 
--- the memory, the bytes of the offset, and the bytes: the first memory is not written
+-- The bytes of an active segment: the memory, the bytes of the offset, and the bytes.
 abbrev pub placed_bytes : ℕ → List ℕ → List ℕ → List ℕ
 placed_bytes zero offset bytes = 0x00 ∷ (offset ++ counted_bytes bytes)
 placed_bytes (suc n) offset bytes = 0x02 ∷ (unsigned (suc n) ++ (offset ++ counted_bytes bytes))
 
--- a segment, by where its bytes stand
+-- The bytes of a segment.
 abbrev pub data_bytes : DataMode → List ℕ → List ℕ
 data_bytes Kept bytes = kept_bytes bytes
-data_bytes (Placed memory offset) bytes = placed_bytes memory (expression offset) bytes
+data_bytes (Placed memory offset) bytes = placed_bytes memory (expression offset).bytes bytes
 
--- the spelling of a segment
-abbrev pub data_entry : DataEntry → List ℕ
-data_entry d = data_bytes d.mode d.bytes
+-- The range and the support of the memory and the offset of a segment.
+abbrev pub data_place : DataMode → Encoding
+data_place Kept = fixed []
+data_place (Placed memory offset) = seq (u32 memory) (expression offset)
 
--- numbers and the number of bytes are in range
-abbrev pub InRangeDataMode : DataMode → Type 0
-InRangeDataMode Kept = Unit {0}
-InRangeDataMode (Placed memory offset) = InRangeU32 memory × InRangeExpression offset
+-- A data segment.
+abbrev pub data_entry : DataEntry → Encoding
+data_entry d = record { bytes = data_bytes d.mode d.bytes; in_range = (data_place d.mode).in_range × InRangeU32 (length d.bytes); is_covered = (data_place d.mode).is_covered }
 
--- the same of a segment
-abbrev pub InRangeDataEntry : DataEntry → Type 0
-InRangeDataEntry d = InRangeDataMode d.mode × InRangeU32 (length d.bytes)
-
--- the encoder covers its offset
-abbrev pub is_covered_data_mode : DataMode → Bool
-is_covered_data_mode Kept = true
-is_covered_data_mode (Placed memory offset) = is_covered_expression offset
-
--- the same of a segment
-abbrev pub is_covered_data_entry : DataEntry → Bool
-is_covered_data_entry d = is_covered_data_mode d.mode
-
--- the instructions of its offset are rows of the table
-abbrev pub HasRowsDataMode : DataMode → Type 0
-HasRowsDataMode Kept = Unit {0}
-HasRowsDataMode (Placed memory offset) = HasRowsExpression offset
-
--- the same of a segment
-abbrev pub HasRowsDataEntry : DataEntry → Type 0
-HasRowsDataEntry d = HasRowsDataMode d.mode
-
--- each block in its offset is closed
-abbrev pub is_balanced_data_mode : DataMode → Bool
-is_balanced_data_mode Kept = true
-is_balanced_data_mode (Placed memory offset) = are_balanced offset
-
--- the same of a segment
-abbrev pub is_balanced_data_entry : DataEntry → Bool
-is_balanced_data_entry d = is_balanced_data_mode d.mode
+-- The constant expression in a data segment: its offset.
+abbrev pub data_expressions : DataMode → List (List Instr)
+data_expressions Kept = []
+data_expressions (Placed memory offset) = offset ∷ []

@@ -4,7 +4,7 @@
 use Rattle.std.specs.Prelude.{ℕ, List, ◌∷◌, ◌++◌, length, codes, Result}
 use Rattle.wast_base.specs.declared.faults.Error.{Error}
 use Rattle.wasm_ops.specs.Leb128.{unsigned}
-use Rattle.wasm_ops.specs.Spelling.{InRangeU32, vec, InRangeVec, InRangeSized, name, InRangeName}
+use Rattle.wasm_ops.specs.Spelling.{InRangeU32, Encoding, u32, named, byte_then, seq, list_of, with_length, name}
 use Rattle.wasm_out.specs.Built.{Built, behind_count, Appends}
 
 -- The kinds of subsections, by what has the names.
@@ -50,9 +50,9 @@ abbrev pub AppendsNames : {A : Type 0} → Named → Built → List ℕ → List
 AppendsNames named names old new result =
     Appends (InRangeU32 (length (behind_count names))) old new (subsection named (behind_count names)) result
 
--- The bytes of an entry of a name map: an index and a name.
-abbrev pub name_entry : ℕ × List ℕ → List ℕ
-name_entry e = unsigned e.0 ++ name e.1
+-- An entry of a name map: an index and a name.
+abbrev pub name_entry : ℕ × List ℕ → Encoding
+name_entry e = seq (u32 e.0) (named e.1)
 
 -- The content of a subsection: one name, names by index, or name maps by index.
 pub data NameContent : Type 0 where
@@ -65,37 +65,19 @@ pub record NameSubsection : Type 0 where
   pub of : Named
   pub content : NameContent
 
--- The bytes of an entry of an indirect name map: an index and a name map.
-abbrev pub map_entry : ℕ × List (ℕ × List ℕ) → List ℕ
-map_entry e = unsigned e.0 ++ vec name_entry e.1
+-- An entry of an indirect name map: an index and a name map.
+abbrev pub map_entry : ℕ × List (ℕ × List ℕ) → Encoding
+map_entry e = seq (u32 e.0) (list_of name_entry e.1)
 
--- The bytes of the content of a subsection.
-abbrev pub name_content : NameContent → List ℕ
-name_content (One text) = name text
-name_content (Direct names) = vec name_entry names
-name_content (Indirect maps) = vec map_entry maps
+-- The content of a subsection.
+abbrev pub name_content : NameContent → Encoding
+name_content (One text) = named text
+name_content (Direct names) = list_of name_entry names
+name_content (Indirect maps) = list_of map_entry maps
 
--- The bytes of a subsection.
-abbrev pub name_subsection : NameSubsection → List ℕ
-name_subsection s = subsection s.of (name_content s.content)
-
--- The index and the name of an entry of a name map are in range.
-abbrev pub InRangeNameEntry : ℕ × List ℕ → Type 0
-InRangeNameEntry e = InRangeU32 e.0 × InRangeName e.1
-
--- The index and the names of an entry of an indirect name map are in range.
-abbrev pub InRangeMapEntry : ℕ × List (ℕ × List ℕ) → Type 0
-InRangeMapEntry e = InRangeU32 e.0 × InRangeVec InRangeNameEntry e.1
-
--- The content of a subsection is in range.
-abbrev pub InRangeNameContent : NameContent → Type 0
-InRangeNameContent (One text) = InRangeName text
-InRangeNameContent (Direct names) = InRangeVec InRangeNameEntry names
-InRangeNameContent (Indirect maps) = InRangeVec InRangeMapEntry maps
-
--- The content of a subsection and its length are in range.
-abbrev pub InRangeNameSubsection : NameSubsection → Type 0
-InRangeNameSubsection s = InRangeSized InRangeNameContent name_content s.content
+-- A subsection: its id, the length of its content, and the content.
+abbrev pub name_subsection : NameSubsection → Encoding
+name_subsection s = byte_then (subsection_id s.of) (with_length (name_content s.content))
 
 -- The payload of the section, from the bytes of its subsections.
 abbrev pub name_payload : List ℕ → List ℕ

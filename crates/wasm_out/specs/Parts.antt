@@ -1,7 +1,10 @@
--- The parts of a module, and their bytes: an id, the length of the payload, and the payload (binary format, modules: sections).
-use Rattle.std.specs.Prelude.{ℕ, Option, Some, None, List, ◌∷◌, ◌++◌, length}
-use Rattle.wasm_ops.specs.ConstExprs.{expression, InRangeExpression}
-use Rattle.wasm_ops.specs.Entities.{table_type, InRangeTableType, memory_type, InRangeMemoryType, global_type, InRangeGlobalType, tag_type, InRangeTagType, entity_type, InRangeEntityType}
+-- The sections of a module and their bytes (binary format: modules, sections).
+--
+-- A section is its id, the length of its payload, and the payload. For example the start section of function 3 is 08 01 03.
+-- Each item of a section is described once, as an `Encoding`.
+use Rattle.std.specs.Prelude.{ℕ, Option, Some, None, List, [], ◌∷◌, ◌++◌, length}
+use Rattle.wasm_ops.specs.ConstExprs.{expression}
+use Rattle.wasm_ops.specs.Entities.{table_type, memory_type, global_type, tag_type, entity_type}
 use Rattle.wasm_ops.specs.Leb128.{unsigned}
 use Rattle.wasm_ops.specs.Table.{Instr}
 use Rattle.wasm_ops.specs.declared.entities.TableType.{TableType}
@@ -11,12 +14,12 @@ use Rattle.wasm_ops.specs.declared.entities.TagType.{TagType}
 use Rattle.wasm_ops.specs.declared.entities.EntityType.{EntityType}
 use Rattle.wasm_ops.specs.declared.types.ExportKind.{ExportKind}
 use Rattle.wasm_ops.specs.declared.types.SubType.{SubType}
-use Rattle.wasm_ops.specs.Spelling.{InRangeU32, vec, InRangeVec, length_prefixed, InRangeSized, name, InRangeName, export_kind, sub_type, InRangeSubType}
-use Rattle.wasm_out.specs.Bodies.{Body, body_content, InRangeContent}
-use Rattle.wasm_out.specs.DataSegments.{DataEntry, data_entry, InRangeDataEntry}
-use Rattle.wasm_out.specs.ElementSegments.{ElementEntry, element_entry, InRangeElementEntry}
+use Rattle.wasm_ops.specs.Spelling.{Encoding, fixed, u32, named, respelled, byte_then, seq, list_of, with_length, export_kind, sub_type}
+use Rattle.wasm_out.specs.Bodies.{Body, body_content}
+use Rattle.wasm_out.specs.DataSegments.{DataEntry, data_entry}
+use Rattle.wasm_out.specs.ElementSegments.{ElementEntry, element_entry}
 
--- sections whose content is a list
+-- The kinds of sections that hold a list.
 pub data SectionKind : Type 0 where
   Types : SectionKind
   Imports : SectionKind
@@ -30,34 +33,34 @@ pub data SectionKind : Type 0 where
   Code : SectionKind
   Data : SectionKind
 
--- a type on its own, or a group of types that may name one another
+-- A type, or a recursive group of types.
 pub data TypeEntry : Type 0 where
   Single : SubType → TypeEntry
   Group : List SubType → TypeEntry
 
--- the module and the name that it is imported by, and its type
+-- An import: its module, its name and its type.
 pub record ImportEntry : Type 0 where
   pub «module» : List ℕ
   pub name : List ℕ
   pub entity : EntityType
 
--- a table, and what its elements are at first where that is written
+-- A table, and the initial value of its elements if one is written.
 pub record TableEntry : Type 0 where
   pub ty : TableType
   pub init : Option (List Instr)
 
--- a global, and what it is at first
+-- A global and its initial value.
 pub record GlobalEntry : Type 0 where
   pub ty : GlobalType
   pub init : List Instr
 
--- the name of an export, and the kind and the index of the item
+-- An export: its name, and the kind and the index of the item.
 pub record ExportEntry : Type 0 where
   pub name : List ℕ
   pub kind : ExportKind
   pub index : ℕ
 
--- the items of a list: types, imports, the types of functions, tables, memories, tags, globals, exports, segments of elements, bodies, segments of data
+-- The items of a section.
 abbrev pub Entry : SectionKind → Type 0
 Entry Types = TypeEntry
 Entry Imports = ImportEntry
@@ -71,132 +74,90 @@ Entry Elements = ElementEntry
 Entry Code = Body
 Entry Data = DataEntry
 
--- a type, or a group behind 0x4e and the number of its types
-abbrev pub type_entry : TypeEntry → List ℕ
+-- A type, or 4e and the list of the types of a group.
+abbrev pub type_entry : TypeEntry → Encoding
 type_entry (Single t) = sub_type t
-type_entry (Group ts) = 0x4e ∷ vec sub_type ts
+type_entry (Group ts) = byte_then 0x4e (list_of sub_type ts)
 
--- the module, the name, and the type
-abbrev pub import_entry : ImportEntry → List ℕ
-import_entry i = name i.«module» ++ (name i.name ++ entity_type i.entity)
+-- An import: its module, its name and its type.
+abbrev pub import_entry : ImportEntry → Encoding
+import_entry i = seq (named i.«module») (seq (named i.name) (entity_type i.entity))
 
--- the type alone, or behind 0x40 and 0x00 with an expression
+-- The bytes of a table: its type alone, or 40 00, its type and the expression.
 abbrev pub table_bytes : TableType → Option (List Instr) → List ℕ
-table_bytes ty None = table_type ty
-table_bytes ty (Some init) = 0x40 ∷ 0x00 ∷ (table_type ty ++ expression init)
+table_bytes ty None = (table_type ty).bytes
+table_bytes ty (Some init) = 0x40 ∷ 0x00 ∷ ((table_type ty).bytes ++ (expression init).bytes)
 
--- the spelling of a table
-abbrev pub table_entry : TableEntry → List ℕ
-table_entry t = table_bytes t.ty t.init
+-- The initial value of the elements of a table.
+abbrev pub table_init : Option (List Instr) → Encoding
+table_init None = fixed []
+table_init (Some init) = expression init
 
--- the type, and an expression
-abbrev pub global_entry : GlobalEntry → List ℕ
-global_entry g = global_type g.ty ++ expression g.init
+-- A table.
+abbrev pub table_entry : TableEntry → Encoding
+table_entry t = respelled (λ _. table_bytes t.ty t.init) (seq (table_type t.ty) (table_init t.init))
 
--- the name, the kind, and the index
-abbrev pub export_entry : ExportEntry → List ℕ
-export_entry e = name e.name ++ (export_kind e.kind ++ unsigned e.index)
+-- A global: its type and an expression.
+abbrev pub global_entry : GlobalEntry → Encoding
+global_entry g = seq (global_type g.ty) (expression g.init)
 
--- behind its length
+-- An export: its name, its kind and its index.
+abbrev pub export_entry : ExportEntry → Encoding
+export_entry e = seq (named e.name) (respelled (λ index. export_kind e.kind ++ index) (u32 e.index))
+
+-- The bytes of a body, with their length.
 abbrev pub body : Body → List ℕ
-body b = length_prefixed body_content b
+body b = (with_length (body_content b)).bytes
 
--- the one spelling of an item
+-- An item of a section.
+abbrev pub item : (kind : SectionKind) → Entry kind → Encoding
+item Types t = type_entry t
+item Imports i = import_entry i
+item Functions n = u32 n
+item Tables t = table_entry t
+item Memories m = memory_type m
+item Tags t = tag_type t
+item Globals g = global_entry g
+item Exports e = export_entry e
+item Elements e = element_entry e
+item Code b = with_length (body_content b)
+item Data d = data_entry d
+
+-- The bytes of an item.
 abbrev pub entry : (kind : SectionKind) → Entry kind → List ℕ
-entry Types t = type_entry t
-entry Imports i = import_entry i
-entry Functions n = unsigned n
-entry Tables t = table_entry t
-entry Memories m = memory_type m
-entry Tags t = tag_type t
-entry Globals g = global_entry g
-entry Exports e = export_entry e
-entry Elements e = element_entry e
-entry Code b = body b
-entry Data d = data_entry d
+entry kind e = (item kind e).bytes
 
--- Numbers, counts and lengths are in range: those of a type or a group.
-abbrev pub InRangeTypeEntry : TypeEntry → Type 0
-InRangeTypeEntry (Single t) = InRangeSubType t
-InRangeTypeEntry (Group ts) = InRangeVec InRangeSubType ts
-
--- those of an import
-abbrev pub InRangeImport : ImportEntry → Type 0
-InRangeImport i = InRangeName i.«module» × (InRangeName i.name × InRangeEntityType i.entity)
-
--- those of what the elements of a table are at first
-abbrev pub InRangeInit : Option (List Instr) → Type 0
-InRangeInit None = Unit {0}
-InRangeInit (Some init) = InRangeExpression init
-
--- those of a table
-abbrev pub InRangeTable : TableEntry → Type 0
-InRangeTable t = InRangeTableType t.ty × InRangeInit t.init
-
--- those of a global
-abbrev pub InRangeGlobal : GlobalEntry → Type 0
-InRangeGlobal g = InRangeGlobalType g.ty × InRangeExpression g.init
-
--- those of an export
-abbrev pub InRangeExport : ExportEntry → Type 0
-InRangeExport e = InRangeName e.name × InRangeU32 e.index
-
--- those of a body
-abbrev pub InRangeBody : Body → Type 0
-InRangeBody b = InRangeSized InRangeContent body_content b
-
--- an item's numbers, counts and lengths are in range
+-- The numbers, counts and lengths of an item are in range.
 abbrev pub InRangeEntry : (kind : SectionKind) → Entry kind → Type 0
-InRangeEntry Types t = InRangeTypeEntry t
-InRangeEntry Imports i = InRangeImport i
-InRangeEntry Functions n = InRangeU32 n
-InRangeEntry Tables t = InRangeTable t
-InRangeEntry Memories m = InRangeMemoryType m
-InRangeEntry Tags t = InRangeTagType t
-InRangeEntry Globals g = InRangeGlobal g
-InRangeEntry Exports e = InRangeExport e
-InRangeEntry Elements e = InRangeElementEntry e
-InRangeEntry Code b = InRangeBody b
-InRangeEntry Data d = InRangeDataEntry d
+InRangeEntry kind e = (item kind e).in_range
 
--- the kinds of parts: sections of a list, and those that hold something else
+-- The kinds of sections. Most hold a list; the others hold a number, or bytes of any content.
 pub data PartKind : Type 0 where
   Custom : PartKind
   Start : PartKind
   DataCount : PartKind
   Listed : SectionKind → PartKind
 
--- a custom section: its name, and bytes of any content
+-- A custom section: its name, and its bytes.
 pub record CustomPart : Type 0 where
   pub name : List ℕ
   pub bytes : List ℕ
 
--- a start section and a data count hold one number
+-- The content of a section.
 abbrev pub PartItems : PartKind → Type 0
 PartItems Custom = CustomPart
 PartItems Start = ℕ
 PartItems DataCount = ℕ
 PartItems (Listed kind) = List (Entry kind)
 
--- the name, and the bytes as they are
-abbrev pub custom : CustomPart → List ℕ
-custom c = name c.name ++ c.bytes
+-- The payload of a section.
+abbrev pub payload : (kind : PartKind) → PartItems kind → Encoding
+payload Custom c = respelled (λ name. name ++ c.bytes) (named c.name)
+payload Start n = u32 n
+payload DataCount n = u32 n
+payload (Listed kind) items = list_of (item kind) items
 
--- what stands behind the length of a part
-abbrev pub payload : (kind : PartKind) → PartItems kind → List ℕ
-payload Custom c = custom c
-payload Start n = unsigned n
-payload DataCount n = unsigned n
-payload (Listed kind) items = vec (entry kind) items
-
--- the numbers, counts and lengths in it are in range
-abbrev pub InRangePartItems : (kind : PartKind) → PartItems kind → Type 0
-InRangePartItems Custom c = InRangeName c.name
-InRangePartItems Start n = InRangeU32 n
-InRangePartItems DataCount n = InRangeU32 n
-InRangePartItems (Listed kind) items = InRangeVec (InRangeEntry kind) items
-
--- the ids of sections, by kind
+-- The ids of sections that hold a list.
 abbrev pub section_id : SectionKind → ℕ
 section_id Types = 1
 section_id Imports = 2
@@ -210,26 +171,26 @@ section_id Elements = 9
 section_id Code = 10
 section_id Data = 11
 
--- the ids of parts, by kind
+-- The ids of sections.
 abbrev pub part_id : PartKind → ℕ
 part_id Custom = 0
 part_id Start = 8
 part_id DataCount = 12
 part_id (Listed kind) = section_id kind
 
--- a section of a module: its kind, and what it holds
+-- A section of a module.
 pub record Part : Type 0 where
   pub kind : PartKind
   pub items : PartItems kind
 
--- the id, the length of the payload, and the payload
+-- The bytes of a section: its id, the length of its payload, and the payload.
 abbrev pub section : ℕ → List ℕ → List ℕ
 section id bytes = id ∷ (unsigned (length bytes) ++ bytes)
 
--- the spelling of a part
+-- The bytes of a section.
 abbrev pub part : Part → List ℕ
-part p = section (part_id p.kind) (payload p.kind p.items)
+part p = section (part_id p.kind) (payload p.kind p.items).bytes
 
--- its numbers, counts and lengths are in range, and its own length
+-- The payload of a section is in range, and its length.
 abbrev pub InRangePart : Part → Type 0
-InRangePart p = InRangeSized (InRangePartItems p.kind) (payload p.kind) p.items
+InRangePart p = (with_length (payload p.kind p.items)).in_range

@@ -1,125 +1,70 @@
--- Which parts are read: beside that their numbers are in range, the encoder covers their types and instructions, their instructions are rows of the table, each block in their constant expressions is closed, and their names are UTF-8.
-use Rattle.std.specs.Prelude.{Bool, true, ◌&&◌, Option, Some, None, List, All, IsTrue}
-use Rattle.std.specs.List.{list_all}
+-- Which sections can be read back from their bytes.
+--
+-- Their numbers are in range, and their forms are supported. Besides, their instructions have entries in the opcode table,
+-- their constant expressions are balanced, and their names are UTF-8. For these three a reader needs only the lists of
+-- expressions, instructions and names of an item. For example an export has one name, and no instructions.
+use Rattle.std.specs.Prelude.{ℕ, List, [], ◌∷◌, ◌++◌, length, All, IsTrue}
+use Rattle.std.specs.Option.{option_to_list}
 use Rattle.std.specs.Str.{is_utf8}
-use Rattle.wasm_ops.specs.ConstExprs.{is_covered_expression, HasRowsExpression}
-use Rattle.wasm_ops.specs.Covered.{is_covered_val_type, is_covered_sub_type}
-use Rattle.wasm_ops.specs.Entities.{is_covered_table_type, is_covered_memory_type, is_covered_global_type, is_covered_tag_type, is_covered_entity_type}
-use Rattle.wasm_ops.specs.Spelling.{InRangeU32, InRangeVec, InRangeSized, InRangeName}
-use Rattle.wasm_ops.specs.Table.{Instr, is_covered_instr, HasRow}
-use Rattle.wasm_ops.specs.Turns.{are_balanced}
-use Rattle.wasm_out.specs.Parts.{SectionKind, Types, Imports, Functions, Tables, Memories, Tags, Globals, Exports, Code, TypeEntry, Single, Group, Entry, InRangeEntry, PartKind, Custom, Start, Listed, PartItems, payload, Part, Elements, Data, DataCount}
-use Rattle.wasm_out.specs.DataSegments.{is_covered_data_entry, HasRowsDataEntry, is_balanced_data_entry}
-use Rattle.wasm_out.specs.ElementSegments.{is_covered_element_entry, HasRowsElementEntry, is_balanced_element_entry}
+use Rattle.wasm_ops.specs.ConstExprs.{HasRowsExpression, IsBalancedExpression}
+use Rattle.wasm_ops.specs.Spelling.{InRangeU32, InRangeVec, InRangeName}
+use Rattle.wasm_ops.specs.Table.{Instr}
+use Rattle.wasm_out.specs.Parts.{SectionKind, Imports, Tables, Globals, Exports, Code, Entry, item, InRangeEntry, PartKind, Custom, Start, Listed, PartItems, payload, Part, Elements, Data, DataCount}
+use Rattle.wasm_out.specs.DataSegments.{data_expressions}
+use Rattle.wasm_out.specs.ElementSegments.{place_expressions, item_expressions}
 
--- the encoder covers a type, or each type of a group
-abbrev pub is_covered_type_entry : TypeEntry → Bool
-is_covered_type_entry (Single t) = is_covered_sub_type t
-is_covered_type_entry (Group ts) = list_all is_covered_sub_type ts
+-- The constant expressions in an item.
+abbrev pub expressions : (kind : SectionKind) → Entry kind → List (List Instr)
+expressions Tables t = option_to_list t.init
+expressions Globals g = g.init ∷ []
+expressions Elements e = place_expressions e.mode ++ item_expressions e.items
+expressions Data d = data_expressions d.mode
+expressions kind e = []
 
--- what the elements of a table are at first
-abbrev pub is_covered_init : Option (List Instr) → Bool
-is_covered_init None = true
-is_covered_init (Some init) = is_covered_expression init
+-- The lists of instructions in an item: its constant expressions, or those of a body. A body ends at its length, so that
+-- its blocks need not be balanced to read it.
+abbrev pub instructions : (kind : SectionKind) → Entry kind → List (List Instr)
+instructions Code b = b.instrs ∷ []
+instructions kind e = expressions kind e
 
--- the instructions of that are rows of the table
-abbrev pub HasRowsInit : Option (List Instr) → Type 0
-HasRowsInit None = Unit {0}
-HasRowsInit (Some init) = HasRowsExpression init
+-- The names in an item (binary format: names).
+abbrev pub names : (kind : SectionKind) → Entry kind → List (List ℕ)
+names Imports i = i.«module» ∷ i.name ∷ []
+names Exports e = e.name ∷ []
+names kind e = []
 
--- each block in that is closed
-abbrev pub is_balanced_init : Option (List Instr) → Bool
-is_balanced_init None = true
-is_balanced_init (Some init) = are_balanced init
-
--- the encoder covers an item
-abbrev pub is_covered_entry : (kind : SectionKind) → Entry kind → Bool
-is_covered_entry Types t = is_covered_type_entry t
-is_covered_entry Imports i = is_covered_entity_type i.entity
-is_covered_entry Functions n = true
-is_covered_entry Tables t = is_covered_table_type t.ty && is_covered_init t.init
-is_covered_entry Memories m = is_covered_memory_type m
-is_covered_entry Tags t = is_covered_tag_type t
-is_covered_entry Globals g = is_covered_global_type g.ty && is_covered_expression g.init
-is_covered_entry Exports e = true
-is_covered_entry Elements e = is_covered_element_entry e
-is_covered_entry Code b = list_all is_covered_val_type b.locals && list_all is_covered_instr b.instrs
-is_covered_entry Data d = is_covered_data_entry d
-
--- the instructions of an item are rows of the table
-abbrev pub HasRows : (kind : SectionKind) → Entry kind → Type 0
-HasRows Types t = Unit {0}
-HasRows Imports i = Unit {0}
-HasRows Functions n = Unit {0}
-HasRows Tables t = HasRowsInit t.init
-HasRows Memories m = Unit {0}
-HasRows Tags t = Unit {0}
-HasRows Globals g = HasRowsExpression g.init
-HasRows Exports e = Unit {0}
-HasRows Elements e = HasRowsElementEntry e
-HasRows Code b = All HasRow b.instrs
-HasRows Data d = HasRowsDataEntry d
-
--- each block in the constant expressions of an item is closed; a body is read up to its length
-abbrev pub is_balanced_entry : (kind : SectionKind) → Entry kind → Bool
-is_balanced_entry Types t = true
-is_balanced_entry Imports i = true
-is_balanced_entry Functions n = true
-is_balanced_entry Tables t = is_balanced_init t.init
-is_balanced_entry Memories m = true
-is_balanced_entry Tags t = true
-is_balanced_entry Globals g = are_balanced g.init
-is_balanced_entry Exports e = true
-is_balanced_entry Elements e = is_balanced_element_entry e
-is_balanced_entry Code b = true
-is_balanced_entry Data d = is_balanced_data_entry d
-
--- the names of an item, where it has some, are UTF-8 (binary format, names)
-abbrev pub HasUtf8Name : (kind : SectionKind) → Entry kind → Type 0
-HasUtf8Name Types t = Unit {0}
-HasUtf8Name Imports i = IsTrue (is_utf8 i.«module») × IsTrue (is_utf8 i.name)
-HasUtf8Name Functions n = Unit {0}
-HasUtf8Name Tables t = Unit {0}
-HasUtf8Name Memories m = Unit {0}
-HasUtf8Name Tags t = Unit {0}
-HasUtf8Name Globals g = Unit {0}
-HasUtf8Name Exports e = IsTrue (is_utf8 e.name)
-HasUtf8Name Elements e = Unit {0}
-HasUtf8Name Code b = Unit {0}
-HasUtf8Name Data d = Unit {0}
-
--- what is asked of an item apart from the range of its numbers
+-- An item can be read back, if its numbers are in range.
 pub record IsReadable (kind : SectionKind) (e : Entry kind) : Type 0 where
-  pub covered : IsTrue (is_covered_entry kind e)
-  pub rows : HasRows kind e
-  pub balanced : IsTrue (is_balanced_entry kind e)
-  pub name : HasUtf8Name kind e
+  pub covered : IsTrue (item kind e).is_covered
+  pub rows : All HasRowsExpression (instructions kind e)
+  pub balanced : All IsBalancedExpression (expressions kind e)
+  pub name : All (λ text. IsTrue (is_utf8 text)) (names kind e)
 
--- what is asked of what a part holds
+-- The content of a section can be read back, if its numbers are in range.
 abbrev pub AreReadable : (kind : PartKind) → PartItems kind → Type 0
 AreReadable Custom c = IsTrue (is_utf8 c.name)
 AreReadable Start n = Unit {0}
 AreReadable DataCount n = Unit {0}
 AreReadable (Listed kind) items = All (IsReadable kind) items
 
--- what is asked of a part apart from the range of its numbers
+-- A section can be read back, if its numbers are in range.
 abbrev pub IsReadablePart : Part → Type 0
 IsReadablePart p = AreReadable p.kind p.items
 
--- an item has one spelling: its numbers are in range, the encoder covers it, its instructions are rows of the table, and each block in its constant expressions is closed
+-- An item can be written, and read back but for its names.
 pub record IsSpellable (kind : SectionKind) (e : Entry kind) : Type 0 where
   pub in_range : InRangeEntry kind e
-  pub covered : IsTrue (is_covered_entry kind e)
-  pub rows : HasRows kind e
-  pub balanced : IsTrue (is_balanced_entry kind e)
+  pub covered : IsTrue (item kind e).is_covered
+  pub rows : All HasRowsExpression (instructions kind e)
+  pub balanced : All IsBalancedExpression (expressions kind e)
 
--- what a part holds has one spelling
+-- The content of a section can be written, and read back but for its names.
 abbrev pub AreSpellable : (kind : PartKind) → PartItems kind → Type 0
 AreSpellable Custom c = InRangeName c.name
 AreSpellable Start n = InRangeU32 n
 AreSpellable DataCount n = InRangeU32 n
 AreSpellable (Listed kind) items = InRangeVec (IsSpellable kind) items
 
--- a part has one spelling
+-- A section can be written, and read back but for its names.
 abbrev pub IsSpellablePart : Part → Type 0
-IsSpellablePart p = InRangeSized (AreSpellable p.kind) (payload p.kind) p.items
+IsSpellablePart p = InRangeU32 (length (payload p.kind p.items).bytes) × AreSpellable p.kind p.items

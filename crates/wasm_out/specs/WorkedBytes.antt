@@ -157,14 +157,14 @@ IsNoModule = (parts : List Part) → Reads wide_bytes parts → ⊥
 -- The field (@producers (language "R" "1")), as the bytes after the name of the section.
 abbrev pub ProducersSpelled : Type 0
 ProducersSpelled =
-    producers ((codes "language", (codes "R", codes "1") ∷ []) ∷ [])
+    (producers ((codes "language", (codes "R", codes "1") ∷ []) ∷ [])).bytes
     ≡ 0x01 ∷ 0x08 ∷ 0x6c ∷ 0x61 ∷ 0x6e ∷ 0x67 ∷ 0x75 ∷ 0x61 ∷ 0x67 ∷ 0x65 ∷ 0x01 ∷ 0x01 ∷ 0x52 ∷ 0x01 ∷ 0x31 ∷ []
 
 -- Branch hints, as the bytes after the name of the section. Function 0 has a likely hint at offset 5. Function 3 has
 -- two, and the offset of the second has two bytes.
 abbrev pub HintsSpelled : Type 0
 HintsSpelled =
-    hints ((0, record { branch_func_offset = 5; branch_hint_value = 1 } ∷ [])
+    (hints ((0, record { branch_func_offset = 5; branch_hint_value = 1 } ∷ [])
     ∷ (3, record { branch_func_offset = 2; branch_hint_value = 0 } ∷ record { branch_func_offset = 200; branch_hint_value = 1 } ∷ [])
-    ∷ [])
+    ∷ [])).bytes
     ≡ 0x02 ∷ 0x00 ∷ 0x01 ∷ 0x05 ∷ 0x01 ∷ 0x01 ∷ 0x03 ∷ 0x02 ∷ 0x02 ∷ 0x01 ∷ 0x00 ∷ 0xc8 ∷ 0x01 ∷ 0x01 ∷ 0x01 ∷ []

@@ -91,7 +91,7 @@ nested_body = record {
 
 -- A body has an end for each of its blocks, and its own.
 abbrev pub BodySpelled : Type 0
-BodySpelled = body_content nested_body ≡ 0x00 ∷ 0x02 ∷ 0x40 ∷ 0x03 ∷ 0x7f ∷ 0x20 ∷ 0x00 ∷ 0x0b ∷ 0x1a ∷ 0x0b ∷ 0x0b ∷ []
+BodySpelled = (body_content nested_body).bytes ≡ 0x00 ∷ 0x02 ∷ 0x40 ∷ 0x03 ∷ 0x7f ∷ 0x20 ∷ 0x00 ∷ 0x0b ∷ 0x1a ∷ 0x0b ∷ 0x0b ∷ []
 
 -- block, end, (i32.const 0)
 abbrev pub worked_expression : List Instr
@@ -100,7 +100,7 @@ worked_expression = opened ∷ ended ∷ i32_const_instr (pos 0) ∷ []
 -- A constant expression may have blocks, if each has its end.
 pub record ExpressionSpelled : Type 0 where
   pub balanced : are_balanced worked_expression ≡ true
-  pub bytes : expression worked_expression ≡ 0x02 ∷ 0x40 ∷ 0x0b ∷ 0x41 ∷ 0x00 ∷ 0x0b ∷ []
+  pub bytes : (expression worked_expression).bytes ≡ 0x02 ∷ 0x40 ∷ 0x0b ∷ 0x41 ∷ 0x00 ∷ 0x0b ∷ []
 
 -- A block without an end, and an end without a block before it, are not balanced. A delegate ends one block only.
 pub record AreNoExpressions : Type 0 where

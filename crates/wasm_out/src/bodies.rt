@@ -2,8 +2,7 @@
 
 ghost use Rattle.std.specs.Prelude.{◌≡◌, ◌∷◌, [], length, IsTrue};
 ghost use Rattle.std.specs.List.{list_all};
-ghost use Rattle.wasm_ops.specs.Covered.{is_covered_val_type};
-ghost use Rattle.wasm_ops.specs.Spelling.{InRangeVec, InRangeValType};
+ghost use Rattle.wasm_ops.specs.Spelling.{InRangeVec, val_type};
 ghost use Rattle.wasm_ops.specs.Table.{SpellsInstrs};
 ghost use Rattle.wasm_out.specs.Built.{Appends, Makes};
 ghost use Rattle.wasm_out.specs.Bodies.{locals};
@@ -55,8 +54,8 @@ impl Function {
         alloc: Global,
         types: &[ValType],
     ) -> Result<Function, Error<'e>>
-        requires { IsTrue (list_all is_covered_val_type types.now) }
-        ensures { Makes (InRangeVec InRangeValType types.now) (locals types.now) result }
+        requires { IsTrue (list_all (λ x. (val_type x).is_covered) types.now) }
+        ensures { Makes (InRangeVec (λ x. (val_type x).in_range) types.now) (locals types.now) result }
     {
         let mut bytes = Vec::new(alloc);
         Locals(types, AsItself).encode(&mut bytes)?;

@@ -2,12 +2,11 @@
 
 ghost use Rattle.std.specs.Prelude.{◌≡◌, ◌+◌, ◌++◌, length, refl, IsTrue};
 ghost use Rattle.std.specs.List.{list_all};
-ghost use Rattle.wasm_ops.specs.Covered.{is_covered_sub_type};
 ghost use Rattle.wasm_ops.specs.Leb128.{unsigned};
-ghost use Rattle.wasm_ops.specs.Spelling.{InRangeU32, InRangeName, InRangeSubType, sub_type};
+ghost use Rattle.wasm_ops.specs.Spelling.{InRangeU32, InRangeName, sub_type};
 ghost use Rattle.wasm_out.specs.Built.{Adds, behind_count};
 ghost use Rattle.wasm_out.specs.Bodies.{SpellsBody};
-ghost use Rattle.wasm_out.specs.Parts.{SectionKind, section_id, Group, type_entry, InRangeTypeEntry, export_entry};
+ghost use Rattle.wasm_out.specs.Parts.{SectionKind, section_id, Group, export_entry, type_entry};
 ghost use Rattle.wasm_out.specs.Parts as parts;
 
 use crate::bodies::Function;
@@ -125,9 +124,9 @@ impl TypeSection {
     ///
     /// The section is unchanged then.
     pub fn subtype<'e>(&mut self, ty: &SubType) -> Result<(), Error<'e>>
-        requires { IsTrue (is_covered_sub_type ty.now) }
-        ensures { Adds (InRangeU32 (self.old.count + 1) × InRangeSubType ty.now) self.old self.new
-            (sub_type ty.now) result }
+        requires { IsTrue (sub_type ty.now).is_covered }
+        ensures { Adds (InRangeU32 (self.old.count + 1) × (sub_type ty.now).in_range) self.old self.new
+            (sub_type ty.now).bytes result }
     {
         self.items.push(ty)
     }
@@ -152,9 +151,9 @@ impl TypeSection {
     ///
     /// The section is unchanged then.
     pub fn rec<'e>(&mut self, types: &[SubType]) -> Result<(), Error<'e>>
-        requires { IsTrue (list_all is_covered_sub_type types.now) }
-        ensures { Adds (InRangeU32 (self.old.count + 1) × InRangeTypeEntry (Group types.now)) self.old self.new
-            (type_entry (Group types.now)) result }
+        requires { IsTrue (list_all (λ x. (sub_type x).is_covered) types.now) }
+        ensures { Adds (InRangeU32 (self.old.count + 1) × (type_entry (Group types.now)).in_range) self.old self.new
+            (type_entry (Group types.now)).bytes result }
     {
         self.items.push(&(0x4eu8, Counted(types, AsItself)))
     }
@@ -226,7 +225,7 @@ impl ExportSection {
     /// The section is unchanged then.
     pub fn export<'e>(&mut self, text: &str, kind: ExportKind, index: u32) -> Result<(), Error<'e>>
         ensures { Adds (InRangeU32 (self.old.count + 1) × InRangeName text.now) self.old self.new
-            (export_entry (record { name = text.now; kind = kind; index = index })) result }
+            (export_entry (record { name = text.now; kind = kind; index = index })).bytes result }
     {
         self.items.push(&(Name(text), (kind, index)))
     }

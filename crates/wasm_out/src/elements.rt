@@ -1,12 +1,11 @@
 //! Element segments and the element section.
 
 ghost use Rattle.std.specs.Prelude.{◌&&◌, ◌+◌, IsTrue};
-ghost use Rattle.wasm_ops.specs.Covered.{is_covered_ref_type};
 ghost use Rattle.wasm_ops.specs.Sinks.{Writes};
-ghost use Rattle.wasm_ops.specs.Spelling.{InRangeU32, InRangeRefType};
+ghost use Rattle.wasm_ops.specs.Spelling.{InRangeU32, ref_type};
 ghost use Rattle.wasm_out.specs.Built.{Adds};
 ghost use Rattle.wasm_out.specs.BuiltElements.{segment_bytes, InRangeMode, is_ready_mode, is_form, ended, element_kind, listed_in, InRangeElements, AreElements};
-ghost use Rattle.wasm_out.specs.ElementSegments.{InRangeTable, InRangeElementKind, is_covered_element_kind, passive_bytes, declared_bytes, active_bytes, has_active_form};
+ghost use Rattle.wasm_out.specs.ElementSegments.{passive_bytes, declared_bytes, active_bytes, has_active_form, element_type, table_index};
 ghost use Rattle.wasm_out.specs.Parts as parts;
 ghost use Rattle.wasm_out.specs.declared.elements.ElementKind.TheVariants as kinds;
 
@@ -73,10 +72,10 @@ impl<O: Encode, L: Encode> ElementSegment<O, L> {
     /// Appends a segment of expressions. The type must be supported, and `funcref` without a table
     /// index.
     fn put_expressions<S: Sink>(&self, ty: RefType, out: &mut S) -> Result<(), Refusal>
-        requires { IsTrue (is_covered_ref_type ty
+        requires { IsTrue ((ref_type ty).is_covered
             && (is_ready_mode O.is_ready self.now.mode && L.is_ready self.now.list)) }
         ensures { Writes S.rules
-            (InRangeMode O.in_range self.now.mode × (InRangeRefType ty × L.in_range self.now.list)) out.old out.new
+            (InRangeMode O.in_range self.now.mode × ((ref_type ty).in_range × L.in_range self.now.list)) out.old out.new
             (segment_bytes O.spelling self.now.mode (kinds.Expressions ty) (L.spelling self.now.list)) result }
     {
         let list = &self.list;
@@ -96,10 +95,10 @@ impl<O: Encode, L: Encode> ElementSegment<O, L> {
 impl<O: Encode, L: Encode> Encode for ElementSegment<O, L> {
     ghost spelling = { λ s. segment_bytes O.spelling s.mode s.kind (L.spelling s.list) };
 
-    ghost in_range = { λ s. InRangeMode O.in_range s.mode × (InRangeElementKind s.kind × L.in_range s.list) };
+    ghost in_range = { λ s. InRangeMode O.in_range s.mode × ((element_type s.kind).in_range × L.in_range s.list) };
 
     ghost is_ready = { λ s. is_form s.mode s.kind
-        && (is_covered_element_kind s.kind && (is_ready_mode O.is_ready s.mode && L.is_ready s.list)) };
+        && ((element_type s.kind).is_covered && (is_ready_mode O.is_ready s.mode && L.is_ready s.list)) };
 
     fn encode<S: Sink>(&self, out: &mut S) -> Result<(), Refusal> {
         match self.kind {
@@ -213,7 +212,7 @@ impl ElementSection {
     ) -> Result<(), Error<'e>>
         requires elements { AreElements elements.now }
         requires form { IsTrue (has_active_form table (element_kind elements.now)) }
-        ensures { Adds (InRangeU32 (self.old.count + 1) × (InRangeTable table × InRangeElements elements.now))
+        ensures { Adds (InRangeU32 (self.old.count + 1) × ((table_index table).in_range × InRangeElements elements.now))
             self.old self.new (active_bytes table (ended offset.now) (element_kind elements.now) (listed_in elements.now))
             result }
     {

@@ -1,10 +1,10 @@
 //! The sections of imports, tables, memories, tags and globals.
 
 ghost use Rattle.std.specs.Prelude.{◌+◌, ◌∷◌, ◌++◌, [], IsTrue};
-ghost use Rattle.wasm_ops.specs.Entities.{table_type, InRangeTableType, is_covered_table_type, memory_type, InRangeMemoryType, is_covered_memory_type, global_type, InRangeGlobalType, is_covered_global_type, tag_type, InRangeTagType, is_covered_tag_type, is_covered_entity_type};
+ghost use Rattle.wasm_ops.specs.Entities.{entity_type, global_type, memory_type, table_type, tag_type};
 ghost use Rattle.wasm_ops.specs.Spelling.{InRangeU32};
 ghost use Rattle.wasm_out.specs.Built.{Adds};
-ghost use Rattle.wasm_out.specs.Parts.{import_entry, InRangeImport};
+ghost use Rattle.wasm_out.specs.Parts.{import_entry};
 ghost use Rattle.wasm_out.specs.Parts as parts;
 
 use crate::builders::{ListKind, ListSection};
@@ -46,10 +46,10 @@ impl ImportSection {
     ///
     /// The section is unchanged then.
     pub fn import<'e>(&mut self, module: &str, name: &str, ty: &EntityType) -> Result<(), Error<'e>>
-        requires { IsTrue (is_covered_entity_type ty.now) }
+        requires { IsTrue (entity_type ty.now).is_covered }
         ensures { Adds (InRangeU32 (self.old.count + 1)
-            × InRangeImport (record { «module» = «module».now; name = name.now; entity = ty.now })) self.old self.new
-            (import_entry (record { «module» = «module».now; name = name.now; entity = ty.now })) result }
+            × (import_entry (record { «module» = «module».now; name = name.now; entity = ty.now })).in_range) self.old self.new
+            (import_entry (record { «module» = «module».now; name = name.now; entity = ty.now })).bytes result }
     {
         self.items.push(&(Name(module), (Name(name), ty)))
     }
@@ -95,9 +95,9 @@ impl TableSection {
     ///
     /// The section is unchanged then.
     pub fn table<'e>(&mut self, ty: &TableType) -> Result<(), Error<'e>>
-        requires { IsTrue (is_covered_table_type ty.now) }
-        ensures { Adds (InRangeU32 (self.old.count + 1) × InRangeTableType ty.now) self.old self.new
-            (table_type ty.now) result }
+        requires { IsTrue (table_type ty.now).is_covered }
+        ensures { Adds (InRangeU32 (self.old.count + 1) × (table_type ty.now).in_range) self.old self.new
+            (table_type ty.now).bytes result }
     {
         self.items.push(ty)
     }
@@ -119,9 +119,9 @@ impl TableSection {
     ///
     /// The section is unchanged then.
     pub fn table_with_init<'e>(&mut self, ty: &TableType, init: &ConstExpr) -> Result<(), Error<'e>>
-        requires { IsTrue (is_covered_table_type ty.now) }
-        ensures { Adds (InRangeU32 (self.old.count + 1) × InRangeTableType ty.now) self.old self.new
-            (0x40 ∷ 0x00 ∷ (table_type ty.now ++ (init.now ++ 0x0b ∷ []))) result }
+        requires { IsTrue (table_type ty.now).is_covered }
+        ensures { Adds (InRangeU32 (self.old.count + 1) × (table_type ty.now).in_range) self.old self.new
+            (0x40 ∷ 0x00 ∷ ((table_type ty.now).bytes ++ (init.now ++ 0x0b ∷ []))) result }
     {
         self.items.push(&(0x40u8, (0x00u8, (ty, init))))
     }
@@ -167,9 +167,9 @@ impl MemorySection {
     ///
     /// The section is unchanged then.
     pub fn memory<'e>(&mut self, ty: &MemoryType) -> Result<(), Error<'e>>
-        requires { IsTrue (is_covered_memory_type ty.now) }
-        ensures { Adds (InRangeU32 (self.old.count + 1) × InRangeMemoryType ty.now) self.old self.new
-            (memory_type ty.now) result }
+        requires { IsTrue (memory_type ty.now).is_covered }
+        ensures { Adds (InRangeU32 (self.old.count + 1) × (memory_type ty.now).in_range) self.old self.new
+            (memory_type ty.now).bytes result }
     {
         self.items.push(ty)
     }
@@ -208,9 +208,9 @@ impl TagSection {
     ///
     /// The section is unchanged then.
     pub fn tag<'e>(&mut self, ty: &TagType) -> Result<(), Error<'e>>
-        requires { IsTrue (is_covered_tag_type ty.now) }
-        ensures { Adds (InRangeU32 (self.old.count + 1) × InRangeTagType ty.now) self.old self.new
-            (tag_type ty.now) result }
+        requires { IsTrue (tag_type ty.now).is_covered }
+        ensures { Adds (InRangeU32 (self.old.count + 1) × (tag_type ty.now).in_range) self.old self.new
+            (tag_type ty.now).bytes result }
     {
         self.items.push(ty)
     }
@@ -250,9 +250,9 @@ impl GlobalSection {
     ///
     /// The section is unchanged then.
     pub fn global<'e>(&mut self, ty: &GlobalType, init: &ConstExpr) -> Result<(), Error<'e>>
-        requires { IsTrue (is_covered_global_type ty.now) }
-        ensures { Adds (InRangeU32 (self.old.count + 1) × InRangeGlobalType ty.now) self.old self.new
-            (global_type ty.now ++ (init.now ++ 0x0b ∷ [])) result }
+        requires { IsTrue (global_type ty.now).is_covered }
+        ensures { Adds (InRangeU32 (self.old.count + 1) × (global_type ty.now).in_range) self.old self.new
+            ((global_type ty.now).bytes ++ (init.now ++ 0x0b ∷ [])) result }
     {
         self.items.push(&(ty, init))
     }

@@ -4,7 +4,7 @@ ghost use Rattle.std.specs.Prelude.{◌≡◌, ◌+◌, ◌==◌, IsTrue};
 ghost use Rattle.std.specs.List.{list_all};
 ghost use Rattle.wasm_ops.specs.Spelling.{InRangeU32};
 ghost use Rattle.wasm_out.specs.Built.{Adds, behind_count, empty};
-ghost use Rattle.wasm_out.specs.Hints.{is_likely_or_not, branch_hint, InRangeBranchHint, function_hints, InRangeFunctionHints, hints_payload};
+ghost use Rattle.wasm_out.specs.Hints.{is_likely_or_not, hints_payload, branch_hint, function_hints};
 
 use crate::built_items::BuiltItems;
 use crate::sections::{CUSTOM_ID, Section};
@@ -32,9 +32,9 @@ pub struct BranchHint {
 
 /// A hint, whose value must be 0 or 1 and has one byte (branch hinting).
 impl Encode for BranchHint {
-    ghost spelling = { branch_hint };
+    ghost spelling = { λ x. (branch_hint x).bytes };
 
-    ghost in_range = { InRangeBranchHint };
+    ghost in_range = { λ x. (branch_hint x).in_range };
 
     ghost is_ready = { is_likely_or_not };
 
@@ -104,8 +104,8 @@ impl BranchHints {
         hints: &[BranchHint],
     ) -> Result<(), Error<'e>>
         requires { IsTrue (list_all is_likely_or_not hints.now) }
-        ensures { Adds (InRangeU32 (self.old.count + 1) × InRangeFunctionHints (function_index, hints.now)) self.old self.new
-            (function_hints (function_index, hints.now)) result }
+        ensures { Adds (InRangeU32 (self.old.count + 1) × (function_hints (function_index, hints.now)).in_range) self.old self.new
+            (function_hints (function_index, hints.now)).bytes result }
     {
         self.items.push(&(function_index, Counted(hints, AsItself)))
     }

@@ -3,7 +3,7 @@
 ghost use Rattle.std.specs.Prelude.{◌≡◌, ◌∷◌, ◌++◌, [], ℕ, List};
 ghost use Rattle.wasm_ops.specs.Codes.{IsCode, IsWhole};
 ghost use Rattle.wasm_out.specs.Built.{built_with, builder_of, behind_count};
-ghost use Rattle.wasm_out.specs.Parts.{SectionKind, Entry, entry, PartKind, Listed, PartItems, payload, Part, part};
+ghost use Rattle.wasm_out.specs.Parts.{SectionKind, Entry, entry, PartKind, Listed, PartItems, Part, part, payload};
 ghost use Rattle.wasm_out.specs.Readable.{IsSpellable, AreSpellable, IsSpellablePart};
 ghost use Rattle.wasm_out.specs.Reads.{Reads};
 
@@ -20,7 +20,7 @@ pub fn building_law()
     ensures more { (kind : SectionKind) (items : List (Entry kind)) (item : Entry kind) →
         built_with (builder_of (entry kind) items) (entry kind item) ≡ builder_of (entry kind) (items ++ item ∷ []) }
     ensures payloads { (kind : SectionKind) (items : List (Entry kind)) →
-        behind_count (builder_of (entry kind) items) ≡ payload (Listed kind) items }
+        behind_count (builder_of (entry kind) items) ≡ (payload (Listed kind) items).bytes }
 {}
 
 /// The theorem of sections: bytes begin with at most one section, and determine its items.
@@ -35,7 +35,7 @@ pub fn building_law()
 /// - `parts`: bytes begin with the encoding of at most one section.
 pub fn part_spelling_law()
     ensures entries { (kind : SectionKind) → IsCode (Entry kind) (IsSpellable kind) (entry kind) }
-    ensures payloads { (kind : PartKind) → IsWhole (PartItems kind) (AreSpellable kind) (payload kind) }
+    ensures payloads { (kind : PartKind) → IsWhole (PartItems kind) (AreSpellable kind) (λ x. (payload kind x).bytes) }
     ensures parts { IsCode Part IsSpellablePart part }
 {}
 

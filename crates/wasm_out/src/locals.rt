@@ -2,11 +2,10 @@
 
 ghost use Rattle.std.specs.Prelude.{◌≡◌, ◌<◌, ◌^◌, ◌&&◌, Bool, true, length, map, All, IsTrue, IfOk};
 ghost use Rattle.std.specs.List.{flat_map, list_all};
-ghost use Rattle.wasm_ops.specs.Covered.{is_covered_val_type};
 ghost use Rattle.wasm_ops.specs.Sinks.{Writes};
-ghost use Rattle.wasm_ops.specs.Spelling.{InRangeVec, InRangeValType};
+ghost use Rattle.wasm_ops.specs.Spelling.{InRangeVec, val_type};
 ghost use Rattle.wasm_ops.specs.declared.types.ValType.{ValType};
-ghost use Rattle.wasm_out.specs.Bodies.{InRangeRun, is_same_type, local_run, local_runs, locals};
+ghost use Rattle.wasm_out.specs.Bodies.{is_same_type, local_runs, locals, local_run};
 
 use wasm_ops::{AsItself, Encode, Refusal, Sink, ValType};
 
@@ -53,8 +52,8 @@ fn is_same(one: ValType, other: ValType) -> bool
 #[inline(always)]
 fn put_run<S: Sink>(out: &mut S, run: (usize, ValType)) -> Result<(), Refusal>
     requires few { run.0 < 2 ^ 32 }
-    requires covered { IsTrue (is_covered_val_type run.1) }
-    ensures { Writes S.rules (InRangeRun run) out.old out.new (local_run run) result }
+    requires covered { IsTrue (val_type run.1).is_covered }
+    ensures { Writes S.rules (local_run run).in_range out.old out.new (local_run run).bytes result }
 {
     let start = out.size();
     out.push_number(run.0 as u64)?;
@@ -75,8 +74,8 @@ fn put_runs<T, W: LocalType<T>, S: Sink>(
     out: &mut S,
 ) -> Result<usize, Refusal>
     requires few { length items.now < 2 ^ 32 }
-    requires ready { IsTrue (list_all (λ x. W.is_ready way.now x && is_covered_val_type (W.ty way.now x)) items.now) }
-    ensures runs { let runs = local_runs (map (W.ty way.now) items.now) in Writes S.rules (All InRangeRun runs) out.old out.new (flat_map local_run runs) result }
+    requires ready { IsTrue (list_all (λ x. W.is_ready way.now x && (val_type (W.ty way.now x)).is_covered) items.now) }
+    ensures runs { let runs = local_runs (map (W.ty way.now) items.now) in Writes S.rules (All (λ x. (local_run x).in_range) runs) out.old out.new (flat_map (λ x. (local_run x).bytes) runs) result }
     ensures count { IfOk result (λ n. n ≡ length (local_runs (map (W.ty way.now) items.now))) }
 {
     if items.is_empty() {
@@ -115,9 +114,9 @@ fn put_counted<T, W: LocalType<T>, S: Sink>(
     out: &mut S,
 ) -> Result<(), Refusal>
     requires few { length items.now < 2 ^ 32 }
-    requires ready { IsTrue (list_all (λ x. W.is_ready way.now x && is_covered_val_type (W.ty way.now x)) items.now) }
+    requires ready { IsTrue (list_all (λ x. W.is_ready way.now x && (val_type (W.ty way.now x)).is_covered) items.now) }
     requires count { count ≡ length (local_runs (map (W.ty way.now) items.now)) }
-    ensures { let types = map (W.ty way.now) items.now in Writes S.rules (All InRangeRun (local_runs types)) out.old out.new (locals types) result }
+    ensures { let types = map (W.ty way.now) items.now in Writes S.rules (All (λ x. (local_run x).in_range) (local_runs types)) out.old out.new (locals types) result }
 {
     let start = out.size();
     out.push_number(count as u64)?;
@@ -134,8 +133,8 @@ fn put_counted<T, W: LocalType<T>, S: Sink>(
 /// One byte reserves the position of the number, which is known after the runs are written.
 fn put_locals<T, W: LocalType<T>, S: Sink>(items: &[T], way: &W, out: &mut S) -> Result<(), Refusal>
     requires few { length items.now < 2 ^ 32 }
-    requires ready { IsTrue (list_all (λ x. W.is_ready way.now x && is_covered_val_type (W.ty way.now x)) items.now) }
-    ensures { let types = map (W.ty way.now) items.now in Writes S.rules (All InRangeRun (local_runs types)) out.old out.new (locals types) result }
+    requires ready { IsTrue (list_all (λ x. W.is_ready way.now x && (val_type (W.ty way.now x)).is_covered) items.now) }
+    ensures { let types = map (W.ty way.now) items.now in Writes S.rules (All (λ x. (local_run x).in_range) (local_runs types)) out.old out.new (locals types) result }
 {
     let start = out.size();
     out.push_bytes(&[0])?;
@@ -164,9 +163,9 @@ pub struct Locals<'a, T, W>(pub &'a [T], pub W);
 impl<'a, T, W: LocalType<T>> Encode for Locals<'a, T, W> {
     ghost spelling = { λ s. locals (map (W.ty s.1) s.0.now) };
 
-    ghost in_range = { λ s. InRangeVec InRangeValType (map (W.ty s.1) s.0.now) };
+    ghost in_range = { λ s. InRangeVec (λ x. (val_type x).in_range) (map (W.ty s.1) s.0.now) };
 
-    ghost is_ready = { λ s. list_all (λ x. W.is_ready s.1 x && is_covered_val_type (W.ty s.1 x)) s.0.now };
+    ghost is_ready = { λ s. list_all (λ x. W.is_ready s.1 x && (val_type (W.ty s.1 x)).is_covered) s.0.now };
 
     fn encode<S: Sink>(&self, out: &mut S) -> Result<(), Refusal> {
         if u32::try_from(self.0.len()).is_err() {

@@ -4,7 +4,7 @@ ghost use Rattle.std.specs.Prelude.{◌≡◌, ◌+◌, ◌==◌, ◌++◌, [], 
 ghost use Rattle.wasm_ops.specs.Leb128.{unsigned};
 ghost use Rattle.wasm_ops.specs.Spelling.{InRangeU32, InRangeSized, name, InRangeName};
 ghost use Rattle.wasm_out.specs.Built.{Adds, Appends, behind_count, empty};
-ghost use Rattle.wasm_out.specs.NameSectionBytes.{AppendsNames, name_entry, subsection, name_payload};
+ghost use Rattle.wasm_out.specs.NameSectionBytes.{AppendsNames, subsection, name_payload, name_entry};
 ghost use Rattle.wasm_out.specs.Parts.{section};
 ghost use Rattle.wasm_out.specs.NameSectionBytes as named;
 
@@ -78,7 +78,7 @@ impl NameMap {
     /// The map is unchanged then.
     pub fn append<'e>(&mut self, index: u32, text: &str) -> Result<(), Error<'e>>
         ensures { Adds (InRangeU32 (self.old.count + 1) × InRangeName text.now) self.old self.new
-            (name_entry (index, text.now)) result }
+            (name_entry (index, text.now)).bytes result }
     {
         self.items.push(&(index, Name(text)))
     }

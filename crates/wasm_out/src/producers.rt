@@ -3,7 +3,7 @@
 ghost use Rattle.std.specs.Prelude.{◌≡◌, ◌+◌, ◌==◌, ◌++◌};
 ghost use Rattle.wasm_ops.specs.Spelling.{InRangeU32, name, InRangeName};
 ghost use Rattle.wasm_out.specs.Built.{Adds, behind_count, empty};
-ghost use Rattle.wasm_out.specs.Producers.{producer_value, producers_payload};
+ghost use Rattle.wasm_out.specs.Producers.{producers_payload, producer_value};
 
 use crate::built_items::BuiltItems;
 use crate::sections::{CUSTOM_ID, Section};
@@ -64,7 +64,7 @@ impl ProducersField {
     /// The field is unchanged then.
     pub fn value<'e>(&mut self, text: &str, version: &str) -> Result<(), Error<'e>>
         ensures { Adds (InRangeU32 (self.old.count + 1) × (InRangeName text.now × InRangeName version.now))
-            self.old self.new (producer_value (text.now, version.now)) result }
+            self.old self.new (producer_value (text.now, version.now)).bytes result }
     {
         self.items.push(&(Name(text), Name(version)))
     }

@@ -7,7 +7,7 @@
 
 ghost use Rattle.std.specs.Prelude.{◌≡◌, IfOk, OnOk, All};
 ghost use Rattle.wasm_ops.specs.Table.{instrs, IsInstr};
-ghost use Rattle.wasm_out.specs.Bodies.{body_content, SpellsBody};
+ghost use Rattle.wasm_out.specs.Bodies.{SpellsBody, body_content};
 ghost use Rattle.wasm_out.specs.Reads.{Reads};
 ghost use Rattle.wasm_out_example.specs.SumModule.{sum_type, sum_instrs, sum_body, sum_module};
 
@@ -57,7 +57,7 @@ fn instructions<'e>(alloc: Global) -> Result<Vec<u8>, Error<'e>>
 
 /// Returns a body of these instructions, without locals.
 fn body<'e>(alloc: Global) -> Result<Function, Error<'e>>
-    ensures bytes { IfOk result (λ body. body ≡ body_content sum_body) }
+    ensures bytes { IfOk result (λ body. body ≡ (body_content sum_body).bytes) }
     ensures spells { IfOk result SpellsBody }
 {
     let mut body = Function::new_with_locals_types(alloc, &[])?;

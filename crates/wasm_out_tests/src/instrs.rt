@@ -1,7 +1,8 @@
 //! The bytes of instructions, by kinds of immediates.
 
 ghost use Rattle.std.specs.Prelude.{IsTrue};
-ghost use Rattle.wasm_ops.specs.Covered.{is_covered_heap_type, is_covered_ref_type};
+ghost use Rattle.wasm_ops.specs.Spelling as encodings;
+ghost use Rattle.wasm_ops.specs.Spelling.{ref_type};
 
 use std::alloc::Global;
 use std::process::Abort;
@@ -85,8 +86,8 @@ fn write_control<'e>(out: &mut Vec<u8>) -> Result<(), Error<'e>> {
 
 /// Returns a reference type.
 fn reference(nullable: bool, heap_type: HeapType) -> RefType
-    requires { IsTrue (is_covered_heap_type heap_type) }
-    ensures { IsTrue (is_covered_ref_type result) }
+    requires { IsTrue (encodings.heap_type heap_type).is_covered }
+    ensures { IsTrue (ref_type result).is_covered }
 {
     RefType {
         nullable,

@@ -1,7 +1,7 @@
 //! Runs of instructions with consecutive opcodes.
 
 ghost use Rattle.std.specs.Prelude.{IsTrue};
-ghost use Rattle.wasm_ops.specs.Memargs.{is_aligned, is_covered_memarg};
+ghost use Rattle.wasm_ops.specs.Memargs.{is_aligned, memarg};
 
 use std::alloc::Global;
 use std::process::Abort;
@@ -23,7 +23,7 @@ pub(crate) trait Row {
 /// Returns the memory argument of the first byte of memory 0.
 fn start() -> MemArg
     ensures aligned { IsTrue (is_aligned result) }
-    ensures covered { IsTrue (is_covered_memarg result) }
+    ensures covered { IsTrue (memarg result).is_covered }
 {
     MemArg {
         align: 0,

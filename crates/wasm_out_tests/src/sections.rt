@@ -5,11 +5,12 @@
 
 ghost use Rattle.std.specs.Prelude.{◌≡◌, IfOk, OnOk, IsTrue};
 ghost use Rattle.std.specs.List.{list_all};
-ghost use Rattle.wasm_ops.specs.Covered.{is_covered_heap_type, is_covered_ref_type, is_covered_sub_type, is_covered_val_type};
 ghost use Rattle.wast_base.specs.declared.index_ops.IndexOp.TheVariants as ops;
 ghost use Rattle.wasm_ops.specs.ConstantInstrs.{i32_const_instr, ref_null_instr};
 ghost use Rattle.wasm_ops.specs.IndexInstrs.{index_instr};
-ghost use Rattle.wasm_ops.specs.Table.{instr, IsInstr};
+ghost use Rattle.wasm_ops.specs.Table.{IsInstr, instr};
+ghost use Rattle.wasm_ops.specs.Spelling as encodings;
+ghost use Rattle.wasm_ops.specs.Spelling.{heap_type, ref_type, sub_type, val_type};
 ghost use Rattle.wasm_out.specs.Bodies.{SpellsBody};
 
 use std::alloc::Global;
@@ -29,7 +30,7 @@ use wast_base::{Error, Fault, Seq};
 
 /// Returns a call of the function at an index.
 fn call<'e>(alloc: Global, index: u32) -> Result<Vec<u8>, Error<'e>>
-    ensures bytes { IfOk result (λ v. v.items ≡ instr (index_instr ops.Call index)) }
+    ensures bytes { IfOk result (λ v. v.items ≡ (instr (index_instr ops.Call index)).bytes) }
     ensures in_range { OnOk result (IsInstr (index_instr ops.Call index)) }
 {
     let mut bytes = Vec::new(alloc);
@@ -39,7 +40,7 @@ fn call<'e>(alloc: Global, index: u32) -> Result<Vec<u8>, Error<'e>>
 
 /// Returns a body with these locals, which calls the function at an index.
 fn calling<'e>(alloc: Global, types: &[ValType], index: u32) -> Result<Function, Error<'e>>
-    requires { IsTrue (list_all is_covered_val_type types.now) }
+    requires { IsTrue (list_all (λ x. (val_type x).is_covered) types.now) }
     ensures { IfOk result SpellsBody }
 {
     let bytes = call(alloc, index)?;
@@ -51,7 +52,7 @@ fn calling<'e>(alloc: Global, types: &[ValType], index: u32) -> Result<Function,
 
 /// Returns an `i32.const`.
 fn i32_const<'e>(alloc: Global, value: i32) -> Result<Vec<u8>, Error<'e>>
-    ensures bytes { IfOk result (λ v. v.items ≡ instr (i32_const_instr value)) }
+    ensures bytes { IfOk result (λ v. v.items ≡ (instr (i32_const_instr value)).bytes) }
     ensures in_range { OnOk result (IsInstr (i32_const_instr value)) }
 {
     let mut bytes = Vec::new(alloc);
@@ -67,8 +68,8 @@ fn number<'e>(alloc: Global, value: i32) -> Result<ConstExpr, Error<'e>> {
 
 /// Returns a `ref.null`.
 fn ref_null<'e>(alloc: Global, heap_type: HeapType) -> Result<Vec<u8>, Error<'e>>
-    requires { IsTrue (is_covered_heap_type heap_type) }
-    ensures bytes { IfOk result (λ v. v.items ≡ instr (ref_null_instr heap_type)) }
+    requires { IsTrue (encodings.heap_type heap_type).is_covered }
+    ensures bytes { IfOk result (λ v. v.items ≡ (instr (ref_null_instr heap_type)).bytes) }
     ensures in_range { OnOk result (IsInstr (ref_null_instr heap_type)) }
 {
     let mut bytes = Vec::new(alloc);
@@ -78,7 +79,7 @@ fn ref_null<'e>(alloc: Global, heap_type: HeapType) -> Result<Vec<u8>, Error<'e>
 
 /// Returns the expression of a `ref.null`.
 fn null<'e>(alloc: Global, heap_type: HeapType) -> Result<ConstExpr, Error<'e>>
-    requires { IsTrue (is_covered_heap_type heap_type) }
+    requires { IsTrue (encodings.heap_type heap_type).is_covered }
 {
     let bytes = ref_null(alloc, heap_type)?;
     Ok(ConstExpr::raw(bytes))
@@ -86,7 +87,7 @@ fn null<'e>(alloc: Global, heap_type: HeapType) -> Result<ConstExpr, Error<'e>>
 
 /// Returns the heap type `func`.
 fn func() -> HeapType
-    ensures { IsTrue (is_covered_heap_type result) }
+    ensures { IsTrue (heap_type result).is_covered }
 {
     HeapType::Abstract {
         shared: false,
@@ -96,7 +97,7 @@ fn func() -> HeapType
 
 /// Returns the type `funcref`.
 fn funcref() -> RefType
-    ensures { IsTrue (is_covered_ref_type result) }
+    ensures { IsTrue (ref_type result).is_covered }
 {
     RefType {
         nullable: true,
@@ -106,7 +107,7 @@ fn funcref() -> RefType
 
 /// Returns a function type without parameters and results.
 fn plain(alloc: Global, is_final: bool) -> SubType
-    ensures { IsTrue (is_covered_sub_type result) }
+    ensures { IsTrue (sub_type result).is_covered }
 {
     let inner = CompositeInnerType::Func(FuncType {
         params: Seq::new(alloc),

@@ -1,5 +1,8 @@
+pub mod BlockCounts
 pub mod Keys
+pub mod ListTests
 pub mod Names
+pub mod Numbered
 pub mod Outcomes
 pub mod Positions
 pub mod Searches

@@ -4,7 +4,7 @@
 -- a fault with the bytes of its texts instead, so that definitions can compare errors.
 --
 --   E4 of "func" and "g" at offset 244     message "unknown func: failed to find name `$g`", number 4
-use Rattle.std.specs.Prelude.{ℕ, Bool, true, false, List, ◌++◌, codes, Option, Some, None}
+use Rattle.std.specs.Prelude.{ℕ, Bool, true, false, List, ◌==◌, ◌++◌, codes, if◌then◌else◌, Option, Some, None}
 use Rattle.std.specs.Fmt.{decimal}
 use Rattle.wast_base.specs.declared.ids.Span.{Span}
 use Rattle.wast_base.specs.declared.faults.Form.{Form}
@@ -142,3 +142,14 @@ fault_text fault.TooLarge = codes "too large"
 fault_text (fault.Uncovered f) = codes "uncovered form: " ++ form_text f
 fault_text fault.Memory = codes "out of memory"
 fault_text fault.Component = codes "components are not encoded"
+
+-- the message for the rule of well-formedness with this number; it is here because the AST and the text reader print it
+abbrev pub clause_text : ℕ → List ℕ
+clause_text n =
+    if n == 1 then codes "alignment must be a power of two"
+    else if n == 2 then codes "branch hints must be on instructions, in increasing order, with value 0 or 1"
+    else if n == 3 then codes "page size must be less than 2^64"
+    else if n == 4 then codes "element segment without a table must have type funcref"
+    else if n == 5 then codes "unbalanced blocks in constant expression"
+    else if n == 6 then codes "generated id does not name an item of its index space"
+    else codes "module is not well formed"

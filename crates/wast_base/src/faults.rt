@@ -1,7 +1,7 @@
 //! Errors: `Error` is a `Fault`, with its position in the source if it has one.
 
 ghost use Rattle.std.specs.Prelude.{◌≡◌, Some};
-ghost use Rattle.wast_base.specs.Faults.{fault_of, span_of, fault_number, is_placed, fault_text, form_text, unknown_text, unnamed_text, error_at, error_without_place, out_of_memory};
+ghost use Rattle.wast_base.specs.Faults.{fault_of, span_of, fault_number, is_placed, fault_text, form_text, unknown_text, unnamed_text, clause_text, error_at, error_without_place, out_of_memory};
 ghost use Rattle.std.specs.Prelude.{IsTrue, not};
 
 use crate::ids::Span;
@@ -184,6 +184,24 @@ impl fmt::Display for Form {
             Form::TargetArch => write!(f, "target architecture"),
             Form::Beyond => write!(f, "instruction beyond the table"),
         }
+    }
+}
+
+/// Returns the message for the rule of well-formedness with this number. Does not allocate.
+///
+/// For example, rule 1 has `alignment must be a power of two`. `ill_formed` of `wast_tree` lists the
+/// rules.
+pub fn clause_text(clause: u8) -> &'static str
+    ensures { result.now ≡ clause_text clause }
+{
+    match clause {
+        1 => "alignment must be a power of two",
+        2 => "branch hints must be on instructions, in increasing order, with value 0 or 1",
+        3 => "page size must be less than 2^64",
+        4 => "element segment without a table must have type funcref",
+        5 => "unbalanced blocks in constant expression",
+        6 => "generated id does not name an item of its index space",
+        _ => "module is not well formed",
     }
 }
 

@@ -47,7 +47,7 @@ mod seq;
 mod spaces;
 
 pub use boxed::Boxed;
-pub use faults::{Error, Fault, Form};
+pub use faults::{Error, Fault, Form, clause_text};
 pub use gensym::Gensym;
 pub use ids::{Id, Index, NameAnnotation, Span};
 pub use index_ops::{IndexOp, IndexPairOp};

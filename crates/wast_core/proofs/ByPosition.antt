@@ -5,7 +5,7 @@ use Rattle.std.specs.Prelude.{All, codes, if◌then◌else◌}
 use Rattle.std.specs.List.{flat_map}
 use mathlib.Core.Path.{fun_ext}
 use Rattle.wasm_ops.proofs.Everywhere.{all_both}
-use Rattle.wasm_out.specs.NameSectionBytes.{InRangeNameSubsection}
+use Rattle.wasm_out.specs.NameSectionBytes.{name_subsection}
 use Rattle.wasm_out.specs.Parts.{Part, part, InRangePart}
 use Rattle.wasm_out.specs.Reads.{header}
 use Rattle.wast_tree_nodes.specs.Generations.{greatest_generation}
@@ -22,7 +22,7 @@ use Rattle.wast_core.specs.declared.slots.Slot.TheVariants as slot
 use Rattle.wast_core.specs.Slots.{order}
 use Rattle.wast_tree_nodes.specs.Customs.{customs_at, is_custom_called}
 use Rattle.wast_core.specs.Tree.{CustomPlace}
-use Rattle.wast_core_conv.specs.Customs.{InRangeCustomBytes}
+use Rattle.wast_core_conv.specs.Customs.{custom_bytes}
 use Rattle.wast_core.specs.Tree.field
 use Rattle.wast_core_name_section.specs.NamesPart.{names_part}
 use Rattle.wast_core.specs.Hints.{hinted_functions, InRangeHints}
@@ -73,9 +73,9 @@ module _ (name : Option (List ℕ)) where
     parts_same = ap (λ (f : Slot → List Part). flat_map f order) slots_same
 
     held_same : (s : Slot) → InRangeHeld name xs s → InRangeHeld name ys s
-    held_same (slot.Custom place) h = subst (All InRangeCustomBytes) (customs_same place) h
+    held_same (slot.Custom place) h = subst (All (λ x. (custom_bytes x).in_range)) (customs_same place) h
     held_same slot.Hints h = subst InRangeHints hinted_same h
-    held_same slot.Names h = subst (All InRangeNameSubsection) names_same h
+    held_same slot.Names h = subst (All (λ x. (name_subsection x).in_range)) names_same h
     held_same s h = h
 
     range_same : InRangeModule name xs → InRangeModule name ys

@@ -5,8 +5,6 @@ use Rattle.std.specs.Global.{Vec}
 use Rattle.wast_base.specs.declared.faults.Error.{Error}
 use Rattle.wast_base.specs.declared.faults.Form.{Form}
 use Rattle.wast_tree_nodes.specs.Generations.{greatest_generation}
-use Rattle.wast_tree_nodes.specs.Items.{items}
-use Rattle.wast_tree_nodes.specs.Known.{id_context}
 use Rattle.wast_tree_nodes.specs.WellFormed.{is_well_formed}
 use Rattle.wast_resolve_rules.specs.Finished.{resolved_fields_from}
 use Rattle.wast_resolve_passes.specs.Resolvers.{KnownNames}
@@ -28,8 +26,7 @@ use Rattle.wast_core.proofs.ByPosition.{means_what_is_written, written_where_mea
 pub at_rest : FinishedStaysWellFormed → FinishedIsResolved → FinishedIsWrittenOut → (n : ℕ) (fields : List ModuleField)
     → greatest_generation fields < n → is_well_formed fields ≡ true → IsMet fields → is_at_rest (resolved_fields_from n fields) ≡ true
 at_rest stays resolved written n fields above h met =
-    let new = resolved_fields_from n fields in
-    fields_at_rest (id_context (items new)) new (stays n fields above h met) (resolved n fields above met) (written n fields)
+    fields_at_rest (resolved_fields_from n fields) (stays n fields above h met) (resolved n fields above met) (written n fields)
 
 -- Encoding a resolved module returns what encoding the module before it was resolved returns.
 unwritten : SamePositions → (form : Option Form) (n : ℕ) (name : Option (List ℕ)) (fields : List ModuleField) (e : Error) → greatest_generation fields < n → IsMet fields → IsUnwritten form (IsWritable name (resolved_fields_from n fields)) e → IsUnwritten form (IsBounded n name fields) e

@@ -12,7 +12,7 @@ use Rattle.wasm_ops.specs.Sinks.{SinkRules, Writes, AppendLaws}
 use Rattle.wasm_ops.specs.Spelling.{InRangeU32, InRangeName, vec, name}
 use Rattle.wasm_ops.proofs.Everywhere.{all_one, flat_one}
 use Rattle.wasm_ops.proofs.Sinking.{written_as}
-use Rattle.wasm_out.specs.Hints.{function_hints, hints, hints_name, hints_payload}
+use Rattle.wasm_out.specs.Hints.{hints_name, hints_payload, function_hints, hints}
 use Rattle.wasm_out.specs.Parts.{Custom, Part, section, part, InRangePart}
 use Rattle.wast_core_conv.specs.Hints.{HintedBody, as_hinted}
 use Rattle.wast_tree_nodes.specs.Imports.{item_sigs}
@@ -93,10 +93,10 @@ hinted_at_most xs k x lt item =
     )
 
 -- The hints of functions are written as their values.
-pub hints_are_these : (fs : List (ℕ × HintedBody)) → vec hinted_function fs ≡ hints (map as_function_hints fs)
+pub hints_are_these : (fs : List (ℕ × HintedBody)) → vec hinted_function fs ≡ (hints (map as_function_hints fs)).bytes
 hints_are_these fs =
     ap (λ (n : ℕ). unsigned n ++ flat_map hinted_function fs) (sym (length-map fs as_function_hints))
-    ∙ ap (λ (bs : List ℕ). unsigned (length (map as_function_hints fs)) ++ bs) (sym (flat_map-map function_hints as_function_hints fs))
+    ∙ ap (λ (bs : List ℕ). unsigned (length (map as_function_hints fs)) ++ bs) (sym (flat_map-map (λ x. (function_hints x).bytes) as_function_hints fs))
 
 -- The section is the name, the number of functions, and each of them.
 abbrev pub held : ℕ → List (ℕ × HintedBody) → List ℕ
@@ -113,7 +113,7 @@ pub section_written : {S A : Type 0} (rules : SinkRules S) (fs : List (ℕ × Hi
 section_written rules [] a b n r count some p = absurd (some count)
 section_written rules (f ∷ fs) a b n r count some p =
     let all = f ∷ fs in
-    let bytes = hints (map as_function_hints all) in
+    let bytes = (hints (map as_function_hints all)).bytes in
     let here : Part = record { kind = Custom; items = record { name = hints_name; bytes = bytes } } in
     let payload : held n all ≡ hints_payload bytes = ap (λ (m : ℕ). name hints_name ++ (unsigned m ++ flat_map hinted_function all)) count ∙ ap hints_payload (hints_are_these all) in
     written_as rules (Unit {0} × (InRangeU32 (length (held n all)) × InRangeHeld n all)) (All InRangePart (hints_part all) × InRangeHints all) a b

@@ -10,7 +10,7 @@ use Rattle.std.proofs.lemmas.List.Folds.{list_any-append}
 use Rattle.wast_tree_nodes.specs.DataBytes.{all_bytes}
 use Rattle.wast_tree_nodes.specs.Items.{Item, items_in}
 use Rattle.wasm_ops.proofs.Everywhere.{all_left, all_right}
-use Rattle.wasm_out.specs.DataSegments.{DataEntry, InRangeDataEntry}
+use Rattle.wasm_out.specs.DataSegments.{DataEntry, data_entry}
 use Rattle.wasm_out.specs.Parts.{Data, InRangePart}
 use Rattle.wast_tree_map.specs.Mapped.{Change, mapped_field}
 use Rattle.wast_expand_inline.specs.Segments.{are_too_many, overflows_kind, has_oversized_data}
@@ -93,21 +93,21 @@ stays_long fields h =
     ∙ (list_any-append is_long xs types ∙ first_true (any_long xs) (any_long types) (after_long [] fields h)))
 
 -- But if everything is in range, there is none.
-not_long : (x : ModuleField) → All InRangeDataEntry (entries_in Data x) → is_long x ≡ false
-not_long (field.Data d) h = ap not (lt-ltb (length (all_bytes d.bytes)) (2 ^ 32) (All-head InRangeDataEntry _ [] h).1)
+not_long : (x : ModuleField) → All (λ x. (data_entry x).in_range) (entries_in Data x) → is_long x ≡ false
+not_long (field.Data d) h = ap not (lt-ltb (length (all_bytes d.bytes)) (2 ^ 32) (All-head (λ x. (data_entry x).in_range) _ [] h).1)
 not_long x h = refl
 
-none_long : (xs : List ModuleField) → All InRangeDataEntry (entries Data xs) → any_long xs ≡ false
+none_long : (xs : List ModuleField) → All (λ x. (data_entry x).in_range) (entries Data xs) → any_long xs ≡ false
 none_long [] h = refl
 none_long (x ∷ xs) h =
-    ap (λ b. b || any_long xs) (not_long x (all_left InRangeDataEntry (entries_in Data x) (entries Data xs) h)) ∙ none_long xs (all_right InRangeDataEntry (entries_in Data x) (entries Data xs) h)
+    ap (λ b. b || any_long xs) (not_long x (all_left (λ x. (data_entry x).in_range) (entries_in Data x) (entries Data xs) h)) ∙ none_long xs (all_right (λ x. (data_entry x).in_range) (entries_in Data x) (entries Data xs) h)
 
-all_in_range : (ds : List DataEntry) → All InRangePart (section_part Data ds) → All InRangeDataEntry ds
-all_in_range [] h = All-nil InRangeDataEntry
+all_in_range : (ds : List DataEntry) → All InRangePart (section_part Data ds) → All (λ x. (data_entry x).in_range) ds
+all_in_range [] h = All-nil (λ x. (data_entry x).in_range)
 all_in_range (d ∷ ds) h = (All-head InRangePart _ [] h).1.1
 
 -- The section has its position in the order.
-data_in_range : (name : Option (List ℕ)) (xs : List ModuleField) → InRangeModule name xs → All InRangeDataEntry (entries Data xs)
+data_in_range : (name : Option (List ℕ)) (xs : List ModuleField) → InRangeModule name xs → All (λ x. (data_entry x).in_range) (entries Data xs)
 data_in_range name xs h = all_in_range (entries Data xs) (h 37 slot.Names (omega arith)).0
 
 pub too_large_is_unbounded : TooLargeIsUnbounded

@@ -53,22 +53,22 @@ list_split f (y ∷ ys) (suc n) x h = ap (λ z. f y ++ z) (list_split f ys n x h
 content_regrouped : (l t i d e : List ℕ) → l ++ ((t ++ (i ++ d)) ++ e) ≡ (l ++ t) ++ (i ++ (d ++ e))
 content_regrouped l t i d e = simp append_assoc
 
-content_split : (b : Body) (n : ℕ) (i : Instr) → slice_get b.instrs n ≡ Some i → body_content b ≡ bytes_before b n ++ (instr i ++ (flat_map instr (drop (suc n) b.instrs) ++ 0x0b ∷ []))
+content_split : (b : Body) (n : ℕ) (i : Instr) → slice_get b.instrs n ≡ Some i → (body_content b).bytes ≡ bytes_before b n ++ ((instr i).bytes ++ (flat_map (λ x. (instr x).bytes) (drop (suc n) b.instrs) ++ 0x0b ∷ []))
 content_split b n i h =
-    ap (λ (z : List ℕ). locals b.locals ++ (z ++ 0x0b ∷ [])) (list_split instr b.instrs n i h)
-    ∙ content_regrouped (locals b.locals) (flat_map instr (take n b.instrs)) (instr i) (flat_map instr (drop (suc n) b.instrs)) (0x0b ∷ [])
+    ap (λ (z : List ℕ). locals b.locals ++ (z ++ 0x0b ∷ [])) (list_split (λ x. (instr x).bytes) b.instrs n i h)
+    ∙ content_regrouped (locals b.locals) (flat_map (λ x. (instr x).bytes) (take n b.instrs)) (instr i).bytes (flat_map (λ x. (instr x).bytes) (drop (suc n) b.instrs)) (0x0b ∷ [])
 
 -- ---- The code section, at a body.
 
 code_regrouped : (l n x s c y : List ℕ) → l ++ (n ++ (x ++ ((s ++ c) ++ y))) ≡ (l ++ (n ++ (x ++ s))) ++ (c ++ y)
 code_regrouped l n x s c y = simp append_assoc
 
-code_split : (all xs ys : List Body) (b : Body) → all ≡ xs ++ b ∷ ys → part (record { kind = Listed Code; items = all }) ≡ up_to_size all xs b ++ (body_content b ++ flat_map body ys)
+code_split : (all xs ys : List Body) (b : Body) → all ≡ xs ++ b ∷ ys → part (record { kind = Listed Code; items = all }) ≡ up_to_size all xs b ++ ((body_content b).bytes ++ flat_map body ys)
 code_split all xs ys b e =
     let long = unsigned (length (vec body all)) in
     let many = unsigned (length all) in
     ap (λ (z : List ℕ). section_id Code ∷ (long ++ (many ++ z))) (ap (flat_map body) e ∙ flat_map-append body xs (b ∷ ys))
-    ∙ ap (λ (z : List ℕ). section_id Code ∷ z) (code_regrouped long many (flat_map body xs) (unsigned (length (body_content b))) (body_content b) (flat_map body ys))
+    ∙ ap (λ (z : List ℕ). section_id Code ∷ z) (code_regrouped long many (flat_map body xs) (unsigned (length (body_content b).bytes)) (body_content b).bytes (flat_map body ys))
 
 one_section : (xs ys : List Body) (b : Body) → section_part Code (xs ++ b ∷ ys) ≡ record { kind = Listed Code; items = xs ++ b ∷ ys } ∷ []
 one_section [] ys b = refl
@@ -108,7 +108,7 @@ spelled_at bytes name before behind f n i reads h =
     let upto = flat_map part (flat_map (in_slot name fields) (until_code order)) in
     let last = flat_map part (flat_map (in_slot name fields) behind_code) in
     let size = up_to_size all xs b in
-    let rest = flat_map instr (drop (suc n) b.instrs) ++ 0x0b ∷ [] in
+    let rest = flat_map (λ x. (instr x).bytes) (drop (suc n) b.instrs) ++ 0x0b ∷ [] in
     record {
       between = bytes_before b n;
       behind = (rest ++ flat_map body ys) ++ last;
@@ -117,7 +117,7 @@ spelled_at bytes name before behind f n i reads h =
           reads.spelled
           ∙ (ap (λ (z : List ℕ). header ++ z) (module_split name fields one)
           ∙ (ap (λ (z : List ℕ). header ++ (upto ++ (z ++ last))) (code_split all xs ys b bodies ∙ ap (λ (z : List ℕ). size ++ (z ++ flat_map body ys)) (content_split b n i h))
-          ∙ whole_regrouped header upto size (bytes_before b n) (instr i) rest (flat_map body ys) last));
+          ∙ whole_regrouped header upto size (bytes_before b n) (instr i).bytes rest (flat_map body ys) last));
     }
 
 pub hints_point : HintsPointAtInstructions

@@ -2,15 +2,17 @@
 use Rattle.std.proofs.Common.{◌≡◌, ◌<◌, ℕ, Bool, true, false, List, [], ◌∷◌, ◌++◌, map, length, Option, Some, None, option_map, refl}
 use Rattle.std.specs.Prelude.{All, IsTrue, codes, if◌then◌else◌}
 use Rattle.std.specs.List.{flat_map}
+use Rattle.std.specs.Option.{option_to_list}
 use Rattle.std.specs.Str.{is_utf8}
-use Rattle.std.proofs.lemmas.List.Elements.{All-nil, All-map}
+use Rattle.std.proofs.lemmas.List.Elements.{All-nil, All-cons, All-map}
 use Rattle.std.proofs.lemmas.Str.{is_utf8-from_IsUtf8}
 use lib.Utf8.{encode}
 use Rattle.wasm_ops.proofs.Everywhere.{all_each, all_one, all_both, all_tested, all_in_flat}
 use Rattle.wast_tree_nodes.specs.Sites.{Site, check_sites, uncovered_check, in_id, in_rec, in_sig, in_shared_id, in_import, in_table_type, in_global_type}
+use Rattle.wasm_ops.specs.ConstExprs.{HasRowsExpression, IsBalancedExpression}
 use Rattle.wasm_out.specs.NameSectionBytes.{NameSubsection}
-use Rattle.wasm_out.specs.Parts.{SectionKind, Types, Imports, Functions, Tables, Memories, Tags, Globals, Exports, Elements, Code, Data, Single, Entry, Listed, DataCount, InRangePart}
-use Rattle.wasm_out.specs.Readable.{is_covered_init, HasRowsInit, is_balanced_init, is_covered_entry, HasRows, is_balanced_entry, HasUtf8Name, IsReadable, IsReadablePart}
+use Rattle.wasm_out.specs.Parts.{SectionKind, Types, Imports, Functions, Tables, Memories, Tags, Globals, Exports, Elements, Code, Data, Single, Entry, Listed, DataCount, InRangePart, item, table_init}
+use Rattle.wasm_out.specs.Readable.{expressions, instructions, names, IsReadable, IsReadablePart}
 use Rattle.wasm_out.specs.Reads.{Reads}
 use Rattle.wast_core.specs.Tree.{Id, Index, Expression, FuncKind, Func, GlobalType, ImportItems, TableKind, Table, Memory, GlobalKind, Global, Tag, Rec, Export, Elem, Custom, ModuleField}
 use Rattle.wast_core.specs.Tree as tree
@@ -49,7 +51,10 @@ use Rattle.wast_core_conv.proofs.TypesReady.{def_covered, locals_covered, types_
 
 -- ---- What an entry is read as.
 
-plain : (k : SectionKind) (e : Entry k) → IsTrue (is_covered_entry k e) → HasRows k e → IsTrue (is_balanced_entry k e) → HasUtf8Name k e → All (IsReadable k) (e ∷ [])
+abbrev IsText : List ℕ → Type 0
+IsText text = IsTrue (is_utf8 text)
+
+plain : (k : SectionKind) (e : Entry k) → IsTrue (item k e).is_covered → All HasRowsExpression (instructions k e) → All IsBalancedExpression (expressions k e) → All IsText (names k e) → All (IsReadable k) (e ∷ [])
 plain k e covered rows balanced name = all_one (IsReadable k) e record { covered = covered; rows = rows; balanced = balanced; name = name }
 
 nothing_more : (k : SectionKind) → All (IsReadable k) []
@@ -64,47 +69,50 @@ shared_fails ss [] None e = group_fails ss e
 shared_fails ss [] (Some id) e = let no = (both_lists is_entered_site ss (check_sites (in_id id ++ uncovered_check form.CompactImports)) e).1 in cc
 shared_fails ss (name ∷ names) id e = group_fails ss e
 
+both_names : (source name : List ℕ) → IsText source × IsText name → All IsText (source ∷ name ∷ [])
+both_names source name h = All-cons IsText source (name ∷ []) h.0 (all_one IsText name h.1)
+
 import_read : (i : ImportItems) → are_entered (in_import i) ≡ true → HasUtf8Items i → All (IsReadable Imports) (as_imports i ∷ [])
-import_read (import_items.Single source name sig) e h = plain Imports (as_imports (import_items.Single source name sig)) (kind_covered sig.kind e) tt refl h
+import_read (import_items.Single source name sig) e h = plain Imports (as_imports (import_items.Single source name sig)) (kind_covered sig.kind e) (All-nil HasRowsExpression) (All-nil IsBalancedExpression) (both_names source.now name.now h)
 import_read (import_items.Group1 source items) e h = absurd (group_fails (flat_map (λ p. in_sig p.1) items) e)
 import_read (import_items.Group2 source sig names) e h = absurd (shared_fails (in_sig sig) names sig.id e)
 
-init_covered : (o : Option Expression) → is_encodable_init o ≡ true → is_covered_init (option_map meaning.as_expression o) ≡ true
+init_covered : (o : Option Expression) → is_encodable_init o ≡ true → (table_init (option_map meaning.as_expression o)).is_covered ≡ true
 init_covered None e = refl
 init_covered (Some x) e = expression_covered x e
 
-init_rows : (o : Option Expression) → is_encodable_init o ≡ true → HasRowsInit (option_map meaning.as_expression o)
-init_rows None e = tt
-init_rows (Some x) e = expression_rows x e
+init_rows : (o : Option Expression) → is_encodable_init o ≡ true → All HasRowsExpression (option_to_list (option_map meaning.as_expression o))
+init_rows None e = All-nil HasRowsExpression
+init_rows (Some x) e = all_one HasRowsExpression (meaning.as_expression x) (expression_rows x e)
 
-init_balanced : (o : Option Expression) → is_encodable_init o ≡ true → is_balanced_init (option_map meaning.as_expression o) ≡ true
-init_balanced None e = refl
-init_balanced (Some x) e = expression_balanced x e
+init_balanced : (o : Option Expression) → is_encodable_init o ≡ true → All IsBalancedExpression (option_to_list (option_map meaning.as_expression o))
+init_balanced None e = All-nil IsBalancedExpression
+init_balanced (Some x) e = all_one IsBalancedExpression (meaning.as_expression x) (expression_balanced x e)
 
 table_read : (k : TableKind) → is_encodable_table_kind k ≡ true → All (IsReadable Tables) (table_of k ∷ [])
 table_read (table.Import import ty) e = absurd cc
 table_read (table.Inline ty is64 shared elements) e = absurd cc
 table_read (table.Normal ty init) e =
     let both = both_pass (are_encodable (in_table_type ty)) (is_encodable_init init) e in
-    plain Tables (table_of (table.Normal ty init)) (both_true _ _ (table_covered ty both.0) (init_covered init both.1)) (init_rows init both.1) (init_balanced init both.1) tt
+    plain Tables (table_of (table.Normal ty init)) (both_true _ _ (table_covered ty both.0) (init_covered init both.1)) (init_rows init both.1) (init_balanced init both.1) (All-nil IsText)
 
 global_read : (t : GlobalType) (k : GlobalKind) → are_encodable (in_global_type t) ≡ true → is_encodable_global_kind k ≡ true
     → All (IsReadable Globals) (record { ty = meaning.as_global_type t; init = value_of k } ∷ [])
 global_read t (global.Import import) e f = absurd cc
 global_read t (global.Inline x) e f =
-    plain Globals (record { ty = meaning.as_global_type t; init = meaning.as_expression x }) (both_true _ _ (global_covered t e) (expression_covered x f)) (expression_rows x f) (expression_balanced x f) tt
+    plain Globals (record { ty = meaning.as_global_type t; init = meaning.as_expression x }) (both_true _ _ (global_covered t e) (expression_covered x f)) (all_one HasRowsExpression (meaning.as_expression x) (expression_rows x f)) (all_one IsBalancedExpression (meaning.as_expression x) (expression_balanced x f)) (All-nil IsText)
 
 code_read : (k : FuncKind) → is_encodable_kind k ≡ true → All (IsReadable Code) (meaning.as_body k ∷ [])
 code_read (func.Import import exact) e = absurd cc
 code_read (func.Inline locals x) e =
     let both = body_parts locals x e in
-    plain Code (meaning.body_of locals x.instrs) (both_true _ _ (locals_covered locals both.0) (instrs_covered x.instrs both.1)) (instrs_rows x.instrs both.1) refl tt
+    plain Code (meaning.body_of locals x.instrs) (both_true _ _ (locals_covered locals both.0) (instrs_covered x.instrs both.1)) (all_one HasRowsExpression (meaning.as_expression x) (instrs_rows x.instrs both.1)) (All-nil IsBalancedExpression) (All-nil IsText)
 
 elem_read : (x : Elem) → is_encodable_elem x ≡ true → All (IsReadable Elements) (meaning.as_element x ∷ [])
-elem_read x e = plain Elements (meaning.as_element x) (elem_covered x e) (elem_rows x e) (elem_balanced x e) tt
+elem_read x e = plain Elements (meaning.as_element x) (elem_covered x e) (elem_rows x e) (elem_balanced x e) (All-nil IsText)
 
 data_read : (x : tree.Data) → is_encodable_data x ≡ true → All (IsReadable Data) (meaning.as_data x ∷ [])
-data_read x e = plain Data (meaning.as_data x) (place_covered x.kind e) (place_rows x.kind e) (place_balanced x.kind e) tt
+data_read x e = plain Data (meaning.as_data x) (place_covered x.kind e) (place_rows x.kind e) (place_balanced x.kind e) (All-nil IsText)
 
 -- ---- What a field adds to the sections is readable.
 
@@ -112,11 +120,11 @@ abbrev AreReadable : Contribution → Type 0
 AreReadable c = (k : SectionKind) → All (IsReadable k) (of_kind k c)
 
 type_readable : (t : ty.«Type») → is_encodable_type t ≡ true → AreReadable (of_type t)
-type_readable t e Types = plain Types (Single (meaning.as_sub_type t.def)) (def_covered t.def e) tt refl tt
+type_readable t e Types = plain Types (Single (meaning.as_sub_type t.def)) (def_covered t.def e) (All-nil HasRowsExpression) (All-nil IsBalancedExpression) (All-nil IsText)
 type_readable t e k = nothing_more k
 
 rec_readable : (r : Rec) → are_encodable (in_rec r) ≡ true → AreReadable (of_rec r)
-rec_readable r e Types = plain Types (meaning.as_group r) (types_covered r e) tt refl tt
+rec_readable r e Types = plain Types (meaning.as_group r) (types_covered r e) (All-nil HasRowsExpression) (All-nil IsBalancedExpression) (All-nil IsText)
 rec_readable r e k = nothing_more k
 
 import_readable : (i : tree.Imports) → is_encodable_import i ≡ true → HasUtf8Items i.items → AreReadable (of_import i)
@@ -124,7 +132,7 @@ import_readable i e h Imports = import_read i.items e h
 import_readable i e h k = nothing_more k
 
 func_readable : (f : Func) → is_encodable_kind f.kind ≡ true → AreReadable (of_func f)
-func_readable f e Functions = plain Functions (meaning.type_index f.ty) refl tt refl tt
+func_readable f e Functions = plain Functions (meaning.type_index f.ty) refl (All-nil HasRowsExpression) (All-nil IsBalancedExpression) (All-nil IsText)
 func_readable f e Code = code_read f.kind e
 func_readable f e k = nothing_more k
 
@@ -133,7 +141,7 @@ table_readable t e Tables = table_read t.kind e
 table_readable t e k = nothing_more k
 
 memory_readable : (m : Memory) → AreReadable (of_memory m)
-memory_readable m Memories = plain Memories (meaning.as_memory m) refl tt refl tt
+memory_readable m Memories = plain Memories (meaning.as_memory m) refl (All-nil HasRowsExpression) (All-nil IsBalancedExpression) (All-nil IsText)
 memory_readable m k = nothing_more k
 
 global_readable : (g : Global) → is_encodable_global g ≡ true → AreReadable (of_global g)
@@ -143,7 +151,7 @@ global_readable g e Globals =
 global_readable g e k = nothing_more k
 
 export_readable : (x : Export) → IsTrue (is_utf8 x.name.now) → AreReadable (of_export x)
-export_readable x h Exports = plain Exports (meaning.as_export x) refl tt refl h
+export_readable x h Exports = plain Exports (meaning.as_export x) refl (All-nil HasRowsExpression) (All-nil IsBalancedExpression) (all_one IsText x.name.now h)
 export_readable x h k = nothing_more k
 
 start_readable : (i : Index) → AreReadable (of_start i)
@@ -159,7 +167,7 @@ data_readable x e Data = data_read x e
 data_readable x e k = nothing_more k
 
 tag_readable : (t : Tag) → AreReadable (of_tag t)
-tag_readable t Tags = plain Tags (meaning.as_tag t) refl tt refl tt
+tag_readable t Tags = plain Tags (meaning.as_tag t) refl (All-nil HasRowsExpression) (All-nil IsBalancedExpression) (All-nil IsText)
 tag_readable t k = nothing_more k
 
 nothing_readable : AreReadable no_contribution

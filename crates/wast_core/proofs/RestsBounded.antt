@@ -3,6 +3,7 @@ use Rattle.std.proofs.Common.{◌≡◌, ℕ, ◌+◌, ◌<◌, ◌^◌, true, L
 use Rattle.std.specs.List.{flat_map, list_all}
 use Rattle.std.proofs.lemmas.List.{length-map}
 use Rattle.wast_base.specs.Filling.{one_if, missing_id_count}
+use Rattle.wast_base.proofs.Numbered.{denoted_still}
 use Rattle.wast_tree_nodes.specs.Generations.{greatest_generation}
 use Rattle.wast_tree_nodes.specs.Items.{items}
 use Rattle.wast_tree_nodes.specs.Known.{IdContext}
@@ -29,7 +30,7 @@ use Rattle.wast_resolve_laws.specs.Rests.{RestsByPosition, FillsNoMore}
 use Rattle.wast_resolve_laws.proofs.Explicit.{finished_indexed, finished_written_out}
 use Rattle.wast_resolve_laws.proofs.Indexed.{expanded_says, still_says}
 use Rattle.wast_resolve_laws.proofs.NumberedSites.{rested, at_still}
-use Rattle.wast_resolve_laws.proofs.NumberedTypes.{numbered_shape, denoted_still}
+use Rattle.wast_resolve_laws.proofs.NumberedTypes.{numbered_shape}
 use Rattle.wast_resolve_laws.proofs.Resting.{scope_rests}
 use Rattle.wast_resolve_laws.proofs.Settled.{explicit_is}
 use Rattle.wast_core.specs.Tree.{Index, FunctionType, TypeUse, FuncKind, Local, ModuleField}

@@ -8,10 +8,10 @@ use Rattle.std.proofs.lemmas.List.Elements.{All-nil, All-from_recursion}
 use Rattle.std.proofs.lemmas.Str.{is_utf8-from_IsUtf8}
 use lib.Utf8.{encode}
 use Rattle.wasm_ops.specs.Leb128.{unsigned, unsigned_in}
-use Rattle.wasm_ops.specs.Spelling.{InRangeValType, InRangeU32, InRangeVec}
-use Rattle.wasm_ops.specs.Table.{InRangeInstr}
+use Rattle.wasm_ops.specs.Spelling.{InRangeU32, InRangeVec, val_type}
+use Rattle.wasm_ops.specs.Table.{instr}
 use Rattle.wasm_ops.proofs.Everywhere.{all_each, all_one, all_both, all_of_flat, all_tested}
-use Rattle.wasm_out.specs.NameSectionBytes.{InRangeNameEntry, InRangeNameSubsection}
+use Rattle.wasm_out.specs.NameSectionBytes.{name_entry, name_subsection}
 use Rattle.wasm_out.specs.Parts.{Types, Functions, Exports, Code, InRangeEntry, InRangePart}
 use Rattle.wasm_out.specs.Reads.{Reads}
 use Rattle.wasm_out.specs.WorkedBytes as out
@@ -30,7 +30,7 @@ use Rattle.wast_core.specs.Meaning.{in_slot, subsections_of, parts, meaning}
 use Rattle.wast_core.specs.Utf8Names.{HasUtf8Names}
 use Rattle.wast_tree_nodes.specs.Customs.{customs_at}
 use Rattle.wast_core.specs.Tree.{CustomPlace}
-use Rattle.wast_core_conv.specs.Customs.{InRangeCustomBytes}
+use Rattle.wast_core_conv.specs.Customs.{custom_bytes}
 use Rattle.wast_core.specs.Slots.{order}
 use Rattle.wast_core.specs.WorkedMeanings.{Row1, Row2, Row8, Row24, Row27, AnnotatedFunction, SecondNamed, LongSection}
 use Rattle.wast_core.proofs.Readings.{reads_module}
@@ -53,7 +53,7 @@ one : {A : Type 0} (P : A → Type 0) (x : A) → P x → InRangeVec P (x ∷ []
 one P x h = (omega arith, all_one P x h)
 
 -- What is in range in the parts and in the names is so at each position.
-each_place : (name : Option (List ℕ)) (fields : List ModuleField) → All InRangePart (parts name fields) → ((place : CustomPlace) → All InRangeCustomBytes (customs_at place fields)) → InRangeHints (hinted_functions fields) → All InRangeNameSubsection (subsections_of name fields) → InRangeModule name fields
+each_place : (name : Option (List ℕ)) (fields : List ModuleField) → All InRangePart (parts name fields) → ((place : CustomPlace) → All (λ x. (custom_bytes x).in_range) (customs_at place fields)) → InRangeHints (hinted_functions fields) → All (λ x. (name_subsection x).in_range) (subsections_of name fields) → InRangeModule name fields
 each_place name fields h customs hints names = all_both (λ s. All InRangePart (in_slot name fields s)) (InRangeHeld name fields) (InRangeSlot name fields) (λ s p q. (p, q)) order (all_of_flat InRangePart (in_slot name fields) order h) (all_each (InRangeHeld name fields) held order)
   where
     held : (s : Slot) → InRangeHeld name fields s
@@ -65,29 +65,29 @@ each_place name fields h customs hints names = all_both (λ s. All InRangePart (
     held slot.Names = names
 
 pub row1 : Row1
-row1 = (record { spaces = not_crowded [] refl refl; counter = omega arith; writable = record { in_range = each_place None [] (All-nil InRangePart) (λ place. All-nil InRangeCustomBytes) (none InRangeHinted) (All-nil InRangeNameSubsection); length = omega arith } }, refl)
+row1 = (record { spaces = not_crowded [] refl refl; counter = omega arith; writable = record { in_range = each_place None [] (All-nil InRangePart) (λ place. All-nil (λ x. (custom_bytes x).in_range)) (none InRangeHinted) (All-nil (λ x. (name_subsection x).in_range)); length = omega arith } }, refl)
 
 parts27 : All InRangePart out.worked_parts
 unfolding unsigned unsigned_in
 parts27 = All-from_recursion InRangePart out.worked_parts (
-  (omega arith, one (InRangeEntry Types) _ (none InRangeU32, (none InRangeValType, none InRangeValType))),
+  (omega arith, one (InRangeEntry Types) _ (none InRangeU32, (none (λ x. (val_type x).in_range), none (λ x. (val_type x).in_range)))),
   (
     (omega arith, one (InRangeEntry Functions) _ (omega arith)),
     (
       (omega arith, one (InRangeEntry Exports) _ (omega arith, omega arith)),
       (
-        (omega arith, one (InRangeEntry Code) _ (omega arith, record { locals = none InRangeValType; instrs = all_one InRangeInstr _ (omega arith, tt) })),
+        (omega arith, one (InRangeEntry Code) _ (omega arith, (none (λ x. (val_type x).in_range), all_one (λ x. (instr x).in_range) _ (omega arith, tt)))),
         ((omega arith, omega arith), tt),
       ),
     ),
   ),
 )
 
-names27 : (a b c d e f : Address) → All InRangeNameSubsection (subsections_of None (resolved_fields (by_positions (worked.row27 a b c d e f))))
+names27 : (a b c d e f : Address) → All (λ x. (name_subsection x).in_range) (subsections_of None (resolved_fields (by_positions (worked.row27 a b c d e f))))
 unfolding unsigned unsigned_in
-names27 a b c d e f = All-from_recursion InRangeNameSubsection (subsections_of None (resolved_fields (by_positions (worked.row27 a b c d e f)))) (
-  (omega arith, one InRangeNameEntry _ (omega arith, omega arith)),
-  ((omega arith, one InRangeNameEntry _ (omega arith, omega arith)), tt),
+names27 a b c d e f = All-from_recursion (λ x. (name_subsection x).in_range) (subsections_of None (resolved_fields (by_positions (worked.row27 a b c d e f)))) (
+  (omega arith, one (λ x. (name_entry x).in_range) _ (omega arith, omega arith)),
+  ((omega arith, one (λ x. (name_entry x).in_range) _ (omega arith, omega arith)), tt),
 )
 
 a_is_text : is_utf8 (codes "a") ≡ true
@@ -101,7 +101,7 @@ bounded27 : (a b c d e f : Address) → IsBounded 1 None (worked.row27 a b c d e
 unfolding unsigned unsigned_in
 bounded27 a b c d e f =
     let fields = worked.row27 a b c d e f in
-    record { spaces = not_crowded (explicit_fields fields) refl refl; counter = omega arith; writable = record { in_range = each_place None (resolved_fields (by_positions fields)) parts27 (λ place. All-nil InRangeCustomBytes) (none InRangeHinted) (names27 a b c d e f); length = omega arith } }
+    record { spaces = not_crowded (explicit_fields fields) refl refl; counter = omega arith; writable = record { in_range = each_place None (resolved_fields (by_positions fields)) parts27 (λ place. All-nil (λ x. (custom_bytes x).in_range)) (none InRangeHinted) (names27 a b c d e f); length = omega arith } }
 
 reads27 : (a b c d e f : Address) → Reads out.worked_bytes (meaning None (worked.row27 a b c d e f))
 unfolding unsigned unsigned_in

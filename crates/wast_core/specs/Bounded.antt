@@ -16,8 +16,8 @@ use Rattle.wast_core.specs.Meaning.{in_slot, parts, subsections_of}
 use Rattle.wast_core.specs.Slots.{order}
 use Rattle.wast_core.specs.declared.slots.Slot.{Slot}
 use Rattle.wast_core.specs.declared.slots.Slot.TheVariants as slot
-use Rattle.wasm_out.specs.NameSectionBytes.{InRangeNameSubsection}
-use Rattle.wast_core_conv.specs.Customs.{InRangeCustomBytes}
+use Rattle.wasm_out.specs.NameSectionBytes.{name_subsection}
+use Rattle.wast_core_conv.specs.Customs.{custom_bytes}
 use Rattle.wast_tree_nodes.specs.Customs.{customs_at}
 
 -- the bytes of a resolved list, of a module with this name
@@ -26,12 +26,12 @@ bytes_of name fields = header ++ flat_map part (parts name fields)
 
 -- the numbers, counts and lengths in the bytes of custom sections, of branch hints and of the name section are in range
 abbrev pub InRangeHeld : Option (List ℕ) → List ModuleField → Slot → Type 0
-InRangeHeld name fields (slot.Custom place) = All InRangeCustomBytes (customs_at place fields)
+InRangeHeld name fields (slot.Custom place) = All (λ x. (custom_bytes x).in_range) (customs_at place fields)
 InRangeHeld name fields (slot.Section kind) = Unit {0}
 InRangeHeld name fields slot.Start = Unit {0}
 InRangeHeld name fields slot.DataCount = Unit {0}
 InRangeHeld name fields slot.Hints = InRangeHints (hinted_functions fields)
-InRangeHeld name fields slot.Names = All InRangeNameSubsection (subsections_of name fields)
+InRangeHeld name fields slot.Names = All (λ x. (name_subsection x).in_range) (subsections_of name fields)
 
 -- the numbers, counts and lengths in the parts of a place are in range, and those held there
 abbrev pub InRangeSlot : Option (List ℕ) → List ModuleField → Slot → Type 0

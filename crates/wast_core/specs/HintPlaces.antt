@@ -25,7 +25,7 @@ pub record IsSpelledAt (bytes front : List ℕ) (offset : ℕ) (i : Instr) : Typ
   pub between : List ℕ
   pub behind : List ℕ
   pub counted : length between ≡ offset
-  pub spelled : bytes ≡ front ++ (between ++ (instr i ++ behind))
+  pub spelled : bytes ≡ front ++ (between ++ ((instr i).bytes ++ behind))
 
 -- The positions before the code section.
 abbrev pub until_code : List Slot → List Slot
@@ -36,7 +36,7 @@ until_code (s ∷ ss) = s ∷ until_code ss
 -- A code section with these bodies, up to the end of the size of one: its id, its length, the number of bodies, the
 -- bodies before that one, and the size.
 abbrev pub up_to_size : List Body → List Body → Body → List ℕ
-up_to_size all before b = section_id Code ∷ (unsigned (length (vec body all)) ++ (unsigned (length all) ++ (flat_map body before ++ unsigned (length (body_content b)))))
+up_to_size all before b = section_id Code ∷ (unsigned (length (vec body all)) ++ (unsigned (length all) ++ (flat_map body before ++ unsigned (length (body_content b).bytes))))
 
 -- The bytes of a module up to the end of the size of a function body. The function comes after these fields.
 abbrev pub up_to_body : Option (List ℕ) → List ModuleField → List ModuleField → Func → List ℕ

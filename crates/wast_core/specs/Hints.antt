@@ -7,7 +7,7 @@ use Rattle.std.specs.Prelude.{ℕ, ◌==◌, Bool, not, List, [], ◌∷◌, len
 use Rattle.std.specs.List.{flat_map}
 use Rattle.wast_base.specs.Spaces.{same_space}
 use Rattle.wasm_ops.specs.Spelling.{InRangeU32, InRangeVec}
-use Rattle.wasm_out.specs.Hints.{function_hints, hints, hints_name}
+use Rattle.wasm_out.specs.Hints.{hints_name, function_hints, hints}
 use Rattle.wasm_out.specs.Parts.{Custom, Part}
 use Rattle.wasm_out.specs.declared.hints.BranchHint.{BranchHint}
 use Rattle.wast_core_conv.specs.Hints.{HintedBody, hints_of, as_hinted, as_hints, InRangeBodyHints}
@@ -46,12 +46,12 @@ as_function_hints f = (f.0, as_hints f.1)
 
 -- its bytes
 abbrev pub hinted_function : ℕ × HintedBody → List ℕ
-hinted_function f = function_hints (as_function_hints f)
+hinted_function f = (function_hints (as_function_hints f)).bytes
 
 -- the section, left out where no function has hints
 abbrev pub hints_part : List (ℕ × HintedBody) → List Part
 hints_part [] = []
-hints_part (f ∷ fs) = record { kind = Custom; items = record { name = hints_name; bytes = hints (map as_function_hints (f ∷ fs)) } } ∷ []
+hints_part (f ∷ fs) = record { kind = Custom; items = record { name = hints_name; bytes = (hints (map as_function_hints (f ∷ fs))).bytes } } ∷ []
 
 -- Numbers, counts and lengths are in range: those of the hints of a function, and of what stands before them in its body,
 abbrev pub InRangeHinted : ℕ × HintedBody → Type 0

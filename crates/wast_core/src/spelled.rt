@@ -2,7 +2,7 @@
 
 ghost use Rattle.std.specs.Prelude.{ℕ, List, Bool, IsTrue};
 ghost use Rattle.wasm_out.specs.Built.{Appends};
-ghost use Rattle.wast_core_conv.specs.Customs.{subsection_content, InRangeSubsectionContent, is_encodable_subsection};
+ghost use Rattle.wast_core_conv.specs.Customs.{is_encodable_subsection, subsection_content};
 
 use wast_base::Error;
 use wast_core_conv::SubsectionContent;
@@ -46,9 +46,9 @@ pub trait Encode {
 /// The content of a `dylink.0` subsection, without its number and length (tool conventions: dynamic
 /// linking). `TargetArch` is an unsupported construct.
 impl Encode for Dylink0Subsection<'_> {
-    ghost spelling = { subsection_content };
+    ghost spelling = { λ x. (subsection_content x).bytes };
 
-    ghost in_range = { InRangeSubsectionContent };
+    ghost in_range = { λ x. (subsection_content x).in_range };
 
     ghost is_covered = { is_encodable_subsection };
 

@@ -11,13 +11,13 @@ use lib.Seq.{take-add}
 use Rattle.wasm_ops.specs.Leb128.{unsigned}
 use Rattle.wasm_ops.specs.Sinks.{SinkRules, Writes, AppendLaws}
 use Rattle.wasm_ops.specs.Spelling.{InRangeU32, vec}
-use Rattle.wasm_ops.specs.Table.{instr, instrs, InRangeInstr}
+use Rattle.wasm_ops.specs.Table.{instrs, instr}
 use Rattle.wasm_ops.specs.declared.sink.Refusal.{Refusal}
 use Rattle.wasm_ops.specs.declared.sink.Refusal.TheVariants as refusal
 use Rattle.wasm_ops.proofs.Everywhere.{all_right, all_unmap}
 use Rattle.wasm_ops.proofs.Sinking.{puts_as, written_as}
 use Rattle.wasm_out.specs.Bodies.{Body, locals}
-use Rattle.wasm_out.specs.Hints.{branch_hint, InRangeBranchHint}
+use Rattle.wasm_out.specs.Hints.{branch_hint}
 use Rattle.wast_tree_nodes.specs.Clauses.{is_hint_in_order, stand_from, hints_stand}
 use Rattle.wast_tree_nodes.specs.Sites.{in_local}
 use Rattle.wast_core_conv.specs.Tree.{BranchHint, Instruction, Expression, Local}
@@ -82,13 +82,13 @@ up_to : {A : Type 0} (xs : List A) (n i : ℕ) → n ≤ i → take i xs ≡ tak
 up_to xs n i le = let whole : n + (i - n) ≡ i = omega arith in ap (λ k. take k xs) (sym whole) ∙ take-add n (i - n) xs
 
 abbrev pub spelled : List Instruction → List ℕ
-spelled is = flat_map (λ i. instr (meaning.as_instr i)) is
+spelled is = flat_map (λ i. (instr (meaning.as_instr i)).bytes) is
 
 abbrev pub InRangeSpelled : List Instruction → Type 0
-InRangeSpelled is = All (λ i. InRangeInstr (meaning.as_instr i)) is
+InRangeSpelled is = All (λ i. (instr (meaning.as_instr i)).in_range) is
 
 before_is : (is : List Instruction) (i : ℕ) → instrs (take i (map meaning.as_instr is)) ≡ spelled (take i is)
-before_is is i = ap (flat_map instr) (take-map meaning.as_instr i is) ∙ flat_map-map instr meaning.as_instr (take i is)
+before_is is i = ap (flat_map (λ x. (instr x).bytes)) (take-map meaning.as_instr i is) ∙ flat_map-map (λ x. (instr x).bytes) meaning.as_instr (take i is)
 
 pub counted_before : (ls : List Local) (is : List Instruction) (n i before : ℕ) → n ≤ i → before ≡ length (bytes_before (meaning.body_of ls is) n)
     → before + length (spelled (slice_range is n i)) ≡ length (bytes_before (meaning.body_of ls is) i)
@@ -102,20 +102,20 @@ counted_before ls is n i before le at =
       ap (λ (bs : List ℕ). length bs) (before_is is n),
       ap (λ (bs : List ℕ). length bs) (before_is is i),
       ap (λ js. length (spelled js)) (up_to is n i le),
-      ap (λ (bs : List ℕ). length bs) (flat_map-append (λ j. instr (meaning.as_instr j)) (take n is) (slice_range is n i)),
+      ap (λ (bs : List ℕ). length bs) (flat_map-append (λ j. (instr (meaning.as_instr j)).bytes) (take n is) (slice_range is n i)),
       length-append (spelled (take n is)) (spelled (slice_range is n i)),
     )
 
-in_range_between : (is : List Instruction) (n i : ℕ) → n ≤ i → All InRangeInstr (take i (map meaning.as_instr is)) → InRangeSpelled (slice_range is n i)
+in_range_between : (is : List Instruction) (n i : ℕ) → n ≤ i → All (λ x. (instr x).in_range) (take i (map meaning.as_instr is)) → InRangeSpelled (slice_range is n i)
 in_range_between is n i le h =
-    let here = all_unmap InRangeInstr meaning.as_instr (take i is) (subst (All InRangeInstr) (take-map meaning.as_instr i is) h) in
-    all_right (λ j. InRangeInstr (meaning.as_instr j)) (take n is) (slice_range is n i) (subst InRangeSpelled (up_to is n i le) here)
+    let here = all_unmap (λ x. (instr x).in_range) meaning.as_instr (take i is) (subst (All (λ x. (instr x).in_range)) (take-map meaning.as_instr i is) h) in
+    all_right (λ j. (instr (meaning.as_instr j)).in_range) (take n is) (slice_range is n i) (subst InRangeSpelled (up_to is n i le) here)
 
-pub in_range_joined : (is : List Instruction) (n i : ℕ) → n ≤ i → All InRangeInstr (take n (map meaning.as_instr is)) → InRangeSpelled (slice_range is n i) → All InRangeInstr (take i (map meaning.as_instr is))
+pub in_range_joined : (is : List Instruction) (n i : ℕ) → n ≤ i → All (λ x. (instr x).in_range) (take n (map meaning.as_instr is)) → InRangeSpelled (slice_range is n i) → All (λ x. (instr x).in_range) (take i (map meaning.as_instr is))
 in_range_joined is n i le h k =
-    let first = all_unmap InRangeInstr meaning.as_instr (take n is) (subst (All InRangeInstr) (take-map meaning.as_instr n is) h) in
-    let all = subst InRangeSpelled (sym (up_to is n i le)) (All-append (λ j. InRangeInstr (meaning.as_instr j)) (take n is) (slice_range is n i) first k) in
-    subst (All InRangeInstr) (sym (take-map meaning.as_instr i is)) (All-map InRangeInstr meaning.as_instr (take i is) all)
+    let first = all_unmap (λ x. (instr x).in_range) meaning.as_instr (take n is) (subst (All (λ x. (instr x).in_range)) (take-map meaning.as_instr n is) h) in
+    let all = subst InRangeSpelled (sym (up_to is n i le)) (All-append (λ j. (instr (meaning.as_instr j)).in_range) (take n is) (slice_range is n i) first k) in
+    subst (All (λ x. (instr x).in_range)) (sym (take-map meaning.as_instr i is)) (All-map (λ x. (instr x).in_range) meaning.as_instr (take i is) all)
 
 -- The instructions between them may be encoded.
 pub between_ready : (is : List Instruction) (n i : ℕ) → n ≤ i → list_all is_encodable_instr is ≡ true → list_all is_encodable_instr (slice_range is n i) ≡ true
@@ -137,7 +137,7 @@ written_in_range rules in_range a b x (Err e) p good = absurd cc
 -- The bytes before the hint were not counted, because they are out of range.
 pub uncounted : {S : Type 0} (rules : SinkRules S) (a : S) (n more value : ℕ) (InRange : Type 0) (e : Refusal) → AppendLaws rules
     → ((e ≡ refusal.TooLarge) × (n + more < 2 ^ 64 → ⊥)) ⊎ ((e ≡ refusal.TooLarge) × (InRange → ⊥))
-    → Writes {A = Unit {0}} rules (InRange × InRangeBranchHint (hint_at (n + more) value)) a a (branch_hint (hint_at (n + more) value)) (Err e)
+    → Writes {A = Unit {0}} rules (InRange × (branch_hint (hint_at (n + more) value)).in_range) a a (branch_hint (hint_at (n + more) value)).bytes (Err e)
 uncounted rules a n more value InRange e laws r = (
   laws.none a,
   elim r [
@@ -148,32 +148,32 @@ uncounted rules a n more value InRange e laws r = (
 
 -- The hint was counted and written.
 pub counted_hint : {S A : Type 0} (rules : SinkRules S) (a b : S) (m n value : ℕ) (InRange : Type 0) (r : Result A Refusal) → m ≡ n → InRange
-    → Writes rules (InRangeBranchHint (hint_at m value)) a b (branch_hint (hint_at m value)) r → Writes rules (InRange × InRangeBranchHint (hint_at n value)) a b (branch_hint (hint_at n value)) r
+    → Writes rules (branch_hint (hint_at m value)).in_range a b (branch_hint (hint_at m value)).bytes r → Writes rules (InRange × (branch_hint (hint_at n value)).in_range) a b (branch_hint (hint_at n value)).bytes r
 counted_hint rules a b m n value InRange r is counts p =
-    puts_as rules (InRangeBranchHint (hint_at n value)) (InRange × InRangeBranchHint (hint_at n value)) a b (branch_hint (hint_at n value)) r (λ h. (counts, h)) (λ h. h.1)
-    (subst (λ k. Writes rules (InRangeBranchHint (hint_at k value)) a b (branch_hint (hint_at k value)) r) is p)
+    puts_as rules (branch_hint (hint_at n value)).in_range (InRange × (branch_hint (hint_at n value)).in_range) a b (branch_hint (hint_at n value)).bytes r (λ h. (counts, h)) (λ h. h.1)
+    (subst (λ k. Writes rules (branch_hint (hint_at k value)).in_range a b (branch_hint (hint_at k value)).bytes r) is p)
 
 -- It is the hint of the body.
 pub hint_written : {S A : Type 0} (rules : SinkRules S) (a b : S) (ls : List Local) (is : List Instruction) (h : BranchHint) (n before : ℕ) (r : Result A Refusal)
-    → n ≤ h.instr_index → before ≡ length (bytes_before (meaning.body_of ls is) n) → All InRangeInstr (take n (map meaning.as_instr is))
-    → Writes rules (InRangeSpelled (slice_range is n h.instr_index) × InRangeBranchHint (hint_at (before + length (spelled (slice_range is n h.instr_index))) h.value)) a b (branch_hint (hint_at (before + length (spelled (slice_range is n h.instr_index))) h.value)) r
-    → Writes rules (InRangeHintOf (meaning.body_of ls is) h) a b (branch_hint (as_branch_hint (meaning.body_of ls is) h)) r
+    → n ≤ h.instr_index → before ≡ length (bytes_before (meaning.body_of ls is) n) → All (λ x. (instr x).in_range) (take n (map meaning.as_instr is))
+    → Writes rules (InRangeSpelled (slice_range is n h.instr_index) × (branch_hint (hint_at (before + length (spelled (slice_range is n h.instr_index))) h.value)).in_range) a b (branch_hint (hint_at (before + length (spelled (slice_range is n h.instr_index))) h.value)).bytes r
+    → Writes rules (InRangeHintOf (meaning.body_of ls is) h) a b (branch_hint (as_branch_hint (meaning.body_of ls is) h)).bytes r
 hint_written rules a b ls is h n before r le counts first p =
     let body = meaning.body_of ls is in
     let between = slice_range is n h.instr_index in
     let whole = length (bytes_before body h.instr_index) in
-    puts_as rules (InRangeSpelled between × InRangeBranchHint (hint_at whole h.value)) (InRangeHintOf body h) a b (branch_hint (hint_at whole h.value)) r
+    puts_as rules (InRangeSpelled between × (branch_hint (hint_at whole h.value)).in_range) (InRangeHintOf body h) a b (branch_hint (hint_at whole h.value)).bytes r
     (λ q. (in_range_joined is n h.instr_index le first q.0, q.1)) (λ q. (in_range_between is n h.instr_index le q.0, q.1))
-    (subst (λ k. Writes rules (InRangeSpelled between × InRangeBranchHint (hint_at k h.value)) a b (branch_hint (hint_at k h.value)) r) (counted_before ls is n h.instr_index before le counts) p)
+    (subst (λ k. Writes rules (InRangeSpelled between × (branch_hint (hint_at k h.value)).in_range) a b (branch_hint (hint_at k h.value)).bytes r) (counted_before ls is n h.instr_index before le counts) p)
 
 -- ---- All hints of a body.
 
 pub hints_written : {S A : Type 0} (rules : SinkRules S) (a b : S) (body : Body) (hs : List BranchHint) (count : ℕ) (r : Result A Refusal) → count ≡ length hs
-    → Writes rules (InRangeU32 count × InRangeHintsOf body hs) a b (unsigned count ++ flat_map (λ h. branch_hint (as_branch_hint body h)) hs) r
-    → Writes rules (InRangeU32 (length hs) × InRangeHintsOf body hs) a b (vec branch_hint (map (as_branch_hint body) hs)) r
+    → Writes rules (InRangeU32 count × InRangeHintsOf body hs) a b (unsigned count ++ flat_map (λ h. (branch_hint (as_branch_hint body h)).bytes) hs) r
+    → Writes rules (InRangeU32 (length hs) × InRangeHintsOf body hs) a b (vec (λ x. (branch_hint x).bytes) (map (as_branch_hint body) hs)) r
 hints_written rules a b body hs count r is p =
     written_as rules (InRangeU32 count × InRangeHintsOf body hs) (InRangeU32 (length hs) × InRangeHintsOf body hs) a b
-    (unsigned count ++ flat_map (λ h. branch_hint (as_branch_hint body h)) hs) (vec branch_hint (map (as_branch_hint body) hs)) r
+    (unsigned count ++ flat_map (λ h. (branch_hint (as_branch_hint body h)).bytes) hs) (vec (λ x. (branch_hint x).bytes) (map (as_branch_hint body) hs)) r
     (λ h. (subst InRangeU32 is h.0, h.1)) (λ h. (subst InRangeU32 (sym is) h.0, h.1))
-    (ap (λ (n : ℕ). unsigned n ++ flat_map (λ h. branch_hint (as_branch_hint body h)) hs) (is ∙ sym (length-map hs (as_branch_hint body)))
-    ∙ ap (λ (bs : List ℕ). unsigned (length (map (as_branch_hint body) hs)) ++ bs) (sym (flat_map-map branch_hint (as_branch_hint body) hs))) p
+    (ap (λ (n : ℕ). unsigned n ++ flat_map (λ h. (branch_hint (as_branch_hint body h)).bytes) hs) (is ∙ sym (length-map hs (as_branch_hint body)))
+    ∙ ap (λ (bs : List ℕ). unsigned (length (map (as_branch_hint body) hs)) ++ bs) (sym (flat_map-map (λ x. (branch_hint x).bytes) (as_branch_hint body) hs))) p

@@ -8,7 +8,7 @@ use Rattle.std.proofs.lemmas.Nat.Bits.{bit_at-trailing_zeros}
 use Rattle.wast_base.specs.Ids.{is_number}
 use Rattle.wast_tree_nodes.specs.Sites.{in_target, in_mem_arg}
 use Rattle.wast_tree_nodes.specs.Resolved.{are_numbered}
-use Rattle.wasm_ops.specs.Memargs.{is_covered_target, is_covered_memarg}
+use Rattle.wasm_ops.specs.Memargs.{is_covered_target, memarg}
 use Rattle.wast_core_conv.specs.Tree.{MemArg, MemArgTarget, MemArgOrdering}
 use Rattle.wast_core_conv.specs.Tree.target
 use Rattle.wast_core_conv.specs.Encodable.{is_encodable_ask, are_encodable}
@@ -29,7 +29,7 @@ ordering_parts (Some x) h = h
 pub record MemArgParts (m : MemArg) : Type 0 where
   pub numbered : are_numbered (in_target m.target) ≡ true
   pub aligned : is_power_of_two m.align ≡ true
-  pub covered : is_covered_memarg (meaning.as_mem_arg m) ≡ true
+  pub covered : (memarg (meaning.as_mem_arg m)).is_covered ≡ true
 
 pub mem_arg_parts : (m : MemArg) → are_encodable (in_mem_arg m) ≡ true → MemArgParts m
 mem_arg_parts m h =

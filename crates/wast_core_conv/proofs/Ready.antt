@@ -1,17 +1,19 @@
 -- Fields that are well formed, resolved and desugared may be encoded, if each construct is supported. Fields that may
 -- be encoded are resolved, and so are the entries that they add to sections.
-use Rattle.std.proofs.Common.{◌≡◌, Bool, true, false, ◌&&◌, ◌||◌, List, [], ◌∷◌, refl, sym, ◌∙◌}
+use Rattle.std.proofs.Common.{◌≡◌, Bool, true, false, not, ◌&&◌, ◌||◌, List, [], ◌∷◌, refl, sym, ◌∙◌}
 use Rattle.std.specs.Prelude.{is_some, Option, Some, None}
 use Rattle.std.specs.List.{flat_map, list_all}
 use Rattle.wast_base.specs.Ids.{is_number}
 use Rattle.wast_tree_nodes.specs.Clauses.{hints_stand, is_segment_type_allowed}
 use Rattle.wast_tree_nodes.specs.Types.{says_enough}
 use Rattle.wast_tree_nodes.specs.Sites.{Check, ItemIndex, InnerIndex, PlainId, Clause, Covered, OfItem, OfCall, Site, Asked, Used, Declared, LocalAt, FieldAt, LabelAt, constant_context, check_sites, if_there, at_index, in_type, in_rec, in_ref, in_type_use, in_use, in_indirect, in_local, in_func, in_func_kind, in_expression, in_table_type, in_global_type, in_tag_type, in_import, in_constant, in_payload, in_table_kind, in_global_kind, in_global, in_elem_kind, in_elem, in_data_kind, in_field, in_module, asked_in, checks_of}
-use Rattle.wast_tree_nodes.specs.Known.{IdContext}
-use Rattle.wast_tree_nodes.specs.WellFormed.{is_kept, are_kept}
+use Rattle.wast_tree_nodes.specs.Items.{items}
+use Rattle.wast_tree_nodes.specs.Known.{IdContext, id_context}
+use Rattle.wast_tree_nodes.specs.WellFormed.{is_kept, is_well_formed}
 use Rattle.wast_tree_nodes.specs.Uncovered.{is_covered_ask, uncovered_in, uncovered_forms, head_of}
-use Rattle.wast_tree_nodes.specs.Resolved.{is_numbered, are_numbered, is_resolved_site, is_resolved}
-use Rattle.wast_tree_nodes.specs.WrittenOut.{exports_nothing, is_written_func, is_written_table, is_written_global, is_written_field, is_written_out}
+use Rattle.wast_tree_nodes.specs.Resolved.{is_numbered, are_numbered, site_passes, is_resolved_site, is_resolved}
+use Rattle.wast_tree_nodes.specs.Profiles.{is_imported_func, is_imported_global}
+use Rattle.wast_tree_nodes.specs.WrittenOut.{exports_nothing, is_written_table, is_written_field, is_written_out}
 use Rattle.wast_core_conv.specs.Tree.{Index, Space, CallIndirect, TypeUse, FunctionType, Expression, Rec, Imports, FuncKind, Func, TableKind, Table, Memory, GlobalKind, Global, ElemKind, ElemPayload, Elem, DataKind, Data, Tag, ModuleField}
 use Rattle.wast_core_conv.specs.Tree.space
 use Rattle.wast_core_conv.specs.Tree.ty
@@ -22,24 +24,26 @@ use Rattle.wast_core_conv.specs.Tree.elem
 use Rattle.wast_core_conv.specs.Tree.payload
 use Rattle.wast_core_conv.specs.Tree.data_kind
 use Rattle.wast_core_conv.specs.Tree.field
-use Rattle.wast_core_conv.specs.Encodable.{is_encodable_ask, are_encodable, is_encodable_site, encodable, is_entered_site, are_entered, is_number_if, is_encodable_code, is_encodable_expression, is_encodable_type, is_encodable_type_use, is_encodable_kind, is_encodable_import, is_encodable_init, is_encodable_table_kind, is_encodable_table, is_encodable_global_kind, is_encodable_global, is_encodable_tag, is_encodable_elem_kind, is_encodable_payload, is_encodable_elem, is_encodable_data_kind, is_encodable_data, is_encodable_field, is_encodable, is_met, is_at_rest, are_resolved}
+use Rattle.wast_core_conv.specs.Encodable.{is_encodable_ask, are_encodable, is_encodable_site, encodable, is_entered_site, are_entered, is_number_if, is_encodable_code, is_encodable_expression, is_encodable_type, is_encodable_type_use, is_encodable_kind, is_encodable_import, is_encodable_init, is_encodable_table_kind, is_encodable_table, is_encodable_global_kind, is_encodable_global, is_encodable_tag, is_encodable_elem_kind, is_encodable_payload, is_encodable_elem, is_encodable_data_kind, is_encodable_data, is_encodable_field, is_encodable, is_at_rest, are_resolved}
 use Rattle.wast_core_conv.specs.Hints.{are_encodable_hints}
 use Rattle.wast_core_conv.proofs.EachPasses.{both_pass, both_true, both_lists, each_passes, each_by, each_then}
 use Rattle.wast_core_conv.proofs.Standing.{asking_passes, asked_then, encodable_at, code_ready, code_hinted, constant_ready, body_tells}
 
 -- ---- Well formed, resolved and desugared.
 
+pub fields_at_rest : (fields : List ModuleField) → is_well_formed fields ≡ true → is_resolved fields ≡ true → is_written_out fields ≡ true → is_at_rest fields ≡ true
+fields_at_rest fields kept resolved written = both_true (is_resolved fields) _ resolved (both_true (is_written_out fields) _ written kept)
+
+-- ---- Already resolved and supported.
+
+-- whether the rule of a check holds
+abbrev is_met : Check → Bool
+is_met (Clause n holds) = holds
+is_met a = true
+
 ask_met : (k : IdContext) (a : Check) → is_kept k a ≡ true → is_met a ≡ true
 ask_met k (Clause n holds) kept = kept
 ask_met k a kept = refl
-
-pub fields_at_rest : (k : IdContext) (fields : List ModuleField)
-    → are_kept k (checks_of (in_module fields)) ≡ true → is_resolved fields ≡ true → is_written_out fields ≡ true → is_at_rest fields ≡ true
-fields_at_rest k fields kept resolved written =
-    both_true (is_resolved fields) _ resolved
-    (both_true (is_written_out fields) _ written (each_then (is_kept k) is_met (ask_met k) (checks_of (in_module fields)) kept))
-
--- ---- Already resolved and supported.
 
 ask_ready : (a : Check) → (is_met a && is_covered_ask a) ≡ true → is_numbered a ≡ true → is_encodable_ask a ≡ true
 ask_ready (ItemIndex s i) kept numbered = numbered
@@ -81,7 +85,8 @@ fields_ready fields rest none =
     let resolved = both_pass (is_resolved fields) _ rest in
     let written = both_pass (is_written_out fields) _ resolved.1 in
     let asks = checks_of (in_module fields) in
-    let kept = each_by is_met is_covered_ask is_kept_here (λ a. both_true (is_met a) (is_covered_ask a)) asks written.1 (forms_covered asks none) in
+    let k = id_context (items fields) in
+    let kept = each_by (is_kept k) is_covered_ask is_kept_here (λ a h. both_true (is_met a) (is_covered_ask a) (ask_met k a h)) asks written.1 (forms_covered asks none) in
     each_by (λ x. encodable (in_field x)) is_written_field is_encodable_field (λ x. both_true (encodable (in_field x)) (is_written_field x)) fields
     (sym (each_passes is_encodable_site in_field fields) ∙ sites_ready (in_module fields) kept resolved.0) written.0
 
@@ -97,16 +102,21 @@ ask_numbered (Covered form holds) h = refl
 pub asks_numbered : (asks : List Check) → are_encodable asks ≡ true → are_numbered asks ≡ true
 asks_numbered asks h = each_then is_encodable_ask is_numbered ask_numbered asks h
 
+-- A site passes if the tests of its checks follow from tests that it passes.
+module _ (alone within next further : Check → Bool) (one : (a : Check) → alone a ≡ true → next a ≡ true) (each : (a : Check) → within a ≡ true → further a ≡ true) where
+  site_then : (s : Site) → site_passes alone within s ≡ true → site_passes next further s ≡ true
+  site_then (Asked a) h = one a h
+  site_then (Used w u) h =
+      let said = is_some u.index || says_enough w u.inline in
+      let both = both_pass said (list_all within (in_type_use u)) h in
+      both_true said (list_all further (in_type_use u)) both.0 (each_then within further each (in_type_use u) both.1)
+  site_then (LocalAt locals i) h = h
+  site_then (FieldAt owner i) h = h
+  site_then (LabelAt blocks i) h = h
+  site_then s h = refl
+
 site_resolved : (s : Site) → is_encodable_site s ≡ true → is_resolved_site s ≡ true
-site_resolved (Asked a) h = ask_numbered a h
-site_resolved (Used w u) h =
-    let said = is_some u.index || says_enough w u.inline in
-    let both = both_pass said (are_encodable (in_type_use u)) h in
-    both_true said (are_numbered (in_type_use u)) both.0 (asks_numbered (in_type_use u) both.1)
-site_resolved (LocalAt locals i) h = h
-site_resolved (FieldAt owner i) h = h
-site_resolved (LabelAt blocks i) h = h
-site_resolved s h = refl
+site_resolved s h = site_then is_encodable_ask is_encodable_ask is_numbered is_numbered ask_numbered ask_numbered s h
 
 pub sites_resolved : (sites : List Site) → encodable sites ≡ true → are_resolved sites ≡ true
 sites_resolved sites h = each_then is_encodable_site is_resolved_site site_resolved sites h
@@ -121,24 +131,14 @@ indirect_ready c h =
 -- ---- What a field that may be encoded adds to the sections.
 
 site_entered : (s : Site) → is_encodable_site s ≡ true → is_entered_site s ≡ true
-site_entered (Asked a) h = h
-site_entered (Used w u) h = site_resolved (Used w u) h
-site_entered (LocalAt locals i) h = h
-site_entered (FieldAt owner i) h = h
-site_entered (LabelAt blocks i) h = h
-site_entered s h = refl
+site_entered s h = site_then is_encodable_ask is_encodable_ask is_encodable_ask is_numbered (λ a k. k) ask_numbered s h
 
 sites_entered : (sites : List Site) → encodable sites ≡ true → are_entered sites ≡ true
 sites_entered sites h = each_then is_encodable_site is_entered_site site_entered sites h
 
 -- What an entry contains is resolved.
 entry_resolved : (s : Site) → is_entered_site s ≡ true → is_resolved_site s ≡ true
-entry_resolved (Asked a) h = ask_numbered a h
-entry_resolved (Used w u) h = h
-entry_resolved (LocalAt locals i) h = h
-entry_resolved (FieldAt owner i) h = h
-entry_resolved (LabelAt blocks i) h = h
-entry_resolved s h = refl
+entry_resolved s h = site_then is_encodable_ask is_numbered is_numbered is_numbered ask_numbered (λ a k. k) s h
 
 pub entered_resolved : (sites : List Site) → are_entered sites ≡ true → are_resolved sites ≡ true
 entered_resolved sites h = each_then is_entered_site is_resolved_site entry_resolved sites h
@@ -155,14 +155,14 @@ import_ready i e = sites_entered (in_import i.items) (both_pass (encodable (in_i
 use_ready : (u : TypeUse FunctionType) → encodable (in_use OfItem u) ≡ true → is_encodable_type_use u ≡ true
 use_ready u e = (both_pass (is_encodable_type_use u) true (sites_entered (in_use OfItem u) e)).0
 
-body_ready : (u : TypeUse FunctionType) (k : FuncKind) → encodable (in_func_kind u k) ≡ true → is_written_func k ≡ true → is_encodable_kind k ≡ true
+body_ready : (u : TypeUse FunctionType) (k : FuncKind) → encodable (in_func_kind u k) ≡ true → not (is_imported_func k) ≡ true → is_encodable_kind k ≡ true
 body_ready u (func.Import import exact) e written = written
 body_ready u (func.Inline locals x) e written =
     let asks = are_encodable (flat_map in_local locals) in
     let both = both_pass asks (encodable (in_expression constant_context x)) (sym (body_tells u locals x) ∙ e) in
     both_true asks (is_encodable_code x) both.0 (code_ready x both.1)
 
-body_hinted : (u : TypeUse FunctionType) (k : FuncKind) → encodable (in_func_kind u k) ≡ true → is_written_func k ≡ true → are_encodable_hints k ≡ true
+body_hinted : (u : TypeUse FunctionType) (k : FuncKind) → encodable (in_func_kind u k) ≡ true → not (is_imported_func k) ≡ true → are_encodable_hints k ≡ true
 body_hinted u (func.Import import exact) e written = written
 body_hinted u (func.Inline locals x) e written =
     let both = both_pass (are_encodable (flat_map in_local locals)) (encodable (in_expression constant_context x)) (sym (body_tells u locals x) ∙ e) in
@@ -174,13 +174,13 @@ first_and_last a b c e = let outer = both_pass a (b && c) e in (outer.0, (both_p
 
 pub func_ready : (f : Func) → is_encodable_field (field.Func f) ≡ true → (is_encodable_type_use f.ty ≡ true) × (is_encodable_kind f.kind ≡ true)
 func_ready f e =
-    let whole = first_and_last (encodable (in_func f)) (exports_nothing f.exports) (is_written_func f.kind) e in
+    let whole = first_and_last (encodable (in_func f)) (exports_nothing f.exports) (not (is_imported_func f.kind)) e in
     let parts = both_lists is_encodable_site (in_use OfItem f.ty) (in_func_kind f.ty f.kind) whole.0 in
     (use_ready f.ty parts.0, body_ready f.ty f.kind parts.1 whole.1)
 
 pub hints_ready : (f : Func) → is_encodable_field (field.Func f) ≡ true → are_encodable_hints f.kind ≡ true
 hints_ready f e =
-    let whole = first_and_last (encodable (in_func f)) (exports_nothing f.exports) (is_written_func f.kind) e in
+    let whole = first_and_last (encodable (in_func f)) (exports_nothing f.exports) (not (is_imported_func f.kind)) e in
     body_hinted f.ty f.kind (both_lists is_encodable_site (in_use OfItem f.ty) (in_func_kind f.ty f.kind) whole.0).1 whole.1
 
 init_ready : (init : Option Expression) → encodable (if_there in_constant init) ≡ true → is_encodable_init init ≡ true
@@ -199,13 +199,13 @@ table_ready t e =
     let both = first_and_last (encodable (in_table_kind t.kind)) (exports_nothing t.exports) (is_written_table t.kind) e in
     table_kind_ready t.kind both.0 both.1
 
-global_kind_ready : (k : GlobalKind) → encodable (in_global_kind k) ≡ true → is_written_global k ≡ true → is_encodable_global_kind k ≡ true
+global_kind_ready : (k : GlobalKind) → encodable (in_global_kind k) ≡ true → not (is_imported_global k) ≡ true → is_encodable_global_kind k ≡ true
 global_kind_ready (global.Import import) e written = written
 global_kind_ready (global.Inline x) e written = constant_ready x e
 
 pub global_ready : (g : Global) → is_encodable_field (field.Global g) ≡ true → is_encodable_global g ≡ true
 global_ready g e =
-    let both = first_and_last (encodable (in_global g)) (exports_nothing g.exports) (is_written_global g.kind) e in
+    let both = first_and_last (encodable (in_global g)) (exports_nothing g.exports) (not (is_imported_global g.kind)) e in
     let parts = asked_then (in_global_type g.ty) (in_global_kind g.kind) both.0 in
     both_true (are_encodable (in_global_type g.ty)) (is_encodable_global_kind g.kind) parts.0 (global_kind_ready g.kind parts.1 both.1)
 

@@ -1,18 +1,15 @@
 -- Types that may be encoded become supported values, and the parts of a resolved type are resolved.
-use native.Mathlib.Omega.{arith}
 use Rattle.std.proofs.Common.{◌≡◌, Bool, true, false, ◌&&◌, List, [], ◌∷◌, map, refl, sym, ◌∙◌}
 use Rattle.std.specs.Prelude.{not, is_none, Option, Some, None, option_map}
 use Rattle.std.specs.List.{flat_map, list_all}
-use Rattle.std.proofs.lemmas.Grind.{common_steps}
 use Rattle.wast_base.specs.Ids.{is_number}
 use Rattle.wast_tree_nodes.specs.Sites.{Check, Covered, is_continuation, is_sequential, check_sites, if_there, in_index, in_heap, in_val, in_select, in_storage, in_param, in_signature, OfBlock, Used, in_type_use, in_use, in_struct_field, in_descriptor, in_inner, in_def, in_type, in_rec, in_local}
 use Rattle.wast_tree_nodes.specs.Resolved.{are_numbered}
 use Rattle.wasm_ops.specs.CastInstrs.{fence_instr}
-use Rattle.wasm_ops.specs.Control.{is_covered_block_type}
+use Rattle.wasm_ops.specs.Control.{block_type}
 use Rattle.wasm_ops.specs.Memargs.{is_covered_ordering}
 use Rattle.wasm_ops.specs.SelectInstrs.{select_instr}
-use Rattle.wasm_ops.specs.Table.{is_covered_instr}
-use Rattle.wasm_ops.specs.Covered.{is_covered_abstract_heap_type, is_covered_heap_type, is_covered_val_type, is_covered_storage_type, is_covered_field_type, is_covered_composite_inner_type, is_covered_sub_type}
+use Rattle.wasm_ops.specs.Table.{instr}
 use Rattle.wast_core_conv.specs.Tree.{Id, Index, NameAnnotation, AbstractHeapType, HeapType, ValType, StorageType, StructField, FunctionType, BlockType, InnerTypeKind, TypeDef, Rec, Ordering, SelectTypes, Local}
 use Rattle.wast_core_conv.specs.Tree.abstract
 use Rattle.wast_core_conv.specs.Tree.form
@@ -20,10 +17,13 @@ use Rattle.wast_core_conv.specs.Tree.heap
 use Rattle.wast_core_conv.specs.Tree.ordering
 use Rattle.wast_core_conv.specs.Tree.inner
 use Rattle.wast_core_conv.specs.Tree.space
+use Rattle.wast_core_conv.specs.Tree.storage
+use Rattle.wast_core_conv.specs.Tree.value as val
 use Rattle.wast_core_conv.specs.Encodable.{is_number_if, is_encodable_ask, are_encodable, is_encodable_site, encodable, is_encodable_type}
 use Rattle.wast_core_conv.specs.Values.{short_block_type, short_type, use_as_block}
 use Rattle.wast_core_conv.specs.Meaning as meaning
 use Rattle.wast_core_conv.proofs.EachPasses.{both_pass, both_true, both_lists, each_passes, each_becomes}
+use Rattle.wasm_ops.specs.Spelling.{composite_inner_type, field_type, heap_type, is_covered_abstract_heap_type, storage_type, sub_type, val_type}
 use Rattle.wast_core_conv.proofs.Standing.{behind_id}
 
 -- ---- The parts of what passes.
@@ -61,24 +61,25 @@ abstract_covered abstract.Cont e = e
 abstract_covered abstract.NoCont e = e
 abstract_covered ty e = refl
 
-pub heap_covered : (h : HeapType) → are_encodable (in_heap h) ≡ true → is_covered_heap_type (meaning.as_heap_type h) ≡ true
-heap_covered (heap.Abstract shared ty) e =
-    let both = both_pass (not shared) _ e in
-    both_true (not shared) _ both.0 (abstract_covered ty (both_pass (not (is_continuation ty)) true both.1).0)
+pub heap_covered : (h : HeapType) → are_encodable (in_heap h) ≡ true → (heap_type (meaning.as_heap_type h)).is_covered ≡ true
+heap_covered (heap.Abstract false ty) e = abstract_covered ty (both_pass (not (is_continuation ty)) true e).0
+heap_covered (heap.Abstract true ty) e = e
 heap_covered (heap.Concrete i) e = refl
 heap_covered (heap.Exact i) e = (both_pass (is_number i) false e).1
 
-pub val_covered : (t : ValType) → are_encodable (in_val t) ≡ true → is_covered_val_type (meaning.as_val_type t) ≡ true
-val_covered t e = grind (arith, common_steps, heap_covered)
+pub val_covered : (t : ValType) → are_encodable (in_val t) ≡ true → (val_type (meaning.as_val_type t)).is_covered ≡ true
+val_covered val.I32 e = refl
+val_covered (val.Ref r) e = heap_covered r.heap e
+val_covered t e = refl
 
 -- The types of `select`.
-select_all : (ts : List ValType) → are_encodable (flat_map in_val ts) ≡ true → list_all is_covered_val_type (map meaning.as_val_type ts) ≡ true
-select_all ts e = each_becomes (λ v. are_encodable (in_val v)) meaning.as_val_type is_covered_val_type val_covered ts (sym (each_passes is_encodable_ask in_val ts) ∙ e)
+select_all : (ts : List ValType) → are_encodable (flat_map in_val ts) ≡ true → list_all (λ x. (val_type x).is_covered) (map meaning.as_val_type ts) ≡ true
+select_all ts e = each_becomes (λ v. are_encodable (in_val v)) meaning.as_val_type (λ x. (val_type x).is_covered) val_covered ts (sym (each_passes is_encodable_ask in_val ts) ∙ e)
 
-pub select_covered : (t : SelectTypes) → are_encodable (in_select t) ≡ true → is_covered_instr (select_instr (option_map (map meaning.as_val_type) t.tys)) ≡ true
+pub select_covered : (t : SelectTypes) → are_encodable (in_select t) ≡ true → (instr (select_instr (option_map (map meaning.as_val_type) t.tys))).is_covered ≡ true
 select_covered t e = of_types t.tys e
   where
-    of_types : (o : Option (List ValType)) → are_encodable (if_there (flat_map in_val) o) ≡ true → is_covered_instr (select_instr (option_map (map meaning.as_val_type) o)) ≡ true
+    of_types : (o : Option (List ValType)) → are_encodable (if_there (flat_map in_val) o) ≡ true → (instr (select_instr (option_map (map meaning.as_val_type) o))).is_covered ≡ true
     of_types None e = refl
     of_types (Some ts) e = both_true _ true (select_all ts e) refl
 
@@ -88,44 +89,46 @@ sequential_covered None e = refl
 sequential_covered (Some ordering.SeqCst) e = refl
 sequential_covered (Some ordering.AcqRel) e = e
 
-pub fence_covered : (o : Option Ordering) → encodable (check_sites (Covered form.Ordering (is_sequential o) ∷ [])) ≡ true → is_covered_instr (fence_instr (meaning.fence_ordering o)) ≡ true
+pub fence_covered : (o : Option Ordering) → encodable (check_sites (Covered form.Ordering (is_sequential o) ∷ [])) ≡ true → (instr (fence_instr (meaning.fence_ordering o))).is_covered ≡ true
 fence_covered o e = both_true _ true (sequential_covered o (both_pass (is_sequential o) true e).0) refl
 
 -- The type of a block: a type index, or at most one result.
-given_covered : (ts : List ValType) → list_all (λ v. are_encodable (in_val v)) ts ≡ true → is_covered_block_type (short_block_type ts) ≡ true
+given_covered : (ts : List ValType) → list_all (λ v. are_encodable (in_val v)) ts ≡ true → (block_type (short_block_type ts)).is_covered ≡ true
 given_covered [] e = refl
 given_covered (t ∷ ts) e = val_covered t (both_pass (are_encodable (in_val t)) _ e).0
 
-short_covered : (o : Option FunctionType) → are_encodable (if_there in_signature o) ≡ true → is_covered_block_type (short_type o) ≡ true
+short_covered : (o : Option FunctionType) → are_encodable (if_there in_signature o) ≡ true → (block_type (short_type o)).is_covered ≡ true
 short_covered None e = refl
 short_covered (Some t) e = given_covered t.results (signature_parts is_encodable_ask t e).1
 
-use_covered : (index : Option Index) (inline : Option FunctionType) → are_encodable (if_there in_signature inline) ≡ true → is_covered_block_type (use_as_block index inline) ≡ true
+use_covered : (index : Option Index) (inline : Option FunctionType) → are_encodable (if_there in_signature inline) ≡ true → (block_type (use_as_block index inline)).is_covered ≡ true
 use_covered (Some i) inline e = refl
 use_covered None inline e = short_covered inline e
 
-pub block_covered : (b : BlockType) → encodable (in_use OfBlock b.ty) ≡ true → is_covered_block_type (meaning.as_block_type b) ≡ true
+pub block_covered : (b : BlockType) → encodable (in_use OfBlock b.ty) ≡ true → (block_type (meaning.as_block_type b)).is_covered ≡ true
 block_covered b e =
     let asks = (both_pass _ (are_encodable (in_type_use b.ty)) (both_pass (is_encodable_site (Used OfBlock b.ty)) true e).0).1 in
     use_covered b.ty.index b.ty.inline (both_lists is_encodable_ask (if_there (in_index space.Ty) b.ty.index) _ asks).1
 
-pub storage_covered : (t : StorageType) → are_encodable (in_storage t) ≡ true → is_covered_storage_type (meaning.as_storage_type t) ≡ true
-storage_covered t e = grind (arith, common_steps, val_covered)
+pub storage_covered : (t : StorageType) → are_encodable (in_storage t) ≡ true → (storage_type (meaning.as_storage_type t)).is_covered ≡ true
+storage_covered storage.I8 e = refl
+storage_covered (storage.Val t) e = val_covered t e
+storage_covered t e = refl
 
-param_covered : (p : Option Id × Option NameAnnotation × ValType) → are_encodable (in_param p) ≡ true → is_covered_val_type (meaning.as_val_type p.2) ≡ true
+param_covered : (p : Option Id × Option NameAnnotation × ValType) → are_encodable (in_param p) ≡ true → (val_type (meaning.as_val_type p.2)).is_covered ≡ true
 param_covered p e = val_covered p.2 (sym (behind_id p.0 (in_val p.2)) ∙ e)
 
-field_covered : (f : StructField) → are_encodable (in_struct_field f) ≡ true → is_covered_field_type (meaning.as_field_type f) ≡ true
+field_covered : (f : StructField) → are_encodable (in_struct_field f) ≡ true → (field_type (meaning.as_field_type f)).is_covered ≡ true
 field_covered f e = storage_covered f.ty (sym (behind_id f.id (in_storage f.ty)) ∙ e)
 
-inner_covered : (t : InnerTypeKind) → are_encodable (in_inner t) ≡ true → is_covered_composite_inner_type (meaning.as_inner_type t) ≡ true
+inner_covered : (t : InnerTypeKind) → are_encodable (in_inner t) ≡ true → (composite_inner_type (meaning.as_inner_type t)).is_covered ≡ true
 inner_covered (inner.Func t) e =
     let a = signature_parts is_encodable_ask t e in
-    both_true (list_all is_covered_val_type (map (λ p. meaning.as_val_type p.2) t.params)) (list_all is_covered_val_type (map meaning.as_val_type t.results))
-    (each_becomes (λ p. are_encodable (in_param p)) (λ p. meaning.as_val_type p.2) is_covered_val_type param_covered t.params a.0)
-    (each_becomes (λ v. are_encodable (in_val v)) meaning.as_val_type is_covered_val_type val_covered t.results a.1)
+    both_true (list_all (λ x. (val_type x).is_covered) (map (λ p. meaning.as_val_type p.2) t.params)) (list_all (λ x. (val_type x).is_covered) (map meaning.as_val_type t.results))
+    (each_becomes (λ p. are_encodable (in_param p)) (λ p. meaning.as_val_type p.2) (λ x. (val_type x).is_covered) param_covered t.params a.0)
+    (each_becomes (λ v. are_encodable (in_val v)) meaning.as_val_type (λ x. (val_type x).is_covered) val_covered t.results a.1)
 inner_covered (inner.Struct t) e =
-    each_becomes (λ f. are_encodable (in_struct_field f)) meaning.as_field_type is_covered_field_type field_covered t.fields
+    each_becomes (λ f. are_encodable (in_struct_field f)) meaning.as_field_type (λ x. (field_type x).is_covered) field_covered t.fields
     (sym (each_passes is_encodable_ask in_struct_field t.fields) ∙ e)
 inner_covered (inner.Array t) e = storage_covered t.ty e
 inner_covered (inner.Cont t) e = (both_pass (is_number t.0) false e).1
@@ -138,24 +141,24 @@ no_descriptor (Some i) e = absurd (no_form (is_number i) e)
     no_form true e = cc
     no_form false e = cc
 
-pub def_covered : (d : TypeDef) → are_encodable (in_def d) ≡ true → is_covered_sub_type (meaning.as_sub_type d) ≡ true
+pub def_covered : (d : TypeDef) → are_encodable (in_def d) ≡ true → (sub_type (meaning.as_sub_type d)).is_covered ≡ true
 def_covered d e =
     let parts = def_parts is_encodable_ask d e in
-    both_true _ (is_covered_composite_inner_type (meaning.as_inner_type d.kind))
+    both_true _ (composite_inner_type (meaning.as_inner_type d.kind)).is_covered
     (both_true (not d.shared) _ (both_pass (not d.shared) true parts.shared).0
     (both_true _ _ (no_descriptor d.descriptor parts.descriptor) (no_descriptor d.describes parts.describes)))
     (inner_covered d.kind parts.kind)
 
 -- ---- What a function or a recursion group becomes.
 
-pub local_covered : (l : Local) → are_encodable (in_local l) ≡ true → is_covered_val_type (meaning.as_val_type l.ty) ≡ true
+pub local_covered : (l : Local) → are_encodable (in_local l) ≡ true → (val_type (meaning.as_val_type l.ty)).is_covered ≡ true
 local_covered l e = val_covered l.ty (both_lists is_encodable_ask (in_val l.ty) _ e).0
 
 pub locals_covered : (ls : List Local)
-    → list_all (λ l. are_encodable (in_local l)) ls ≡ true → list_all is_covered_val_type (map (λ l. meaning.as_val_type l.ty) ls) ≡ true
-locals_covered ls e = each_becomes (λ l. are_encodable (in_local l)) (λ l. meaning.as_val_type l.ty) is_covered_val_type local_covered ls e
+    → list_all (λ l. are_encodable (in_local l)) ls ≡ true → list_all (λ x. (val_type x).is_covered) (map (λ l. meaning.as_val_type l.ty) ls) ≡ true
+locals_covered ls e = each_becomes (λ l. are_encodable (in_local l)) (λ l. meaning.as_val_type l.ty) (λ x. (val_type x).is_covered) local_covered ls e
 
-pub types_covered : (r : Rec) → are_encodable (in_rec r) ≡ true → list_all is_covered_sub_type (map (λ t. meaning.as_sub_type t.def) r.types) ≡ true
+pub types_covered : (r : Rec) → are_encodable (in_rec r) ≡ true → list_all (λ x. (sub_type x).is_covered) (map (λ t. meaning.as_sub_type t.def) r.types) ≡ true
 types_covered r e =
-    each_becomes is_encodable_type (λ t. meaning.as_sub_type t.def) is_covered_sub_type (λ t h. def_covered t.def h) r.types
+    each_becomes is_encodable_type (λ t. meaning.as_sub_type t.def) (λ x. (sub_type x).is_covered) (λ t h. def_covered t.def h) r.types
     (sym (each_passes is_encodable_ask in_type r.types) ∙ e)

@@ -7,15 +7,15 @@
 --   (func (type 0) (call $f))     may not: $f is not a number
 --   (func (call 1))               may not: the type use has no index
 --   block (result i32) .. end     may: the block type `i32` needs no index
-use Rattle.std.specs.Prelude.{Bool, true, false, ◌&&◌, ◌||◌, is_some, List, Option, Some, None}
+use Rattle.std.specs.Prelude.{Bool, true, false, ◌&&◌, List, Option, Some, None}
 use Rattle.std.specs.List.{list_all, flat_map}
 use Rattle.wast_base.specs.Blocks.{is_balanced}
 use Rattle.wast_base.specs.Ids.{is_number}
 use Rattle.wast_tree_nodes.specs.Clauses.{is_segment_type_allowed}
 use Rattle.wast_tree_nodes.specs.Instrs.{block_effects}
-use Rattle.wast_tree_nodes.specs.Types.{says_enough}
-use Rattle.wast_tree_nodes.specs.Sites.{Check, ItemIndex, InnerIndex, PlainId, Clause, Covered, OfItem, Site, Asked, Used, Declared, LocalAt, FieldAt, LabelAt, Repeated, Begins, Ends, constant_context, in_type, in_ref, in_type_use, in_catch, in_handle, in_instr, in_instrs, in_local, in_table_type, in_global_type, in_import, in_tag_type, in_field, in_module, checks_of}
-use Rattle.wast_tree_nodes.specs.Resolved.{is_resolved_site, is_resolved}
+use Rattle.wast_tree_nodes.specs.Sites.{Check, ItemIndex, InnerIndex, PlainId, Clause, Covered, OfItem, Site, Used, constant_context, in_type, in_ref, in_catch, in_handle, in_instr, in_instrs, in_local, in_table_type, in_global_type, in_import, in_tag_type, in_field}
+use Rattle.wast_tree_nodes.specs.Resolved.{is_numbered, site_passes, is_resolved_site, is_resolved}
+use Rattle.wast_tree_nodes.specs.WellFormed.{is_well_formed}
 use Rattle.wast_tree_nodes.specs.WrittenOut.{is_written_memory, is_written_field, is_written_out}
 use Rattle.wast_core_conv.specs.Tree.{Index, TypeUse, FunctionType, TryTableCatch, Handle, Instruction, Expression, FuncKind, Imports, TableKind, Table, Memory, GlobalKind, Global, Tag, ElemKind, ElemPayload, Elem, DataKind, Data, ModuleField}
 use Rattle.wast_core_conv.specs.Tree.ty
@@ -38,17 +38,9 @@ is_encodable_ask (Covered form holds) = holds
 abbrev pub are_encodable : List Check → Bool
 are_encodable asks = list_all is_encodable_ask asks
 
--- a type use has an index, too, unless its inline type is that of a block and short
+-- whether a site may be encoded
 abbrev pub is_encodable_site : Site → Bool
-is_encodable_site (Asked a) = is_encodable_ask a
-is_encodable_site (Used w u) = (is_some u.index || says_enough w u.inline) && are_encodable (in_type_use u)
-is_encodable_site (Declared before m) = true
-is_encodable_site (LocalAt locals i) = is_number i
-is_encodable_site (FieldAt owner i) = is_number owner && is_number i
-is_encodable_site (LabelAt blocks i) = is_number i
-is_encodable_site (Repeated blocks m) = true
-is_encodable_site (Begins blocks m) = true
-is_encodable_site Ends = true
+is_encodable_site s = site_passes is_encodable_ask is_encodable_ask s
 
 -- all sites of a part
 abbrev pub encodable : List Site → Bool
@@ -56,15 +48,7 @@ encodable sites = list_all is_encodable_site sites
 
 -- What goes into an entry of a section: of a type use the index alone, so that what stands beside it has numbers, and no more.
 abbrev pub is_entered_site : Site → Bool
-is_entered_site (Asked a) = is_encodable_ask a
-is_entered_site (Used w u) = is_resolved_site (Used w u)
-is_entered_site (Declared before m) = true
-is_entered_site (LocalAt locals i) = is_number i
-is_entered_site (FieldAt owner i) = is_number owner && is_number i
-is_entered_site (LabelAt blocks i) = is_number i
-is_entered_site (Repeated blocks m) = true
-is_entered_site (Begins blocks m) = true
-is_entered_site Ends = true
+is_entered_site s = site_passes is_encodable_ask is_numbered s
 
 -- all sites of a part
 abbrev pub are_entered : List Site → Bool
@@ -172,17 +156,9 @@ is_encodable_field x = encodable (in_field x) && is_written_field x
 abbrev pub is_encodable : List ModuleField → Bool
 is_encodable fields = list_all is_encodable_field fields
 
--- Of a list that is at rest each clause holds, whether its forms are covered or not.
-abbrev pub is_met : Check → Bool
-is_met (ItemIndex s i) = true
-is_met (InnerIndex i) = true
-is_met (PlainId m) = true
-is_met (Clause n holds) = holds
-is_met (Covered form holds) = true
-
--- a list of fields as resolving leaves it: resolved, with nothing in place
+-- whether a list of fields is as resolving leaves it: resolved, desugared and well formed
 abbrev pub is_at_rest : List ModuleField → Bool
-is_at_rest fields = is_resolved fields && (is_written_out fields && list_all is_met (checks_of (in_module fields)))
+is_at_rest fields = is_resolved fields && (is_written_out fields && is_well_formed fields)
 
 -- What a conversion needs is less: that indices are numbers, and that each type use has one.
 abbrev pub are_resolved : List Site → Bool

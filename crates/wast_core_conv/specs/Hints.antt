@@ -5,10 +5,10 @@
 --
 --   (func (param i32) local.get 0 (@metadata.code.branch_hint "\01") if end)     offset 3: the bytes 00 20 00 come first
 use Rattle.std.specs.Prelude.{ℕ, Bool, false, ◌&&◌, List, [], ◌++◌, length, map, take, All}
-use Rattle.wasm_ops.specs.Spelling.{InRangeU32, InRangeVec, InRangeSized, vec, InRangeValType}
-use Rattle.wasm_ops.specs.Table.{instrs, InRangeInstr}
+use Rattle.wasm_ops.specs.Spelling.{InRangeU32, InRangeVec, InRangeSized, vec, val_type}
+use Rattle.wasm_ops.specs.Table.{instrs, instr}
 use Rattle.wasm_out.specs.Bodies.{Body, locals}
-use Rattle.wasm_out.specs.Hints.{branch_hint, InRangeBranchHint}
+use Rattle.wasm_out.specs.Hints.{branch_hint}
 use Rattle.wasm_out.specs.declared.hints.BranchHint.{BranchHint}
 use Rattle.wast_tree_nodes.specs.Clauses.{hints_stand}
 use Rattle.wast_core_conv.specs.Tree as tree
@@ -40,7 +40,7 @@ as_hints b = map (as_branch_hint b.body) b.hints
 
 -- The bytes of the hints: their number, and each of them.
 abbrev pub body_hints : HintedBody → List ℕ
-body_hints b = vec branch_hint (as_hints b)
+body_hints b = vec (λ x. (branch_hint x).bytes) (as_hints b)
 
 -- The hints of a function. An inline import has none.
 abbrev pub hints_of : FuncKind → List tree.BranchHint
@@ -53,11 +53,11 @@ as_hinted k = record { body = as_body k; hints = hints_of k }
 
 -- Whether numbers, counts and lengths are in range: in a hint, and in the instructions before it.
 abbrev pub InRangeHintOf : Body → tree.BranchHint → Type 0
-InRangeHintOf b h = All InRangeInstr (take h.instr_index b.instrs) × InRangeBranchHint (as_branch_hint b h)
+InRangeHintOf b h = All (λ x. (instr x).in_range) (take h.instr_index b.instrs) × (branch_hint (as_branch_hint b h)).in_range
 
 -- The same in several hints, and in the locals of their body.
 abbrev pub InRangeHintsOf : Body → List tree.BranchHint → Type 0
-InRangeHintsOf b hints = InRangeSized (InRangeVec InRangeValType) locals b.locals × All (InRangeHintOf b) hints
+InRangeHintsOf b hints = InRangeSized (InRangeVec (λ x. (val_type x).in_range)) locals b.locals × All (InRangeHintOf b) hints
 
 -- The same in all hints of a body, including their number.
 abbrev pub InRangeBodyHints : HintedBody → Type 0

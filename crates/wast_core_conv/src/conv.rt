@@ -14,8 +14,8 @@ ghost use Rattle.wast_base.specs.Ids.{is_number};
 ghost use Rattle.wast_base.specs.Faults.{out_of_memory};
 ghost use Rattle.wast_tree_nodes.specs.Sites.{in_heap, in_ref, in_val, in_param, in_storage, in_struct_field, in_array, in_struct, in_signature, in_inner, in_def, in_type};
 ghost use Rattle.wast_tree_nodes.specs.Resolved.{are_numbered};
-ghost use Rattle.wasm_ops.specs.ConstExprs.{InRangeExpression};
-ghost use Rattle.wasm_ops.specs.Table.{instr, instrs, InRangeInstr};
+ghost use Rattle.wasm_ops.specs.ConstExprs as encodings;
+ghost use Rattle.wasm_ops.specs.Table.{instrs, instr};
 ghost use Rattle.wasm_out.specs.Built.{IsRefused};
 ghost use Rattle.wast_core_conv.specs.Encodable.{is_number_if, is_encodable_instr, is_encodable_expression};
 ghost use Rattle.wast_core_conv.specs.Meaning as meaning;
@@ -405,9 +405,9 @@ pub fn export_kind(kind: wast_tree_nodes::ExportKind) -> wasm_ops::ExportKind
 fn instrs_bytes<'e>(alloc: Global, instructions: &[Instruction]) -> Result<Vec<u8>, Error<'e>>
     requires { IsTrue (list_all is_encodable_instr instructions.now) }
     ensures value { IfOk result (λ made.
-        (made.items ≡ flat_map (λ i. instr (meaning.as_instr i)) instructions.now)
-        × All (λ i. InRangeInstr (meaning.as_instr i)) instructions.now) }
-    ensures refusal { IfErr result (IsRefused (All (λ i. InRangeInstr (meaning.as_instr i)) instructions.now)) }
+        (made.items ≡ flat_map (λ i. (instr (meaning.as_instr i)).bytes) instructions.now)
+        × All (λ i. (instr (meaning.as_instr i)).in_range) instructions.now) }
+    ensures refusal { IfErr result (IsRefused (All (λ i. (instr (meaning.as_instr i)).in_range) instructions.now)) }
 {
     let mut bytes = Vec::new(alloc);
     Each(instructions, Resolved).encode(&mut bytes)?;
@@ -438,8 +438,8 @@ pub fn const_expr<'e>(alloc: Global, expression: &Expression) -> Result<ConstExp
     requires { IsTrue (is_encodable_expression expression.now) }
     ensures value { IfOk result (λ made.
         (made ≡ instrs (meaning.as_expression expression.now))
-        × InRangeExpression (meaning.as_expression expression.now)) }
-    ensures refusal { IfErr result (IsRefused (InRangeExpression (meaning.as_expression expression.now))) }
+        × (encodings.expression (meaning.as_expression expression.now)).in_range) }
+    ensures refusal { IfErr result (IsRefused (encodings.expression (meaning.as_expression expression.now)).in_range) }
 {
     let bytes = instrs_bytes(alloc, expression.instrs.as_slice())?;
     Ok(ConstExpr::raw(bytes))

@@ -4,9 +4,9 @@ ghost use Rattle.std.specs.Prelude.{◌≡◌, IfOk, IfErr, IsTrue};
 ghost use Rattle.std.specs.List.{All, list_all};
 ghost use Rattle.wast_tree_nodes.specs.DataBytes.{all_bytes};
 ghost use Rattle.wast_base.specs.Faults.{out_of_memory};
-ghost use Rattle.wasm_ops.specs.ConstExprs.{InRangeExpression};
+ghost use Rattle.wasm_ops.specs.ConstExprs.{expression};
 ghost use Rattle.wasm_out.specs.Built.{IsRefused};
-ghost use Rattle.wasm_out.specs.ElementSegments.{InRangeListed};
+ghost use Rattle.wasm_out.specs.ElementSegments.{element_list};
 ghost use Rattle.wast_core_conv.specs.Encodable.{is_encodable_expression, is_encodable_payload};
 ghost use Rattle.wast_core_conv.specs.Meaning as meaning;
 ghost use Rattle.wast_core_conv.specs.Segments.{AreExpressions, ArePayload};
@@ -22,7 +22,7 @@ use wast_tree_nodes::{DataVal, ElemPayload, Expression};
 fn const_exprs<'e>(alloc: Global, expressions: &[Expression]) -> Result<Seq<ConstExpr>, Error<'e>>
     requires { IsTrue (list_all is_encodable_expression expressions.now) }
     ensures value { IfOk result (AreExpressions expressions.now) }
-    ensures refusal { IfErr result (IsRefused (All (λ e. InRangeExpression (meaning.as_expression e)) expressions.now)) }
+    ensures refusal { IfErr result (IsRefused (All (λ e. (expression (meaning.as_expression e)).in_range) expressions.now)) }
 {
     let mut made = Seq::new(alloc);
     for expression in expressions {
@@ -40,7 +40,7 @@ fn const_exprs<'e>(alloc: Global, expressions: &[Expression]) -> Result<Seq<Cons
 pub(crate) fn elements<'e>(alloc: Global, payload: &ElemPayload) -> Result<Elements, Error<'e>>
     requires { IsTrue (is_encodable_payload payload.now) }
     ensures value { IfOk result (ArePayload payload.now) }
-    ensures refusal { IfErr result (IsRefused (InRangeListed (meaning.as_element_items payload.now))) }
+    ensures refusal { IfErr result (IsRefused (element_list (meaning.as_element_items payload.now)).in_range) }
 {
     match payload {
         ElemPayload::Indices(functions) => {

@@ -3,8 +3,8 @@
 ghost use Rattle.std.specs.Prelude.{true};
 ghost use Rattle.wasm_ops.specs.Spelling.{Any};
 ghost use Rattle.wasm_out.specs.Parts.{part};
-ghost use Rattle.wasm_out.specs.Producers.{producer_value, InRangeProducerValue, producer_field, InRangeProducerField};
-ghost use Rattle.wast_core_conv.specs.Customs.{as_producer_value, as_producer_field, listed_name, InRangeListedName, export_flags, InRangeExportFlags, import_flags, InRangeImportFlags, subsection_content, InRangeSubsectionContent, subsection, InRangeSubsection, custom_payload, InRangeCustomPayload, custom_part, InRangeCustom, is_encodable_subsection, is_encodable_custom};
+ghost use Rattle.wasm_out.specs.Producers.{producer_field, producer_value};
+ghost use Rattle.wast_core_conv.specs.Customs.{as_producer_value, as_producer_field, custom_part, InRangeCustom, is_encodable_subsection, is_encodable_custom, custom_payload, export_flags, import_flags, listed_name, subsection, subsection_content};
 
 use crate::values::Resolved;
 use wasm_ops::{Counted, Each, Encode, EncodeWith, Name, Raw, Refusal, Sink, WithLength};
@@ -13,9 +13,9 @@ use wast_tree_nodes::{Custom, Dylink0Subsection};
 
 /// A name in a list (binary format: names).
 impl<'a> EncodeWith<&'a str> for Resolved {
-    ghost spelling = { λ _ n. listed_name n };
+    ghost spelling = { λ _ n. (listed_name n).bytes };
 
-    ghost in_range = { λ _ n. InRangeListedName n };
+    ghost in_range = { λ _ n. (listed_name n).in_range };
 
     ghost is_ready = { λ _ _. true };
 
@@ -39,9 +39,9 @@ impl<'a> EncodeWith<&'a [u8]> for Resolved {
 
 /// A value in a producers section: its name and version (tool conventions: producers section).
 impl<'a> EncodeWith<(&'a str, &'a str)> for Resolved {
-    ghost spelling = { λ _ v. producer_value (as_producer_value v) };
+    ghost spelling = { λ _ v. (producer_value (as_producer_value v)).bytes };
 
-    ghost in_range = { λ _ v. InRangeProducerValue (as_producer_value v) };
+    ghost in_range = { λ _ v. (producer_value (as_producer_value v)).in_range };
 
     ghost is_ready = { λ _ _. true };
 
@@ -52,9 +52,9 @@ impl<'a> EncodeWith<(&'a str, &'a str)> for Resolved {
 
 /// A field of a producers section: its name and values (tool conventions: producers section).
 impl<'a> EncodeWith<(&'a str, Seq<(&'a str, &'a str)>)> for Resolved {
-    ghost spelling = { λ _ f. producer_field (as_producer_field f) };
+    ghost spelling = { λ _ f. (producer_field (as_producer_field f)).bytes };
 
-    ghost in_range = { λ _ f. InRangeProducerField (as_producer_field f) };
+    ghost in_range = { λ _ f. (producer_field (as_producer_field f)).in_range };
 
     ghost is_ready = { λ _ _. true };
 
@@ -69,9 +69,9 @@ impl<'a> EncodeWith<(&'a str, Seq<(&'a str, &'a str)>)> for Resolved {
 
 /// An export with its flags (tool conventions: dynamic linking).
 impl<'a> EncodeWith<(&'a str, u32)> for Resolved {
-    ghost spelling = { λ _ e. export_flags e };
+    ghost spelling = { λ _ e. (export_flags e).bytes };
 
-    ghost in_range = { λ _ e. InRangeExportFlags e };
+    ghost in_range = { λ _ e. (export_flags e).in_range };
 
     ghost is_ready = { λ _ _. true };
 
@@ -82,9 +82,9 @@ impl<'a> EncodeWith<(&'a str, u32)> for Resolved {
 
 /// An import with its flags (tool conventions: dynamic linking).
 impl<'a> EncodeWith<(&'a str, &'a str, u32)> for Resolved {
-    ghost spelling = { λ _ i. import_flags i };
+    ghost spelling = { λ _ i. (import_flags i).bytes };
 
-    ghost in_range = { λ _ i. InRangeImportFlags i };
+    ghost in_range = { λ _ i. (import_flags i).in_range };
 
     ghost is_ready = { λ _ _. true };
 
@@ -105,9 +105,9 @@ impl<'a> EncodeWith<(&'a str, &'a str, u32)> for Resolved {
 pub struct SubsectionContent<'b, 'a>(pub &'b Dylink0Subsection<'a>);
 
 impl Encode for SubsectionContent<'_, '_> {
-    ghost spelling = { λ c. subsection_content c.0.now };
+    ghost spelling = { λ c. (subsection_content c.0.now).bytes };
 
-    ghost in_range = { λ c. InRangeSubsectionContent c.0.now };
+    ghost in_range = { λ c. (subsection_content c.0.now).in_range };
 
     ghost is_ready = { λ c. is_encodable_subsection c.0.now };
 
@@ -132,9 +132,9 @@ impl Encode for SubsectionContent<'_, '_> {
 
 /// A subsection of `dylink.0`, with its number and length (tool conventions: dynamic linking).
 impl EncodeWith<Dylink0Subsection<'_>> for Resolved {
-    ghost spelling = { λ _ s. subsection s };
+    ghost spelling = { λ _ s. (subsection s).bytes };
 
-    ghost in_range = { λ _ s. InRangeSubsection s };
+    ghost in_range = { λ _ s. (subsection s).in_range };
 
     ghost is_ready = { λ _ s. is_encodable_subsection s };
 
@@ -150,9 +150,9 @@ impl EncodeWith<Dylink0Subsection<'_>> for Resolved {
 pub(crate) struct CustomPayload<'b, 'a>(pub &'b Custom<'a>);
 
 impl Encode for CustomPayload<'_, '_> {
-    ghost spelling = { λ p. custom_payload p.0.now };
+    ghost spelling = { λ p. (custom_payload p.0.now).bytes };
 
-    ghost in_range = { λ p. InRangeCustomPayload p.0.now };
+    ghost in_range = { λ p. (custom_payload p.0.now).in_range };
 
     ghost is_ready = { λ p. is_encodable_custom p.0.now };
 

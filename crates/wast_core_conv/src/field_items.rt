@@ -2,10 +2,9 @@
 
 ghost use Rattle.std.specs.Prelude.{◌+◌, option_map, IsTrue};
 ghost use Rattle.wasm_ops.specs.Entities as entities;
-ghost use Rattle.wasm_ops.specs.Entities.{InRangeMemoryType, InRangeTagType};
 ghost use Rattle.wasm_ops.specs.Spelling.{InRangeU32};
 ghost use Rattle.wasm_out.specs.Built.{Adds};
-ghost use Rattle.wasm_out.specs.Parts.{import_entry, InRangeImport, table_entry, InRangeTable, global_entry, InRangeGlobal};
+ghost use Rattle.wasm_out.specs.Parts.{global_entry, import_entry, table_entry};
 ghost use Rattle.wast_tree_nodes.specs.Sites.{in_table_type, in_global_type};
 ghost use Rattle.wast_core_conv.specs.Encodable.{are_encodable, is_encodable_expression, is_encodable_init, is_encodable_import, is_encodable_table, is_encodable_memory, is_encodable_global, is_encodable_tag};
 ghost use Rattle.wast_core_conv.specs.Meaning as meaning;
@@ -27,9 +26,9 @@ impl SectionItem for Imports<'_> {
 
     const ANCHOR: CustomPlaceAnchor = CustomPlaceAnchor::Import;
 
-    ghost spelling = { λ item. import_entry (meaning.as_import item) };
+    ghost spelling = { λ item. (import_entry (meaning.as_import item)).bytes };
 
-    ghost in_range = { λ item. InRangeImport (meaning.as_import item) };
+    ghost in_range = { λ item. (import_entry (meaning.as_import item)).in_range };
 
     ghost is_encodable = { is_encodable_import };
 
@@ -58,9 +57,9 @@ fn add_table<'e>(
     requires ty { IsTrue (are_encodable (in_table_type ty.now)) }
     requires init { IsTrue (is_encodable_init init.now) }
     ensures { Adds (InRangeU32 (section.old.count + 1)
-        × InRangeTable (record { ty = meaning.as_table_type ty.now; init = option_map meaning.as_expression init.now }))
+        × (table_entry (record { ty = meaning.as_table_type ty.now; init = option_map meaning.as_expression init.now })).in_range)
         section.old section.new
-        (table_entry (record { ty = meaning.as_table_type ty.now; init = option_map meaning.as_expression init.now })) result }
+        (table_entry (record { ty = meaning.as_table_type ty.now; init = option_map meaning.as_expression init.now })).bytes result }
 {
     let ty = conv::table_type(ty);
     match init {
@@ -74,9 +73,9 @@ impl SectionItem for Table<'_> {
 
     const ANCHOR: CustomPlaceAnchor = CustomPlaceAnchor::Table;
 
-    ghost spelling = { λ item. table_entry (meaning.as_table item) };
+    ghost spelling = { λ item. (table_entry (meaning.as_table item)).bytes };
 
-    ghost in_range = { λ item. InRangeTable (meaning.as_table item) };
+    ghost in_range = { λ item. (table_entry (meaning.as_table item)).in_range };
 
     ghost is_encodable = { is_encodable_table };
 
@@ -97,9 +96,9 @@ impl SectionItem for Memory<'_> {
 
     const ANCHOR: CustomPlaceAnchor = CustomPlaceAnchor::Memory;
 
-    ghost spelling = { λ item. entities.memory_type (meaning.as_memory item) };
+    ghost spelling = { λ item. (entities.memory_type (meaning.as_memory item)).bytes };
 
-    ghost in_range = { λ item. InRangeMemoryType (meaning.as_memory item) };
+    ghost in_range = { λ item. (entities.memory_type (meaning.as_memory item)).in_range };
 
     ghost is_encodable = { is_encodable_memory };
 
@@ -125,9 +124,9 @@ fn add_global<'e>(
     requires ty { IsTrue (are_encodable (in_global_type ty.now)) }
     requires init { IsTrue (is_encodable_expression init.now) }
     ensures { Adds (InRangeU32 (section.old.count + 1)
-        × InRangeGlobal (record { ty = meaning.as_global_type ty.now; init = meaning.as_expression init.now }))
+        × (global_entry (record { ty = meaning.as_global_type ty.now; init = meaning.as_expression init.now })).in_range)
         section.old section.new
-        (global_entry (record { ty = meaning.as_global_type ty.now; init = meaning.as_expression init.now })) result }
+        (global_entry (record { ty = meaning.as_global_type ty.now; init = meaning.as_expression init.now })).bytes result }
 {
     section.global(&conv::global_type(ty), &conv::const_expr(alloc, init)?)
 }
@@ -137,9 +136,9 @@ impl SectionItem for wast_tree_nodes::Global<'_> {
 
     const ANCHOR: CustomPlaceAnchor = CustomPlaceAnchor::Global;
 
-    ghost spelling = { λ item. global_entry (meaning.as_global item) };
+    ghost spelling = { λ item. (global_entry (meaning.as_global item)).bytes };
 
-    ghost in_range = { λ item. InRangeGlobal (meaning.as_global item) };
+    ghost in_range = { λ item. (global_entry (meaning.as_global item)).in_range };
 
     ghost is_encodable = { is_encodable_global };
 
@@ -160,9 +159,9 @@ impl SectionItem for Tag<'_> {
 
     const ANCHOR: CustomPlaceAnchor = CustomPlaceAnchor::Tag;
 
-    ghost spelling = { λ item. entities.tag_type (meaning.as_tag item) };
+    ghost spelling = { λ item. (entities.tag_type (meaning.as_tag item)).bytes };
 
-    ghost in_range = { λ item. InRangeTagType (meaning.as_tag item) };
+    ghost in_range = { λ item. (entities.tag_type (meaning.as_tag item)).in_range };
 
     ghost is_encodable = { is_encodable_tag };
 

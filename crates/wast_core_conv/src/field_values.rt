@@ -1,11 +1,10 @@
 //! Fields of a resolved module as bytes of section entries.
 
 ghost use Rattle.std.specs.Prelude.{option_map, IsTrue};
-ghost use Rattle.wasm_ops.specs.ConstExprs.{expression, InRangeExpression};
+ghost use Rattle.wasm_ops.specs.ConstExprs.{expression};
 ghost use Rattle.wasm_ops.specs.Entities as entities;
-ghost use Rattle.wasm_ops.specs.Entities.{InRangeMemoryType, InRangeTagType};
 ghost use Rattle.wasm_ops.specs.Sinks.{Writes};
-ghost use Rattle.wasm_out.specs.Parts.{import_entry, InRangeImport, table_entry, InRangeTable, global_entry, InRangeGlobal};
+ghost use Rattle.wasm_out.specs.Parts.{global_entry, import_entry, table_entry};
 ghost use Rattle.wast_tree_nodes.specs.Sites.{in_table_type, in_global_type, in_item_kind};
 ghost use Rattle.wast_core_conv.specs.Encodable.{are_encodable, are_entered, is_encodable_expression, is_encodable_init, is_encodable_import, is_encodable_table, is_encodable_memory, is_encodable_global, is_encodable_tag};
 ghost use Rattle.wast_core_conv.specs.Meaning as meaning;
@@ -20,9 +19,9 @@ use wast_tree_nodes::{
 
 /// A constant expression, with its final `end` (binary format: expressions).
 impl EncodeWith<Expression<'_>> for Resolved {
-    ghost spelling = { λ _ e. expression (meaning.as_expression e) };
+    ghost spelling = { λ _ e. (expression (meaning.as_expression e)).bytes };
 
-    ghost in_range = { λ _ e. InRangeExpression (meaning.as_expression e) };
+    ghost in_range = { λ _ e. (expression (meaning.as_expression e)).in_range };
 
     ghost is_ready = { λ _ e. is_encodable_expression e };
 
@@ -41,18 +40,18 @@ fn put_import<S: Sink>(
 ) -> Result<(), Refusal>
     requires { IsTrue (are_entered (in_item_kind kind.now)) }
     ensures { Writes S.rules
-        (InRangeImport (record { «module» = source.now; name = name.now; entity = meaning.as_entity_type kind.now }))
+        (import_entry (record { «module» = source.now; name = name.now; entity = meaning.as_entity_type kind.now })).in_range
         out.old out.new
-        (import_entry (record { «module» = source.now; name = name.now; entity = meaning.as_entity_type kind.now })) result }
+        (import_entry (record { «module» = source.now; name = name.now; entity = meaning.as_entity_type kind.now })).bytes result }
 {
     (Name(source), (Name(name), conv::entity_type(kind))).encode(out)
 }
 
 /// An entry of the import section (binary format: import section).
 impl EncodeWith<Imports<'_>> for Resolved {
-    ghost spelling = { λ _ i. import_entry (meaning.as_import i) };
+    ghost spelling = { λ _ i. (import_entry (meaning.as_import i)).bytes };
 
-    ghost in_range = { λ _ i. InRangeImport (meaning.as_import i) };
+    ghost in_range = { λ _ i. (import_entry (meaning.as_import i)).in_range };
 
     ghost is_ready = { λ _ i. is_encodable_import i };
 
@@ -69,9 +68,9 @@ fn put_table<S: Sink>(ty: &TableType, init: &Option<Expression>, out: &mut S) ->
     requires ty { IsTrue (are_encodable (in_table_type ty.now)) }
     requires init { IsTrue (is_encodable_init init.now) }
     ensures { Writes S.rules
-        (InRangeTable (record { ty = meaning.as_table_type ty.now; init = option_map meaning.as_expression init.now }))
+        (table_entry (record { ty = meaning.as_table_type ty.now; init = option_map meaning.as_expression init.now })).in_range
         out.old out.new
-        (table_entry (record { ty = meaning.as_table_type ty.now; init = option_map meaning.as_expression init.now })) result }
+        (table_entry (record { ty = meaning.as_table_type ty.now; init = option_map meaning.as_expression init.now })).bytes result }
 {
     let ty = conv::table_type(ty);
     match init {
@@ -82,9 +81,9 @@ fn put_table<S: Sink>(ty: &TableType, init: &Option<Expression>, out: &mut S) ->
 
 /// An entry of the table section (binary format: table section).
 impl EncodeWith<Table<'_>> for Resolved {
-    ghost spelling = { λ _ t. table_entry (meaning.as_table t) };
+    ghost spelling = { λ _ t. (table_entry (meaning.as_table t)).bytes };
 
-    ghost in_range = { λ _ t. InRangeTable (meaning.as_table t) };
+    ghost in_range = { λ _ t. (table_entry (meaning.as_table t)).in_range };
 
     ghost is_ready = { λ _ t. is_encodable_table t };
 
@@ -98,9 +97,9 @@ impl EncodeWith<Table<'_>> for Resolved {
 
 /// An entry of the memory section (binary format: memory section).
 impl EncodeWith<Memory<'_>> for Resolved {
-    ghost spelling = { λ _ m. entities.memory_type (meaning.as_memory m) };
+    ghost spelling = { λ _ m. (entities.memory_type (meaning.as_memory m)).bytes };
 
-    ghost in_range = { λ _ m. InRangeMemoryType (meaning.as_memory m) };
+    ghost in_range = { λ _ m. (entities.memory_type (meaning.as_memory m)).in_range };
 
     ghost is_ready = { λ _ m. is_encodable_memory m };
 
@@ -117,18 +116,18 @@ fn put_global<S: Sink>(ty: &GlobalType, init: &Expression, out: &mut S) -> Resul
     requires ty { IsTrue (are_encodable (in_global_type ty.now)) }
     requires init { IsTrue (is_encodable_expression init.now) }
     ensures { Writes S.rules
-        (InRangeGlobal (record { ty = meaning.as_global_type ty.now; init = meaning.as_expression init.now }))
+        (global_entry (record { ty = meaning.as_global_type ty.now; init = meaning.as_expression init.now })).in_range
         out.old out.new
-        (global_entry (record { ty = meaning.as_global_type ty.now; init = meaning.as_expression init.now })) result }
+        (global_entry (record { ty = meaning.as_global_type ty.now; init = meaning.as_expression init.now })).bytes result }
 {
     (conv::global_type(ty), EncodedBy(init, Resolved)).encode(out)
 }
 
 /// An entry of the global section (binary format: global section).
 impl EncodeWith<Global<'_>> for Resolved {
-    ghost spelling = { λ _ g. global_entry (meaning.as_global g) };
+    ghost spelling = { λ _ g. (global_entry (meaning.as_global g)).bytes };
 
-    ghost in_range = { λ _ g. InRangeGlobal (meaning.as_global g) };
+    ghost in_range = { λ _ g. (global_entry (meaning.as_global g)).in_range };
 
     ghost is_ready = { λ _ g. is_encodable_global g };
 
@@ -142,9 +141,9 @@ impl EncodeWith<Global<'_>> for Resolved {
 
 /// An entry of the tag section (binary format: tag section).
 impl EncodeWith<Tag<'_>> for Resolved {
-    ghost spelling = { λ _ t. entities.tag_type (meaning.as_tag t) };
+    ghost spelling = { λ _ t. (entities.tag_type (meaning.as_tag t)).bytes };
 
-    ghost in_range = { λ _ t. InRangeTagType (meaning.as_tag t) };
+    ghost in_range = { λ _ t. (entities.tag_type (meaning.as_tag t)).in_range };
 
     ghost is_ready = { λ _ t. is_encodable_tag t };
 

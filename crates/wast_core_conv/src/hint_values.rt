@@ -3,11 +3,11 @@
 ghost use Rattle.std.specs.Prelude.{◌≡◌, ◌≤◌, ◌+◌, ◌&&◌, [], length, map, All, IfOk, IfErr, IsTrue};
 ghost use Rattle.std.specs.List.{flat_map, list_all};
 ghost use Rattle.wasm_ops.specs.Sinks.{Writes};
-ghost use Rattle.wasm_ops.specs.Spelling.{InRangeU32, InRangeVec, InRangeSized, InRangeValType, vec};
-ghost use Rattle.wasm_ops.specs.Table.{instr, InRangeInstr};
+ghost use Rattle.wasm_ops.specs.Spelling.{InRangeU32, InRangeVec, InRangeSized, vec, val_type};
+ghost use Rattle.wasm_ops.specs.Table.{instr};
 ghost use Rattle.wasm_ops.specs.declared.sink.Refusal.TheVariants as refusal;
 ghost use Rattle.wasm_out.specs.Bodies as bodies;
-ghost use Rattle.wasm_out.specs.Hints.{branch_hint, InRangeBranchHint};
+ghost use Rattle.wasm_out.specs.Hints.{branch_hint};
 ghost use Rattle.wast_tree_nodes.specs.Clauses.{stand_from};
 ghost use Rattle.wast_tree_nodes.specs.Sites.{in_local};
 ghost use Rattle.wast_core_conv.specs.Encodable.{are_encodable, is_encodable_instr};
@@ -23,9 +23,9 @@ use wast_tree_nodes::{BranchHint, FuncKind, Instruction, Local};
 fn counted_locals(locals: &[Local]) -> Result<Length, Refusal>
     requires { IsTrue (list_all (λ l. are_encodable (in_local l)) locals.now) }
     ensures ok { let types = (meaning.body_of locals.now []).locals in
-        IfOk result (λ n. (n ≡ length (bodies.locals types)) × InRangeSized (InRangeVec InRangeValType) bodies.locals types) }
+        IfOk result (λ n. (n ≡ length (bodies.locals types)) × InRangeSized (InRangeVec (λ x. (val_type x).in_range)) bodies.locals types) }
     ensures err { let types = (meaning.body_of locals.now []).locals in
-        IfErr result (λ e. (e ≡ refusal.TooLarge) × (InRangeSized (InRangeVec InRangeValType) bodies.locals types → ⊥)) }
+        IfErr result (λ e. (e ≡ refusal.TooLarge) × (InRangeSized (InRangeVec (λ x. (val_type x).in_range)) bodies.locals types → ⊥)) }
 {
     let mut length = Length::new();
     Locals(locals, Resolved).encode(&mut length)?;
@@ -47,9 +47,9 @@ fn put_hint<S: Sink>(
 ) -> Result<(), Refusal>
     requires instrs { IsTrue (list_all is_encodable_instr instrs.now) }
     requires value { value ≤ 1 }
-    ensures counted { IfOk result (λ _. before.new ≡ before.old + length (flat_map (λ i. instr (meaning.as_instr i)) instrs.now)) }
-    ensures written { let hint = hint_at (before.old + length (flat_map (λ i. instr (meaning.as_instr i)) instrs.now)) value in
-        Writes S.rules (All (λ i. InRangeInstr (meaning.as_instr i)) instrs.now × InRangeBranchHint hint) out.old out.new (branch_hint hint) result }
+    ensures counted { IfOk result (λ _. before.new ≡ before.old + length (flat_map (λ i. (instr (meaning.as_instr i)).bytes) instrs.now)) }
+    ensures written { let hint = hint_at (before.old + length (flat_map (λ i. (instr (meaning.as_instr i)).bytes) instrs.now)) value in
+        Writes S.rules (All (λ i. (instr (meaning.as_instr i)).in_range) instrs.now × (branch_hint hint).in_range) out.old out.new (branch_hint hint).bytes result }
 {
     Each(instrs, Resolved).encode(before)?;
     let Ok(branch_func_offset) = u32::try_from(before.count()) else {
@@ -74,7 +74,7 @@ struct Hints<'b, 'a> {
 }
 
 impl Encode for Hints<'_, '_> {
-    ghost spelling = { λ s. flat_map (λ h. branch_hint (as_branch_hint (meaning.body_of s.locals.now s.instrs.now) h)) s.hints.now };
+    ghost spelling = { λ s. flat_map (λ h. (branch_hint (as_branch_hint (meaning.body_of s.locals.now s.instrs.now) h)).bytes) s.hints.now };
 
     ghost in_range = { λ s. InRangeHintsOf (meaning.body_of s.locals.now s.instrs.now) s.hints.now };
 
@@ -109,7 +109,7 @@ fn put_hints<'b, 'a, S: Sink>(
     requires hints { IsTrue (stand_from (length instrs.now) 0 hints.now) }
     ensures { let body = meaning.body_of locals.now instrs.now in
         Writes S.rules (InRangeU32 (length hints.now) × InRangeHintsOf body hints.now)
-        out.old out.new (vec branch_hint (map (as_branch_hint body) hints.now)) result }
+        out.old out.new (vec (λ x. (branch_hint x).bytes) (map (as_branch_hint body) hints.now)) result }
 {
     let Ok(count) = u32::try_from(hints.len()) else {
         return Err(Refusal::TooLarge);

@@ -5,13 +5,13 @@ ghost use Rattle.wast_base.specs.Ids.{is_number};
 ghost use Rattle.wast_tree_nodes.specs.Sites.{OfBlock, constant_context, is_sequential, in_heap, in_ref, in_access, in_cast, in_mem_arg, in_select, in_indirect, in_use, in_br_table, in_try_table};
 ghost use Rattle.wasm_ops.specs.CastInstrs.{cast_instr, br_cast_instr, fence_instr};
 ghost use Rattle.wasm_ops.specs.ConstantInstrs.{ref_null_instr};
-ghost use Rattle.wasm_ops.specs.Control.{catch_clause, InRangeCatch};
+ghost use Rattle.wasm_ops.specs.Control.{catch_clause};
 ghost use Rattle.wasm_ops.specs.ControlInstrs.{block_instr, br_table_instr, try_table_instr};
 ghost use Rattle.wasm_ops.specs.IndexInstrs.{index_instr, index_pair_instr};
 ghost use Rattle.wasm_ops.specs.MemoryInstrs.{mem_instr};
 ghost use Rattle.wasm_ops.specs.SelectInstrs.{select_instr};
 ghost use Rattle.wasm_ops.specs.Sinks.{Writes};
-ghost use Rattle.wasm_ops.specs.Table.{instr, InRangeInstr};
+ghost use Rattle.wasm_ops.specs.Table.{instr};
 ghost use Rattle.wasm_ops.specs.VectorInstrs.{lanes_instr, lane_instr, mem_lane_instr};
 ghost use Rattle.wasm_ops.specs.declared.casts.BrCastOp.TheVariants as branch;
 ghost use Rattle.wast_base.specs.declared.index_ops.IndexPairOp.TheVariants as pair;
@@ -40,8 +40,8 @@ use wast_tree_nodes::{
 #[inline(always)]
 fn put_index<S: Sink>(op: IndexOp, index: &Index, out: &mut S) -> Result<(), Refusal>
     requires { IsTrue (is_number index.now) }
-    ensures { Writes S.rules (InRangeInstr (index_instr op (meaning.index_value index.now)))
-        out.old out.new (instr (index_instr op (meaning.index_value index.now))) result }
+    ensures { Writes S.rules (instr (index_instr op (meaning.index_value index.now))).in_range
+        out.old out.new (instr (index_instr op (meaning.index_value index.now))).bytes result }
 {
     IndexInstr {
         op,
@@ -59,8 +59,8 @@ fn put_pair<S: Sink>(
 ) -> Result<(), Refusal>
     requires first { IsTrue (is_number first.now) }
     requires second { IsTrue (is_number second.now) }
-    ensures { Writes S.rules (InRangeInstr (index_pair_instr op (meaning.index_value first.now) (meaning.index_value second.now)))
-        out.old out.new (instr (index_pair_instr op (meaning.index_value first.now) (meaning.index_value second.now))) result }
+    ensures { Writes S.rules (instr (index_pair_instr op (meaning.index_value first.now) (meaning.index_value second.now))).in_range
+        out.old out.new (instr (index_pair_instr op (meaning.index_value first.now) (meaning.index_value second.now))).bytes result }
 {
     IndexPair {
         op,
@@ -73,8 +73,8 @@ fn put_pair<S: Sink>(
 /// Writes an indirect call: the type index, and then the table index.
 fn put_indirect<S: Sink>(op: IndexPairOp, call: &CallIndirect, out: &mut S) -> Result<(), Refusal>
     requires { IsTrue (encodable (in_indirect call.now)) }
-    ensures { Writes S.rules (InRangeInstr (index_pair_instr op (meaning.type_index call.now.ty) (meaning.index_value call.now.table)))
-        out.old out.new (instr (index_pair_instr op (meaning.type_index call.now.ty) (meaning.index_value call.now.table))) result }
+    ensures { Writes S.rules (instr (index_pair_instr op (meaning.type_index call.now.ty) (meaning.index_value call.now.table))).in_range
+        out.old out.new (instr (index_pair_instr op (meaning.type_index call.now.ty) (meaning.index_value call.now.table))).bytes result }
 {
     IndexPair {
         op,
@@ -91,8 +91,8 @@ fn put_boxed_call<S: Sink>(
     out: &mut S,
 ) -> Result<(), Refusal>
     requires { IsTrue (encodable (in_indirect call.now)) }
-    ensures { Writes S.rules (InRangeInstr (index_pair_instr op (meaning.type_index call.now.ty) (meaning.index_value call.now.table)))
-        out.old out.new (instr (index_pair_instr op (meaning.type_index call.now.ty) (meaning.index_value call.now.table))) result }
+    ensures { Writes S.rules (instr (index_pair_instr op (meaning.type_index call.now.ty) (meaning.index_value call.now.table))).in_range
+        out.old out.new (instr (index_pair_instr op (meaning.type_index call.now.ty) (meaning.index_value call.now.table))).bytes result }
 {
     put_indirect(op, call.get(), out)
 }
@@ -100,8 +100,8 @@ fn put_boxed_call<S: Sink>(
 /// Writes a load or a store.
 fn put_mem<S: Sink>(op: MemOp, arg: &MemArg, out: &mut S) -> Result<(), Refusal>
     requires { IsTrue (are_encodable (in_mem_arg arg.now)) }
-    ensures { Writes S.rules (InRangeInstr (mem_instr op (meaning.as_mem_arg arg.now)))
-        out.old out.new (instr (mem_instr op (meaning.as_mem_arg arg.now))) result }
+    ensures { Writes S.rules (instr (mem_instr op (meaning.as_mem_arg arg.now))).in_range
+        out.old out.new (instr (mem_instr op (meaning.as_mem_arg arg.now))).bytes result }
 {
     MemInstr {
         op,
@@ -112,8 +112,8 @@ fn put_mem<S: Sink>(op: MemOp, arg: &MemArg, out: &mut S) -> Result<(), Refusal>
 
 /// Writes an instruction on a lane.
 fn put_lane<S: Sink>(op: LaneOp, arg: &LaneArg, out: &mut S) -> Result<(), Refusal>
-    ensures { Writes S.rules (InRangeInstr (lane_instr op arg.now.lane))
-        out.old out.new (instr (lane_instr op arg.now.lane)) result }
+    ensures { Writes S.rules (instr (lane_instr op arg.now.lane)).in_range
+        out.old out.new (instr (lane_instr op arg.now.lane)).bytes result }
 {
     LaneInstr { op, lane: arg.lane }.encode(out)
 }
@@ -121,8 +121,8 @@ fn put_lane<S: Sink>(op: LaneOp, arg: &LaneArg, out: &mut S) -> Result<(), Refus
 /// Writes a load or a store of a lane.
 fn put_mem_lane<S: Sink>(op: MemLaneOp, arg: &LoadOrStoreLane, out: &mut S) -> Result<(), Refusal>
     requires { IsTrue (are_encodable (in_mem_arg arg.now.memarg)) }
-    ensures { Writes S.rules (InRangeInstr (mem_lane_instr op (meaning.as_mem_arg arg.now.memarg) arg.now.lane.lane))
-        out.old out.new (instr (mem_lane_instr op (meaning.as_mem_arg arg.now.memarg) arg.now.lane.lane)) result }
+    ensures { Writes S.rules (instr (mem_lane_instr op (meaning.as_mem_arg arg.now.memarg) arg.now.lane.lane)).in_range
+        out.old out.new (instr (mem_lane_instr op (meaning.as_mem_arg arg.now.memarg) arg.now.lane.lane)).bytes result }
 {
     MemLaneInstr {
         op,
@@ -135,8 +135,8 @@ fn put_mem_lane<S: Sink>(op: MemLaneOp, arg: &LoadOrStoreLane, out: &mut S) -> R
 /// Writes an instruction on a struct field: the type index, and then the field index.
 fn put_access<S: Sink>(op: IndexPairOp, arg: &StructAccess, out: &mut S) -> Result<(), Refusal>
     requires { IsTrue (encodable (in_access arg.now)) }
-    ensures { Writes S.rules (InRangeInstr (index_pair_instr op (meaning.index_value arg.now.owner) (meaning.index_value arg.now.field)))
-        out.old out.new (instr (index_pair_instr op (meaning.index_value arg.now.owner) (meaning.index_value arg.now.field))) result }
+    ensures { Writes S.rules (instr (index_pair_instr op (meaning.index_value arg.now.owner) (meaning.index_value arg.now.field))).in_range
+        out.old out.new (instr (index_pair_instr op (meaning.index_value arg.now.owner) (meaning.index_value arg.now.field))).bytes result }
 {
     IndexPair {
         op,
@@ -149,8 +149,8 @@ fn put_access<S: Sink>(op: IndexPairOp, arg: &StructAccess, out: &mut S) -> Resu
 /// Writes `array.new_fixed`: the type index and the number of elements.
 fn put_new_fixed<S: Sink>(arg: &ArrayNewFixed, out: &mut S) -> Result<(), Refusal>
     requires { IsTrue (is_number arg.now.array) }
-    ensures { Writes S.rules (InRangeInstr (index_pair_instr pair.ArrayNewFixed (meaning.index_value arg.now.array) arg.now.length))
-        out.old out.new (instr (index_pair_instr pair.ArrayNewFixed (meaning.index_value arg.now.array) arg.now.length)) result }
+    ensures { Writes S.rules (instr (index_pair_instr pair.ArrayNewFixed (meaning.index_value arg.now.array) arg.now.length)).in_range
+        out.old out.new (instr (index_pair_instr pair.ArrayNewFixed (meaning.index_value arg.now.array) arg.now.length)).bytes result }
 {
     IndexPair {
         op: IndexPairOp::ArrayNewFixed,
@@ -163,8 +163,8 @@ fn put_new_fixed<S: Sink>(arg: &ArrayNewFixed, out: &mut S) -> Result<(), Refusa
 /// Writes a test or a cast of a reference.
 fn put_cast<S: Sink>(op: CastOp, ty: &RefType, out: &mut S) -> Result<(), Refusal>
     requires { IsTrue (are_encodable (in_ref ty.now)) }
-    ensures { Writes S.rules (InRangeInstr (cast_instr op (meaning.as_ref_type ty.now)))
-        out.old out.new (instr (cast_instr op (meaning.as_ref_type ty.now))) result }
+    ensures { Writes S.rules (instr (cast_instr op (meaning.as_ref_type ty.now))).in_range
+        out.old out.new (instr (cast_instr op (meaning.as_ref_type ty.now))).bytes result }
 {
     CastInstr {
         op,
@@ -183,9 +183,9 @@ fn put_br_cast<S: Sink>(
 ) -> Result<(), Refusal>
     requires { IsTrue (encodable (in_cast constant_context.blocks label.now to.now from.now)) }
     ensures { Writes S.rules
-        (InRangeInstr (br_cast_instr op (meaning.index_value label.now) (meaning.as_ref_type from.now) (meaning.as_ref_type to.now)))
+        (instr (br_cast_instr op (meaning.index_value label.now) (meaning.as_ref_type from.now) (meaning.as_ref_type to.now))).in_range
         out.old out.new
-        (instr (br_cast_instr op (meaning.index_value label.now) (meaning.as_ref_type from.now) (meaning.as_ref_type to.now))) result }
+        (instr (br_cast_instr op (meaning.index_value label.now) (meaning.as_ref_type from.now) (meaning.as_ref_type to.now))).bytes result }
 {
     BrCastInstr {
         op,
@@ -200,9 +200,9 @@ fn put_br_cast<S: Sink>(
 fn put_br_on_cast<S: Sink>(arg: &Boxed<BrOnCast>, out: &mut S) -> Result<(), Refusal>
     requires { IsTrue (encodable (in_cast constant_context.blocks arg.now.label arg.now.to_type arg.now.from_type)) }
     ensures { Writes S.rules
-        (InRangeInstr (br_cast_instr branch.Succeeds (meaning.index_value arg.now.label) (meaning.as_ref_type arg.now.from_type) (meaning.as_ref_type arg.now.to_type)))
+        (instr (br_cast_instr branch.Succeeds (meaning.index_value arg.now.label) (meaning.as_ref_type arg.now.from_type) (meaning.as_ref_type arg.now.to_type))).in_range
         out.old out.new
-        (instr (br_cast_instr branch.Succeeds (meaning.index_value arg.now.label) (meaning.as_ref_type arg.now.from_type) (meaning.as_ref_type arg.now.to_type))) result }
+        (instr (br_cast_instr branch.Succeeds (meaning.index_value arg.now.label) (meaning.as_ref_type arg.now.from_type) (meaning.as_ref_type arg.now.to_type))).bytes result }
 {
     let arg = arg.get();
     put_br_cast(
@@ -218,9 +218,9 @@ fn put_br_on_cast<S: Sink>(arg: &Boxed<BrOnCast>, out: &mut S) -> Result<(), Ref
 fn put_br_on_cast_fail<S: Sink>(arg: &Boxed<BrOnCastFail>, out: &mut S) -> Result<(), Refusal>
     requires { IsTrue (encodable (in_cast constant_context.blocks arg.now.label arg.now.to_type arg.now.from_type)) }
     ensures { Writes S.rules
-        (InRangeInstr (br_cast_instr branch.Fails (meaning.index_value arg.now.label) (meaning.as_ref_type arg.now.from_type) (meaning.as_ref_type arg.now.to_type)))
+        (instr (br_cast_instr branch.Fails (meaning.index_value arg.now.label) (meaning.as_ref_type arg.now.from_type) (meaning.as_ref_type arg.now.to_type))).in_range
         out.old out.new
-        (instr (br_cast_instr branch.Fails (meaning.index_value arg.now.label) (meaning.as_ref_type arg.now.from_type) (meaning.as_ref_type arg.now.to_type))) result }
+        (instr (br_cast_instr branch.Fails (meaning.index_value arg.now.label) (meaning.as_ref_type arg.now.from_type) (meaning.as_ref_type arg.now.to_type))).bytes result }
 {
     let arg = arg.get();
     put_br_cast(
@@ -234,8 +234,8 @@ fn put_br_on_cast_fail<S: Sink>(arg: &Boxed<BrOnCastFail>, out: &mut S) -> Resul
 
 /// Writes `v128.const`.
 fn put_v128<S: Sink>(value: &V128Const, out: &mut S) -> Result<(), Refusal>
-    ensures { Writes S.rules (InRangeInstr (lanes_instr lanes.Const (meaning.lane_bytes value.now)))
-        out.old out.new (instr (lanes_instr lanes.Const (meaning.lane_bytes value.now))) result }
+    ensures { Writes S.rules (instr (lanes_instr lanes.Const (meaning.lane_bytes value.now))).in_range
+        out.old out.new (instr (lanes_instr lanes.Const (meaning.lane_bytes value.now))).bytes result }
 {
     LanesInstr {
         op: LanesOp::Const,
@@ -247,8 +247,8 @@ fn put_v128<S: Sink>(value: &V128Const, out: &mut S) -> Result<(), Refusal>
 /// Writes a fence with an ordering.
 fn put_fence<S: Sink>(ordering: Option<Ordering>, out: &mut S) -> Result<(), Refusal>
     requires { IsTrue (is_sequential ordering) }
-    ensures { Writes S.rules (InRangeInstr (fence_instr (meaning.fence_ordering ordering)))
-        out.old out.new (instr (fence_instr (meaning.fence_ordering ordering))) result }
+    ensures { Writes S.rules (instr (fence_instr (meaning.fence_ordering ordering))).in_range
+        out.old out.new (instr (fence_instr (meaning.fence_ordering ordering))).bytes result }
 {
     Fence(fence_ordering(ordering)).encode(out)
 }
@@ -256,8 +256,8 @@ fn put_fence<S: Sink>(ordering: Option<Ordering>, out: &mut S) -> Result<(), Ref
 /// Writes an instruction that opens a block.
 fn put_block<S: Sink>(op: BlockOp, block: &Boxed<BlockType>, out: &mut S) -> Result<(), Refusal>
     requires { IsTrue (encodable (in_use OfBlock block.now.ty)) }
-    ensures { Writes S.rules (InRangeInstr (block_instr op (meaning.as_block_type block.now)))
-        out.old out.new (instr (block_instr op (meaning.as_block_type block.now))) result }
+    ensures { Writes S.rules (instr (block_instr op (meaning.as_block_type block.now))).in_range
+        out.old out.new (instr (block_instr op (meaning.as_block_type block.now))).bytes result }
 {
     BlockInstr {
         op,
@@ -268,9 +268,9 @@ fn put_block<S: Sink>(op: BlockOp, block: &Boxed<BlockType>, out: &mut S) -> Res
 
 /// A catch clause of `try_table` (binary format: control instructions).
 impl EncodeWith<TryTableCatch<'_>> for Resolved {
-    ghost spelling = { λ _ c. catch_clause (meaning.as_catch c) };
+    ghost spelling = { λ _ c. (catch_clause (meaning.as_catch c)).bytes };
 
-    ghost in_range = { λ _ c. InRangeCatch (meaning.as_catch c) };
+    ghost in_range = { λ _ c. (catch_clause (meaning.as_catch c)).in_range };
 
     ghost is_ready = { λ _ c. is_encodable_catch c };
 
@@ -284,9 +284,9 @@ impl EncodeWith<TryTableCatch<'_>> for Resolved {
 fn put_try_table<S: Sink>(table: &TryTable, out: &mut S) -> Result<(), Refusal>
     requires { IsTrue (encodable (in_try_table constant_context.blocks table.now)) }
     ensures { Writes S.rules
-        (InRangeInstr (try_table_instr (meaning.as_block_type table.now.block) (map meaning.as_catch table.now.catches)))
+        (instr (try_table_instr (meaning.as_block_type table.now.block) (map meaning.as_catch table.now.catches))).in_range
         out.old out.new
-        (instr (try_table_instr (meaning.as_block_type table.now.block) (map meaning.as_catch table.now.catches))) result }
+        (instr (try_table_instr (meaning.as_block_type table.now.block) (map meaning.as_catch table.now.catches))).bytes result }
 {
     wasm_ops::TryTable {
         ty: conv::block_type(table.block.get()),
@@ -299,9 +299,9 @@ fn put_try_table<S: Sink>(table: &TryTable, out: &mut S) -> Result<(), Refusal>
 fn put_br_table<S: Sink>(table: &BrTableIndices, out: &mut S) -> Result<(), Refusal>
     requires { IsTrue (encodable (in_br_table constant_context.blocks table.now)) }
     ensures { Writes S.rules
-        (InRangeInstr (br_table_instr (map meaning.index_value table.now.labels) (meaning.index_value table.now.default)))
+        (instr (br_table_instr (map meaning.index_value table.now.labels) (meaning.index_value table.now.default))).in_range
         out.old out.new
-        (instr (br_table_instr (map meaning.index_value table.now.labels) (meaning.index_value table.now.default))) result }
+        (instr (br_table_instr (map meaning.index_value table.now.labels) (meaning.index_value table.now.default))).bytes result }
 {
     BrTable {
         labels: Counted(table.labels.as_slice(), Resolved),
@@ -313,8 +313,8 @@ fn put_br_table<S: Sink>(table: &BrTableIndices, out: &mut S) -> Result<(), Refu
 /// Writes `select`, with its types if the source has them.
 fn put_select<S: Sink>(types: &SelectTypes, out: &mut S) -> Result<(), Refusal>
     requires { IsTrue (are_encodable (in_select types.now)) }
-    ensures { Writes S.rules (InRangeInstr (select_instr (option_map (map meaning.as_val_type) types.now.tys)))
-        out.old out.new (instr (select_instr (option_map (map meaning.as_val_type) types.now.tys))) result }
+    ensures { Writes S.rules (instr (select_instr (option_map (map meaning.as_val_type) types.now.tys))).in_range
+        out.old out.new (instr (select_instr (option_map (map meaning.as_val_type) types.now.tys))).bytes result }
 {
     match &types.tys {
         None => 0x1bu8.encode(out),
@@ -325,17 +325,17 @@ fn put_select<S: Sink>(types: &SelectTypes, out: &mut S) -> Result<(), Refusal>
 /// Writes `ref.null` of a heap type.
 fn put_null<S: Sink>(ty: &HeapType, out: &mut S) -> Result<(), Refusal>
     requires { IsTrue (are_encodable (in_heap ty.now)) }
-    ensures { Writes S.rules (InRangeInstr (ref_null_instr (meaning.as_heap_type ty.now)))
-        out.old out.new (instr (ref_null_instr (meaning.as_heap_type ty.now))) result }
+    ensures { Writes S.rules (instr (ref_null_instr (meaning.as_heap_type ty.now))).in_range
+        out.old out.new (instr (ref_null_instr (meaning.as_heap_type ty.now))).bytes result }
 {
     RefNull(conv::heap_type(ty)).encode(out)
 }
 
 /// An instruction (binary format: instructions).
 impl EncodeWith<Instruction<'_>> for Resolved {
-    ghost spelling = { λ _ i. instr (meaning.as_instr i) };
+    ghost spelling = { λ _ i. (instr (meaning.as_instr i)).bytes };
 
-    ghost in_range = { λ _ i. InRangeInstr (meaning.as_instr i) };
+    ghost in_range = { λ _ i. (instr (meaning.as_instr i)).in_range };
 
     ghost is_ready = { λ _ i. is_encodable_instr i };
 

@@ -5,7 +5,7 @@ ghost use Rattle.wasm_ops.specs.Leb128.{unsigned};
 ghost use Rattle.wasm_ops.specs.Sinks.{Puts};
 ghost use Rattle.wasm_ops.specs.Spelling.{InRangeU32};
 ghost use Rattle.wasm_out.specs.Built.{Adds};
-ghost use Rattle.wasm_out.specs.Parts.{type_entry, InRangeTypeEntry, export_entry, InRangeExport};
+ghost use Rattle.wasm_out.specs.Parts.{export_entry, type_entry};
 ghost use Rattle.wast_base.specs.Ids.{is_number};
 ghost use Rattle.wast_core_conv.specs.Encodable.{is_encodable_type_use};
 ghost use Rattle.wast_core_conv.specs.Meaning as meaning;
@@ -128,9 +128,9 @@ pub enum RecOrType<'b, 'a> {
 impl Encode for RecOrType<'_, '_> {
     ghost use Rattle.wast_core_conv.specs.Entries.{as_type_entry, is_encodable_entry};
 
-    ghost spelling = { λ item. type_entry (as_type_entry item) };
+    ghost spelling = { λ item. (type_entry (as_type_entry item)).bytes };
 
-    ghost in_range = { λ item. InRangeTypeEntry (as_type_entry item) };
+    ghost in_range = { λ item. (type_entry (as_type_entry item)).in_range };
 
     ghost is_ready = { is_encodable_entry };
 
@@ -149,9 +149,9 @@ impl SectionItem for RecOrType<'_, '_> {
 
     ghost use Rattle.wast_core_conv.specs.Entries.{as_type_entry, is_encodable_entry};
 
-    ghost spelling = { λ item. type_entry (as_type_entry item) };
+    ghost spelling = { λ item. (type_entry (as_type_entry item)).bytes };
 
-    ghost in_range = { λ item. InRangeTypeEntry (as_type_entry item) };
+    ghost in_range = { λ item. (type_entry (as_type_entry item)).in_range };
 
     ghost is_encodable = { is_encodable_entry };
 
@@ -204,9 +204,9 @@ impl SectionItem for Export<'_> {
 
     const ANCHOR: CustomPlaceAnchor = CustomPlaceAnchor::Export;
 
-    ghost spelling = { λ item. export_entry (meaning.as_export item) };
+    ghost spelling = { λ item. (export_entry (meaning.as_export item)).bytes };
 
-    ghost in_range = { λ item. InRangeExport (meaning.as_export item) };
+    ghost in_range = { λ item. (export_entry (meaning.as_export item)).in_range };
 
     ghost is_encodable = { λ item. is_number item.item };
 

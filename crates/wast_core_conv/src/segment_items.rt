@@ -5,8 +5,8 @@ ghost use Rattle.wasm_ops.specs.Spelling.{InRangeU32};
 ghost use Rattle.wasm_out.specs.Built.{Adds};
 ghost use Rattle.wasm_out.specs.BuiltElements.{element_kind, listed_in, InRangeElements, AreElements};
 ghost use Rattle.wasm_out.specs.DataSegments as segments;
-ghost use Rattle.wasm_out.specs.DataSegments.{InRangeDataMode, InRangeDataEntry};
-ghost use Rattle.wasm_out.specs.ElementSegments.{element_bytes, element_entry, InRangeElementMode, InRangeElementEntry, has_form};
+ghost use Rattle.wasm_out.specs.DataSegments.{data_place};
+ghost use Rattle.wasm_out.specs.ElementSegments.{element_bytes, has_form, element_entry, element_place};
 ghost use Rattle.wast_core_conv.specs.Encodable.{is_encodable_elem_kind, is_encodable_elem, is_encodable_data_kind, is_encodable_data};
 ghost use Rattle.wast_core_conv.specs.Meaning as meaning;
 
@@ -31,7 +31,7 @@ fn add_elements<'e>(
     requires elements { AreElements elements.now }
     requires form { IsTrue (has_form (meaning.as_element_mode kind.now) (element_kind elements.now)) }
     ensures { Adds (InRangeU32 (section.old.count + 1)
-        × (InRangeElementMode (meaning.as_element_mode kind.now) × InRangeElements elements.now))
+        × ((element_place (meaning.as_element_mode kind.now)).in_range × InRangeElements elements.now))
         section.old section.new
         (element_bytes (meaning.as_element_mode kind.now) (element_kind elements.now) (listed_in elements.now)) result }
 {
@@ -50,9 +50,9 @@ impl SectionItem for Elem<'_> {
 
     const ANCHOR: CustomPlaceAnchor = CustomPlaceAnchor::Elem;
 
-    ghost spelling = { λ item. element_entry (meaning.as_element item) };
+    ghost spelling = { λ item. (element_entry (meaning.as_element item)).bytes };
 
-    ghost in_range = { λ item. InRangeElementEntry (meaning.as_element item) };
+    ghost in_range = { λ item. (element_entry (meaning.as_element item)).in_range };
 
     ghost is_encodable = { is_encodable_elem };
 
@@ -75,7 +75,7 @@ fn add_data<'e>(
 ) -> Result<(), Error<'e>>
     requires { IsTrue (is_encodable_data_kind kind.now) }
     ensures { Adds (InRangeU32 (section.old.count + 1)
-        × (InRangeDataMode (meaning.as_data_mode kind.now) × InRangeU32 (length bytes.now)))
+        × ((data_place (meaning.as_data_mode kind.now)).in_range × InRangeU32 (length bytes.now)))
         section.old section.new (segments.data_bytes (meaning.as_data_mode kind.now) bytes.now) result }
 {
     match kind {
@@ -92,9 +92,9 @@ impl SectionItem for Data<'_> {
 
     const ANCHOR: CustomPlaceAnchor = CustomPlaceAnchor::Data;
 
-    ghost spelling = { λ item. segments.data_entry (meaning.as_data item) };
+    ghost spelling = { λ item. (segments.data_entry (meaning.as_data item)).bytes };
 
-    ghost in_range = { λ item. InRangeDataEntry (meaning.as_data item) };
+    ghost in_range = { λ item. (segments.data_entry (meaning.as_data item)).in_range };
 
     ghost is_encodable = { is_encodable_data };
 

@@ -5,8 +5,8 @@ ghost use Rattle.wast_tree_nodes.specs.DataBytes.{data_bytes};
 ghost use Rattle.wasm_ops.specs.Spelling.{Any};
 ghost use Rattle.wasm_out.specs.BuiltData.{is_ready_data};
 ghost use Rattle.wasm_out.specs.BuiltElements.{is_ready_mode};
-ghost use Rattle.wasm_out.specs.DataSegments.{data_entry, InRangeDataEntry};
-ghost use Rattle.wasm_out.specs.ElementSegments.{element_entry, InRangeElementEntry};
+ghost use Rattle.wasm_out.specs.DataSegments.{data_entry};
+ghost use Rattle.wasm_out.specs.ElementSegments.{element_entry};
 ghost use Rattle.wast_core_conv.specs.Encodable.{is_encodable_expression, is_encodable_elem_kind, is_encodable_elem, is_encodable_data_kind, is_encodable_data};
 ghost use Rattle.wast_core_conv.specs.Meaning as meaning;
 ghost use Rattle.wast_core_conv.specs.Segments.{seen_mode, seen_data};
@@ -34,9 +34,9 @@ fn mode_of<'b, 'a>(kind: &'b ElemKind<'a>) -> SegmentMode<EncodedBy<'b, Expressi
 
 /// An entry of the element section (binary format: element section).
 impl EncodeWith<Elem<'_>> for Resolved {
-    ghost spelling = { λ _ e. element_entry (meaning.as_element e) };
+    ghost spelling = { λ _ e. (element_entry (meaning.as_element e)).bytes };
 
-    ghost in_range = { λ _ e. InRangeElementEntry (meaning.as_element e) };
+    ghost in_range = { λ _ e. (element_entry (meaning.as_element e)).in_range };
 
     ghost is_ready = { λ _ e. is_encodable_elem e };
 
@@ -91,9 +91,9 @@ fn data_mode_of<'b, 'a>(kind: &'b DataKind<'a>) -> DataMode<EncodedBy<'b, Expres
 
 /// An entry of the data section (binary format: data section).
 impl EncodeWith<Data<'_>> for Resolved {
-    ghost spelling = { λ _ d. data_entry (meaning.as_data d) };
+    ghost spelling = { λ _ d. (data_entry (meaning.as_data d)).bytes };
 
-    ghost in_range = { λ _ d. InRangeDataEntry (meaning.as_data d) };
+    ghost in_range = { λ _ d. (data_entry (meaning.as_data d)).in_range };
 
     ghost is_ready = { λ _ d. is_encodable_data d };
 

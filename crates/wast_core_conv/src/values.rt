@@ -7,9 +7,9 @@ ghost use Rattle.wast_tree_nodes.specs.Sites.{in_val, in_param, in_signature, in
 ghost use Rattle.wasm_ops.specs.Leb128.{unsigned};
 ghost use Rattle.wasm_ops.specs.Sinks.{Writes};
 ghost use Rattle.wasm_ops.specs.Spelling as spelling;
-ghost use Rattle.wasm_ops.specs.Spelling.{InRangeU32, InRangeValType, InRangeFieldType, InRangeFuncType, InRangeStructType, InRangeArrayType, InRangeCompositeInnerType, InRangeSubType};
-ghost use Rattle.wasm_out.specs.Bodies.{body_content, InRangeContent};
-ghost use Rattle.wasm_out.specs.Parts.{export_entry, InRangeExport};
+ghost use Rattle.wasm_ops.specs.Spelling.{InRangeU32};
+ghost use Rattle.wasm_out.specs.Bodies.{body_content};
+ghost use Rattle.wasm_out.specs.Parts.{export_entry};
 ghost use Rattle.wast_core_conv.specs.Encodable.{are_encodable, is_encodable_type, is_encodable_type_use, is_encodable_instr, is_encodable_kind};
 ghost use Rattle.wast_core_conv.specs.Meaning as meaning;
 
@@ -51,9 +51,9 @@ impl EncodeWith<Index<'_>> for Resolved {
 
 /// A value type (binary format: value types).
 impl EncodeWith<ValType<'_>> for Resolved {
-    ghost spelling = { λ _ t. spelling.val_type (meaning.as_val_type t) };
+    ghost spelling = { λ _ t. (spelling.val_type (meaning.as_val_type t)).bytes };
 
-    ghost in_range = { λ _ t. InRangeValType (meaning.as_val_type t) };
+    ghost in_range = { λ _ t. (spelling.val_type (meaning.as_val_type t)).in_range };
 
     ghost is_ready = { λ _ t. are_encodable (in_val t) };
 
@@ -64,9 +64,9 @@ impl EncodeWith<ValType<'_>> for Resolved {
 
 /// A parameter, by its type (binary format: composite types).
 impl<'a> EncodeWith<(Option<Id<'a>>, Option<NameAnnotation<'a>>, ValType<'a>)> for Resolved {
-    ghost spelling = { λ _ p. spelling.val_type (meaning.as_val_type p.2) };
+    ghost spelling = { λ _ p. (spelling.val_type (meaning.as_val_type p.2)).bytes };
 
-    ghost in_range = { λ _ p. InRangeValType (meaning.as_val_type p.2) };
+    ghost in_range = { λ _ p. (spelling.val_type (meaning.as_val_type p.2)).in_range };
 
     ghost is_ready = { λ _ p. are_encodable (in_param p) };
 
@@ -81,9 +81,9 @@ impl<'a> EncodeWith<(Option<Id<'a>>, Option<NameAnnotation<'a>>, ValType<'a>)> f
 
 /// A function type (binary format: composite types).
 impl EncodeWith<FunctionType<'_>> for Resolved {
-    ghost spelling = { λ _ t. spelling.func_type (meaning.as_func_type t) };
+    ghost spelling = { λ _ t. (spelling.func_type (meaning.as_func_type t)).bytes };
 
-    ghost in_range = { λ _ t. InRangeFuncType (meaning.as_func_type t) };
+    ghost in_range = { λ _ t. (spelling.func_type (meaning.as_func_type t)).in_range };
 
     ghost is_ready = { λ _ t. are_encodable (in_signature t) };
 
@@ -96,9 +96,9 @@ impl EncodeWith<FunctionType<'_>> for Resolved {
 
 /// A field of a struct (binary format: composite types).
 impl EncodeWith<StructField<'_>> for Resolved {
-    ghost spelling = { λ _ f. spelling.field_type (meaning.as_field_type f) };
+    ghost spelling = { λ _ f. (spelling.field_type (meaning.as_field_type f)).bytes };
 
-    ghost in_range = { λ _ f. InRangeFieldType (meaning.as_field_type f) };
+    ghost in_range = { λ _ f. (spelling.field_type (meaning.as_field_type f)).in_range };
 
     ghost is_ready = { λ _ f. are_encodable (in_struct_field f) };
 
@@ -109,9 +109,9 @@ impl EncodeWith<StructField<'_>> for Resolved {
 
 /// A struct type (binary format: composite types).
 impl EncodeWith<StructType<'_>> for Resolved {
-    ghost spelling = { λ _ t. spelling.struct_type (meaning.as_struct_type t) };
+    ghost spelling = { λ _ t. (spelling.struct_type (meaning.as_struct_type t)).bytes };
 
-    ghost in_range = { λ _ t. InRangeStructType (meaning.as_struct_type t) };
+    ghost in_range = { λ _ t. (spelling.struct_type (meaning.as_struct_type t)).in_range };
 
     ghost is_ready = { λ _ t. are_encodable (in_struct t) };
 
@@ -122,9 +122,9 @@ impl EncodeWith<StructType<'_>> for Resolved {
 
 /// An array type (binary format: composite types).
 impl EncodeWith<ArrayType<'_>> for Resolved {
-    ghost spelling = { λ _ t. spelling.array_type (meaning.as_array_type t) };
+    ghost spelling = { λ _ t. (spelling.array_type (meaning.as_array_type t)).bytes };
 
-    ghost in_range = { λ _ t. InRangeArrayType (meaning.as_array_type t) };
+    ghost in_range = { λ _ t. (spelling.array_type (meaning.as_array_type t)).in_range };
 
     ghost is_ready = { λ _ t. are_encodable (in_array t) };
 
@@ -135,9 +135,9 @@ impl EncodeWith<ArrayType<'_>> for Resolved {
 
 /// A composite type (binary format: composite types).
 impl EncodeWith<InnerTypeKind<'_>> for Resolved {
-    ghost spelling = { λ _ k. spelling.composite_inner_type (meaning.as_inner_type k) };
+    ghost spelling = { λ _ k. (spelling.composite_inner_type (meaning.as_inner_type k)).bytes };
 
-    ghost in_range = { λ _ k. InRangeCompositeInnerType (meaning.as_inner_type k) };
+    ghost in_range = { λ _ k. (spelling.composite_inner_type (meaning.as_inner_type k)).in_range };
 
     ghost is_ready = { λ _ k. are_encodable (in_inner k) };
 
@@ -154,9 +154,9 @@ impl EncodeWith<InnerTypeKind<'_>> for Resolved {
 /// A type definition (binary format: recursive types). A final type without supertypes is written
 /// as its composite type alone.
 impl EncodeWith<TypeDef<'_>> for Resolved {
-    ghost spelling = { λ _ d. spelling.sub_type (meaning.as_sub_type d) };
+    ghost spelling = { λ _ d. (spelling.sub_type (meaning.as_sub_type d)).bytes };
 
-    ghost in_range = { λ _ d. InRangeSubType (meaning.as_sub_type d) };
+    ghost in_range = { λ _ d. (spelling.sub_type (meaning.as_sub_type d)).in_range };
 
     ghost is_ready = { λ _ d. are_encodable (in_def d) };
 
@@ -175,9 +175,9 @@ impl EncodeWith<TypeDef<'_>> for Resolved {
 
 /// A type, by its definition (binary format: recursive types).
 impl EncodeWith<Type<'_>> for Resolved {
-    ghost spelling = { λ _ t. spelling.sub_type (meaning.as_sub_type t.def) };
+    ghost spelling = { λ _ t. (spelling.sub_type (meaning.as_sub_type t.def)).bytes };
 
-    ghost in_range = { λ _ t. InRangeSubType (meaning.as_sub_type t.def) };
+    ghost in_range = { λ _ t. (spelling.sub_type (meaning.as_sub_type t.def)).in_range };
 
     ghost is_ready = { λ _ t. is_encodable_type t };
 
@@ -218,8 +218,8 @@ fn put_content<S: Sink>(
 ) -> Result<(), Refusal>
     requires locals { IsTrue (list_all (λ l. are_encodable (in_local l)) locals.now) }
     requires instrs { IsTrue (list_all is_encodable_instr instructions.now) }
-    ensures { Writes S.rules (InRangeContent (meaning.body_of locals.now instructions.now))
-        out.old out.new (body_content (meaning.body_of locals.now instructions.now)) result }
+    ensures { Writes S.rules (body_content (meaning.body_of locals.now instructions.now)).in_range
+        out.old out.new (body_content (meaning.body_of locals.now instructions.now)).bytes result }
 {
     (
         Locals(locals, Resolved),
@@ -230,9 +230,9 @@ fn put_content<S: Sink>(
 
 /// A function body without its length (binary format: code section).
 impl EncodeWith<FuncKind<'_>> for Resolved {
-    ghost spelling = { λ _ k. body_content (meaning.as_body k) };
+    ghost spelling = { λ _ k. (body_content (meaning.as_body k)).bytes };
 
-    ghost in_range = { λ _ k. InRangeContent (meaning.as_body k) };
+    ghost in_range = { λ _ k. (body_content (meaning.as_body k)).in_range };
 
     ghost is_ready = { λ _ k. is_encodable_kind k };
 
@@ -248,9 +248,9 @@ impl EncodeWith<FuncKind<'_>> for Resolved {
 
 /// An entry of the export section (binary format: export section).
 impl EncodeWith<Export<'_>> for Resolved {
-    ghost spelling = { λ _ e. export_entry (meaning.as_export e) };
+    ghost spelling = { λ _ e. (export_entry (meaning.as_export e)).bytes };
 
-    ghost in_range = { λ _ e. InRangeExport (meaning.as_export e) };
+    ghost in_range = { λ _ e. (export_entry (meaning.as_export e)).in_range };
 
     ghost is_ready = { λ _ e. is_number e.item };
 

@@ -16,7 +16,7 @@ use Rattle.wasm_ops.proofs.Everywhere.{all_left, all_right, all_one, flat_one, a
 use Rattle.wasm_ops.proofs.Numbers.{unsigned-small}
 use Rattle.wasm_ops.proofs.PutLengths.{number_set}
 use Rattle.wasm_ops.proofs.Sinking.{puts_as, written_as, one_written}
-use Rattle.wasm_out.specs.NameSectionBytes.{Named, Direct, Indirect, NameSubsection, subsection_id, name_entry, map_entry, name_content, name_subsection, InRangeNameEntry, InRangeMapEntry, InRangeNameSubsection}
+use Rattle.wasm_out.specs.NameSectionBytes.{Named, Direct, Indirect, NameSubsection, subsection_id, map_entry, name_content, name_entry, name_subsection}
 use Rattle.wasm_out.specs.Parts.{Part, Custom, part, InRangePart}
 use Rattle.wast_base.specs.Spaces.{same_space}
 use Rattle.wast_core_name_section.specs.NamesPart.{names_part, payload_of, InRangePayload}
@@ -40,10 +40,10 @@ other_space s (t ∷ types) h = flat_map-cons (given_name_in s) (type_name t) (m
 
 -- A subsection, by its id and its content after the length.
 pub subsection_written : {S R : Type 0} (rules : SinkRules S) (a b : S) (s : NameSubsection) (id : ℕ) (r : Result R Refusal)
-    → id ≡ subsection_id s.of → Writes rules (InRangeNameSubsection s) a b (id ∷ length_prefixed name_content s.content) r
-    → Writes rules (All InRangeNameSubsection (s ∷ [])) a b (flat_map name_subsection (s ∷ [])) r
+    → id ≡ subsection_id s.of → Writes rules (name_subsection s).in_range a b (id ∷ length_prefixed (λ x. (name_content x).bytes) s.content) r
+    → Writes rules (All (λ x. (name_subsection x).in_range) (s ∷ [])) a b (flat_map (λ x. (name_subsection x).bytes) (s ∷ [])) r
 subsection_written rules a b s id r id_is p =
-    one_written rules name_subsection InRangeNameSubsection a b s r (subst (λ n. Writes rules (InRangeNameSubsection s) a b (n ∷ length_prefixed name_content s.content) r) id_is p)
+    one_written rules (λ x. (name_subsection x).bytes) (λ x. (name_subsection x).in_range) a b s r (subst (λ n. Writes rules (name_subsection s).in_range a b (n ∷ length_prefixed (λ x. (name_content x).bytes) s.content) r) id_is p)
 
 -- A name map as a subsection.
 pub map_counted : {A : Type 0} (entry : ℕ × A → List ℕ) (InRange : ℕ × A → Type 0) (es : List (ℕ × A)) (count : ℕ) → count ≡ saturated_count (length es) → 0 < count → InRangeMap entry InRange es → InRangeU32 count
@@ -67,15 +67,15 @@ map_put rules entry InRange a b (e ∷ es) id count r is some p =
     (subst (λ n. Writes rules (Unit {0} × (InRangeU32 (length (unsigned n ++ flat_map entry all)) × (InRangeU32 n × All InRange all))) a b (id ∷ (unsigned (length (unsigned n ++ flat_map entry all)) ++ (unsigned n ++ flat_map entry all))) r) is p)
 
 pub direct_written : {S R : Type 0} (rules : SinkRules S) (a b : S) (of : Named) (names : List (ℕ × List ℕ)) (id : ℕ) (r : Result R Refusal)
-    → id ≡ subsection_id of → Writes rules (InRangeMap name_entry InRangeNameEntry names) a b (map_bytes id name_entry names) r
-    → Writes rules (All InRangeNameSubsection (direct of names)) a b (flat_map name_subsection (direct of names)) r
-direct_written rules a b of [] id r id_is p = written_as rules (Unit {0}) (All InRangeNameSubsection []) a b [] [] r (λ h. All-nil InRangeNameSubsection) (λ h. tt) refl p
+    → id ≡ subsection_id of → Writes rules (InRangeMap (λ x. (name_entry x).bytes) (λ x. (name_entry x).in_range) names) a b (map_bytes id (λ x. (name_entry x).bytes) names) r
+    → Writes rules (All (λ x. (name_subsection x).in_range) (direct of names)) a b (flat_map (λ x. (name_subsection x).bytes) (direct of names)) r
+direct_written rules a b of [] id r id_is p = written_as rules (Unit {0}) (All (λ x. (name_subsection x).in_range) []) a b [] [] r (λ h. All-nil (λ x. (name_subsection x).in_range)) (λ h. tt) refl p
 direct_written rules a b of (e ∷ es) id r id_is p = subsection_written rules a b (record { of = of; content = Direct (e ∷ es) }) id r id_is p
 
 pub indirect_written : {S R : Type 0} (rules : SinkRules S) (a b : S) (of : Named) (lists : List (ℕ × List (ℕ × List ℕ))) (id : ℕ) (r : Result R Refusal)
-    → id ≡ subsection_id of → Writes rules (InRangeMap map_entry InRangeMapEntry lists) a b (map_bytes id map_entry lists) r
-    → Writes rules (All InRangeNameSubsection (indirect of lists)) a b (flat_map name_subsection (indirect of lists)) r
-indirect_written rules a b of [] id r id_is p = written_as rules (Unit {0}) (All InRangeNameSubsection []) a b [] [] r (λ h. All-nil InRangeNameSubsection) (λ h. tt) refl p
+    → id ≡ subsection_id of → Writes rules (InRangeMap (λ x. (map_entry x).bytes) (λ x. (map_entry x).in_range) lists) a b (map_bytes id (λ x. (map_entry x).bytes) lists) r
+    → Writes rules (All (λ x. (name_subsection x).in_range) (indirect of lists)) a b (flat_map (λ x. (name_subsection x).bytes) (indirect of lists)) r
+indirect_written rules a b of [] id r id_is p = written_as rules (Unit {0}) (All (λ x. (name_subsection x).in_range) []) a b [] [] r (λ h. All-nil (λ x. (name_subsection x).in_range)) (λ h. tt) refl p
 indirect_written rules a b of (e ∷ es) id r id_is p = subsection_written rules a b (record { of = of; content = Indirect (e ∷ es) }) id r id_is p
 
 -- Whether a map has a subsection.
@@ -118,34 +118,34 @@ module _ {X : Type 0} (f : X → List NameSubsection) (ys : List NameSubsection)
   whole = ys ++ flat_map f xs
 
   abbrev Apart : Type 0
-  Apart = (InRangeName (codes "name") × All InRangeNameSubsection ys) × All (λ x. All InRangeNameSubsection (f x)) xs
+  Apart = (InRangeName (codes "name") × All (λ x. (name_subsection x).in_range) ys) × All (λ x. All (λ x. (name_subsection x).in_range) (f x)) xs
 
   abbrev first : List ℕ
-  first = name (codes "name") ++ flat_map name_subsection ys
+  first = name (codes "name") ++ flat_map (λ x. (name_subsection x).bytes) ys
 
   abbrev rest : List ℕ
-  rest = flat_map (λ x. flat_map name_subsection (f x)) xs
+  rest = flat_map (λ x. flat_map (λ x. (name_subsection x).bytes) (f x)) xs
 
   payload_bytes : first ++ rest ≡ payload_of whole
   payload_bytes =
       let text = name (codes "name") in
-      append_assoc text (flat_map name_subsection ys) rest ∙ ap (λ z. text ++ z) (together name_subsection f ys xs)
+      append_assoc text (flat_map (λ x. (name_subsection x).bytes) ys) rest ∙ ap (λ z. text ++ z) (together (λ x. (name_subsection x).bytes) f ys xs)
 
   payload_fits : Apart → InRangePayload whole
-  payload_fits h = (h.0.0, all_together InRangeNameSubsection f ys xs h.0.1 h.1)
+  payload_fits h = (h.0.0, all_together (λ x. (name_subsection x).in_range) f ys xs h.0.1 h.1)
 
   parts_fit : InRangePayload whole → Apart
-  parts_fit h = let apart = all_apart InRangeNameSubsection f ys xs h.1 in ((h.0, apart.0), apart.1)
+  parts_fit h = let apart = all_apart (λ x. (name_subsection x).in_range) f ys xs h.1 in ((h.0, apart.0), apart.1)
 
   pub payload_written : {S A : Type 0} (rules : SinkRules S) (a b : S) (r : Result A Refusal) → Writes rules Apart a b (first ++ rest) r → Writes rules (InRangePayload whole) a b (payload_of whole) r
   payload_written rules a b r p = written_as rules Apart (InRangePayload whole) a b (first ++ rest) (payload_of whole) r payload_fits parts_fit payload_bytes p
 
   -- The same after its length.
   pub sized_written : {S A : Type 0} (rules : SinkRules S) (a b : S) (size : ℕ) (r : Result A Refusal) → size ≡ length (payload_of whole)
-      → Writes rules ((InRangeU32 size × (InRangeName (codes "name") × All InRangeNameSubsection ys)) × All (λ x. All InRangeNameSubsection (f x)) xs) a b ((unsigned size ++ first) ++ rest) r
+      → Writes rules ((InRangeU32 size × (InRangeName (codes "name") × All (λ x. (name_subsection x).in_range) ys)) × All (λ x. All (λ x. (name_subsection x).in_range) (f x)) xs) a b ((unsigned size ++ first) ++ rest) r
       → Writes rules (InRangeSized InRangePayload payload_of whole) a b (length_prefixed payload_of whole) r
   sized_written rules a b size r is p =
-      written_as rules ((InRangeU32 size × (InRangeName (codes "name") × All InRangeNameSubsection ys)) × All (λ x. All InRangeNameSubsection (f x)) xs) (InRangeSized InRangePayload payload_of whole) a b
+      written_as rules ((InRangeU32 size × (InRangeName (codes "name") × All (λ x. (name_subsection x).in_range) ys)) × All (λ x. All (λ x. (name_subsection x).in_range) (f x)) xs) (InRangeSized InRangePayload payload_of whole) a b
       ((unsigned size ++ first) ++ rest) (length_prefixed payload_of whole) r
       (λ h. (subst InRangeU32 is h.0.0, payload_fits (h.0.1, h.1)))
       (λ h. let parts = parts_fit h.1 in ((subst InRangeU32 (sym is) h.0, parts.0), parts.1))
@@ -160,17 +160,17 @@ byte_kept rules a b c n says laws h at set says_yes =
 
 -- A section is left out if it has no subsections.
 pub names_absent : {S : Type 0} (rules : SinkRules S) (a : S) (subsections : List NameSubsection) → AppendLaws rules → nat_lt 0 (length subsections) ≡ false
-    → Writes {A = Unit {0}} rules (All InRangePart (names_part subsections) × All InRangeNameSubsection subsections) a a (flat_map part (names_part subsections)) (Ok tt)
-names_absent rules a [] laws none = (laws.none a, (All-nil InRangePart, All-nil InRangeNameSubsection))
+    → Writes {A = Unit {0}} rules (All InRangePart (names_part subsections) × All (λ x. (name_subsection x).in_range) subsections) a a (flat_map part (names_part subsections)) (Ok tt)
+names_absent rules a [] laws none = (laws.none a, (All-nil InRangePart, All-nil (λ x. (name_subsection x).in_range)))
 names_absent rules a (s ∷ ss) laws none = absurd (omega (arith, ltb-false 0 (length (s ∷ ss)) none))
 
 -- Otherwise its payload comes after its id and its length.
 pub names_written : {S A : Type 0} (rules : SinkRules S) (a b : S) (subsections : List NameSubsection) (r : Result A Refusal) → nat_lt 0 (length subsections) ≡ true
     → Writes rules (InRangeSized InRangePayload payload_of subsections) a b (0 ∷ length_prefixed payload_of subsections) r
-    → Writes rules (All InRangePart (names_part subsections) × All InRangeNameSubsection subsections) a b (flat_map part (names_part subsections)) r
+    → Writes rules (All InRangePart (names_part subsections) × All (λ x. (name_subsection x).in_range) subsections) a b (flat_map part (names_part subsections)) r
 names_written rules a b [] r some p = absurd cc
 names_written rules a b (s ∷ ss) r some p =
-    let bytes = flat_map name_subsection (s ∷ ss) in
+    let bytes = flat_map (λ x. (name_subsection x).bytes) (s ∷ ss) in
     let it : Part = record { kind = Custom; items = record { name = codes "name"; bytes = bytes } } in
-    written_as rules (InRangeSized InRangePayload payload_of (s ∷ ss)) (All InRangePart (it ∷ []) × All InRangeNameSubsection (s ∷ ss)) a b (part it) (flat_map part (it ∷ [])) r
+    written_as rules (InRangeSized InRangePayload payload_of (s ∷ ss)) (All InRangePart (it ∷ []) × All (λ x. (name_subsection x).in_range) (s ∷ ss)) a b (part it) (flat_map part (it ∷ [])) r
     (λ h. (all_one InRangePart it (h.0, h.1.0), h.1.1)) (λ h. let one = All-head InRangePart it [] h.0 in (one.0, (one.1, h.1))) (sym (flat_one part it)) p

@@ -19,7 +19,7 @@ use Rattle.wast_core_name_section.specs.declared.names_payload.NameMap.{NameMap}
 use Rattle.wast_core_name_section.specs.declared.names_payload.NameMap.TheVariants as map_of
 use Rattle.wast_core_name_section.specs.GivenNames.{given_name, named_from}
 use Rattle.wast_core_name_section.specs.WithinItems.{types_of, lists_within}
-use Rattle.wasm_out.specs.NameSectionBytes.{Named, One, Direct, Indirect, NameSubsection, InRangeNameSubsection}
+use Rattle.wasm_out.specs.NameSectionBytes.{Named, One, Direct, Indirect, NameSubsection, name_subsection}
 use Rattle.wasm_out.specs.NameSectionBytes as named
 
 -- A type, with its name.
@@ -124,4 +124,4 @@ name_subsections text fields = module_name text ++ flat_map (map_names fields) n
 
 -- Whether the numbers, counts and lengths of the subsections are in range.
 abbrev pub InRangeNames : Option (List ℕ) → List ModuleField → Type 0
-InRangeNames text fields = All InRangeNameSubsection (name_subsections text fields)
+InRangeNames text fields = All (λ x. (name_subsection x).in_range) (name_subsections text fields)

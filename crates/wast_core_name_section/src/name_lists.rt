@@ -2,7 +2,7 @@
 
 ghost use Rattle.std.specs.Prelude.{◌≡◌, ◌++◌, ◌+◌, ◌∷◌, nat_lt, [], length, true, All, IfOk};
 ghost use Rattle.std.specs.List.{flat_map};
-ghost use Rattle.wasm_out.specs.NameSectionBytes.{map_entry, name_entry, InRangeMapEntry, InRangeNameEntry};
+ghost use Rattle.wasm_out.specs.NameSectionBytes.{map_entry, name_entry};
 ghost use Rattle.wasm_ops.specs.Sinks.{Writes};
 ghost use Rattle.wasm_ops.specs.Spelling.{vec, InRangeVec};
 ghost use Rattle.wast_core_name_section.specs.GivenNames.{named_from};
@@ -101,7 +101,7 @@ fn put_both<S: Sink>(
     out: &mut S,
 ) -> Result<u64, Refusal>
     ensures names { let es = named_from 0 (flat_map (λ p. param_name p ∷ []) params.now) ++ named_from first (flat_map (λ l. local_name l ∷ []) locals.now) in
-        Writes S.rules (All InRangeNameEntry es) out.old out.new (flat_map name_entry es) result }
+        Writes S.rules (All (λ x. (name_entry x).in_range) es) out.old out.new (flat_map (λ x. (name_entry x).bytes) es) result }
     ensures count { IfOk result (λ n. n ≡ saturated_count (length (named_from 0 (flat_map (λ p. param_name p ∷ []) params.now)
         ++ named_from first (flat_map (λ l. local_name l ∷ []) locals.now)))) }
 {
@@ -120,7 +120,7 @@ fn put_both<S: Sink>(
 /// and returns how many there are.
 fn put_labels<S: Sink>(first: u64, instrs: &[Instruction], out: &mut S) -> Result<u64, Refusal>
     ensures names { let es = named_from first (flat_map label_in instrs.now) in
-        Writes S.rules (All InRangeNameEntry es) out.old out.new (flat_map name_entry es) result }
+        Writes S.rules (All (λ x. (name_entry x).in_range) es) out.old out.new (flat_map (λ x. (name_entry x).bytes) es) result }
     ensures count { IfOk result (λ n. n ≡ saturated_count (length (named_from first (flat_map label_in instrs.now)))) }
 {
     put_named(instrs, first, out)
@@ -129,7 +129,7 @@ fn put_labels<S: Sink>(first: u64, instrs: &[Instruction], out: &mut S) -> Resul
 /// Appends the names in a list, with their positions, and returns how many there are. It fails as
 /// [`Encode::encode`] does, and then nothing was appended.
 fn put_listed<S: Sink>(listed: Listed, out: &mut S) -> Result<u64, Refusal>
-    ensures names { Writes S.rules (All InRangeNameEntry (names_listed listed.entry)) out.old out.new (flat_map name_entry (names_listed listed.entry)) result }
+    ensures names { Writes S.rules (All (λ x. (name_entry x).in_range) (names_listed listed.entry)) out.old out.new (flat_map (λ x. (name_entry x).bytes) (names_listed listed.entry)) result }
     ensures count { IfOk result (λ n. n ≡ saturated_count (length (names_listed listed.entry))) }
 {
     match listed {
@@ -144,9 +144,9 @@ fn put_listed<S: Sink>(listed: Listed, out: &mut S) -> Result<u64, Refusal>
 struct ListedNames<'b, 'a>(Listed<'b, 'a>);
 
 impl Encode for ListedNames<'_, '_> {
-    ghost spelling = { λ s. flat_map name_entry (names_listed s.0) };
+    ghost spelling = { λ s. flat_map (λ x. (name_entry x).bytes) (names_listed s.0) };
 
-    ghost in_range = { λ s. All InRangeNameEntry (names_listed s.0) };
+    ghost in_range = { λ s. All (λ x. (name_entry x).in_range) (names_listed s.0) };
 
     ghost is_ready = { λ _. true };
 
@@ -161,9 +161,9 @@ impl Encode for ListedNames<'_, '_> {
 struct CountedNames<'b, 'a>(Listed<'b, 'a>);
 
 impl Encode for CountedNames<'_, '_> {
-    ghost spelling = { λ s. vec name_entry (names_listed s.0) };
+    ghost spelling = { λ s. vec (λ x. (name_entry x).bytes) (names_listed s.0) };
 
-    ghost in_range = { λ s. InRangeVec InRangeNameEntry (names_listed s.0) };
+    ghost in_range = { λ s. InRangeVec (λ x. (name_entry x).in_range) (names_listed s.0) };
 
     ghost is_ready = { λ _. true };
 
@@ -206,7 +206,7 @@ pub(crate) fn put_found<S: Sink>(
     found: Option<Listed>,
     out: &mut S,
 ) -> Result<u64, Refusal>
-    ensures written { WritesItems S.rules map_entry InRangeMapEntry (lists_found found.entry) position out.old out.new result }
+    ensures written { WritesItems S.rules (λ x. (map_entry x).bytes) (λ x. (map_entry x).in_range) (lists_found found.entry) position out.old out.new result }
     ensures next { IfOk result (λ p. p ≡ saturated_count (position + length (lists_found found.entry))) }
 {
     let Some(listed) = found else {

@@ -4,7 +4,7 @@ ghost use Rattle.std.specs.Prelude.{◌≡◌, ◌+◌, nat_lt, ℕ, List, [], �
 ghost use Rattle.std.specs.List.{flat_map};
 ghost use Rattle.std.specs.Option.{option_to_list};
 ghost use Rattle.wasm_ops.specs.Sinks.{Writes};
-ghost use Rattle.wasm_out.specs.NameSectionBytes.{name_entry, InRangeNameEntry};
+ghost use Rattle.wasm_out.specs.NameSectionBytes.{name_entry};
 ghost use Rattle.wast_core_name_section.specs.GivenNames.{named_from};
 ghost use Rattle.wast_core_name_section.specs.FoundNames.{saturated_count, text_seen, WritesItems, map_bytes, InRangeMap, entry_spelling, InRangeEntryOf};
 
@@ -177,7 +177,7 @@ pub(crate) fn put_name<S: Sink>(
     given: Option<&str>,
     out: &mut S,
 ) -> Result<u64, Refusal>
-    ensures written { WritesItems S.rules name_entry InRangeNameEntry
+    ensures written { WritesItems S.rules (λ x. (name_entry x).bytes) (λ x. (name_entry x).in_range)
         (text_seen given.entry ∷ []) position out.old out.new result }
     ensures next { IfOk result (λ p. p ≡ saturated_count (position + 1)) }
 {

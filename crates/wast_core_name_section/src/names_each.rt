@@ -2,7 +2,7 @@
 
 ghost use Rattle.std.specs.Prelude.{◌≡◌, ◌≤◌, ◌+◌, nat_lt, ℕ, List, Option, length, IfOk};
 ghost use Rattle.std.specs.List.{flat_map};
-ghost use Rattle.wasm_out.specs.NameSectionBytes.{name_entry, InRangeNameEntry};
+ghost use Rattle.wasm_out.specs.NameSectionBytes.{name_entry};
 ghost use Rattle.wast_core_name_section.specs.GivenNames.{named_from};
 ghost use Rattle.wast_core_name_section.specs.FoundNames.{saturated_count, item_seen, WritesItems};
 
@@ -76,7 +76,7 @@ pub(crate) fn put_named<T: MayHaveName, S: Sink>(
     first: u64,
     out: &mut S,
 ) -> Result<u64, Refusal>
-    ensures names { WritesItems S.rules name_entry InRangeNameEntry (flat_map T.names parts.now) first out.old out.new result }
+    ensures names { WritesItems S.rules (λ x. (name_entry x).bytes) (λ x. (name_entry x).in_range) (flat_map T.names parts.now) first out.old out.new result }
     ensures count { IfOk result (λ n. n ≡ saturated_count (length (named_from 0 (flat_map T.names parts.now)))) }
 {
     let start = out.size();

@@ -5,7 +5,7 @@ ghost use Rattle.std.specs.List.{flat_map};
 ghost use Rattle.wasm_ops.specs.Sinks.{Writes};
 ghost use Rattle.wasm_ops.specs.Spelling.{length_prefixed, InRangeSized};
 ghost use Rattle.wasm_ops.specs.declared.sink.Refusal.TheVariants as refusal;
-ghost use Rattle.wasm_out.specs.NameSectionBytes.{name_entry, map_entry, name_subsection, subsection_id, InRangeNameEntry, InRangeMapEntry, InRangeNameSubsection};
+ghost use Rattle.wasm_out.specs.NameSectionBytes.{subsection_id, map_entry, name_entry, name_subsection};
 ghost use Rattle.wasm_out.specs.Parts.{part, InRangePart};
 ghost use Rattle.wast_core_ranges.specs.FieldRanges.{are_reaches};
 ghost use Rattle.wast_core_name_section.specs.Checkpoints.{AreCheckpoints};
@@ -82,7 +82,7 @@ fn put_item<S: Sink>(
     position: u64,
     out: &mut S,
 ) -> Result<u64, Refusal>
-    ensures written { WritesItems S.rules name_entry InRangeNameEntry
+    ensures written { WritesItems S.rules (λ x. (name_entry x).bytes) (λ x. (name_entry x).in_range)
         (given_name_in space (own, given_name annotation.now id.now)) position out.old out.new result }
     ensures next { IfOk result (λ p. p ≡ saturated_count (position + length (given_name_in space (own, given_name annotation.now id.now)))) }
 {
@@ -97,9 +97,9 @@ impl<'a> NameItems<Type<'a>> for Space {
 
     ghost items = { λ s t. given_name_in s (type_name t) };
 
-    ghost entry = { name_entry };
+    ghost entry = { λ x. (name_entry x).bytes };
 
-    ghost in_range = { InRangeNameEntry };
+    ghost in_range = { λ x. (name_entry x).in_range };
 
     fn put<S: Sink>(&self, part: &Type<'a>, position: u64, out: &mut S) -> Result<u64, Refusal> {
         put_item(*self, Space::Ty, &part.name, &part.id, position, out)
@@ -117,9 +117,9 @@ impl<'a> NameItems<ItemSig<'a>> for Space {
 
     ghost items = { λ s sig. given_name_in s (sig_name sig) };
 
-    ghost entry = { name_entry };
+    ghost entry = { λ x. (name_entry x).bytes };
 
-    ghost in_range = { InRangeNameEntry };
+    ghost in_range = { λ x. (name_entry x).in_range };
 
     fn put<S: Sink>(&self, part: &ItemSig<'a>, position: u64, out: &mut S) -> Result<u64, Refusal> {
         put_item(
@@ -144,9 +144,9 @@ impl<'a> NameItems<ModuleField<'a>> for Space {
 
     ghost items = { names_given };
 
-    ghost entry = { name_entry };
+    ghost entry = { λ x. (name_entry x).bytes };
 
-    ghost in_range = { InRangeNameEntry };
+    ghost in_range = { λ x. (name_entry x).in_range };
 
     fn put<S: Sink>(
         &self,
@@ -232,8 +232,8 @@ fn put_lists<'b, T: FieldTypes + PutLists, S: Sink>(
 ) -> Result<(), Refusal>
     requires count { count ≡ saturated_count (length (named_from 0 (flat_map (T.lists (flat_map T.types fields.now) within) there.now))) }
     requires checkpoints { AreCheckpoints T.types fields.now checkpoints.places checkpoints.before.now }
-    ensures { Writes S.rules (InRangeMap map_entry InRangeMapEntry (named_from 0 (flat_map (T.lists (flat_map T.types fields.now) within) there.now)))
-        out.old out.new (map_bytes (subsection_id (named_within within)) map_entry (named_from 0 (flat_map (T.lists (flat_map T.types fields.now) within) there.now))) result }
+    ensures { Writes S.rules (InRangeMap (λ x. (map_entry x).bytes) (λ x. (map_entry x).in_range) (named_from 0 (flat_map (T.lists (flat_map T.types fields.now) within) there.now)))
+        out.old out.new (map_bytes (subsection_id (named_within within)) (λ x. (map_entry x).bytes) (named_from 0 (flat_map (T.lists (flat_map T.types fields.now) within) there.now))) result }
 {
     let id = id_within(within);
     let arities = TypesOf::new(fields, checkpoints);
@@ -252,8 +252,8 @@ fn put_subsection<S: Sink>(
 ) -> Result<(), Refusal>
     requires reaches { IsTrue (are_reaches fields.now reaches.now) }
     requires checkpoints { AreCheckpoints types_within fields.now checkpoints.places checkpoints.before.now }
-    ensures { Writes S.rules (All InRangeNameSubsection (map_names fields.now map.now))
-        out.old out.new (flat_map name_subsection (map_names fields.now map.now)) result }
+    ensures { Writes S.rules (All (λ x. (name_subsection x).in_range) (map_names fields.now map.now))
+        out.old out.new (flat_map (λ x. (name_subsection x).bytes) (map_names fields.now map.now)) result }
 {
     match map {
         NameMap::Items(space) => {
@@ -278,8 +278,8 @@ fn put_subsections<S: Sink>(
 ) -> Result<(), Refusal>
     requires reaches { IsTrue (are_reaches fields.now reaches.now) }
     requires checkpoints { AreCheckpoints types_within fields.now checkpoints.places checkpoints.before.now }
-    ensures { Writes S.rules (All (λ m. All InRangeNameSubsection (map_names fields.now m)) maps.now)
-        out.old out.new (flat_map (λ m. flat_map name_subsection (map_names fields.now m)) maps.now) result }
+    ensures { Writes S.rules (All (λ m. All (λ x. (name_subsection x).in_range) (map_names fields.now m)) maps.now)
+        out.old out.new (flat_map (λ m. flat_map (λ x. (name_subsection x).bytes) (map_names fields.now m)) maps.now) result }
 {
     let start = out.size();
     for i in 0..maps.len() {
@@ -356,9 +356,9 @@ pub(crate) const NAME_MAPS: [NameMap; 13] = [
 struct ModuleName<'b>(Option<&'b str>);
 
 impl Encode for ModuleName<'_> {
-    ghost spelling = { λ n. flat_map name_subsection (module_name (text_seen n.0)) };
+    ghost spelling = { λ n. flat_map (λ x. (name_subsection x).bytes) (module_name (text_seen n.0)) };
 
-    ghost in_range = { λ n. All InRangeNameSubsection (module_name (text_seen n.0)) };
+    ghost in_range = { λ n. All (λ x. (name_subsection x).in_range) (module_name (text_seen n.0)) };
 
     ghost is_ready = { λ _. true };
 
@@ -401,8 +401,8 @@ fn put_behind<P: Encode, S: Sink>(
     requires front { IsTrue (P.is_ready front.now) }
     requires reaches { IsTrue (are_reaches fields.now reaches.now) }
     requires checkpoints { AreCheckpoints types_within fields.now checkpoints.places checkpoints.before.now }
-    ensures { Writes S.rules (P.in_range front.now × All (λ m. All InRangeNameSubsection (map_names fields.now m)) name_maps)
-        out.old out.new (P.spelling front.now ++ flat_map (λ m. flat_map name_subsection (map_names fields.now m)) name_maps) result }
+    ensures { Writes S.rules (P.in_range front.now × All (λ m. All (λ x. (name_subsection x).in_range) (map_names fields.now m)) name_maps)
+        out.old out.new (P.spelling front.now ++ flat_map (λ m. flat_map (λ x. (name_subsection x).bytes) (map_names fields.now m)) name_maps) result }
 {
     let start = out.size();
     front.encode(out)?;

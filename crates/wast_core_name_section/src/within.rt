@@ -3,7 +3,7 @@
 
 ghost use Rattle.std.specs.Prelude.{◌≡◌, ◌+◌, nat_lt, ℕ, List, Option, length, map, IfOk};
 ghost use Rattle.std.specs.List.{flat_map};
-ghost use Rattle.wasm_out.specs.NameSectionBytes.{map_entry, InRangeMapEntry};
+ghost use Rattle.wasm_out.specs.NameSectionBytes.{map_entry};
 ghost use Rattle.wast_core_name_section.specs.Tree.ty;
 ghost use Rattle.wast_core_name_section.specs.declared.within.Within.{Within};
 ghost use Rattle.wast_core_name_section.specs.Checkpoints.{AreCheckpoints};
@@ -261,9 +261,9 @@ impl<'a> NameItems<Type<'a>> for Within {
 
     ghost items = { lists_in_type };
 
-    ghost entry = { map_entry };
+    ghost entry = { λ x. (map_entry x).bytes };
 
-    ghost in_range = { InRangeMapEntry };
+    ghost in_range = { λ x. (map_entry x).in_range };
 
     fn put<S: Sink>(&self, part: &Type<'a>, position: u64, out: &mut S) -> Result<u64, Refusal> {
         put_found(position, listed_in_type(*self, part), out)
@@ -282,9 +282,9 @@ impl<'a> NameItems<ItemSig<'a>> for Within {
 
     ghost items = { lists_in_sig };
 
-    ghost entry = { map_entry };
+    ghost entry = { λ x. (map_entry x).bytes };
 
-    ghost in_range = { InRangeMapEntry };
+    ghost in_range = { λ x. (map_entry x).in_range };
 
     fn put<S: Sink>(&self, part: &ItemSig<'a>, position: u64, out: &mut S) -> Result<u64, Refusal> {
         put_found(position, listed_in_kind(*self, &part.kind), out)
@@ -320,7 +320,7 @@ pub(crate) trait PutLists {
         position: u64,
         out: &mut S,
     ) -> Result<u64, Refusal>
-        ensures written { WritesItems S.rules map_entry InRangeMapEntry (lists (A.types arities.now) within self.now) position out.old out.new result }
+        ensures written { WritesItems S.rules (λ x. (map_entry x).bytes) (λ x. (map_entry x).in_range) (lists (A.types arities.now) within self.now) position out.old out.new result }
         ensures next { IfOk result (λ p. p ≡ saturated_count (position + length (lists (A.types arities.now) within self.now))) };
 }
 
@@ -366,9 +366,9 @@ impl<T: PutLists, A: Arities> NameItems<T> for WithinItems<A> {
 
     ghost items = { λ w. T.lists (A.types w.arities) w.within };
 
-    ghost entry = { map_entry };
+    ghost entry = { λ x. (map_entry x).bytes };
 
-    ghost in_range = { InRangeMapEntry };
+    ghost in_range = { λ x. (map_entry x).in_range };
 
     fn put<S: Sink>(&self, part: &T, position: u64, out: &mut S) -> Result<u64, Refusal> {
         part.put_lists(self.within, &self.arities, position, out)

@@ -3,7 +3,7 @@ use Rattle.std.proofs.Common.{◌≡◌, ℕ, ◌+◌, ◌<◌, ◌≤◌, Bool,
 use Rattle.std.specs.List.{list_all}
 use Rattle.std.proofs.lemmas.Bool.{eqb-true, eqb-false, and_parts}
 use Rattle.std.proofs.lemmas.List.{get_or-replicate, get_or-set_same, get_or-set_other}
-use Rattle.std.proofs.lemmas.List.Folds.{list_all_at}
+use Rattle.wast_base.proofs.ListTests.{item_passes}
 use Rattle.wast_tree_nodes.specs.declared.fields.ModuleField.{ModuleField}
 use Rattle.wast_tree_nodes.specs.declared.customs.CustomPlace.{CustomPlace}
 use Rattle.wast_tree_nodes.specs.declared.customs.CustomPlaceAnchor.{CustomPlaceAnchor}
@@ -44,13 +44,6 @@ each_is p (k ∷ ks) h = ap (λ b. b && list_all p ks) (h k) ∙ each_is p ks h
 pub all_found : (fields : List ModuleField) (rs : FieldRanges) → ((k : FieldKind) → is_reach (is_of k) fields (reach_of rs k) ≡ true) → are_reaches fields rs ≡ true
 unfolding are_reaches
 all_found fields rs h = each_is (λ k. is_reach (is_of k) fields (reach_of rs k)) kinds h
-
-each_passes : (p : FieldKind → Bool) (ks : List FieldKind) (i : ℕ) (d : FieldKind) → i < length ks → list_all p ks ≡ true → p (get_or ks i d) ≡ true
-each_passes p ks i d lt h = by_test (p (get_or ks i d)) (λ e. list_all_at p ks i d lt e) h
-  where
-    by_test : (b : Bool) {c : Bool} → (b ≡ false → c ≡ false) → c ≡ true → b ≡ true
-    by_test true f h = refl
-    by_test false f h = let e = f refl in cc
 
 -- The range of each kind is at the rank of the kind.
 before_at_rank : (a : CustomPlaceAnchor) → get_or kinds (kind_rank (kind.Custom (at.Before a))) kind.Ty ≡ kind.Custom (at.Before a)
@@ -94,7 +87,7 @@ pub found_for : (fields : List ModuleField) (rs : FieldRanges) (k : FieldKind) �
 unfolding are_reaches
 found_for fields rs k h =
     let p = λ (l : FieldKind). is_reach (is_of l) fields (reach_of rs l) in
-    ap p (sym (at_rank k)) ∙ each_passes p kinds (kind_rank k) kind.Ty (rank_below k) h
+    ap p (sym (at_rank k)) ∙ item_passes p kinds (kind_rank k) kind.Ty (rank_below k) h
 
 -- If no field passes outside of an empty range, no field passes.
 empty_reach : (p : ModuleField → Bool) (fields : List ModuleField) (r : FieldRange) → r.end ≡ 0 → is_reach p fields r ≡ true → none_pass p fields ≡ true

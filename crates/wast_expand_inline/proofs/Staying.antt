@@ -4,7 +4,8 @@ use Rattle.std.specs.List.{flat_map}
 use Rattle.std.specs.Borrow.{Bor}
 use Rattle.std.proofs.lemmas.Bool.Decides.{Decides-eqb}
 use Rattle.wast_tree_nodes.specs.Items.{Item, items_in}
-use Rattle.wast_tree_nodes.specs.WrittenOut.{exports_nothing, is_written_func, is_written_table, is_written_memory, is_written_global, is_written_tag, is_written_field, is_written_out}
+use Rattle.wast_tree_nodes.specs.Profiles.{is_imported_func, is_imported_global, is_imported_tag}
+use Rattle.wast_tree_nodes.specs.WrittenOut.{exports_nothing, is_written_table, is_written_memory, is_written_field, is_written_out}
 use Rattle.wast_base.specs.Filling.{one_if, given_if, with_ids_from, missing_id_count}
 use Rattle.wast_expand_inline.specs.Tree.{Span, Index, InlineExport, Func, FuncKind, Table, TableKind, Memory, MemoryKind, Global, GlobalKind, Tag, TagKind, ExportKind, ModuleField}
 use Rattle.wast_expand_inline.specs.Tree.func
@@ -29,7 +30,7 @@ none_exported : (e : InlineExport) → exports_nothing e ≡ true → e ≡ no_e
 none_exported e h = ap (λ (names : List (Bor (List ℕ))). record { names = names }) (no_names e.names h)
 
 -- The function without inline parts is the function itself, if only exports are inline.
-func_stays : (f : Func) (k : FuncKind) → f.kind ≡ k → is_written_func k ≡ true → func_alone f f.kind ≡ field.Func (record f { exports = no_exports })
+func_stays : (f : Func) (k : FuncKind) → f.kind ≡ k → not (is_imported_func k) ≡ true → func_alone f f.kind ≡ field.Func (record f { exports = no_exports })
 func_stays f (func.Import source exact) e h = absurd cc
 func_stays f (func.Inline locals x) e h = ap (func_alone f) e ∙ sym (ap (λ (k : FuncKind). field.Func (record f { exports = no_exports; kind = k })) e)
 
@@ -45,11 +46,11 @@ memory_stays m (memory.Normal ty) item e h =
     ap (λ (k : MemoryKind). data_in k m.span item ++ memory_alone m k ∷ []) e ∙ sym (ap (λ (k : MemoryKind). field.Memory (record m { exports = no_exports; kind = k }) ∷ []) e)
 memory_stays m (memory.Inline is64 pieces exponent) item e h = absurd cc
 
-global_stays : (g : Global) (k : GlobalKind) → g.kind ≡ k → is_written_global k ≡ true → global_alone g g.kind ≡ field.Global (record g { exports = no_exports })
+global_stays : (g : Global) (k : GlobalKind) → g.kind ≡ k → not (is_imported_global k) ≡ true → global_alone g g.kind ≡ field.Global (record g { exports = no_exports })
 global_stays g (global.Import source) e h = absurd cc
 global_stays g (global.Inline x) e h = ap (global_alone g) e ∙ sym (ap (λ (k : GlobalKind). field.Global (record g { exports = no_exports; kind = k })) e)
 
-tag_stays : (t : Tag) (k : TagKind) → t.kind ≡ k → is_written_tag k ≡ true → tag_alone t t.kind ≡ field.Tag (record t { exports = no_exports })
+tag_stays : (t : Tag) (k : TagKind) → t.kind ≡ k → not (is_imported_tag k) ≡ true → tag_alone t t.kind ≡ field.Tag (record t { exports = no_exports })
 tag_stays t (tag_kind.Import source) e h = absurd cc
 tag_stays t tag_kind.Inline e h = ap (tag_alone t) e ∙ sym (ap (λ (k : TagKind). field.Tag (record t { exports = no_exports; kind = k })) e)
 
@@ -62,7 +63,7 @@ nothing_before span k item exports alone whole none is =
 
 field_stays : (r : Reference) (x : ModuleField) → is_written_field x ≡ true → desugar_field r x ≡ x ∷ []
 field_stays r (field.Func f) h =
-    nothing_before _ _ _ f.exports _ (λ e. field.Func (record f { exports = e })) (first_is _ (is_written_func f.kind) h)
+    nothing_before _ _ _ f.exports _ (λ e. field.Func (record f { exports = e })) (first_is _ (not (is_imported_func f.kind)) h)
     (ap (λ x. x ∷ []) (func_stays f f.kind refl (second_is (exports_nothing f.exports) _ h)))
 field_stays r (field.Table t) h =
     nothing_before _ _ _ t.exports _ (λ e. field.Table (record t { exports = e })) (first_is _ (is_written_table t.kind) h)
@@ -71,10 +72,10 @@ field_stays r (field.Memory m) h =
     nothing_before _ _ _ m.exports _ (λ e. field.Memory (record m { exports = e })) (first_is _ (is_written_memory m.kind) h)
     (memory_stays m m.kind _ refl (second_is (exports_nothing m.exports) _ h))
 field_stays r (field.Global g) h =
-    nothing_before _ _ _ g.exports _ (λ e. field.Global (record g { exports = e })) (first_is _ (is_written_global g.kind) h)
+    nothing_before _ _ _ g.exports _ (λ e. field.Global (record g { exports = e })) (first_is _ (not (is_imported_global g.kind)) h)
     (ap (λ x. x ∷ []) (global_stays g g.kind refl (second_is (exports_nothing g.exports) _ h)))
 field_stays r (field.Tag t) h =
-    nothing_before _ _ _ t.exports _ (λ e. field.Tag (record t { exports = e })) (first_is _ (is_written_tag t.kind) h)
+    nothing_before _ _ _ t.exports _ (λ e. field.Tag (record t { exports = e })) (first_is _ (not (is_imported_tag t.kind)) h)
     (ap (λ x. x ∷ []) (tag_stays t t.kind refl (second_is (exports_nothing t.exports) _ h)))
 field_stays r x h = refl
 
@@ -96,11 +97,11 @@ unexported : (nothing lacks : Bool) → nothing ≡ true → (not nothing && lac
 unexported nothing lacks h = ap (λ b. not b && lacks) h
 
 wants_none : (x : ModuleField) → is_written_field x ≡ true → wants_id x ≡ false
-wants_none (field.Func f) h = unexported (exports_nothing f.exports) (is_none f.id) (first_is _ (is_written_func f.kind) h)
+wants_none (field.Func f) h = unexported (exports_nothing f.exports) (is_none f.id) (first_is _ (not (is_imported_func f.kind)) h)
 wants_none (field.Table t) h = neither (exports_nothing t.exports) (has_elements t.kind) (is_none t.id) (first_is _ (is_written_table t.kind) h) (no_elements t.kind (second_is (exports_nothing t.exports) _ h))
 wants_none (field.Memory m) h = neither (exports_nothing m.exports) (has_bytes m.kind) (is_none m.id) (first_is _ (is_written_memory m.kind) h) (no_bytes m.kind (second_is (exports_nothing m.exports) _ h))
-wants_none (field.Global g) h = unexported (exports_nothing g.exports) (is_none g.id) (first_is _ (is_written_global g.kind) h)
-wants_none (field.Tag t) h = unexported (exports_nothing t.exports) (is_none t.id) (first_is _ (is_written_tag t.kind) h)
+wants_none (field.Global g) h = unexported (exports_nothing g.exports) (is_none g.id) (first_is _ (not (is_imported_global g.kind)) h)
+wants_none (field.Tag t) h = unexported (exports_nothing t.exports) (is_none t.id) (first_is _ (not (is_imported_tag t.kind)) h)
 wants_none x h = refl
 
 pub wants_no_reference : WantsNoReference

@@ -1,7 +1,8 @@
 -- A signature has an index exactly if it has a position in the type space.
 use Rattle.std.proofs.Common.{◌≡◌, ℕ, ◌+◌, Bool, true, false, cond, ◌||◌, List, [], ◌∷◌, ◌++◌, map, Option, Some, None, is_none, is_some, refl, sym, ap, ◌∙◌, arith}
-use Rattle.std.specs.List.{flat_map, position, position_from, list_any}
+use Rattle.std.specs.List.{flat_map, position, list_any}
 use Rattle.std.proofs.lemmas.Iterator.Adapters.{position_from-zero}
+use Rattle.wast_base.proofs.ListTests.{found_from}
 use Rattle.wast_expand_types.specs.Tree.{Id, ModuleField}
 use Rattle.wast_expand_types.specs.Tree.index
 use Rattle.wast_expand_types.specs.Tree.ty
@@ -15,15 +16,6 @@ use Rattle.wast_base.specs.Filling.{one_if, missing_id_count}
 use Rattle.wast_expand_types.specs.Expanders.{BoundSignatures, index_of}
 use Rattle.wast_expand_types.specs.Expanded.{lacks_id, fields_with_types, binding_of, bindings, found_for}
 use Rattle.wast_expand_types.proofs.AtRest.{types_typed, none_lacks_after}
-
--- a position is found exactly if an element passes
-found_from : {A : Type 0} (p : A → Bool) (i : ℕ) (xs : List A) → is_some (position_from p i xs) ≡ list_any p xs
-found_from p i [] = refl
-found_from p i (x ∷ xs) = by_test (p x) (position_from p (i + 1) xs) (list_any p xs) (found_from p (i + 1) xs)
-  where
-    by_test : (b : Bool) (o : Option ℕ) (c : Bool) → is_some o ≡ c → is_some (cond b (Some i) o) ≡ b || c
-    by_test true o c e = refl
-    by_test false o c e = e
 
 found : {A : Type 0} (p : A → Bool) (xs : List A) → is_some (position p xs) ≡ list_any p xs
 found p xs = ap is_some (position_from-zero p xs) ∙ found_from p 0 xs

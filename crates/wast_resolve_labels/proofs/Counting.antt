@@ -1,8 +1,9 @@
 -- Opening and closing blocks has the same result as counting openers and closers.
-use Rattle.std.proofs.Common.{◌≡◌, ℕ, zero, suc, ◌+◌, ◌-◌, ◌≤◌, List, [], ◌∷◌, ◌++◌, Option, Bool, cond, true, false, refl, ap, sym, ◌∙◌, length, take, arith, eqb, inl, inr, ◌⊎◌, append_assoc, append-nil, length-append}
-use Rattle.std.proofs.lemmas.Bool.{cases_eq, and_parts, and_from, leb-true, le-leb, eq-eqb, ne_eqb, false_from_ne_true}
-use Rattle.wast_base.specs.Blocks.{Blocks, without_innermost, BlockEffect, Opens, Closes, Stays, openers, closers, never_closed, stays_open}
+use Rattle.std.proofs.Common.{◌≡◌, ℕ, zero, suc, ◌+◌, ◌-◌, ◌≤◌, List, [], ◌∷◌, ◌++◌, Option, Bool, cond, true, false, refl, ap, sym, ◌∙◌, length, take, arith, eqb, inl, inr, append_assoc, append-nil, length-append}
+use Rattle.std.proofs.lemmas.Bool.{cases_eq, eq-eqb, ne_eqb, false_from_ne_true}
+use Rattle.wast_base.specs.Blocks.{Blocks, without_innermost, BlockEffect, Opens, Closes, Stays, openers, closers, stays_open}
 use Rattle.wast_base.specs.Ids.{Name}
+use Rattle.wast_base.proofs.BlockCounts.{Within, never_within, within_never, openers-append}
 use Rattle.wast_resolve_labels.specs.Turns.{open_blocks, blocks_after, blocks_after_all}
 
 -- The closers without an opener before them in this list.
@@ -11,10 +12,6 @@ surplus [] = 0
 surplus (Opens l ∷ ts) = surplus ts - 1
 surplus (Closes ∷ ts) = surplus ts + 1
 surplus (Stays ∷ ts) = surplus ts
-
--- In each of the first n prefixes there are at most d more closers than openers.
-abbrev Within : List BlockEffect → ℕ → ℕ → Type 0
-Within ts d n = (k : ℕ) → k ≤ n → closers (take k ts) ≤ openers (take k ts) + d
 
 within_surplus : (ts : List BlockEffect) (d : ℕ) → Within ts d (length ts) → surplus ts ≤ d
 unfolding surplus
@@ -32,22 +29,6 @@ surplus_within [] d h (suc k) = omega arith
 surplus_within (Opens l ∷ ts) d h (suc k) = omega (arith, surplus_within ts (d + 1) (omega arith) k)
 surplus_within (Closes ∷ ts) d h (suc k) = omega (arith, surplus_within ts (d - 1) (omega arith) k)
 surplus_within (Stays ∷ ts) d h (suc k) = surplus_within ts d h k
-
-up_to : (n k : ℕ) → k ≤ suc n → (k ≤ n) ⊎ (k ≡ suc n)
-up_to n k le = elim (cases_eq k (suc n)) [ inl e ↦ inr e | inr e ↦ inl (omega arith) ]
-
-never_within : (ts : List BlockEffect) (n : ℕ) → never_closed ts n ≡ true → Within ts 0 n
-never_within ts zero h k le = let z : k ≡ 0 = omega arith in rw z (omega arith)
-never_within ts (suc n) h k le =
-    let parts = and_parts _ _ h in
-    elim (up_to n k le) [
-      | inl below ↦ never_within ts n parts.0 k below
-      | inr here ↦ rw here (omega (arith, leb-true _ _ parts.1))
-    ]
-
-within_never : (ts : List BlockEffect) (n : ℕ) → Within ts 0 n → never_closed ts n ≡ true
-within_never ts zero h = refl
-within_never ts (suc n) h = and_from _ _ (within_never ts n (λ k le. h k (omega arith))) (le-leb _ _ (omega (arith, h (suc n) (omega arith))))
 
 stays_without_surplus : (ts : List BlockEffect) → surplus ts ≡ 0 → stays_open ts ≡ true
 unfolding stays_open
@@ -153,11 +134,5 @@ few_blocks (Opens l ∷ ts) = one_longer (stays_open ts) l (open_blocks ts) (ope
 few_blocks (Closes ∷ ts) = few_blocks ts
 few_blocks (Stays ∷ ts) = few_blocks ts
 
-openers_behind : (ts us : List BlockEffect) → openers (ts ++ us) ≡ openers ts + openers us
-openers_behind [] us = omega arith
-openers_behind (Opens l ∷ ts) us = omega (arith, openers_behind ts us)
-openers_behind (Closes ∷ ts) us = openers_behind ts us
-openers_behind (Stays ∷ ts) us = openers_behind ts us
-
 pub room_for_one : (ts us : List BlockEffect) (label : Option Name) → length (open_blocks ts) + 1 ≤ openers (ts ++ Opens label ∷ us)
-room_for_one ts us label = omega (arith, few_blocks ts, openers_behind ts (Opens label ∷ us))
+room_for_one ts us label = omega (arith, few_blocks ts, openers-append ts (Opens label ∷ us))

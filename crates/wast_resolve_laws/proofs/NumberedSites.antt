@@ -8,6 +8,7 @@ use Rattle.wast_base.specs.declared.ids.Span.{Span}
 use Rattle.wast_base.specs.Faults.{Cause}
 use Rattle.wast_base.specs.Ids.{name_of, mark_of, span_of_index}
 use Rattle.wast_base.specs.Spaces.{word_of}
+use Rattle.wast_base.proofs.Numbered.{denoted_still, span_still}
 use Rattle.wast_resolve_labels.specs.OpenBlocks.{label_depth}
 use Rattle.wast_tree_nodes.specs.Known.{IdContext, id_context}
 use Rattle.wast_tree_nodes.specs.Types.{said_once, inline_alone}
@@ -24,7 +25,7 @@ use Rattle.wast_resolve_rules.specs.Matches.{signatures_match}
 use Rattle.wast_resolve_rules.specs.Demands.{first_unmet, ask_demand, ask_demands, match_with, match_demands, match_if, field_at, access_demand, site_demand, site_demands}
 use Rattle.wast_resolve_rules.specs.Resolved.{numbered_by, resolved_index, numbered_at, numbered_use, resolved_use, numbering_change}
 use Rattle.wast_resolve_rules.proofs.Unmet.{met_parts}
-use Rattle.wast_resolve_laws.proofs.NumberedTypes.{met_both, met_index, span_still, denoted_still, numbered_shape, with_still, ask_rests, index_asks, inline_asks, both_asks}
+use Rattle.wast_resolve_laws.proofs.NumberedTypes.{met_both, met_index, numbered_shape, with_still, ask_rests, index_asks, inline_asks, both_asks}
 
 -- In the scope of a list, and in that of the numbered list.
 module _ (c : Scope) where

@@ -1,29 +1,28 @@
 -- An index and its number name the same item, so types compare equal.
-use Rattle.std.proofs.Common.{◌≡◌, ℕ, ◌+◌, ◌&&◌, List, [], ◌∷◌, ◌++◌, map, Option, Some, None, option_map, is_some, refl, sym, ap, ◌∙◌, append-nil, arith}
-use Rattle.std.specs.Prelude.{if◌then◌else◌}
-use Rattle.std.specs.Bool.{beq}
+use Rattle.std.proofs.Common.{◌≡◌, ℕ, ◌+◌, List, [], ◌∷◌, ◌++◌, map, Option, Some, None, option_map, is_some, refl, sym, ap, ◌∙◌, append-nil}
 use Rattle.std.proofs.lemmas.Grind.{flat_map-append}
 use Rattle.wast_base.specs.declared.ids.Span.{Span}
 use Rattle.wast_base.specs.Faults.{Cause}
-use Rattle.wast_base.specs.Ids.{Name, name_of, place_of, span_of_index}
+use Rattle.wast_base.specs.Ids.{Name, name_of}
 use Rattle.wast_base.specs.Spaces.{word_of}
-use Rattle.wast_tree_nodes.specs.Known.{IdContext, id_context}
+use Rattle.wast_base.proofs.Numbered.{denoted_still}
+use Rattle.wast_tree_nodes.specs.Known.{IdContext}
 use Rattle.wast_tree_nodes.specs.Sites.{Check, ItemIndex, InnerIndex, PlainId, Clause, Covered, if_there, in_index, in_signature}
-use Rattle.wast_tree_map.specs.Mapped.{mapped_ask, mapped_heap, mapped_val, mapped_param, mapped_signature}
+use Rattle.wast_tree_map.specs.Mapped.{mapped_ask, mapped_val, mapped_signature}
 use Rattle.wast_tree_map.proofs.Kept.{stands_in}
 use Rattle.wast_tree_map.proofs.Ways.{option_at}
 use Rattle.wast_tree_map.proofs.Types.{signature_at}
-use Rattle.wast_tree_map.proofs.Laws.{stands}
-use Rattle.wast_expand_types.specs.Signatures.{Signature, signature_of, type_of_param, same_heap_by, same_value_by, same_values_by, same_signature_by}
-use Rattle.wast_resolve_laws.specs.Tree.{Id, Index, NameAnnotation, HeapType, ValType, FunctionType}
+use Rattle.wast_expand_types.specs.Signatures.{Signature, signature_of, same_signature_by}
+use Rattle.wast_resolve_laws.specs.Tree.{Id, Index, FunctionType}
 use Rattle.wast_resolve_laws.specs.Tree.index
 use Rattle.wast_resolve_laws.specs.Tree.space
 use Rattle.wast_resolve_laws.specs.Tree.heap
 use Rattle.wast_resolve_laws.specs.Tree.value
-use Rattle.wast_resolve_rules.specs.Scopes.{Shape, Function, Struct, Other, Scope, denoted}
+use Rattle.wast_resolve_rules.specs.Scopes.{Shape, Function, Struct, Other, Scope}
 use Rattle.wast_resolve_rules.specs.Matches.{same_number, same_type, signatures_match}
 use Rattle.wast_resolve_rules.specs.Demands.{Demand, first_unmet, known_index, ask_demand, ask_demands, match_with}
 use Rattle.wast_resolve_rules.specs.Resolved.{numbered_by, resolved_index, numbered_at, numbering_change}
+use Rattle.wast_resolve_laws.proofs.OtherNames.{signatures_same, signature_changed}
 use Rattle.wast_resolve_rules.proofs.Unmet.{met_parts, first_unmet-append}
 use Rattle.wast_resolve_rules.proofs.Numbering.{numbering_keeps}
 
@@ -39,63 +38,18 @@ pub met_index : (number other : Name → Option ℕ) (word : List ℕ) (i : Inde
 met_index number other word (index.Num k p) h = refl
 met_index number other word (index.Id id) h = met_id _ _ word other id (number (name_of id)) h
 
-pub span_still : (number : Name → Option ℕ) (i : Index) → span_of_index (resolved_index number i) ≡ span_of_index i
-span_still number (index.Num k p) = refl
-span_still number (index.Id id) = by (number (name_of id))
-  where
-    by : (o : Option ℕ) → span_of_index (numbered_by o id) ≡ place_of id
-    by None = refl
-    by (Some k) = refl
-
--- An index and its number name the same item.
-pub denoted_still : (number : Name → Option ℕ) (i : Index) → denoted number (resolved_index number i) ≡ denoted number i
-denoted_still number (index.Num k p) = refl
-denoted_still number (index.Id id) = by (number (name_of id)) refl
-  where
-    by : (o : Option ℕ) → number (name_of id) ≡ o → denoted number (numbered_by o id) ≡ o
-    by None h = h
-    by (Some k) h = refl
-
 -- Types are compared by the items that their indices name.
 module _ (k : IdContext) where
   type_still : (i j : Index) → same_type k (numbered_at k space.Ty i) (numbered_at k space.Ty j) ≡ same_type k i j
   type_still i j = λ t. same_number (denoted_still (k.number space.Ty) i t) (denoted_still (k.number space.Ty) j t)
 
-  heap_still : (a b : HeapType) → same_heap_by (same_type k) (mapped_heap (numbered_at k) a) (mapped_heap (numbered_at k) b) ≡ same_heap_by (same_type k) a b
-  heap_still (heap.Abstract s a) (heap.Abstract t b) = refl
-  heap_still (heap.Concrete i) (heap.Concrete j) = type_still i j
-  heap_still (heap.Exact i) (heap.Exact j) = type_still i j
-  heap_still (heap.Abstract s a) (heap.Concrete j) = refl
-  heap_still (heap.Abstract s a) (heap.Exact j) = refl
-  heap_still (heap.Concrete i) (heap.Abstract t b) = refl
-  heap_still (heap.Concrete i) (heap.Exact j) = refl
-  heap_still (heap.Exact i) (heap.Abstract t b) = refl
-  heap_still (heap.Exact i) (heap.Concrete j) = refl
-
-  value_still : (v w : ValType) → same_value_by (same_type k) (mapped_val (numbered_at k) v) (mapped_val (numbered_at k) w) ≡ same_value_by (same_type k) v w
-  value_still (value.Ref a) (value.Ref b) = ap (λ c. beq a.nullable b.nullable && c) (heap_still a.heap b.heap)
-  value_still v w = grind (arith)
-
-  values_still : (vs ws : List ValType) → same_values_by (same_type k) (map (mapped_val (numbered_at k)) vs) (map (mapped_val (numbered_at k)) ws) ≡ same_values_by (same_type k) vs ws
-  values_still [] [] = refl
-  values_still [] (w ∷ ws) = refl
-  values_still (v ∷ vs) [] = refl
-  values_still (v ∷ vs) (w ∷ ws) = λ i. value_still v w i && values_still vs ws i
-
-  params_still : (ps : List (Option Id × Option NameAnnotation × ValType)) → map type_of_param (map (mapped_param (numbered_at k)) ps) ≡ map (mapped_val (numbered_at k)) (map type_of_param ps)
-  params_still [] = refl
-  params_still (p ∷ ps) = ap (λ vs. mapped_val (numbered_at k) p.2 ∷ vs) (params_still ps)
-
   abbrev pub numbered_signature : Signature → Signature
   numbered_signature s = (map (mapped_val (numbered_at k)) s.0, map (mapped_val (numbered_at k)) s.1)
 
-  pub signature_still : (t : FunctionType) → signature_of (mapped_signature (numbered_at k) t) ≡ numbered_signature (signature_of t)
-  signature_still t = ap (λ vs. (vs, map (mapped_val (numbered_at k)) t.results)) (params_still t.params)
-
   pub matches_still : (t : FunctionType) (s : Signature) → signatures_match k (mapped_signature (numbered_at k) t) (numbered_signature s) ≡ signatures_match k t s
   matches_still t s =
-      ap (λ u. same_signature_by (same_type k) u (numbered_signature s)) (signature_still t)
-      ∙ (λ i. values_still (signature_of t).0 s.0 i && values_still (signature_of t).1 s.1 i)
+      ap (λ u. same_signature_by (same_type k) u (numbered_signature s)) (signature_changed (λ o. o) (numbered_at k) t)
+      ∙ signatures_same (numbered_at k) (same_type k) (same_type k) type_still (signature_of t) s
 
   -- The data of types.
   abbrev pub numbered_shape : Shape → Shape

@@ -74,6 +74,16 @@ module _ (n : Naming) (injective : (a b : Name) → n a ≡ n b → a ≡ b) whe
   marks_same [] = refl
   marks_same (m ∷ ms) = λ i. named_if n m i ∷ marks_same ms i
 
+-- A map of indices keeps the rank of a value type, and changes the reference type in it.
+module _ (f : Indices) where
+  pub rank_same : (v : ValType) → value_rank (mapped_val f v) ≡ value_rank v
+  rank_same (value.Ref r) = refl
+  rank_same v = refl
+
+  pub reference_same : (v : ValType) → reference_in (mapped_val f v) ≡ option_map (mapped_ref f) (reference_in v)
+  reference_same (value.Ref r) = refl
+  reference_same v = refl
+
 -- Types are compared by their indices alone.
 module _ (f : Indices) (same other : Index → Index → Bool) (alike : (i j : Index) → other (f space.Ty i) (f space.Ty j) ≡ same i j) where
   heap_same : (a b : HeapType) → same_heap_by other (mapped_heap f a) (mapped_heap f b) ≡ same_heap_by same a b
@@ -87,14 +97,6 @@ module _ (f : Indices) (same other : Index → Index → Bool) (alike : (i j : I
   heap_same (heap.Concrete i) (heap.Exact j) = refl
   heap_same (heap.Exact i) (heap.Concrete j) = refl
 
-  rank_same : (v : ValType) → value_rank (mapped_val f v) ≡ value_rank v
-  rank_same (value.Ref r) = refl
-  rank_same v = refl
-
-  reference_same : (v : ValType) → reference_in (mapped_val f v) ≡ option_map (mapped_ref f) (reference_in v)
-  reference_same (value.Ref r) = refl
-  reference_same v = refl
-
   references_same : (a b : Option RefType) → same_reference_by other (option_map (mapped_ref f) a) (option_map (mapped_ref f) b) ≡ same_reference_by same a b
   references_same None None = refl
   references_same (Some a) (Some b) = ap (λ c. beq a.nullable b.nullable && c) (heap_same a.heap b.heap)
@@ -103,7 +105,7 @@ module _ (f : Indices) (same other : Index → Index → Bool) (alike : (i j : I
 
   value_same : (v w : ValType) → same_value_by other (mapped_val f v) (mapped_val f w) ≡ same_value_by same v w
   value_same v w =
-      (λ i. rank_same v i == rank_same w i && same_reference_by other (reference_same v i) (reference_same w i))
+      (λ i. rank_same f v i == rank_same f w i && same_reference_by other (reference_same f v i) (reference_same f w i))
       ∙ ap (λ c. value_rank v == value_rank w && c) (references_same (reference_in v) (reference_in w))
 
   values_same : (vs ws : List ValType) → same_values_by other (map (mapped_val f) vs) (map (mapped_val f) ws) ≡ same_values_by same vs ws

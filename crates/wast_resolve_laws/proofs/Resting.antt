@@ -31,7 +31,8 @@ use Rattle.wast_resolve_rules.proofs.Unmet.{met_parts}
 use Rattle.wast_resolve_rules.proofs.Numbering.{numbering_keeps}
 use Rattle.wast_resolve_rules.proofs.Orders.{orders_from, orders_are}
 use Rattle.wast_resolve_laws.specs.Rests.{start_fields_of, numbers}
-use Rattle.wast_resolve_laws.proofs.NumberedTypes.{met_both, numbered_shape, signature_still}
+use Rattle.wast_resolve_laws.proofs.NumberedTypes.{met_both, numbered_shape}
+use Rattle.wast_resolve_laws.proofs.OtherNames.{signature_changed}
 use Rattle.wast_resolve_laws.proofs.NumberedSites.{rested, sites_rest}
 
 module _ (c : Scope) where
@@ -48,7 +49,7 @@ module _ (c : Scope) where
   struct_by false number = refl
 
   kind_still : (t : InnerTypeKind) → shape_of (mapped_inner (numbered_at k) t) ≡ numbered_shape k (shape_of t)
-  kind_still (inner.Func t) = ap Function (signature_still k t)
+  kind_still (inner.Func t) = ap Function (signature_changed (λ o. o) (numbered_at k) t)
   kind_still (inner.Struct t) = ap (λ ids. struct_shape (map name_if ids)) (fields_still t.fields) ∙ struct_by _ _
   kind_still (inner.Array t) = refl
   kind_still (inner.Cont t) = refl

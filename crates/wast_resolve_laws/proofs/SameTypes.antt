@@ -1,6 +1,7 @@
 -- Signatures that are equal after ids of source types are replaced by numbers also match, if each index is known; and
 -- look-ups that agree compare types the same.
-use Rattle.std.proofs.Common.{◌≡◌, ℕ, Bool, true, ◌&&◌, cond, List, [], ◌∷◌, map, Option, Some, None, is_some, refl, sym, ap, ◌∙◌, false}
+use Rattle.std.proofs.Common.{◌≡◌, ℕ, Bool, true, ◌&&◌, cond, List, [], ◌∷◌, map, Option, Some, None, option_map, is_some, refl, sym, ap, ◌∙◌, false}
+use Rattle.std.specs.Prelude.{◌==◌}
 use Rattle.std.specs.Bool.{beq}
 use Rattle.std.specs.Cmp.{first_so, second_so}
 use Rattle.std.specs.List.{flat_map, list_all}
@@ -10,11 +11,11 @@ use Rattle.wast_base.specs.Ids.{Name, name_of, same_index}
 use Rattle.wast_base.specs.Denoted.{numbered_by, resolved_index}
 use Rattle.wast_base.specs.Faults.{Cause}
 use Rattle.wast_tree_nodes.specs.Known.{IdContext}
-use Rattle.wast_tree_nodes.specs.Sites.{Check, ItemIndex, Covered, if_there, in_index, in_id, in_heap, in_val, in_param, in_signature}
-use Rattle.wast_tree_map.specs.Mapped.{mapped_heap, mapped_val}
-use Rattle.wast_expand_types.specs.Signatures.{Signature, type_of_param, signature_of, same_heap_by, same_value_by, same_values_by, same_signature_by, same_signature}
+use Rattle.wast_tree_nodes.specs.Sites.{Check, ItemIndex, Covered, if_there, in_index, in_id, in_heap, in_ref, in_val, in_param, in_signature}
+use Rattle.wast_tree_map.specs.Mapped.{mapped_heap, mapped_ref, mapped_val}
+use Rattle.wast_expand_types.specs.Signatures.{Signature, type_of_param, signature_of, value_rank, reference_in, same_heap_by, same_reference_by, same_value_by, same_values_by, same_signature_by, same_signature}
 use Rattle.wast_expand_types.specs.Numbers.{TypeNames, in_numbers, numbered_signature}
-use Rattle.wast_resolve_laws.specs.Tree.{Id, Index, Span, NameAnnotation, HeapType, ValType, FunctionType}
+use Rattle.wast_resolve_laws.specs.Tree.{Id, Index, Span, NameAnnotation, HeapType, RefType, ValType, FunctionType}
 use Rattle.wast_resolve_laws.specs.Tree.index
 use Rattle.wast_resolve_laws.specs.Tree.space
 use Rattle.wast_resolve_laws.specs.Tree.form
@@ -25,6 +26,7 @@ use Rattle.wast_resolve_rules.specs.Demands.{first_unmet, ask_demand, ask_demand
 use Rattle.wast_base.proofs.Names.{same_name_equal}
 use Rattle.wast_resolve_rules.proofs.Unmet.{met_parts}
 use Rattle.wast_resolve_laws.proofs.CompletedAsks.{pass, value_passes}
+use Rattle.wast_resolve_laws.proofs.OtherNames.{rank_same, reference_same}
 use Rattle.wast_resolve_laws.proofs.ImpliedSignatures.{both_so, values_pass}
 
 -- the ids of source types have the same numbers among all types
@@ -75,45 +77,28 @@ module _ (k : TypeNames) (l : IdContext) (continues : Continues k l) where
   abbrev told : ValType → ValType
   told v = mapped_val (in_numbers k) v
 
-  value_denotes : (v w : ValType) → same_value_by same_index (told v) (told w) ≡ true → first_unmet (ask_demands l (in_val v)) ≡ None → same_value_by (same_type l) v w ≡ true
-  value_denotes (value.Ref r) (value.Ref q) h met =
+  asked_reference : (v : ValType) → in_val v ≡ if_there in_ref (reference_in v)
+  asked_reference (value.Ref r) = refl
+  asked_reference v = refl
+
+  reference_denotes : (o p : Option RefType) → same_reference_by same_index (option_map (mapped_ref (in_numbers k)) o) (option_map (mapped_ref (in_numbers k)) p) ≡ true
+      → first_unmet (ask_demands l (if_there in_ref o)) ≡ None → same_reference_by (same_type l) o p ≡ true
+  reference_denotes None None h met = refl
+  reference_denotes None (Some q) h met = h
+  reference_denotes (Some r) None h met = h
+  reference_denotes (Some r) (Some q) h met =
       let heaps = same_heap_by same_index (mapped_heap (in_numbers k) r.heap) (mapped_heap (in_numbers k) q.heap) in
       both_so (beq r.nullable q.nullable) (same_heap_by (same_type l) r.heap q.heap) (first_so (beq r.nullable q.nullable) heaps h) (heap_denotes r.heap q.heap (second_so (beq r.nullable q.nullable) heaps h) met)
-  value_denotes value.I32 value.I32 h met = h
-  value_denotes value.I32 value.I64 h met = h
-  value_denotes value.I32 value.F32 h met = h
-  value_denotes value.I32 value.F64 h met = h
-  value_denotes value.I32 value.V128 h met = h
-  value_denotes value.I32 (value.Ref q) h met = h
-  value_denotes value.I64 value.I32 h met = h
-  value_denotes value.I64 value.I64 h met = h
-  value_denotes value.I64 value.F32 h met = h
-  value_denotes value.I64 value.F64 h met = h
-  value_denotes value.I64 value.V128 h met = h
-  value_denotes value.I64 (value.Ref q) h met = h
-  value_denotes value.F32 value.I32 h met = h
-  value_denotes value.F32 value.I64 h met = h
-  value_denotes value.F32 value.F32 h met = h
-  value_denotes value.F32 value.F64 h met = h
-  value_denotes value.F32 value.V128 h met = h
-  value_denotes value.F32 (value.Ref q) h met = h
-  value_denotes value.F64 value.I32 h met = h
-  value_denotes value.F64 value.I64 h met = h
-  value_denotes value.F64 value.F32 h met = h
-  value_denotes value.F64 value.F64 h met = h
-  value_denotes value.F64 value.V128 h met = h
-  value_denotes value.F64 (value.Ref q) h met = h
-  value_denotes value.V128 value.I32 h met = h
-  value_denotes value.V128 value.I64 h met = h
-  value_denotes value.V128 value.F32 h met = h
-  value_denotes value.V128 value.F64 h met = h
-  value_denotes value.V128 value.V128 h met = h
-  value_denotes value.V128 (value.Ref q) h met = h
-  value_denotes (value.Ref r) value.I32 h met = h
-  value_denotes (value.Ref r) value.I64 h met = h
-  value_denotes (value.Ref r) value.F32 h met = h
-  value_denotes (value.Ref r) value.F64 h met = h
-  value_denotes (value.Ref r) value.V128 h met = h
+
+  value_denotes : (v w : ValType) → same_value_by same_index (told v) (told w) ≡ true → first_unmet (ask_demands l (in_val v)) ≡ None → same_value_by (same_type l) v w ≡ true
+  value_denotes v w h met =
+      let ranks = value_rank v == value_rank w in
+      let in_told : ValType → Option RefType = λ u. option_map (mapped_ref (in_numbers k)) (reference_in u) in
+      let references = same_reference_by same_index (in_told v) (in_told w) in
+      let both : ranks && references ≡ true =
+      sym (λ i. rank_same (in_numbers k) v i == rank_same (in_numbers k) w i && same_reference_by same_index (reference_same (in_numbers k) v i) (reference_same (in_numbers k) w i)) ∙ h in
+      both_so ranks (same_reference_by (same_type l) (reference_in v) (reference_in w)) (first_so ranks references both)
+      (reference_denotes (reference_in v) (reference_in w) (second_so ranks references both) (ap (λ cs. first_unmet (ask_demands l cs)) (sym (asked_reference v)) ∙ met))
 
   values_denote : {A : Type 0} (f : A → ValType) (asks : A → List Check) → ((a : A) → first_unmet (ask_demands l (asks a)) ≡ None → first_unmet (ask_demands l (in_val (f a))) ≡ None)
       → (vs : List A) (ws : List ValType) → same_values_by same_index (map told (map f vs)) (map told ws) ≡ true → first_unmet (ask_demands l (flat_map asks vs)) ≡ None → same_values_by (same_type l) (map f vs) ws ≡ true

@@ -2,71 +2,38 @@
 use Rattle.std.proofs.Common.{◌≡◌, ℕ, ◌+◌, List, [], ◌∷◌, ◌++◌, map, Option, Some, None, option_map, refl, ap, ◌∙◌}
 use Rattle.std.proofs.lemmas.List.{length-map, map-append}
 use Rattle.wast_base.specs.declared.ids.Span.{Span}
-use Rattle.wast_base.specs.Ids.{Name, name_of}
+use Rattle.wast_base.specs.Ids.{Name}
 use Rattle.wast_base.specs.Spaces.{position_of}
 use Rattle.wast_resolve_labels.specs.OpenBlocks.{label_depth}
 use Rattle.wast_tree_nodes.specs.Types.{said_once}
 use Rattle.wast_tree_nodes.specs.Known.{IdContext}
 use Rattle.wast_tree_nodes.specs.Sites.{Check, ItemIndex, InnerIndex, PlainId, Clause, Covered, Where, OfItem, OfCall, OfBlock, Locals, Site, Asked, Used, Declared, LocalAt, FieldAt, LabelAt, Repeated, Begins, Ends, in_module}
-use Rattle.wast_tree_map.specs.Mapped.{JoinsAsk, Joins, mapped_locals, mapped_heap, mapped_val, mapped_param, mapped_signature, mapped_field}
+use Rattle.wast_base.proofs.Numbered.{denoted_still, resolved_twice}
+use Rattle.wast_tree_map.specs.Mapped.{Change, JoinsAsk, Joins, mapped_locals, mapped_val, mapped_signature, mapped_field}
+use Rattle.wast_tree_map.proofs.Ways.{In, index_in, option_at}
+use Rattle.wast_tree_map.proofs.Types.{signature_at}
+use Rattle.wast_tree_map.proofs.Joined.{of_indices, indices_join}
 use Rattle.wast_tree_map.proofs.Laws.{joins, each_so}
-use Rattle.wast_resolve_laws.specs.Tree.{Id, Index, NameAnnotation, HeapType, ValType, FunctionType, TypeUse, ModuleField}
+use Rattle.wast_resolve_laws.specs.Tree.{Index, FunctionType, TypeUse, ModuleField}
 use Rattle.wast_resolve_laws.specs.Tree.index
 use Rattle.wast_resolve_laws.specs.Tree.space
 use Rattle.wast_resolve_laws.specs.Tree.heap
 use Rattle.wast_resolve_laws.specs.Tree.value
 use Rattle.wast_resolve_rules.specs.Scopes.{Shape, Function, Struct, Other, Scope, module_scope, denoted, type_at, params_of, field_in, unsaid_params, implicit_param_count, local_number, field_number}
-use Rattle.wast_resolve_rules.specs.Resolved.{numbered_by, resolved_index, numbered_at, numbered_use, resolved_use, numbering_change, resolved_fields}
+use Rattle.wast_resolve_rules.specs.Resolved.{numbered_at, numbered_use, resolved_use, numbering_change, resolved_fields}
 use Rattle.wast_resolve_rules.proofs.Numbering.{numbering_keeps}
 use Rattle.wast_resolve_laws.specs.Rests.{start_fields_of, numbers}
-use Rattle.wast_resolve_laws.proofs.NumberedTypes.{numbered_shape, denoted_still}
+use Rattle.wast_resolve_laws.proofs.NumberedTypes.{numbered_shape}
 use Rattle.wast_resolve_laws.proofs.NumberedSites.{rested, at_still}
 use Rattle.wast_resolve_laws.proofs.Resting.{scope_rests}
 
--- Numbering an index twice is the same as once.
-twice : (number other : Name → Option ℕ) → ((q : Name) → other q ≡ number q) → (i : Index) → resolved_index other (resolved_index number i) ≡ resolved_index number i
-twice number other h (index.Num k p) = refl
-twice number other h (index.Id id) = by (number (name_of id)) refl
-  where
-    by : (o : Option ℕ) → number (name_of id) ≡ o → resolved_index other (numbered_by o id) ≡ numbered_by o id
-    by None e = ap (λ o. numbered_by o id) (h (name_of id) ∙ e)
-    by (Some k) e = refl
-
 module _ (k : IdContext) where
-  at_twice : (i : Index) → numbered_at k space.Ty (numbered_at k space.Ty i) ≡ numbered_at k space.Ty i
-  at_twice i = twice (k.number space.Ty) (k.number space.Ty) (λ q. refl) i
-
-  heap_twice : (t : HeapType) → mapped_heap (numbered_at k) (mapped_heap (numbered_at k) t) ≡ mapped_heap (numbered_at k) t
-  heap_twice (heap.Abstract shared t) = refl
-  heap_twice (heap.Concrete i) = ap heap.Concrete (at_twice i)
-  heap_twice (heap.Exact i) = ap heap.Exact (at_twice i)
-
-  value_twice : (t : ValType) → mapped_val (numbered_at k) (mapped_val (numbered_at k) t) ≡ mapped_val (numbered_at k) t
-  value_twice (value.Ref q) = ap (λ (t : HeapType). value.Ref (record q { heap = t })) (heap_twice q.heap)
-  value_twice value.I32 = refl
-  value_twice value.I64 = refl
-  value_twice value.F32 = refl
-  value_twice value.F64 = refl
-  value_twice value.V128 = refl
-
-  values_twice : (ts : List ValType) → map (mapped_val (numbered_at k)) (map (mapped_val (numbered_at k)) ts) ≡ map (mapped_val (numbered_at k)) ts
-  values_twice [] = refl
-  values_twice (t ∷ ts) = λ i. value_twice t i ∷ values_twice ts i
-
-  params_twice : (ps : List (Option Id × Option NameAnnotation × ValType)) → map (mapped_param (numbered_at k)) (map (mapped_param (numbered_at k)) ps) ≡ map (mapped_param (numbered_at k)) ps
-  params_twice [] = refl
-  params_twice (p ∷ ps) = λ i. (p.0, p.1, value_twice p.2 i) ∷ params_twice ps i
-
-  signature_twice : (t : Option FunctionType) → option_map (mapped_signature (numbered_at k)) (option_map (mapped_signature (numbered_at k)) t) ≡ option_map (mapped_signature (numbered_at k)) t
-  signature_twice None = refl
-  signature_twice (Some t) = λ i. Some (record { params = params_twice t.params i; results = values_twice t.results i })
-
-  index_twice : (o : Option Index) → option_map (numbered_at k space.Ty) (option_map (numbered_at k space.Ty) o) ≡ option_map (numbered_at k space.Ty) o
-  index_twice None = refl
-  index_twice (Some i) = ap Some (at_twice i)
+  -- a part that numbering changes in its indices alone
+  part_twice : {T : Type 0} {asks : T → List Check} {changed : Change → T → T} (x : T) → In asks changed x → changed (of_indices (numbered_at k)) (changed (of_indices (numbered_at k)) x) ≡ changed (of_indices (numbered_at k)) x
+  part_twice x at = indices_join (numbered_at k) (numbered_at k) (numbered_at k) (λ s i. resolved_twice (k.number s) (k.number s) (λ q. refl) i) x at
 
   numbered_twice : (u : TypeUse FunctionType) → numbered_use k (numbered_use k u) ≡ numbered_use k u
-  numbered_twice u = λ i. record { index = index_twice u.index i; inline = signature_twice u.inline i }
+  numbered_twice u = λ i. record { index = part_twice u.index (option_at (index_in space.Ty) u.index) i; inline = part_twice u.inline (option_at signature_at u.inline) i }
 
   -- a type use whose inline type was removed is numbered so
   said_twice : (o : Option Index) (t : Option FunctionType) → said_once (numbered_use k (said_once (record { index = o; inline = t }))) ≡ said_once (numbered_use k (record { index = o; inline = t }))
@@ -118,7 +85,7 @@ module _ (c : Scope) where
       ∙ (ap (λ o. field_in o q) (at_still c (denoted (k.number space.Ty) owner)) ∙ field_still (type_at c.types (denoted (k.number space.Ty) owner)) q)
 
   asks_join : (a : Check) → JoinsAsk (numbering_change c).index (numbering_change (rested c)).index (numbering_change c).index a
-  asks_join (ItemIndex s i) = twice (k.number s) (k.number s) (λ q. refl) i
+  asks_join (ItemIndex s i) = resolved_twice (k.number s) (k.number s) (λ q. refl) i
   asks_join (InnerIndex i) = tt
   asks_join (PlainId m) = tt
   asks_join (Clause n holds) = tt
@@ -128,9 +95,9 @@ module _ (c : Scope) where
   site_joins (Asked a) = asks_join a
   site_joins (Used w u) = use_twice k w u
   site_joins (Declared before m) = tt
-  site_joins (LocalAt locals i) = twice (local_number c locals) (local_number (rested c) (mapped_locals (numbering_change c) locals)) (local_still locals) i
-  site_joins (FieldAt owner i) = (twice (k.number space.Ty) (k.number space.Ty) (λ q. refl) owner, twice (field_number c owner) (field_number (rested c) (numbered_at k space.Ty owner)) (owner_still owner) i)
-  site_joins (LabelAt blocks i) = twice (λ name. label_depth name blocks) (λ name. label_depth name blocks) (λ q. refl) i
+  site_joins (LocalAt locals i) = resolved_twice (local_number c locals) (local_number (rested c) (mapped_locals (numbering_change c) locals)) (local_still locals) i
+  site_joins (FieldAt owner i) = (resolved_twice (k.number space.Ty) (k.number space.Ty) (λ q. refl) owner, resolved_twice (field_number c owner) (field_number (rested c) (numbered_at k space.Ty owner)) (owner_still owner) i)
+  site_joins (LabelAt blocks i) = resolved_twice (λ name. label_depth name blocks) (λ name. label_depth name blocks) (λ q. refl) i
   site_joins (Repeated blocks m) = tt
   site_joins (Begins blocks m) = tt
   site_joins Ends = tt

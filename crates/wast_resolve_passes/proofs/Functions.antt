@@ -1,22 +1,23 @@
 -- The checks of a function, part by part.
 use Rattle.std.specs.Prelude.{Option, Some, None, option_map}
-use Rattle.std.proofs.Common.{◌≡◌, ℕ, ◌+◌, ◌≤◌, ◌^◌, List, [], ◌∷◌, ◌++◌, length, refl, sym, ap, ◌∙◌, subst}
+use Rattle.std.proofs.Common.{◌≡◌, ◌+◌, ◌≤◌, ◌^◌, List, [], ◌∷◌, ◌++◌, length, refl, sym, ap, ◌∙◌, subst}
 use Rattle.std.proofs.lemmas.Grind.{flat_map-append}
 use Rattle.std.specs.List.{flat_map}
-use Rattle.wast_base.specs.Ids.{Name, Mark, name_of}
+use Rattle.wast_base.specs.Ids.{Mark}
 use Rattle.wast_base.specs.Spaces.{position_of}
+use Rattle.wast_base.proofs.Numbered.{denoted_still}
 use Rattle.wast_tree_nodes.specs.Sites.{BodyContext, Locals, in_local, local_marks, param_marks, declaration_sites, body_here, in_expression, in_func_kind, check_sites}
 use Rattle.wast_tree_map.specs.Mapped.{Change, KeepsMarks, mapped_signature, mapped_func_kind}
 use Rattle.wast_tree_map.proofs.Fields.{marks_stay}
-use Rattle.wast_resolve_passes.specs.Tree.{Id, Index, FunctionType, TypeUse, FuncKind}
+use Rattle.wast_resolve_passes.specs.Tree.{Index, FunctionType, TypeUse, FuncKind}
 use Rattle.wast_resolve_passes.specs.Tree.index
 use Rattle.wast_resolve_passes.specs.Tree.space
 use Rattle.wast_resolve_passes.specs.Tree.func
-use Rattle.wast_resolve_rules.specs.Scopes.{Scope, denoted, type_at, params_of, unsaid_params, implicit_param_count}
+use Rattle.wast_resolve_rules.specs.Scopes.{Scope, type_at, params_of, unsaid_params, implicit_param_count}
 use Rattle.wast_resolve_rules.specs.Demands.{ask_demands, site_demand, site_demands, declared_ids, kind_marks, open_counts_at, open_counts, HasMany}
 use Rattle.wast_resolve_passes.specs.Locals.{LocalSpace, body_declarations, names, locals_in, NumbersIn, SaysAsMuch, kind_counts}
 use Rattle.wast_resolve_passes.specs.Standing.{initial_context}
-use Rattle.wast_resolve_rules.specs.Resolved.{numbered_by, resolved_index, numbered_at, numbered_use}
+use Rattle.wast_resolve_rules.specs.Resolved.{numbered_at, numbered_use}
 use Rattle.wast_resolve_passes.specs.TwoSteps.{in_locals, in_body, with_locals, with_body}
 use Rattle.wast_resolve_rules.proofs.Counted.{many_one, many_left, many_right}
 use Rattle.wast_resolve_rules.proofs.Numbering.{inline_keeps}
@@ -80,15 +81,6 @@ module _ (f : Change) where
 pub numbers_still : (c : Scope) (l m : Locals) (k : FuncKind) (s : LocalSpace) → implicit_param_count c l.owner ≡ implicit_param_count c m.owner → l.names ≡ m.names → NumbersIn c l k s → NumbersIn c m k s
 numbers_still c l m (func.Import import exact) s some same h = tt
 numbers_still c l m (func.Inline locals e) s some same h = λ name. h name ∙ (λ i. option_map (λ p. some i + p) (position_of name (same i)))
-
--- an index and its number name the same item
-denoted_still : (number : Name → Option ℕ) (i : Index) → denoted number (resolved_index number i) ≡ denoted number i
-denoted_still number (index.Num n p) = refl
-denoted_still number (index.Id id) = by_number (number (name_of id)) refl
-  where
-    by_number : (o : Option ℕ) → number (name_of id) ≡ o → denoted number (numbered_by o id) ≡ number (name_of id)
-    by_number None is = refl
-    by_number (Some n) is = sym is
 
 unsaid_still : (c : Scope) (index : Option Index) (inline : Option FunctionType)
     → unsaid_params c (option_map (numbered_at c.known space.Ty) index) (option_map (mapped_signature (numbered_at c.known)) inline) ≡ unsaid_params c index inline

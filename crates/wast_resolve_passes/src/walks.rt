@@ -105,7 +105,7 @@ pub(crate) trait Walk<'a> {
 
     /// Resolves the indices in the part. Fails with E4 at an unknown id.
     fn walk(&mut self, names: &Resolver<'a>) -> Result<(), Error<'a>>
-        ensures { WalksAsks names.now asks mapped_field self.old self.new result };
+        ensures { WalksAsks names.now asks mapped self.old self.new result };
 }
 
 /// Resolves each part of a list, in order.

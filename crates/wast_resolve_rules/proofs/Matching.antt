@@ -1,7 +1,8 @@
 -- An inline type matches the same types before and after its indices are numbered.
-use Rattle.std.proofs.Common.{◌≡◌, ℕ, ◌&&◌, List, [], ◌∷◌, map, Option, Some, None, option_map, refl, ap, ◌∙◌}
+use Rattle.std.proofs.Common.{◌≡◌, ◌&&◌, List, [], ◌∷◌, map, Option, Some, None, option_map, refl, ap, ◌∙◌}
 use Rattle.std.specs.Bool.{beq}
-use Rattle.wast_base.specs.Ids.{Name, name_of, span_of_index}
+use Rattle.wast_base.specs.Ids.{span_of_index}
+use Rattle.wast_base.proofs.Numbered.{denoted_still, span_still}
 use Rattle.wast_tree_nodes.specs.Known.{IdContext}
 use Rattle.wast_tree_map.specs.Mapped.{mapped_heap, mapped_val, mapped_param, mapped_signature}
 use Rattle.wast_expand_types.specs.Signatures.{Signature, type_of_param, same_heap_by, same_value_by, same_values_by}
@@ -13,24 +14,7 @@ use Rattle.wast_resolve_rules.specs.Tree.value
 use Rattle.wast_resolve_rules.specs.Scopes.{Shape, Function, Struct, Other, Scope, denoted, type_at}
 use Rattle.wast_resolve_rules.specs.Matches.{same_number, same_type, signatures_match}
 use Rattle.wast_resolve_rules.specs.Demands.{match_with, match_demands, match_if}
-use Rattle.wast_resolve_rules.specs.Resolved.{numbered_by, resolved_index, numbered_at, numbered_use}
-
--- an index and its number name the same item
-denoted_by : (number : Name → Option ℕ) (id : Id) (o : Option ℕ) → number (name_of id) ≡ o → denoted number (numbered_by o id) ≡ o
-denoted_by number id None e = e
-denoted_by number id (Some n) e = refl
-
-pub denoted_still : (number : Name → Option ℕ) (i : Index) → denoted number (resolved_index number i) ≡ denoted number i
-denoted_still number (index.Num n span) = refl
-denoted_still number (index.Id id) = denoted_by number id (number (name_of id)) refl
-
-span_by : (id : Id) (o : Option ℕ) → span_of_index (numbered_by o id) ≡ span_of_index (index.Id id)
-span_by id None = refl
-span_by id (Some n) = refl
-
-span_still : (number : Name → Option ℕ) (i : Index) → span_of_index (resolved_index number i) ≡ span_of_index i
-span_still number (index.Num n span) = refl
-span_still number (index.Id id) = span_by id (number (name_of id))
+use Rattle.wast_resolve_rules.specs.Resolved.{numbered_at, numbered_use}
 
 module _ (k : IdContext) where
   same_index_still : (i j : Index) → same_type k (numbered_at k space.Ty i) j ≡ same_type k i j

@@ -1,6 +1,6 @@
 -- What no map changes of a field: whether it is desugared, its items except their ids, and its checks of import
 -- order.
-use Rattle.std.specs.Prelude.{◌&&◌, Option}
+use Rattle.std.specs.Prelude.{not, ◌&&◌, Option}
 use Rattle.std.specs.Borrow.{Bor}
 use Rattle.std.proofs.Common.{◌≡◌, ℕ, List, [], ◌∷◌, ◌++◌, refl, sym, ap, ◌∙◌, map}
 use Rattle.std.proofs.lemmas.List.{map-append}
@@ -18,7 +18,8 @@ use Rattle.wast_tree_map.specs.Tree.field
 use Rattle.wast_base.specs.Ids.{Mark, mark_of_option}
 use Rattle.wast_tree_nodes.specs.Items.{Item, item, field_ids, fields_of, space_of_kind, items_of_type, item_of_sig, items_of_import, items_in, items}
 use Rattle.wast_tree_nodes.specs.Imports.{defined_space}
-use Rattle.wast_tree_nodes.specs.WrittenOut.{exports_nothing, is_written_func, is_written_table, is_written_global, is_written_field, is_written_out}
+use Rattle.wast_tree_nodes.specs.Profiles.{is_imported_func, is_imported_global}
+use Rattle.wast_tree_nodes.specs.WrittenOut.{exports_nothing, is_written_table, is_written_field, is_written_out}
 use Rattle.wast_tree_map.specs.Mapped.{Change, KeepsMarks, named_struct_field, named_inner, mapped_type, mapped_func_kind, mapped_table_kind, mapped_global_kind, mapped_item_kind, mapped_sig, mapped_shared_id, mapped_import_items, mapped_field}
 use Rattle.wast_tree_map.specs.Named.{Naming, identity_naming, renamed_mark, renamed_item, RenamesIds}
 use Rattle.wast_tree_map.specs.Laws.{KeepsItems, NamesItems, all_mapped}
@@ -30,7 +31,7 @@ shared_id_stays f items owns [] o = owns o
 shared_id_stays f items owns (name ∷ names) o = items o
 
 module _ (f : Change) where
-  func_alone : (u : TypeUse FunctionType) (k : FuncKind) → is_written_func (mapped_func_kind f u k) ≡ is_written_func k
+  func_alone : (u : TypeUse FunctionType) (k : FuncKind) → not (is_imported_func (mapped_func_kind f u k)) ≡ not (is_imported_func k)
   func_alone u (func.Import import exact) = refl
   func_alone u (func.Inline locals e) = refl
 
@@ -39,7 +40,7 @@ module _ (f : Change) where
   table_alone (table.Normal ty init) = refl
   table_alone (table.Inline ty is64 shared elements) = refl
 
-  global_alone : (k : GlobalKind) → is_written_global (mapped_global_kind f k) ≡ is_written_global k
+  global_alone : (k : GlobalKind) → not (is_imported_global (mapped_global_kind f k)) ≡ not (is_imported_global k)
   global_alone (global.Import import) = refl
   global_alone (global.Inline e) = refl
 

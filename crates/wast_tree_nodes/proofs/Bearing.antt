@@ -1,12 +1,13 @@
 -- Lemmas: whether an item of a list has a name.
-use Rattle.std.proofs.Common.{◌≡◌, ℕ, Bool, true, false, ◌||◌, ◌&&◌, ◌+◌, List, [], ◌∷◌, ◌++◌, Option, Some, refl, ap, ◌∙◌}
+use Rattle.std.proofs.Common.{◌≡◌, Bool, true, false, ◌||◌, ◌&&◌, ◌+◌, List, [], ◌∷◌, ◌++◌, Option, refl, ap, ◌∙◌}
 use Rattle.std.specs.Prelude.{is_some, if◌then◌else◌}
-use Rattle.std.specs.List.{list_any, position_from}
+use Rattle.std.specs.List.{list_any}
 use Rattle.std.proofs.lemmas.Grind.{flat_map-append}
 use Rattle.std.proofs.lemmas.Iterator.Adapters.{position_from-zero}
 use Rattle.wast_tree_nodes.specs.Tree.{Space}
 use Rattle.wast_base.specs.Ids.{Name}
 use Rattle.wast_base.specs.Spaces.{same_space, name_if, is_called, is_borne}
+use Rattle.wast_base.proofs.ListTests.{found_from}
 use Rattle.wast_tree_nodes.specs.Items.{Item}
 use Rattle.wast_tree_nodes.specs.Known.{name_in, names_in}
 
@@ -17,14 +18,6 @@ any-append p (n ∷ ns) b = ap (λ c. p n || c) (any-append p ns b) ∙ or_assoc
     or_assoc : (x y z : Bool) → x || (y || z) ≡ (x || y) || z
     or_assoc true y z = refl
     or_assoc false y z = refl
-
-found_from : {A : Type 0} (p : A → Bool) (i : ℕ) (ns : List A) → is_some (position_from p i ns) ≡ list_any p ns
-found_from p i [] = refl
-found_from p i (n ∷ ns) = by_test (p n) i (position_from p (i + 1) ns) (list_any p ns) (found_from p (i + 1) ns)
-  where
-    by_test : (b : Bool) (j : ℕ) (o : Option ℕ) (c : Bool) → is_some o ≡ c → is_some (if b then Some j else o) ≡ b || c
-    by_test true j o c e = refl
-    by_test false j o c e = e
 
 pub borne_any : (name : Name) (ns : List (Option Name)) → is_borne name ns ≡ list_any (is_called name) ns
 borne_any name ns = ap is_some (position_from-zero (is_called name) ns) ∙ found_from (is_called name) 0 ns

@@ -29,17 +29,22 @@ are_numbered asks = list_all is_numbered asks
 abbrev pub has_numbers : List ModuleField → Bool
 has_numbers fields = are_numbered (checks_of (in_module fields))
 
+-- Whether a site passes, by a test of a check alone and a test of the checks in a type use. Indices in a body are numbers, and a
+-- type use has an index or the short inline type of a block.
+abbrev pub site_passes : (Check → Bool) → (Check → Bool) → Site → Bool
+site_passes alone within (Asked a) = alone a
+site_passes alone within (Used w u) = (is_some u.index || says_enough w u.inline) && list_all within (in_type_use u)
+site_passes alone within (Declared before m) = true
+site_passes alone within (LocalAt locals i) = is_number i
+site_passes alone within (FieldAt owner i) = is_number owner && is_number i
+site_passes alone within (LabelAt blocks i) = is_number i
+site_passes alone within (Repeated blocks m) = true
+site_passes alone within (Begins blocks m) = true
+site_passes alone within Ends = true
+
 -- whether a site is resolved: its indices are numbers, and a type use has an index or the short inline type of a block
 abbrev pub is_resolved_site : Site → Bool
-is_resolved_site (Asked a) = is_numbered a
-is_resolved_site (Used w u) = (is_some u.index || says_enough w u.inline) && are_numbered (in_type_use u)
-is_resolved_site (Declared before m) = true
-is_resolved_site (LocalAt locals i) = is_number i
-is_resolved_site (FieldAt owner i) = is_number owner && is_number i
-is_resolved_site (LabelAt blocks i) = is_number i
-is_resolved_site (Repeated blocks m) = true
-is_resolved_site (Begins blocks m) = true
-is_resolved_site Ends = true
+is_resolved_site s = site_passes is_numbered is_numbered s
 
 -- whether a list of fields is resolved
 abbrev pub is_resolved : List ModuleField → Bool

@@ -4,24 +4,17 @@
 --   (func (export "a"))               not desugared
 --   (export "a" (func 0)) (func)      desugared
 --   (memory (data "x"))               not desugared
-use Rattle.std.specs.Prelude.{Bool, true, false, ◌&&◌, ◌==◌, length, List}
+use Rattle.std.specs.Prelude.{Bool, true, false, not, ◌&&◌, ◌==◌, length, List}
 use Rattle.std.specs.List.{list_all}
-use Rattle.wast_tree_nodes.specs.Tree.{InlineExport, FuncKind, TableKind, MemoryKind, GlobalKind, TagKind, ModuleField}
-use Rattle.wast_tree_nodes.specs.Tree.func
+use Rattle.wast_tree_nodes.specs.Tree.{InlineExport, TableKind, MemoryKind, ModuleField}
 use Rattle.wast_tree_nodes.specs.Tree.table
 use Rattle.wast_tree_nodes.specs.Tree.memory
-use Rattle.wast_tree_nodes.specs.Tree.global
-use Rattle.wast_tree_nodes.specs.Tree.tag_kind
 use Rattle.wast_tree_nodes.specs.Tree.field
+use Rattle.wast_tree_nodes.specs.Profiles.{is_imported_func, is_imported_global, is_imported_tag}
 
 -- whether there is no inline export
 abbrev pub exports_nothing : InlineExport → Bool
 exports_nothing e = length e.names == 0
-
--- whether a function has no inline import
-abbrev pub is_written_func : FuncKind → Bool
-is_written_func (func.Import import exact) = false
-is_written_func (func.Inline locals e) = true
 
 -- whether a table has no inline import and no inline elements
 abbrev pub is_written_table : TableKind → Bool
@@ -35,30 +28,20 @@ is_written_memory (memory.Import import ty) = false
 is_written_memory (memory.Normal ty) = true
 is_written_memory (memory.Inline is64 pieces exponent) = false
 
--- whether a global has no inline import
-abbrev pub is_written_global : GlobalKind → Bool
-is_written_global (global.Import import) = false
-is_written_global (global.Inline e) = true
-
--- whether a tag has no inline import
-abbrev pub is_written_tag : TagKind → Bool
-is_written_tag (tag_kind.Import import) = false
-is_written_tag tag_kind.Inline = true
-
 -- whether a field has no inline parts
 abbrev pub is_written_field : ModuleField → Bool
 is_written_field (field.Ty t) = true
 is_written_field (field.Rec r) = true
 is_written_field (field.Import i) = true
-is_written_field (field.Func f) = exports_nothing f.exports && is_written_func f.kind
+is_written_field (field.Func f) = exports_nothing f.exports && not (is_imported_func f.kind)
 is_written_field (field.Table t) = exports_nothing t.exports && is_written_table t.kind
 is_written_field (field.Memory m) = exports_nothing m.exports && is_written_memory m.kind
-is_written_field (field.Global g) = exports_nothing g.exports && is_written_global g.kind
+is_written_field (field.Global g) = exports_nothing g.exports && not (is_imported_global g.kind)
 is_written_field (field.Export e) = true
 is_written_field (field.Start i) = true
 is_written_field (field.Elem e) = true
 is_written_field (field.Data d) = true
-is_written_field (field.Tag t) = exports_nothing t.exports && is_written_tag t.kind
+is_written_field (field.Tag t) = exports_nothing t.exports && not (is_imported_tag t.kind)
 is_written_field (field.Custom c) = true
 
 -- whether no field has inline parts

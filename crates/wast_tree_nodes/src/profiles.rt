@@ -87,7 +87,7 @@ impl<'f, 'a> FieldProfile<'f, 'a> {
 impl FuncKind<'_> {
     /// Returns whether the function has an inline import.
     #[inline(always)]
-    fn is_imported(&self) -> bool
+    pub(crate) fn is_imported(&self) -> bool
         ensures { result ≡ is_imported_func self.now }
     {
         matches!(self, FuncKind::Import(..))
@@ -117,7 +117,7 @@ impl MemoryKind<'_> {
 impl GlobalKind<'_> {
     /// Returns whether the global has an inline import.
     #[inline(always)]
-    fn is_imported(&self) -> bool
+    pub(crate) fn is_imported(&self) -> bool
         ensures { result ≡ is_imported_global self.now }
     {
         matches!(self, GlobalKind::Import(_))
@@ -127,7 +127,7 @@ impl GlobalKind<'_> {
 impl TagKind<'_> {
     /// Returns whether the tag has an inline import.
     #[inline(always)]
-    fn is_imported(&self) -> bool
+    pub(crate) fn is_imported(&self) -> bool
         ensures { result ≡ is_imported_tag self.now }
     {
         matches!(self, TagKind::Import(_))

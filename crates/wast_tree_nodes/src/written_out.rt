@@ -1,27 +1,15 @@
 //! `is_written_out`: whether fields are desugared.
 
 ghost use Rattle.std.specs.Prelude.{◌≡◌};
-ghost use Rattle.wast_tree_nodes.specs.WrittenOut.{exports_nothing, is_written_func, is_written_table, is_written_memory, is_written_global, is_written_tag, is_written_field, is_written_out};
+ghost use Rattle.wast_tree_nodes.specs.WrittenOut.{exports_nothing, is_written_table, is_written_memory, is_written_field, is_written_out};
 
-use crate::fields::{
-    FuncKind, GlobalKind, InlineExport, MemoryKind, ModuleField, TableKind, TagKind,
-};
+use crate::fields::{InlineExport, MemoryKind, ModuleField, TableKind};
 
 /// Returns whether there is no inline export.
 fn exports_nothing(exports: &InlineExport<'_>) -> bool
     ensures { result ≡ exports_nothing exports.now }
 {
     exports.names.is_empty()
-}
-
-/// Returns whether the function has no inline import.
-fn is_written_func(kind: &FuncKind<'_>) -> bool
-    ensures { result ≡ is_written_func kind.now }
-{
-    match kind {
-        FuncKind::Import(..) => false,
-        FuncKind::Inline { .. } => true,
-    }
 }
 
 /// Returns whether the table has no inline import and no inline elements.
@@ -44,33 +32,13 @@ fn is_written_memory(kind: &MemoryKind<'_>) -> bool
     }
 }
 
-/// Returns whether the global has no inline import.
-fn is_written_global(kind: &GlobalKind<'_>) -> bool
-    ensures { result ≡ is_written_global kind.now }
-{
-    match kind {
-        GlobalKind::Import(_) => false,
-        GlobalKind::Inline(_) => true,
-    }
-}
-
-/// Returns whether the tag has no inline import.
-fn is_written_tag(kind: &TagKind<'_>) -> bool
-    ensures { result ≡ is_written_tag kind.now }
-{
-    match kind {
-        TagKind::Import(_) => false,
-        TagKind::Inline => true,
-    }
-}
-
 /// Returns whether the field has no inline parts.
 fn is_written_field(field: &ModuleField<'_>) -> bool
     ensures { result ≡ is_written_field field.now }
 {
     match field {
         ModuleField::Ty(_) | ModuleField::Rec(_) | ModuleField::Import(_) => true,
-        ModuleField::Func(func) => exports_nothing(&func.exports) && is_written_func(&func.kind),
+        ModuleField::Func(func) => exports_nothing(&func.exports) && !func.kind.is_imported(),
         ModuleField::Table(table) => {
             exports_nothing(&table.exports) && is_written_table(&table.kind)
         }
@@ -78,11 +46,11 @@ fn is_written_field(field: &ModuleField<'_>) -> bool
             exports_nothing(&memory.exports) && is_written_memory(&memory.kind)
         }
         ModuleField::Global(global) => {
-            exports_nothing(&global.exports) && is_written_global(&global.kind)
+            exports_nothing(&global.exports) && !global.kind.is_imported()
         }
         ModuleField::Export(_) | ModuleField::Start(_) => true,
         ModuleField::Elem(_) | ModuleField::Data(_) => true,
-        ModuleField::Tag(tag) => exports_nothing(&tag.exports) && is_written_tag(&tag.kind),
+        ModuleField::Tag(tag) => exports_nothing(&tag.exports) && !tag.kind.is_imported(),
         ModuleField::Custom(_) => true,
     }
 }

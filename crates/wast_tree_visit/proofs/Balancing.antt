@@ -1,10 +1,11 @@
 -- Lemmas for is_balanced: counting the enclosing blocks decides whether instructions are balanced.
-use Rattle.std.proofs.Common.{◌≡◌, ℕ, zero, suc, ◌+◌, ◌≤◌, ◌<◌, List, [], ◌∷◌, Option, Some, None, Bool, true, false, eqb, refl, ap, sym, ◌∙◌, length, take, drop, get_or, arith, inl, inr, ◌⊎◌}
+use Rattle.std.proofs.Common.{◌≡◌, ℕ, zero, suc, ◌+◌, ◌≤◌, ◌<◌, List, [], ◌∷◌, Option, Some, None, Bool, true, false, eqb, refl, ap, sym, ◌∙◌, length, take, drop, get_or, arith}
 use Rattle.std.specs.Prelude.{is_some, option_map}
-use Rattle.std.proofs.lemmas.Bool.{cases_eq, and_parts, and_from, leb-true, le-leb, eq-eqb, eqb-true}
+use Rattle.std.proofs.lemmas.Bool.{and_parts, and_from, eq-eqb, eqb-true}
 use Rattle.std.proofs.lemmas.List.{drop_more}
 use Rattle.std.proofs.Math.ListN.{drop_of_length-le}
-use Rattle.wast_base.specs.Blocks.{BlockEffect, Opens, Closes, Stays, openers, closers, never_closed, stays_open, is_balanced}
+use Rattle.wast_base.specs.Blocks.{BlockEffect, Opens, Closes, Stays, openers, closers, stays_open, is_balanced}
+use Rattle.wast_base.proofs.BlockCounts.{Within, never_within, within_never}
 use Rattle.wast_tree_visit.specs.Tree.{BlockType, Instruction}
 use Rattle.wast_tree_nodes.specs.Instrs.{turn_by, turn_of, block_effects}
 
@@ -15,10 +16,6 @@ balanced_from (Opens l ∷ ts) n = balanced_from ts (suc n)
 balanced_from (Closes ∷ ts) zero = false
 balanced_from (Closes ∷ ts) (suc n) = balanced_from ts n
 balanced_from (Stays ∷ ts) n = balanced_from ts n
-
--- each prefix of 1 to n effects has at most d more closers than openers
-abbrev Within : List BlockEffect → ℕ → ℕ → Type 0
-Within ts d n = (k : ℕ) → k ≤ n → closers (take k ts) ≤ openers (take k ts) + d
 
 balanced_within : (ts : List BlockEffect) (d : ℕ) → balanced_from ts d ≡ true → (k : ℕ) → closers (take k ts) ≤ openers (take k ts) + d
 balanced_within ts d h zero = omega arith
@@ -41,22 +38,6 @@ within_balanced (Opens l ∷ ts) d h e = within_balanced ts (suc d) (λ k le. om
 within_balanced (Closes ∷ ts) zero h e = absurd (omega (arith, h 1 (omega arith)))
 within_balanced (Closes ∷ ts) (suc d) h e = within_balanced ts d (λ k le. omega (arith, h (suc k) (omega arith))) (omega arith)
 within_balanced (Stays ∷ ts) d h e = within_balanced ts d (λ k le. h (suc k) (omega arith)) e
-
-up_to : (n k : ℕ) → k ≤ suc n → (k ≤ n) ⊎ (k ≡ suc n)
-up_to n k le = elim (cases_eq k (suc n)) [ inl e ↦ inr e | inr e ↦ inl (omega arith) ]
-
-never_within : (ts : List BlockEffect) (n : ℕ) → never_closed ts n ≡ true → Within ts 0 n
-never_within ts zero h k le = let z : k ≡ 0 = omega arith in rw z (omega arith)
-never_within ts (suc n) h k le =
-    let parts = and_parts _ _ h in
-    elim (up_to n k le) [
-      | inl below ↦ never_within ts n parts.0 k below
-      | inr here ↦ rw here (omega (arith, leb-true _ _ parts.1))
-    ]
-
-within_never : (ts : List BlockEffect) (n : ℕ) → Within ts 0 n → never_closed ts n ≡ true
-within_never ts zero h = refl
-within_never ts (suc n) h = and_from _ _ (within_never ts n (λ k le. h k (omega arith))) (le-leb _ _ (omega (arith, h (suc n) (omega arith))))
 
 counted : (ts : List BlockEffect) → balanced_from ts 0 ≡ true → is_balanced ts ≡ true
 unfolding stays_open

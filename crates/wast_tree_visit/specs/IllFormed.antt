@@ -4,7 +4,7 @@
 -- positions only for these.
 --
 --   (func i32.load)     with the alignment 3: rule 1, at the position of the memory's index
-use Rattle.std.specs.Prelude.{ℕ, ◌==◌, List, [], ◌∷◌, ◌++◌, map, flat_map, Option, codes, if◌then◌else◌}
+use Rattle.std.specs.Prelude.{List, [], ◌∷◌, ◌++◌, map, flat_map, Option}
 use Rattle.wast_base.specs.Ids.{span_of_index}
 use Rattle.wast_tree_visit.specs.Tree.{Span, ModuleField}
 use Rattle.wast_tree_visit.specs.declared.first_failing.IllFormed.{IllFormed}
@@ -47,14 +47,3 @@ failing_in k f = failing_from k (field_place f) (checks_of (in_field f))
 -- the first rule that the fields break
 abbrev pub first_ill_formed : List ModuleField → Option IllFormed
 first_ill_formed fields = head_of (flat_map (failing_in (id_context (items fields))) fields)
-
--- the message for the rule with this number
-abbrev pub clause_text : ℕ → List ℕ
-clause_text n =
-    if n == 1 then codes "alignment must be a power of two"
-    else if n == 2 then codes "branch hints must be on instructions, in increasing order, with value 0 or 1"
-    else if n == 3 then codes "page size must be less than 2^64"
-    else if n == 4 then codes "element segment without a table must have type funcref"
-    else if n == 5 then codes "unbalanced blocks in constant expression"
-    else if n == 6 then codes "generated id does not name an item of its index space"
-    else codes "module is not well formed"

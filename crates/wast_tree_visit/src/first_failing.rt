@@ -1,7 +1,8 @@
 //! `first_ill_formed`: the first rule of well-formedness that fails, with a position.
 
 ghost use Rattle.std.specs.Prelude.{◌≡◌, List, Some, None, is_none, map, flat_map};
-ghost use Rattle.wast_tree_visit.specs.IllFormed.{clause_text, place_or_last, failing_at, failing_from, field_place, first_ill_formed};
+ghost use Rattle.wast_base.specs.Faults.{clause_text};
+ghost use Rattle.wast_tree_visit.specs.IllFormed.{place_or_last, failing_at, failing_from, field_place, first_ill_formed};
 ghost use Rattle.wast_tree_nodes.specs.Known.{id_context};
 ghost use Rattle.wast_tree_nodes.specs.Sites.{Check, in_field, checks_of};
 ghost use Rattle.wast_tree_visit.specs.Tree.{Span};
@@ -12,7 +13,7 @@ use crate::bearers::HasItems;
 use crate::settling::{IdOwners, IdResolver, is_written};
 use crate::visits::{Visit, Visitor};
 use std::fmt;
-use wast_base::{Form, Id, Index, Space, Span};
+use wast_base::{Form, Id, Index, Space, Span, clause_text};
 use wast_tree_nodes::{ModuleField, profile_of};
 
 /// A rule of well-formedness that fails, with the closest position known.
@@ -32,18 +33,8 @@ impl fmt::Display for IllFormed {
     ghost output = { λ i. Some (clause_text i.clause) };
 
     fn fmt<W: fmt::Write>(&self, f: &mut fmt::Formatter<W>) -> fmt::Result {
-        match self.clause {
-            1 => write!(f, "alignment must be a power of two"),
-            2 => write!(
-                f,
-                "branch hints must be on instructions, in increasing order, with value 0 or 1"
-            ),
-            3 => write!(f, "page size must be less than 2^64"),
-            4 => write!(f, "element segment without a table must have type funcref"),
-            5 => write!(f, "unbalanced blocks in constant expression"),
-            6 => write!(f, "generated id does not name an item of its index space"),
-            _ => write!(f, "module is not well formed"),
-        }
+        let text = clause_text(self.clause);
+        write!(f, "{text}")
     }
 }
 

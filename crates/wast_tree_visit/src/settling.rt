@@ -17,8 +17,8 @@ pub(crate) trait IdResolver {
 
     /// Returns whether the index is a number, a source id, or the generated id of an item.
     fn settles(&mut self, space: Space, index: &Index<'_>) -> bool
-        ensures settled { result ≡ is_settled_index ((id_context self.old).number space) index.now }
-        ensures stays { id_context self.new ≡ id_context self.old };
+        ensures settled { result ≡ is_settled_index ((known self.old).number space) index.now }
+        ensures stays { known self.new ≡ known self.old };
 }
 
 /// A search starts at the last item found, if the generations differ by at most this number.

@@ -2,7 +2,7 @@
 
 use std::alloc::{AllocError, AllocFailed};
 use std::fmt;
-use wast_base::Span;
+use wast_base::{Span, clause_text};
 
 /// What is wrong with a text (text format).
 #[derive(Clone, Copy, Debug, PartialEq, Eq)]
@@ -47,18 +47,6 @@ pub enum TextFault {
     Trailing,
     /// The fields are not well formed, by the clause of this number.
     IllFormed(u8),
-}
-
-/// What is not well formed, by the number of a clause.
-fn clause_text(clause: u8) -> &'static str {
-    match clause {
-        1 => "alignment must be a power of two",
-        2 => "a branch hint stands on no instruction of its own",
-        3 => "page size must be less than 2 to 64",
-        4 => "elements of this type want their table written",
-        5 => "a constant expression closes other blocks than it opens",
-        _ => "ill formed",
-    }
 }
 
 impl TextFault {

@@ -1,6 +1,5 @@
 use Rattle.std.proofs.Common.{[], ◌∷◌, ◌++◌, refl, ap, ◌∙◌}
-use Rattle.wasm_ops.specs.Covered.{is_covered_val_type}
-use Rattle.wasm_ops.specs.Spelling.{InRangeValType}
+use Rattle.wasm_ops.specs.Spelling.{val_type}
 use Rattle.wasm_ops.proofs.Codes.{spellable_vec}
 use Rattle.wasm_out.specs.Bodies.{locals, IsSpellableContent}
 use Rattle.wasm_out.proofs.Building.{spells_body}
@@ -12,6 +11,6 @@ raw-requires c = record { list = sum_instrs; in_range = c.in_ok-instructions.ens
 
 pub returns-clause-spells : goal.returns-clause-spells
 returns-clause-spells c =
-    let fits : IsSpellableContent sum_body = record { locals = spellable_vec is_covered_val_type InRangeValType [] refl c.in_ok-body.ensures.1; instrs = c.in_ok-instructions.ensures.rows } in
+    let fits : IsSpellableContent sum_body = record { locals = spellable_vec val_type [] refl c.in_ok-body.ensures.1; instrs = c.in_ok-instructions.ensures.rows } in
     let told = c.in_ok-end.ensures.0 ∙ ap (λ l. l ++ (0x0b ∷ [])) (c.in_ok-raw.ensures.0 ∙ ap (λ l. l ++ c.deref.result.now) c.in_ok-body.ensures.0 ∙ ap (λ l. locals [] ++ l) (c.deref.ensures.value ∙ c.in_ok-instructions.ensures.bytes)) in
     spells_body sum_body c.end.new.self fits told

@@ -9,7 +9,7 @@ use Rattle.wasm_out_example.proofs.written.Goals as goal
 
 pub returns : goal.returns
 returns c =
-    let types = added c.new-types.ensures c.in_ok-subtype.ensures.0 ∙ ap (λ t. built_with empty (sub_type t)) c.in_ok-function_type.ensures in
+    let types = added c.new-types.ensures c.in_ok-subtype.ensures.0 ∙ ap (λ t. built_with empty (sub_type t).bytes) c.in_ok-function_type.ensures in
     let functions = added c.new-functions.ensures c.in_ok-function.ensures.0 in
     let exports = added c.new-exports.ensures c.in_ok-export.ensures.0 in
     let code = added c.new-code.ensures c.in_ok-function-2.ensures.0 ∙ ap (λ f. built_with empty (unsigned (length f) ++ f)) c.in_ok-body.ensures.bytes in

@@ -1,16 +1,16 @@
 use Rattle.std.proofs.Common.{◌&&◌, ◌∙◌, inl, inr, refl, arith}
 use Rattle.std.proofs.lemmas.Result.{err_from_is_err_and}
-use Rattle.wasm_ops.specs.Covered.{is_covered_val_type}
 use Rattle.wast_tree_nodes.specs.Sites.{in_local}
 use Rattle.wast_core_conv.specs.Encodable.{are_encodable}
 use Rattle.wast_core_conv.specs.Meaning as meaning
 use Rattle.wast_core_conv.proofs.EachPasses.{both_true, each_then}
+use Rattle.wasm_ops.specs.Spelling.{val_type}
 use Rattle.wast_core_conv.proofs.TypesReady.{local_covered}
 use Rattle.wast_core_conv.proofs.hint_values.counted_locals.Goals as goal
 
 pub encode-requires : goal.encode-requires
 encode-requires c =
-    each_then (λ l. are_encodable (in_local l)) (λ l. are_encodable (in_local l) && is_covered_val_type (meaning.as_val_type l.ty)) (λ l h. both_true _ _ h (local_covered l h)) c.args.locals.now c.requires
+    each_then (λ l. are_encodable (in_local l)) (λ l. are_encodable (in_local l) && (val_type (meaning.as_val_type l.ty)).is_covered) (λ l h. both_true _ _ h (local_covered l h)) c.args.locals.now c.requires
 
 pub returns-in_err-encode-clause-err : goal.returns-in_err-encode-clause-err
 returns-in_err-encode-clause-err c =

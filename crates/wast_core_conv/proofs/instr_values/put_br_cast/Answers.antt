@@ -1,9 +1,9 @@
 use Rattle.std.proofs.Common.{◌∙◌, ap}
-use Rattle.wasm_ops.specs.Covered.{is_covered_ref_type}
 use Rattle.wast_tree_nodes.specs.Sites.{in_ref}
 use Rattle.wast_core_conv.proofs.EachPasses.{both_true}
 use Rattle.wast_core_conv.proofs.Ready.{asks_numbered}
 use Rattle.wast_core_conv.proofs.Standing.{cast_parts}
+use Rattle.wasm_ops.specs.Spelling.{ref_type}
 use Rattle.wast_core_conv.proofs.TypesReady.{heap_covered}
 use Rattle.wast_core_conv.proofs.instr_values.put_br_cast.Goals as goal
 
@@ -19,4 +19,4 @@ ref_type-requires-2 g c = asks_numbered (in_ref c.args.to.now) (cast_parts c.arg
 pub encode-requires : goal.encode-requires
 encode-requires g c =
     let parts = cast_parts c.args.label.now c.args.to.now c.args.from.now c.requires in
-    both_true _ _ (ap is_covered_ref_type c.ref_type.ensures ∙ heap_covered c.args.from.now.heap parts.from) (ap is_covered_ref_type c.ref_type-2.ensures ∙ heap_covered c.args.to.now.heap parts.to)
+    both_true _ _ (ap (λ x. (ref_type x).is_covered) c.ref_type.ensures ∙ heap_covered c.args.from.now.heap parts.from) (ap (λ x. (ref_type x).is_covered) c.ref_type-2.ensures ∙ heap_covered c.args.to.now.heap parts.to)

@@ -1,7 +1,7 @@
 use Rattle.std.proofs.Common.{◌∙◌, ap}
-use Rattle.wasm_ops.specs.Covered.{is_covered_ref_type}
 use Rattle.wast_tree_nodes.specs.Sites.{in_ref}
 use Rattle.wast_core_conv.proofs.Ready.{asks_numbered}
+use Rattle.wasm_ops.specs.Spelling.{ref_type}
 use Rattle.wast_core_conv.proofs.TypesReady.{heap_covered}
 use Rattle.wast_core_conv.proofs.instr_values.put_cast.Goals as goal
 
@@ -9,4 +9,4 @@ pub ref_type-requires : goal.ref_type-requires
 ref_type-requires g c = asks_numbered (in_ref c.args.ty.now) c.requires
 
 pub encode-requires : goal.encode-requires
-encode-requires g c = ap is_covered_ref_type c.ref_type.ensures ∙ heap_covered c.args.ty.now.heap c.requires
+encode-requires g c = ap (λ x. (ref_type x).is_covered) c.ref_type.ensures ∙ heap_covered c.args.ty.now.heap c.requires

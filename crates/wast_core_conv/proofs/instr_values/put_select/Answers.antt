@@ -2,7 +2,7 @@ use Rattle.std.proofs.Common.{◌≡◌, true, sym, ◌∙◌, subst}
 use Rattle.std.specs.Prelude.{map}
 use Rattle.std.specs.List.{flat_map}
 use Rattle.wast_tree_nodes.specs.Sites.{if_there, in_val}
-use Rattle.wasm_ops.specs.Spelling.{val_type, InRangeValType}
+use Rattle.wasm_ops.specs.Spelling.{val_type}
 use Rattle.wast_core_conv.specs.Encodable.{is_encodable_ask, are_encodable}
 use Rattle.wast_core_conv.specs.Meaning as meaning
 use Rattle.wast_core_conv.proofs.EachPasses.{each_passes}
@@ -20,4 +20,4 @@ pub returns-in-Some : goal.returns-in-Some
 returns-in-Some g c =
     rw c.in-Some.is
     (select_written g.S.Sink.rules c.args.out.now c.encode-in-Some.new.out (map meaning.as_val_type c.in-Some.written) c.encode-in-Some.result
-    (list_written g.S.Sink.rules c.args.out.now c.encode-in-Some.new.out 0x1c val_type InRangeValType meaning.as_val_type c.as_slice.result.now c.in-Some.written c.encode-in-Some.result c.as_slice.ensures c.encode-in-Some.ensures))
+    (list_written g.S.Sink.rules c.args.out.now c.encode-in-Some.new.out 0x1c (λ x. (val_type x).bytes) (λ x. (val_type x).in_range) meaning.as_val_type c.as_slice.result.now c.in-Some.written c.encode-in-Some.result c.as_slice.ensures c.encode-in-Some.ensures))

@@ -1,6 +1,6 @@
 use Rattle.std.proofs.Common.{◌∙◌, ap}
 use Rattle.std.specs.List.{list_all}
-use Rattle.wasm_ops.specs.Control.{is_covered_block_type}
+use Rattle.wasm_ops.specs.Control.{block_type}
 use Rattle.wast_tree_nodes.specs.Sites.{OfBlock, in_use}
 use Rattle.wast_core_conv.specs.Encodable.{is_encodable_catch, are_resolved}
 use Rattle.wast_core_conv.specs.Meaning as meaning
@@ -18,7 +18,7 @@ block_type-requires g c =
 pub encode-requires : goal.encode-requires
 encode-requires g c =
     let parts = try_table_parts c.args.table.now c.requires in
-    both_true _ _ (ap is_covered_block_type (c.block_type.ensures ∙ ap meaning.as_block_type c.get.ensures) ∙ block_covered c.args.table.now.block parts.0)
+    both_true _ _ (ap (λ x. (block_type x).is_covered) (c.block_type.ensures ∙ ap meaning.as_block_type c.get.ensures) ∙ block_covered c.args.table.now.block parts.0)
     (ap (list_all is_encodable_catch) c.as_slice.ensures ∙ parts.1)
 
 pub returns : goal.returns

@@ -1,5 +1,5 @@
 use Rattle.std.proofs.Common.{ℕ, refl, sym, ◌∙◌}
-use Rattle.wasm_out.specs.NameSectionBytes.{name_entry, map_entry, InRangeNameEntry, InRangeMapEntry}
+use Rattle.wasm_out.specs.NameSectionBytes.{map_entry, name_entry}
 use Rattle.wasm_ops.specs.Spelling.{vec, InRangeVec}
 use Rattle.wast_core_name_section.specs.declared.name_lists.CountedNames.{CountedNames}
 use Rattle.wast_core_name_section.specs.FoundNames.{names_listed, entry_spelling, InRangeEntryOf}
@@ -12,7 +12,7 @@ returns-then-not-is_named-clause-written g c =
     let l = c.from_first-listed.result in
     let es = names_listed l in
     rw (c.in-Some.is, sym c.from_first-listed.ensures, not_named es (sym c.is_named.ensures ∙ c.if-not-is_named.true))
-    (none_written ℕ g.S.Sink.rules (entry_spelling (λ (n : CountedNames). vec name_entry (names_listed n.0))) (InRangeEntryOf (λ (n : CountedNames). InRangeVec InRangeNameEntry (names_listed n.0))) map_entry InRangeMapEntry c.args.out.now c.put_entry.new.out
+    (none_written ℕ g.S.Sink.rules (entry_spelling (λ (n : CountedNames). vec (λ x. (name_entry x).bytes) (names_listed n.0))) (InRangeEntryOf (λ (n : CountedNames). InRangeVec (λ x. (name_entry x).in_range) (names_listed n.0))) (λ x. (map_entry x).bytes) (λ x. (map_entry x).in_range) c.args.out.now c.put_entry.new.out
     c.args.position c.put_entry.result c.put_entry.ensures.written)
 
 pub returns-clause-written : goal.returns-clause-written
@@ -20,5 +20,5 @@ returns-clause-written g c =
     let l = c.from_first-listed.result in
     let es = names_listed l in
     rw (c.in-Some.is, sym c.from_first-listed.ensures, is_named es (sym c.is_named.ensures ∙ c.if-not-is_named.false))
-    (entry_as g.S.Sink.rules (entry_spelling (λ (n : CountedNames). vec name_entry (names_listed n.0))) (InRangeEntryOf (λ (n : CountedNames). InRangeVec InRangeNameEntry (names_listed n.0))) map_entry InRangeMapEntry c.args.out.now c.put_entry-2.new.out
+    (entry_as g.S.Sink.rules (entry_spelling (λ (n : CountedNames). vec (λ x. (name_entry x).bytes) (names_listed n.0))) (InRangeEntryOf (λ (n : CountedNames). InRangeVec (λ x. (name_entry x).in_range) (names_listed n.0))) (λ x. (map_entry x).bytes) (λ x. (map_entry x).in_range) c.args.out.now c.put_entry-2.new.out
     (record { 0 = l }) es c.args.position c.put_entry-2.result (λ n. refl) (λ n h. h) (λ n h. h) c.put_entry-2.ensures.written)

@@ -1,6 +1,6 @@
 use Rattle.std.proofs.Common.{subst, refl}
 use Rattle.wasm_ops.specs.Sinks.{Writes}
-use Rattle.wasm_out.specs.NameSectionBytes.{subsection_id, name_entry, map_entry, InRangeNameEntry, InRangeMapEntry}
+use Rattle.wasm_out.specs.NameSectionBytes.{subsection_id, map_entry, name_entry}
 use Rattle.wast_core_name_section.specs.GivenNames.{named_from}
 use Rattle.wast_core_name_section.specs.FoundNames.{map_bytes, InRangeMap}
 use Rattle.wast_core_name_section.specs.ModuleNames.{named_of, named_items, named_within, named_lists}
@@ -14,7 +14,7 @@ returns-in-Items g c =
     let space = c.in-Items.space in
     let id = c.id_of.result in
     rw c.in-Items.is (direct_written rules c.args.out.now c.put_counted.new.out (named_of space) (named_items space c.args.fields.now) id c.put_counted.result c.id_of.ensures
-    (subst (λ xs. Writes rules (InRangeMap name_entry InRangeNameEntry (named_from 0 xs)) c.args.out.now c.put_counted.new.out (map_bytes id name_entry (named_from 0 xs)) c.put_counted.result) c.with_items-there.ensures c.put_counted.ensures))
+    (subst (λ xs. Writes rules (InRangeMap (λ x. (name_entry x).bytes) (λ x. (name_entry x).in_range) (named_from 0 xs)) c.args.out.now c.put_counted.new.out (map_bytes id (λ x. (name_entry x).bytes) (named_from 0 xs)) c.put_counted.result) c.with_items-there.ensures c.put_counted.ensures))
 
 pub returns-in-Within : goal.returns-in-Within
 returns-in-Within g c =
@@ -24,4 +24,4 @@ returns-in-Within g c =
     let r = c.put_lists.result in
     let id = subsection_id (named_within w) in
     rw c.in-Within.is (indirect_written rules c.args.out.now c.put_lists.new.out (named_within w) (named_lists w fields) id r refl
-    (subst (λ xs. Writes rules (InRangeMap map_entry InRangeMapEntry (named_from 0 xs)) c.args.out.now c.put_lists.new.out (map_bytes id map_entry (named_from 0 xs)) r) (c.with_lists-there.ensures (types_of fields)) c.put_lists.ensures))
+    (subst (λ xs. Writes rules (InRangeMap (λ x. (map_entry x).bytes) (λ x. (map_entry x).in_range) (named_from 0 xs)) c.args.out.now c.put_lists.new.out (map_bytes id (λ x. (map_entry x).bytes) (named_from 0 xs)) r) (c.with_lists-there.ensures (types_of fields)) c.put_lists.ensures))

@@ -4,7 +4,7 @@ use Rattle.std.specs.Prelude.{All}
 use Rattle.std.proofs.lemmas.List.{get_or_default}
 use Rattle.std.proofs.lemmas.List.Folds.{length-flat_map-take}
 use Rattle.wasm_ops.proofs.Sinking.{cut_back, one_item_more}
-use Rattle.wasm_out.specs.NameSectionBytes.{name_subsection, InRangeNameSubsection}
+use Rattle.wasm_out.specs.NameSectionBytes.{name_subsection}
 use Rattle.wast_core_name_section.specs.declared.names_payload.NameMap.{NameMap}
 use Rattle.wast_core_name_section.specs.ModuleNames.{map_names}
 use Rattle.wast_core_name_section.proofs.NameMaps.{first_map}
@@ -15,8 +15,8 @@ returns-then-is_err g c =
     let rules = g.S.Sink.rules in
     let xs = c.args.maps.now in
     let k = c.loop-i.i in
-    let f : NameMap → List ℕ = λ m. flat_map name_subsection (map_names c.args.fields.now m) in
-    let fits : NameMap → Type 0 = λ m. All InRangeNameSubsection (map_names c.args.fields.now m) in
+    let f : NameMap → List ℕ = λ m. flat_map (λ x. (name_subsection x).bytes) (map_names c.args.fields.now m) in
+    let fits : NameMap → Type 0 = λ m. All (λ x. (name_subsection x).in_range) (map_names c.args.fields.now m) in
     let x = flat_map f (take k xs) in
     let it = get_or xs k first_map in
     let lt : k < length xs = omega arith in
@@ -31,6 +31,6 @@ loop-i-preserved g c =
     let it = get_or xs k first_map in
     let i = c.loop-i.invariant in
     let lt : k < length xs = omega arith in
-    let more = one_item_more rules (λ m. flat_map name_subsection (map_names c.args.fields.now m)) (λ m. All InRangeNameSubsection (map_names c.args.fields.now m)) c.args.out.now c.loop-i.out c.put_subsection-result.new.out xs k it c.put_subsection-result.result
+    let more = one_item_more rules (λ m. flat_map (λ x. (name_subsection x).bytes) (map_names c.args.fields.now m)) (λ m. All (λ x. (name_subsection x).in_range) (map_names c.args.fields.now m)) c.args.out.now c.loop-i.out c.put_subsection-result.new.out xs k it c.put_subsection-result.result
     g.met.S.Sink.laws lt (get_or_default xs k first_map it lt) i.told i.fitting c.put_subsection-result.ensures (sym c.is_err.ensures.value ∙ c.if-is_err.false) in
     record { told = more.0; fitting = more.1; at = i.at }

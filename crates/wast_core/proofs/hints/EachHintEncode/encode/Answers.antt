@@ -1,7 +1,7 @@
 use Rattle.std.proofs.Common.{◌≡◌, true, ◌+◌, length, take, drop, sym, ap, subst, refl, arith, length-append, Ok, ℕ}
 use Rattle.std.specs.List.{flat_map}
 use Rattle.std.proofs.lemmas.List.{take_all}
-use Rattle.wast_core_conv.proofs.EachPasses.{item_passes}
+use Rattle.wast_base.proofs.ListTests.{item_passes}
 use Rattle.wast_core_name_section.specs.FoundNames.{WritesItems}
 use Rattle.wast_core_name_section.proofs.Each.{each_more, each_around}
 use Rattle.wast_core_name_section.proofs.NameEntries.{names_after, names_kept, names_back}

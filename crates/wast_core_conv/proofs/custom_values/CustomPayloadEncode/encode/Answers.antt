@@ -1,7 +1,7 @@
 use Rattle.std.proofs.Common.{◌≡◌, ℕ, List, ◌++◌, true, ap, ◌∙◌, subst, map}
 use Rattle.wasm_ops.specs.Sinks.{Writes}
 use Rattle.wasm_ops.specs.Spelling.{name, InRangeName, InRangeVec, vec}
-use Rattle.wasm_out.specs.Producers.{producer_field, InRangeProducerField}
+use Rattle.wasm_out.specs.Producers.{producer_field}
 use Rattle.wast_tree_nodes.specs.Customs.{custom_name}
 use Rattle.wast_core_conv.specs.Customs.{as_producer_field, is_encodable_custom}
 use Rattle.wast_core_conv.proofs.CustomsSpelled.{all_ready, listed_behind, subsections_ready}
@@ -22,8 +22,8 @@ returns-in-Producers g c =
     let rules = g.S.Sink.rules in
     let fields = c.in-Producers.made.fields in
     let text = c.name.result.now in
-    let written = listed_behind rules c.args.out.now c.encode-in-Producers.new.out (name text) (InRangeName text) producer_field InRangeProducerField as_producer_field c.as_slice-in-Producers.result.now fields c.encode-in-Producers.result
+    let written = listed_behind rules c.args.out.now c.encode-in-Producers.new.out (name text) (InRangeName text) (λ x. (producer_field x).bytes) (λ x. (producer_field x).in_range) as_producer_field c.as_slice-in-Producers.result.now fields c.encode-in-Producers.result
     c.as_slice-in-Producers.ensures c.encode-in-Producers.ensures in
     rw c.in-Producers.is (subst
-    (λ (t : List ℕ). Writes rules (InRangeName t × InRangeVec InRangeProducerField (map as_producer_field fields)) c.args.out.now c.encode-in-Producers.new.out (name t ++ vec producer_field (map as_producer_field fields)) c.encode-in-Producers.result)
+    (λ (t : List ℕ). Writes rules (InRangeName t × InRangeVec (λ x. (producer_field x).in_range) (map as_producer_field fields)) c.args.out.now c.encode-in-Producers.new.out (name t ++ vec (λ x. (producer_field x).bytes) (map as_producer_field fields)) c.encode-in-Producers.result)
     (c.name.ensures ∙ ap custom_name c.in-Producers.is) written)

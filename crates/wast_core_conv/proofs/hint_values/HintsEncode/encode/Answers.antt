@@ -38,7 +38,7 @@ returns-then-is_err g c =
     let none : BranchHint = record { instr_index = 0; value = 0 } in
     let it = get_or xs k none in
     let body = meaning.body_of s.locals.now s.instrs.now in
-    let f : BranchHint → List ℕ = λ h. branch_hint (as_branch_hint body h) in
+    let f : BranchHint → List ℕ = λ h. (branch_hint (as_branch_hint body h)).bytes in
     let i = c.loop-hint.invariant in
     let stands = hint_stands (length s.instrs.now) n xs k none c.loop-hint-test.true i.standing in
     let one = hint_written rules c.loop-hint.out c.put_hint-result.new.out s.locals.now s.instrs.now it n c.loop-hint.before c.put_hint-result.result stands.behind i.counted i.first c.put_hint-result.ensures.written in
@@ -55,7 +55,7 @@ loop-hint-preserved g c =
     let none : BranchHint = record { instr_index = 0; value = 0 } in
     let it = get_or xs k none in
     let body = meaning.body_of s.locals.now s.instrs.now in
-    let f : BranchHint → List ℕ = λ h. branch_hint (as_branch_hint body h) in
+    let f : BranchHint → List ℕ = λ h. (branch_hint (as_branch_hint body h)).bytes in
     let i = c.loop-hint.invariant in
     let good = sym c.is_err.ensures.value ∙ c.if-is_err.false in
     let stands = hint_stands (length s.instrs.now) n xs k none c.loop-hint-test.true i.standing in

@@ -4,7 +4,7 @@ use Rattle.std.proofs.lemmas.Int.{to_z-of_z}
 use Rattle.wast_tree_nodes.specs.Sites.{is_sequential, in_heap, in_ref, in_mem_arg, in_select}
 use Rattle.wasm_ops.specs.ConstantInstrs.{i32_const_instr, i64_const_instr}
 use Rattle.wasm_ops.specs.Sinks.{Writes}
-use Rattle.wasm_ops.specs.Table.{instr, InRangeInstr}
+use Rattle.wasm_ops.specs.Table.{instr}
 use Rattle.std.proofs.Common.{rules, ◌≡◌, true, sym, ◌∙◌, subst}
 use Rattle.wast_core_conv.specs.Encodable.{is_encodable_instr}
 use Rattle.wast_core_conv.proofs.EachPasses.{both_pass}
@@ -101,12 +101,12 @@ returns-in-select g c = rw c.in-select.is c.put_select.ensures
 pub returns-in-i32_const : goal.returns-in-i32_const
 returns-in-i32_const g c =
     let fits : SFits w32 c.in-i32_const.value = search rules in
-    rw c.in-i32_const.is (subst (λ z. Writes g.S.Sink.rules (InRangeInstr (i32_const_instr z)) c.args.out.now c.encode-in-i32_const.new.out (instr (i32_const_instr z)) c.encode-in-i32_const.result) (to_z-of_z w32 c.in-i32_const.value fits) c.encode-in-i32_const.ensures)
+    rw c.in-i32_const.is (subst (λ z. Writes g.S.Sink.rules (instr (i32_const_instr z)).in_range c.args.out.now c.encode-in-i32_const.new.out (instr (i32_const_instr z)).bytes c.encode-in-i32_const.result) (to_z-of_z w32 c.in-i32_const.value fits) c.encode-in-i32_const.ensures)
 
 pub returns-in-i64_const : goal.returns-in-i64_const
 returns-in-i64_const g c =
     let fits : SFits w64 c.in-i64_const.value = search rules in
-    rw c.in-i64_const.is (subst (λ z. Writes g.S.Sink.rules (InRangeInstr (i64_const_instr z)) c.args.out.now c.encode-in-i64_const.new.out (instr (i64_const_instr z)) c.encode-in-i64_const.result) (to_z-of_z w64 c.in-i64_const.value fits) c.encode-in-i64_const.ensures)
+    rw c.in-i64_const.is (subst (λ z. Writes g.S.Sink.rules (instr (i64_const_instr z)).in_range c.args.out.now c.encode-in-i64_const.new.out (instr (i64_const_instr z)).bytes c.encode-in-i64_const.result) (to_z-of_z w64 c.in-i64_const.value fits) c.encode-in-i64_const.ensures)
 
 pub returns-in-f32_const : goal.returns-in-f32_const
 returns-in-f32_const g c = rw c.in-f32_const.is c.encode-in-f32_const.ensures

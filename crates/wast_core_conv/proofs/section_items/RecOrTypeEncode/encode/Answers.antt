@@ -1,6 +1,6 @@
 use Rattle.std.proofs.Common.{◌≡◌, true, sym, ◌∙◌, subst}
 use Rattle.wast_tree_nodes.specs.Sites.{in_type}
-use Rattle.wasm_ops.specs.Spelling.{sub_type, InRangeSubType}
+use Rattle.wasm_ops.specs.Spelling.{sub_type}
 use Rattle.wast_core_conv.specs.Encodable.{is_encodable_ask}
 use Rattle.wast_core_conv.specs.Entries.{is_encodable_entry}
 use Rattle.wast_core_conv.specs.Meaning as meaning
@@ -13,4 +13,4 @@ encode-requires g c = rw c.as_slice.ensures (sym (each_passes is_encodable_ask i
 
 pub returns-in-Rec : goal.returns-in-Rec
 returns-in-Rec g c =
-    rw c.in-Rec.is (list_written g.S.Sink.rules c.args.out.now c.encode.new.out 0x4e sub_type InRangeSubType (λ t. meaning.as_sub_type t.def) c.as_slice.result.now c.in-Rec.rec.now.types c.encode.result c.as_slice.ensures c.encode.ensures)
+    rw c.in-Rec.is (list_written g.S.Sink.rules c.args.out.now c.encode.new.out 0x4e (λ x. (sub_type x).bytes) (λ x. (sub_type x).in_range) (λ t. meaning.as_sub_type t.def) c.as_slice.result.now c.in-Rec.rec.now.types c.encode.result c.as_slice.ensures c.encode.ensures)

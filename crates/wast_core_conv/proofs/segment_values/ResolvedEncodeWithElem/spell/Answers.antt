@@ -1,9 +1,8 @@
 use Rattle.std.proofs.Common.{◌≡◌, true, refl, sym, ap, ◌∙◌, subst}
 use Rattle.std.specs.List.{list_all}
-use Rattle.wasm_ops.specs.ConstExprs.{expression, InRangeExpression}
-use Rattle.wasm_ops.specs.Covered.{is_covered_ref_type}
+use Rattle.wasm_ops.specs.ConstExprs.{expression}
 use Rattle.wasm_ops.specs.Leb128.{unsigned}
-use Rattle.wasm_ops.specs.Spelling.{InRangeU32, vec, InRangeVec}
+use Rattle.wasm_ops.specs.Spelling.{InRangeU32, vec, InRangeVec, ref_type}
 use Rattle.wasm_out.specs.declared.elements.ElementKind.TheVariants as kinds
 use Rattle.wast_tree_nodes.specs.Clauses.{is_segment_type_allowed}
 use Rattle.wast_base.specs.Ids.{is_number}
@@ -33,7 +32,7 @@ encode-requires-in-Exprs g c =
     let parts = elem_parts e c.requires in
     let exprs = exprs_parts ty es (subst (λ p. is_encodable_payload p ≡ true) c.in-Exprs.is parts.holds) in
     both_true _ _ (has_its_form (λ b. meaning.as_expression b.0.now) c.mode_of-mode.result e.kind (payload.Exprs ty es) (kinds.Expressions c.ref_type.result) c.mode_of-mode.ensures.same (ap kinds.Expressions c.ref_type.ensures) (subst (λ p. is_segment_type_allowed e.kind p ≡ true) c.in-Exprs.is parts.fits))
-    (both_true _ _ (ap is_covered_ref_type c.ref_type.ensures ∙ heap_covered ty.heap exprs.0)
+    (both_true _ _ (ap (λ x. (ref_type x).is_covered) c.ref_type.ensures ∙ heap_covered ty.heap exprs.0)
     (both_true _ _ c.mode_of-mode.ensures.ready (ap (list_all is_encodable_expression) c.as_slice-in-Exprs.ensures ∙ exprs.1)))
 
 pub returns-in-Indices : goal.returns-in-Indices
@@ -51,7 +50,7 @@ returns-in-Exprs g c =
     let xs = c.as_slice-in-Exprs.result.now in
     let es = c.in-Exprs.exprs in
     rw c.in-Exprs.is
-    (segment_written g.S.Sink.rules c.args.out.now c.encode-in-Exprs.new.out (λ b. meaning.as_expression b.0.now) c.mode_of-mode.result c.args.elem.now.kind (payload.Exprs c.in-Exprs.ty es) (kinds.Expressions c.ref_type.result) (InRangeVec (λ e. InRangeExpression (meaning.as_expression e)) xs) (vec (λ e. expression (meaning.as_expression e)) xs) c.encode-in-Exprs.result c.mode_of-mode.ensures.same (ap kinds.Expressions c.ref_type.ensures)
-    (ap (vec (λ e. expression (meaning.as_expression e))) c.as_slice-in-Exprs.ensures ∙ vec_mapped expression meaning.as_expression es)
-    (λ h. in_range_mapped InRangeExpression meaning.as_expression es (subst (InRangeVec (λ e. InRangeExpression (meaning.as_expression e))) c.as_slice-in-Exprs.ensures h))
-    (λ h. subst (InRangeVec (λ e. InRangeExpression (meaning.as_expression e))) (sym c.as_slice-in-Exprs.ensures) (in_range_unmapped InRangeExpression meaning.as_expression es h)) c.encode-in-Exprs.ensures)
+    (segment_written g.S.Sink.rules c.args.out.now c.encode-in-Exprs.new.out (λ b. meaning.as_expression b.0.now) c.mode_of-mode.result c.args.elem.now.kind (payload.Exprs c.in-Exprs.ty es) (kinds.Expressions c.ref_type.result) (InRangeVec (λ e. (expression (meaning.as_expression e)).in_range) xs) (vec (λ e. (expression (meaning.as_expression e)).bytes) xs) c.encode-in-Exprs.result c.mode_of-mode.ensures.same (ap kinds.Expressions c.ref_type.ensures)
+    (ap (vec (λ e. (expression (meaning.as_expression e)).bytes)) c.as_slice-in-Exprs.ensures ∙ vec_mapped (λ x. (expression x).bytes) meaning.as_expression es)
+    (λ h. in_range_mapped (λ x. (expression x).in_range) meaning.as_expression es (subst (InRangeVec (λ e. (expression (meaning.as_expression e)).in_range)) c.as_slice-in-Exprs.ensures h))
+    (λ h. subst (InRangeVec (λ e. (expression (meaning.as_expression e)).in_range)) (sym c.as_slice-in-Exprs.ensures) (in_range_unmapped (λ x. (expression x).in_range) meaning.as_expression es h)) c.encode-in-Exprs.ensures)

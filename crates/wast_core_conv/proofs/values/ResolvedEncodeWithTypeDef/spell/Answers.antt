@@ -2,7 +2,7 @@ use Rattle.std.proofs.Common.{◌≡◌, true, List, ap, sym, ◌∙◌, ◌==�
 use Rattle.std.specs.List.{list_all}
 use Rattle.wast_base.specs.Ids.{is_number}
 use Rattle.wast_tree_nodes.specs.Sites.{in_inner, in_def}
-use Rattle.wasm_ops.specs.Spelling.{composite_inner_type, sub_bytes}
+use Rattle.wasm_ops.specs.Spelling.{sub_bytes, composite_inner_type}
 use Rattle.wast_core_conv.specs.Meaning as meaning
 use Rattle.wast_core_conv.specs.Encodable.{is_encodable_ask, are_encodable}
 use Rattle.wast_core_conv.specs.Tree.{Index, TypeDef}
@@ -26,7 +26,7 @@ pub returns-then-not-unwrap_or : goal.returns-then-not-unwrap_or
 returns-then-not-unwrap_or g c =
     let d = c.args.def.now in
     let ps = c.as_slice.result.now in
-    let composite = composite_inner_type (meaning.as_inner_type d.kind) in
+    let composite = (composite_inner_type (meaning.as_inner_type d.kind)).bytes in
     sub_written g.S.Sink.rules c.args.out.now c.encode.new.out d ps _ c.encode.result c.as_slice.ensures
     (open_bytes meaning.index_value ps composite ∙ ap (λ m. sub_bytes m (map meaning.index_value ps) composite) (c.if-not-unwrap_or.ensures ∙ final_is d.final_type)) c.encode.ensures
 
@@ -37,7 +37,7 @@ pub returns : goal.returns
 returns g c =
     let d = c.args.def.now in
     let ps = c.as_slice.result.now in
-    let composite = composite_inner_type (meaning.as_inner_type d.kind) in
+    let composite = (composite_inner_type (meaning.as_inner_type d.kind)).bytes in
     let some = ap (λ qs. length qs == 0) c.as_slice.ensures ∙ sym c.is_empty.ensures ∙ c.if-is_empty.false in
     sub_written g.S.Sink.rules c.args.out.now c.encode-2.new.out d ps _ c.encode-2.result c.as_slice.ensures
     (final_bytes meaning.index_value ps composite some ∙ ap (λ m. sub_bytes m (map meaning.index_value ps) composite) (c.if-not-unwrap_or.ensures ∙ final_is d.final_type)) c.encode-2.ensures
