@@ -12,7 +12,7 @@ use Rattle.wat_syntax.specs.Tree.abstract
 use Rattle.wat_syntax.specs.Tree.storage
 use Rattle.wat_syntax.specs.Tree.inner
 use Rattle.wat_syntax.specs.Seen.{text_of}
-use Rattle.wat_syntax.specs.Values.{u32, name, name_annotation, index, optional_index, index_or_zero}
+use Rattle.wat_syntax.specs.Values.{u32, string, name, name_annotation, index, optional_index, index_or_zero}
 use Rattle.wat_syntax.specs.Types.{heaptype, reftype, valtype, fieldtype, functype, comptype, subtype, limits, addrtype, tabletype, memtype, globaltype, typeuse}
 use Rattle.wat_syntax.specs.Worked.{the, num, named, quoted, toks, made}
 
@@ -20,14 +20,14 @@ use Rattle.wat_syntax.specs.Worked.{the, num, named, quoted, toks, made}
 abbrev at : ℕ → Span
 at n = record { offset = n }
 
--- `4`, `$x`, and `i32`, which is no number; `"\ff"` is no name; an index that is left out is 0
+-- `4`, `$x`, and `i32`, which is no number; `)` is no name; an index that is left out is 0
 abbrev pub Values : Type 0
 Values = (made (u32 (toks (num (codes "4") ∷ token.Close ∷ []))) ≡ Some (4, 1)) × (made (u32 (toks (the key.I32 ∷ []))) ≡ None)
     × (made (index (toks (named (codes "x") ∷ []))) ≡ Some (by.Id (source_id (text_of (codes "x")) text_start), 0))
     × (made (index (toks (num (codes "0x10") ∷ []))) ≡ Some (by.Num 16 text_start, 0)) × (made (index (toks (num (codes "+1") ∷ []))) ≡ None)
     × (made (index_or_zero (toks (token.Close ∷ []))) ≡ Some (by.Num 0 text_start, 1))
-    × (made (name (toks (quoted (codes "a") ∷ []))) ≡ Some (text_of (codes "a"), 0)) × (made (name (toks (quoted (0xff ∷ []) ∷ []))) ≡ None)
-    × (made (name_annotation (toks (token.Annotation annotation.Name ∷ quoted (codes "a") ∷ token.Close ∷ []))) ≡ Some (Some (record { name = text_of (codes "a") }), 0))
+    × (made (string (toks (quoted (codes "a") ∷ []))) ≡ Some (text_of (codes "a"), 0)) × (made (name (toks (token.Close ∷ []))) ≡ None)
+    × (made (name_annotation (toks (token.Close ∷ []))) ≡ Some (None, 1)) × (made (name_annotation (toks (token.Annotation annotation.Name ∷ token.Close ∷ []))) ≡ None)
 
 -- `func`, `1`, `(exact 1)`, `(ref null any)`, `anyref`; `(ref)`, `(func)` and `i32` are no reference types
 abbrev pub References : Type 0
