@@ -22,7 +22,7 @@ unfolding backwards
 first_digit digit_of radix c none [] = none
 first_digit digit_of radix c none (x ∷ []) = none_after (digit_of x) _ _ (none_either (c == 0x5f) _ _ refl none)
 first_digit digit_of radix c none (x ∷ y ∷ xs) =
-  none_after (digit_of x) _ _ (none_either (y == 0x5f) _ _ (first_digit digit_of radix c none xs) (first_digit digit_of radix c none (y ∷ xs)))
+    none_after (digit_of x) _ _ (none_either (y == 0x5f) _ _ (first_digit digit_of radix c none xs) (first_digit digit_of radix c none (y ∷ xs)))
 
 both_false : (a b : Bool) → (a || b) ≡ false → a ≡ false
 both_false true b h = h
@@ -34,17 +34,17 @@ no_digit c h = rw (digit, h) refl
 not_zero : (c : ℕ) → is_in_range 0x30 0x39 c ≡ false → (c == 0x30) ≡ false
 not_zero c h = go (c == 0x30) refl
   where
-  go : (b : Bool) → (c == 0x30) ≡ b → (c == 0x30) ≡ false
-  go false e = e
-  go true e = absurd (cc (subst (λ n. is_in_range 0x30 0x39 n ≡ false) (eqb-true c 0x30 e) h))
+    go : (b : Bool) → (c == 0x30) ≡ b → (c == 0x30) ≡ false
+    go false e = e
+    go true e = absurd (cc (subst (λ n. is_in_range 0x30 0x39 n ≡ false) (eqb-true c 0x30 e) h))
 
 -- no number of any size
 pub not_natural : (text : List ℕ) → begins_number text ≡ false → natural text ≡ None
 unfolding backwards
 not_natural [] h = refl
 not_natural (c ∷ cs) h =
-  let no = both_false (is_in_range 0x30 0x39 c) _ h in
-  ap (λ b. elim (elim b as (λ b. Option (List ℕ)) [ true ↦ after (0x78 ∷ []) cs | false ↦ None ]) as (λ o. Option ℕ) [ Some digits ↦ Rattle.wat_grammar.specs.Integers.hexnum digits | None ↦ num (c ∷ cs) ]) (not_zero c no)
+    let no = both_false (is_in_range 0x30 0x39 c) _ h in
+    ap (λ b. elim (elim b as (λ b. Option (List ℕ)) [ true ↦ after (0x78 ∷ []) cs | false ↦ None ]) as (λ o. Option ℕ) [ Some digits ↦ Rattle.wat_grammar.specs.Integers.hexnum digits | None ↦ num (c ∷ cs) ]) (not_zero c no)
     ∙ ap (backwards digit 10) (reverse-append (c ∷ []) cs) ∙ first_digit digit 10 c (no_digit c no) (reverse cs)
 
 pub not_unsigned : (N : ℕ) (text : List ℕ) → begins_number text ≡ false → uN N text ≡ None

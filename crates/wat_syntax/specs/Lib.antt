@@ -1,4 +1,5 @@
 pub mod Keywords
+pub mod Modules
 pub mod Seen
 pub mod Tokens
 pub mod Tree

@@ -6,9 +6,13 @@
 -- rules give each name the address 0, and the contracts speak of what is seen of a tree: the tree with each name at address 0.
 use Rattle.std.specs.Prelude.{ℕ, List, [], ◌∷◌, Option, None, Some, option_map, map}
 use Rattle.std.specs.Borrow.{Bor}
-use Rattle.wat_syntax.specs.Tree.{Id, Index, NameAnnotation, ValType, StructField, StructType, FunctionType, TypeUse, InnerTypeKind, TypeDef, Rec}
+use Rattle.wat_syntax.specs.Tree.{Span, InlineExport, InlineImport, Local, Tag, TagType, TagKind, ItemKind, ItemSig, ImportItems, Imports, Export, Id, Index, NameAnnotation, ValType, StructField, StructType, FunctionType, TypeUse, InnerTypeKind, TypeDef, Rec}
 use Rattle.wat_syntax.specs.Tree.inner
 use Rattle.wat_syntax.specs.Tree.ty
+use Rattle.wat_syntax.specs.Tree.tag
+use Rattle.wat_syntax.specs.Tree.tag_kind
+use Rattle.wat_syntax.specs.Tree.kind
+use Rattle.wat_syntax.specs.Tree.import_items
 
 -- a text of these bytes at address 0
 abbrev pub text_of : List ℕ → Bor (List ℕ)
@@ -57,3 +61,50 @@ seen_type t = record { span = t.span; id = t.id; name = seen_name_option t.name;
 
 abbrev pub seen_rec : Rec → Rec
 seen_rec r = record { span = r.span; types = map seen_type r.types }
+
+-- exports and imports of a field
+abbrev pub seen_exports : InlineExport → InlineExport
+seen_exports e = record { names = map seen_text e.names }
+
+abbrev pub seen_import : InlineImport → InlineImport
+seen_import i = record { «module» = seen_text i.«module»; field = seen_text i.field }
+
+abbrev pub seen_local : Local → Local
+seen_local l = record { id = l.id; name = seen_name_option l.name; ty = l.ty }
+
+abbrev pub seen_tag_type : TagType → TagType
+seen_tag_type (tag.Exception t) = tag.Exception (seen_type_use t)
+
+abbrev pub seen_tag_kind : TagKind → TagKind
+seen_tag_kind (tag_kind.Import i) = tag_kind.Import (seen_import i)
+seen_tag_kind tag_kind.Inline = tag_kind.Inline
+
+abbrev pub seen_tag : Tag → Tag
+seen_tag t = record { span = t.span; id = t.id; name = seen_name_option t.name; exports = seen_exports t.exports; ty = seen_tag_type t.ty; kind = seen_tag_kind t.kind }
+
+-- imported items
+abbrev pub seen_item_kind : ItemKind → ItemKind
+seen_item_kind (kind.Func t) = kind.Func (seen_type_use t)
+seen_item_kind (kind.FuncExact t) = kind.FuncExact (seen_type_use t)
+seen_item_kind (kind.Table t) = kind.Table t
+seen_item_kind (kind.Memory t) = kind.Memory t
+seen_item_kind (kind.Global t) = kind.Global t
+seen_item_kind (kind.Tag t) = kind.Tag (seen_tag_type t)
+
+abbrev pub seen_item_sig : ItemSig → ItemSig
+seen_item_sig s = record { span = s.span; id = s.id; name = seen_name_option s.name; kind = seen_item_kind s.kind }
+
+-- an imported item with its name
+abbrev pub seen_item : Bor (List ℕ) × ItemSig → Bor (List ℕ) × ItemSig
+seen_item i = (seen_text i.0, seen_item_sig i.1)
+
+abbrev pub seen_items : ImportItems → ImportItems
+seen_items (import_items.Single from name sig) = import_items.Single (seen_text from) (seen_text name) (seen_item_sig sig)
+seen_items (import_items.Group1 from items) = import_items.Group1 (seen_text from) (map seen_item items)
+seen_items (import_items.Group2 from sig names) = import_items.Group2 (seen_text from) (seen_item_sig sig) (map seen_text names)
+
+abbrev pub seen_imports : Imports → Imports
+seen_imports i = record { span = i.span; items = seen_items i.items }
+
+abbrev pub seen_export : Export → Export
+seen_export e = record { span = e.span; name = seen_text e.name; kind = e.kind; item = e.item }

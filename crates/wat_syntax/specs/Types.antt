@@ -1,7 +1,7 @@
 -- Types (text format: types), in the order of the specification. Beside the types of version 3.0 there are those of proposals that
 -- `wast` reads: shared types (shared-everything threads), exact types, `describes` and `descriptor` (custom descriptors),
 -- continuations (stack switching), exceptions of the old proposal, and page sizes.
-use Rattle.std.specs.Prelude.{ℕ, zero, suc, ◌^◌, ◌==◌, ◌||◌, ◌&&◌, not, Bool, true, false, if◌then◌else◌, List, [], ◌∷◌, ◌++◌, Option, None, Some, is_some, is_none, map}
+use Rattle.std.specs.Prelude.{ℕ, zero, suc, ◌^◌, ◌==◌, ◌||◌, ◌&&◌, not, Bool, true, false, if◌then◌else◌, List, [], ◌∷◌, ◌++◌, Option, None, Some, is_some}
 use Rattle.std.specs.Int.{is_power_of_two, trailing_zeros, w64}
 use Rattle.wat_syntax.specs.Tree.{Span, Id, Index, NameAnnotation, ValType, RefType, HeapType, AbstractHeapType, StorageType, StructField, StructType, ArrayType, FunctionType, ContType, TypeUse, InnerTypeKind, TypeDef, Rec, Limits, TableType, MemoryType, GlobalType}
 use Rattle.wat_syntax.specs.Tree.value
@@ -137,12 +137,12 @@ fieldtype toks = elim (form key.Mut toks) [
 ]
 
 -- a parameter without an id
-abbrev pub unnamed : ValType → Option Id × Option NameAnnotation × ValType
-unnamed t = (None, None, t)
+abbrev pub unnamed_param : Toks → Parse (Option Id × Option NameAnnotation × ValType)
+unnamed_param toks = valtype toks >>= λ t. Some ((None, None, t.0), t.1)
 
 -- '(' 'param' t*:valtype* ')' ≡ ('(' 'param' t:valtype ')')*: after '(' 'param'
 abbrev pub unnamed_params : Toks → Parse (List (Option Id × Option NameAnnotation × ValType))
-unnamed_params toks = valtypes toks >>= λ ts. Some (map unnamed ts.0, ts.1)
+unnamed_params toks = many goes_on unnamed_param (count toks) toks
 
 -- param ::= '(' 'param' id? t:valtype ')' ⇒ t, after '(' 'param': one with an id or a name annotation, or any number without
 abbrev pub named_params : Toks → Parse (List (Option Id × Option NameAnnotation × ValType))
@@ -178,33 +178,55 @@ functype are_named toks = all_params are_named toks >>= λ ps. all_results ps.1 
 abbrev pub unnamed_field : Toks → Parse StructField
 unnamed_field toks = fieldtype toks >>= λ f. Some (record { id = None; name = None; mutable = f.0.0; ty = f.0.1 }, f.1)
 
+abbrev pub unnamed_fields : Toks → Parse (List StructField)
+unnamed_fields toks = many goes_on unnamed_field (count toks) toks
+
 -- field ::= '(' 'field' id? ft:fieldtype ')' ⇒ ft, and '(' 'field' ft*:fieldtype* ')' ≡ ('(' 'field' ft:fieldtype ')')*: after
 -- '(' 'field'
 abbrev pub struct_fields : Toks → Parse (List StructField)
 struct_fields toks = optional id toks >>= λ x. name_annotation x.1 >>= λ n. elim (is_some x.0 || is_some n.0) [
   | true ↦ fieldtype n.1 >>= λ f. Some (record { id = x.0; name = n.0; mutable = f.0.0; ty = f.0.1 } ∷ [], f.1)
-  | false ↦ many goes_on unnamed_field (count n.1) n.1
+  | false ↦ unnamed_fields n.1
 ]
 
 abbrev pub struct_field : Toks → Parse (List StructField)
 struct_field toks = form key.Field toks >>= λ t. struct_fields t >>= λ fs. rparen fs.1 >>= λ rest. Some (fs.0, rest)
 
+-- field*
+abbrev pub all_fields : Toks → Parse (List StructField)
+all_fields toks = many_lists (is_form key.Field) struct_field (count toks) toks
+
 -- ft*:field* ⇒ struct ft*
 abbrev pub structtype : Toks → Parse StructType
-structtype toks = many_lists (is_form key.Field) struct_field (count toks) toks >>= λ fs. Some (record { fields = fs.0 }, fs.1)
+structtype toks = all_fields toks >>= λ fs. Some (record { fields = fs.0 }, fs.1)
 
--- a type by the keyword of its form, after the keyword
-abbrev pub comptype_of : Option Key → Toks → Parse InnerTypeKind
-comptype_of (Some key.Func) toks = functype true toks >>= λ t. Some (inner.Func t.0, t.1)
-comptype_of (Some key.Struct) toks = structtype toks >>= λ t. Some (inner.Struct t.0, t.1)
-comptype_of (Some key.Array) toks = fieldtype toks >>= λ f. Some (inner.Array (record { mutable = f.0.0; ty = f.0.1 }), f.1)
-comptype_of (Some key.Cont) toks = index toks >>= λ x. Some (inner.Cont (record { 0 = x.0 }), x.1)
-comptype_of k toks = None
+-- '(' 'cont' x:typeidx (stack switching)
+abbrev pub conttype : Toks → Parse InnerTypeKind
+conttype toks = form key.Cont toks >>= λ t. index t >>= λ x. Some (inner.Cont (record { 0 = x.0 }), x.1)
+
+abbrev pub arraytype : Toks → Parse InnerTypeKind
+arraytype toks = elim (form key.Array toks) [
+  | Some t ↦ fieldtype t >>= λ f. Some (inner.Array (record { mutable = f.0.0; ty = f.0.1 }), f.1)
+  | None ↦ conttype toks
+]
+
+abbrev pub struct_or_arraytype : Toks → Parse InnerTypeKind
+struct_or_arraytype toks = elim (form key.Struct toks) [
+  | Some t ↦ structtype t >>= λ st. Some (inner.Struct st.0, st.1)
+  | None ↦ arraytype toks
+]
+
+-- a composite type before its ')'
+abbrev pub comptype_form : Toks → Parse InnerTypeKind
+comptype_form toks = elim (form key.Func toks) [
+  | Some t ↦ functype true t >>= λ ft. Some (inner.Func ft.0, ft.1)
+  | None ↦ struct_or_arraytype toks
+]
 
 -- comptype ::= '(' 'func' ft:functype ')' ⇒ ft | '(' 'struct' st:structtype ')' ⇒ st | '(' 'array' at:fieldtype ')' ⇒ at
 --   | '(' 'cont' x:typeidx ')' ⇒ cont x (text format: composite types)
 abbrev pub comptype : Toks → Parse InnerTypeKind
-comptype toks = lparen toks >>= λ t. comptype_of (key_of (peek 0 t)) (after t) >>= λ c. rparen c.1 >>= λ rest. Some (c.0, rest)
+comptype toks = comptype_form toks >>= λ c. rparen c.1 >>= λ rest. Some (c.0, rest)
 
 -- '(' k x:typeidx ')', or nothing
 abbrev pub related : Key → Toks → Parse (Option Index)
@@ -230,12 +252,16 @@ maybe_shared final parents toks = elim (form key.Shared toks) [
 abbrev pub is_index_next : Toks → Bool
 is_index_next toks = is_index (peek 0 toks)
 
+-- x*:typeidx*
+abbrev pub indices : Toks → Parse (List Index)
+indices toks = many is_index_next index (count toks) toks
+
 -- subtype ::= '(' 'sub' 'final'? x*:typeidx* ct:comptype ')' ⇒ sub final? x* ct, and ct ≡ '(' 'sub' 'final' ct ')' (text format:
 -- recursive types)
 abbrev pub subtype : Toks → Parse TypeDef
 subtype toks = elim (form key.Sub toks) [
   | Some t ↦
-      is_there (keyword key.Final) t >>= λ final. many is_index_next index (count final.1) final.1 >>= λ xs.
+      is_there (keyword key.Final) t >>= λ final. indices final.1 >>= λ xs.
       maybe_shared (Some final.0) xs.0 xs.1 >>= λ d. rparen d.1 >>= λ rest. Some (d.0, rest)
   | None ↦ maybe_shared None [] toks
 ]
@@ -249,9 +275,12 @@ typedef toks =
 abbrev pub typedef_form : Toks → Parse ty.Type
 typedef_form toks = lparen toks >>= λ t. typedef t >>= λ d. rparen d.1 >>= λ rest. Some (d.0, rest)
 
+abbrev pub typedefs : Toks → Parse (List ty.Type)
+typedefs toks = many goes_on typedef_form (count toks) toks
+
 -- rectype ::= '(' 'rec' td*:typedef* ')' ⇒ rec td*: between the parentheses
 abbrev pub rectype : Toks → Parse Rec
-rectype toks = keyword key.Rec toks >>= λ t. many goes_on typedef_form (count t) t >>= λ ts.
+rectype toks = keyword key.Rec toks >>= λ t. typedefs t >>= λ ts.
     Some (record { span = position toks; types = ts.0 }, ts.1)
 
 -- addrtype ::= 'i32' | 'i64' | ε ⇒ i32: whether it is i64 (text format: address types)
@@ -287,13 +316,13 @@ memtype toks =
     addrtype toks >>= λ at. limits at.0 at.1 >>= λ lim. is_there (keyword key.Shared) lim.1 >>= λ shared. pagesize shared.1 >>= λ p.
     Some (record { limits = lim.0; shared = shared.0; page_size_log2 = p.0 }, p.1)
 
--- whether '(' 'shared' begins a global type, and not a reference type such as '(' 'shared' 'anyref' ')'
-abbrev pub is_shared_global : Toks → Bool
-is_shared_global toks = is_form key.Shared toks && not (is_some (key_of (peek 2 toks) >>= λ k. refword k))
+-- whether the keyword of a reference type is after '(' 'shared', as in '(' 'shared' 'anyref' ')': then no global type is shared
+abbrev pub is_shared_ref : Toks → Bool
+is_shared_ref toks = is_some (key_of (peek 2 toks) >>= λ k. refword k)
 
 -- globaltype ::= t:valtype ⇒ t | '(' 'mut' t:valtype ')' ⇒ mut t (text format: global types) | '(' 'shared' 'mut'? t:valtype ')'
 abbrev pub globaltype : Toks → Parse GlobalType
-globaltype toks = elim (is_shared_global toks) [
+globaltype toks = elim (is_form key.Shared toks && not (is_shared_ref toks)) [
   | true ↦
       is_there (keyword key.Mut) (after (after toks)) >>= λ m. valtype m.1 >>= λ t. rparen t.1 >>= λ rest.
       Some (record { ty = t.0; mutable = m.0; shared = true }, rest)

@@ -43,13 +43,13 @@ References = (made (heaptype (toks (the key.Func ∷ []))) ≡ Some (heap.Abstra
 abbrev pub Composites : Type 0
 Composites = (made (fieldtype (toks (token.Open ∷ the key.Mut ∷ the key.I8 ∷ token.Close ∷ []))) ≡ Some ((true, storage.I8), 0)) × (made (fieldtype (toks (token.Open ∷ the key.Mut ∷ token.Close ∷ []))) ≡ None)
     × (made (functype true (toks (token.Open ∷ the key.Param ∷ named (codes "x") ∷ the key.I32 ∷ token.Close ∷ token.Open ∷ the key.Param ∷ the key.I64 ∷ the key.I64 ∷ token.Close
-        ∷ token.Open ∷ the key.Result ∷ the key.F32 ∷ token.Close ∷ [])))
-      ≡ Some (record { params = (Some (source_id (text_of (codes "x")) (at 2)), None, value.I32) ∷ (None, None, value.I64) ∷ (None, None, value.I64) ∷ []; results = value.F32 ∷ [] }, 0))
+    ∷ token.Open ∷ the key.Result ∷ the key.F32 ∷ token.Close ∷ [])))
+    ≡ Some (record { params = (Some (source_id (text_of (codes "x")) (at 2)), None, value.I32) ∷ (None, None, value.I64) ∷ (None, None, value.I64) ∷ []; results = value.F32 ∷ [] }, 0))
     × (made (functype true (toks (token.Open ∷ the key.Param ∷ named (codes "x") ∷ the key.I32 ∷ the key.I64 ∷ token.Close ∷ []))) ≡ None)
     × (made (functype false (toks (token.Open ∷ the key.Param ∷ named (codes "x") ∷ the key.I32 ∷ token.Close ∷ []))) ≡ None)
     × (made (comptype (toks (token.Open ∷ the key.Array ∷ the key.I8 ∷ token.Close ∷ []))) ≡ Some (inner.Array (record { mutable = false; ty = storage.I8 }), 0))
     × (made (subtype (toks (token.Open ∷ the key.Sub ∷ num (codes "0") ∷ token.Open ∷ the key.Struct ∷ token.Close ∷ token.Close ∷ [])))
-      ≡ Some (record { kind = inner.Struct (record { fields = [] }); shared = false; parents = by.Num 0 (at 2) ∷ []; descriptor = None; describes = None; final_type = Some false }, 0))
+    ≡ Some (record { kind = inner.Struct (record { fields = [] }); shared = false; parents = by.Num 0 (at 2) ∷ []; descriptor = None; describes = None; final_type = Some false }, 0))
     × (made (subtype (toks (token.Open ∷ the key.Sub ∷ token.Close ∷ []))) ≡ None)
 
 -- `1 2`, `i64 1`; `2 funcref` has no maximum; `(pagesize 2)` is 2^1, and 3 is no page size; `(mut i32)`; `(type 0) (result i32)`
@@ -62,5 +62,5 @@ Externals = (made (limits false (toks (num (codes "1") ∷ num (codes "2") ∷ [
     × (made (memtype (toks (num (codes "1") ∷ token.Open ∷ the key.Pagesize ∷ num (codes "3") ∷ token.Close ∷ []))) ≡ None)
     × (made (globaltype (toks (token.Open ∷ the key.Mut ∷ the key.I32 ∷ token.Close ∷ []))) ≡ Some (record { ty = value.I32; mutable = true; shared = false }, 0))
     × (made (typeuse false (toks (token.Open ∷ the key.Ty ∷ num (codes "0") ∷ token.Close ∷ token.Open ∷ the key.Result ∷ the key.I32 ∷ token.Close ∷ [])))
-      ≡ Some (record { index = Some (by.Num 0 (at 2)); inline = Some (record { params = []; results = value.I32 ∷ [] }) }, 0))
+    ≡ Some (record { index = Some (by.Num 0 (at 2)); inline = Some (record { params = []; results = value.I32 ∷ [] }) }, 0))
     × (made (typeuse false (toks (token.Close ∷ []))) ≡ Some (record { index = None; inline = None }, 1))

@@ -9,6 +9,6 @@ utf8_is bytes h = is_utf8-from_IsUtf8 bytes h
 pub utf8_not : (bytes : List ℕ) → (IsUtf8 bytes → ⊥) → is_utf8 bytes ≡ false
 utf8_not bytes h = go (is_utf8 bytes) refl
   where
-  go : (b : Bool) → is_utf8 bytes ≡ b → is_utf8 bytes ≡ false
-  go false e = e
-  go true e = absurd (h (IsUtf8-from_is_utf8 bytes e))
+    go : (b : Bool) → is_utf8 bytes ≡ b → is_utf8 bytes ≡ false
+    go false e = e
+    go true e = absurd (h (IsUtf8-from_is_utf8 bytes e))

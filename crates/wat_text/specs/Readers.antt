@@ -1,10 +1,10 @@
 -- What a reader has left, and what it means that it read a part of the text.
-use Rattle.std.specs.Prelude.{◌≡◌, ◌≢◌, ⊤, ◌-◌, Bool, true, false, drop, Option, None, Some}
+use Rattle.std.specs.Prelude.{◌≡◌, ◌≢◌, ⊤, ◌-◌, Bool, true, false, List, drop, Option, None, Some}
 use Rattle.wast_base.specs.declared.ids.Span.{Span}
 use Rattle.wat_tokens.specs.declared.faults.TextFault.{TextFault}
 use Rattle.wat_tokens.specs.declared.faults.TextFault.TheVariants as fault
 use Rattle.wat_tokens.specs.declared.faults.TextError.{TextError}
-use Rattle.wat_syntax.specs.Tokens.{Toks, Parse, position_in, optional}
+use Rattle.wat_syntax.specs.Tokens.{Toks, Parse, position_in, optional, is_there, with_parts}
 use Rattle.wat_text.specs.declared.reader.Reader.{Reader}
 
 -- the tokens that are left, with the position of the one before
@@ -48,10 +48,11 @@ pub record Expects (rule : Toks → Option Toks) (old new : Reader) : Type 0 whe
   pub refuses : old.fault ≡ None → IsRefused new.fault → rule (left old) ≡ None
 
 -- A reader read a terminal that may be left out, and returned whether it was there.
-pub record Accepts (rule : Toks → Option Toks) (old new : Reader) (is_there : Bool) : Type 0 where
-  pub there : is_there ≡ true → rule (left old) ≡ Some (left new)
-  pub absent : is_there ≡ false → rule (left old) ≡ None
-  pub stays : is_there ≡ false → left new ≡ left old
+pub record Accepts (rule : Toks → Option Toks) (old new : Reader) (found : Bool) : Type 0 where
+  pub there : found ≡ true → rule (left old) ≡ Some (left new)
+  pub absent : found ≡ false → rule (left old) ≡ None
+  pub stays : found ≡ false → left new ≡ left old
+  pub gives : is_there rule (left old) ≡ Some (found, left new)
   pub fault : new.fault ≡ old.fault
   pub make : new.make ≡ old.make
 
@@ -69,3 +70,14 @@ pub record Fails (fault : TextFault) (span : Span) (old new : Reader) : Type 0 w
   pub make : new.make ≡ old.make
   pub first : old.fault ≡ None → new.fault ≡ Some (record { fault = fault; span = span })
   pub keeps : old.fault ≢ None → new.fault ≡ old.fault
+
+-- A reader kept a fault, whichever it is.
+pub record Refuses (old new : Reader) : Type 0 where
+  pub make : new.make ≡ old.make
+  pub faulty : new.fault ≢ None
+  pub keeps : old.fault ≢ None → new.fault ≡ old.fault
+
+-- A reader read a list of parts by a rule, and put them behind those that a list had before.
+pub record ReadsOnto {T : Type 0} (rule : Toks → Parse (List T)) (old new : Reader) (before after : List T) : Type 0 where
+  pub clean : IsClean new → IsClean old
+  pub gives : IsClean new → with_parts before (rule (left old)) ≡ Some (after, left new)
