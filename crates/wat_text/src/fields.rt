@@ -1,5 +1,13 @@
 //! The fields of a module.
 
+ghost use Rattle.std.specs.Prelude.{◌≡◌, true, false, None, Some, [], ◌∷◌, ◌++◌, map, option_map};
+ghost use Rattle.wat_tokens.specs.declared.words.Key.TheVariants as key;
+ghost use Rattle.wat_syntax.specs.Tokens.{is_form, form};
+ghost use Rattle.wat_syntax.specs.Seen.{seen_text, seen_exports, seen_import, seen_local, seen_tag_kind, seen_tag, seen_item_kind, seen_item_sig, seen_item, seen_items, seen_imports, seen_export};
+ghost use Rattle.wat_syntax.specs.Modules.{head, inline_export, export_names, inline_exports, inline_import, unnamed_locals, locals_of, local, locals as locals_rule, tag_kind_of, tagfield, functype_of, externtype_of, externtype, importfield, import_items_from, import_name, import_names, import_item, import_items_of, import_group, export_kind, externidx_keyword, exportfield};
+ghost use Rattle.wat_text.specs.Heads.{seen_head};
+ghost use Rattle.wat_text.specs.Readers.{left, Reads, Decides, Expects, ReadsOnto};
+
 use crate::reader::Reader;
 use wast_tree::{
     AbstractHeapType, ElemPayload, Export, ExportKind, Func, FuncKind, Global, GlobalKind,
@@ -7,7 +15,7 @@ use wast_tree::{
     Memory, MemoryKind, NameAnnotation, RefType, Seq, Span, Table, TableKind, TableType, Tag,
     TagKind, TagType,
 };
-use wat_tokens::{Key, TextFault};
+use wat_tokens::Key;
 
 /// What fields begin with: the place of the keyword, the id, the name annotation, and the exports in place.
 pub(crate) struct Head<'a> {
@@ -29,9 +37,35 @@ pub(crate) fn is_funcref(ty: RefType<'_>) -> bool {
     ty.nullable && is_func
 }
 
+/// Whether a tag is imported.
+fn tag_kind<'a>(import: Option<InlineImport<'a>>) -> TagKind<'a>
+    ensures { seen_tag_kind result ≡ tag_kind_of (option_map seen_import import.entry) }
+{
+    match import {
+        Some(import) => TagKind::Import(import),
+        None => TagKind::Inline,
+    }
+}
+
+/// What is exported, by its keyword.
+fn export_kind(key: Option<Key>) -> Option<ExportKind>
+    ensures { result ≡ export_kind key }
+{
+    match key {
+        Some(Key::Func) => Some(ExportKind::Func),
+        Some(Key::Table) => Some(ExportKind::Table),
+        Some(Key::Memory) => Some(ExportKind::Memory),
+        Some(Key::Global) => Some(ExportKind::Global),
+        Some(Key::Tag) => Some(ExportKind::Tag),
+        _ => None,
+    }
+}
+
 impl<'a> Reader<'a> {
     /// What fields begin with, from their keyword on.
-    fn head(&mut self) -> Head<'a> {
+    fn head(&mut self) -> Head<'a>
+        ensures { Reads head self.old self.new (seen_head result) }
+    {
         let span = self.place();
         self.skip();
         let (id, name) = (self.id(), self.name());
@@ -44,22 +78,57 @@ impl<'a> Reader<'a> {
         }
     }
 
-    /// The names under which a field is exported in place (text format, exports).
-    fn exports(&mut self) -> InlineExport<'a> {
-        let mut names = Seq::new(self.alloc);
+    /// `(export "a")` in a field, which is next.
+    fn inline_export(&mut self) -> &'a str
+        requires { is_form key.Export (left self.old) ≡ true }
+        ensures { Decides inline_export self.old self.new (seen_text result) }
+    {
+        self.skip();
+        self.skip();
+        let name = self.text();
+        self.close();
+        name
+    }
+
+    /// Puts a name behind the others.
+    fn push_name(&mut self, names: &mut Seq<&'a str>, name: &'a str)
+        ensures make { self.new.make ≡ self.old.make }
+        ensures clean { self.new.fault ≡ None → self.old.fault ≡ None }
+        ensures pushed { self.new.fault ≡ None → names.new ≡ names.old ++ name.entry ∷ [] }
+        ensures left { self.new.fault ≡ None → left self.new ≡ left self.old }
+    {
+        let pushed = names.push(name);
+        self.took(pushed);
+    }
+
+    /// The names under which a field is exported in place, as many as there are.
+    #[tactic(auto, using(crate::proofs::Loops::seen_more, crate::proofs::Loops::part_end, crate::proofs::Loops::part_last))]
+    fn export_names(&mut self, names: &mut Seq<&'a str>)
+        ensures { ReadsOnto export_names self.old self.new (map seen_text names.old) (map seen_text names.new) }
+    {
         for _ in 0..self.left() {
-            if !self.accept_form(Key::Export) {
+            if !self.is_form(Key::Export) {
                 break;
             }
-            let pushed = names.push(self.text());
-            self.took(pushed);
-            self.close();
+            let name = self.inline_export();
+            self.push_name(names, name);
         }
+    }
+
+    /// The names under which a field is exported in place (text format, exports).
+    #[tactic(auto, using(crate::proofs::Loops::from_nothing))]
+    fn exports(&mut self) -> InlineExport<'a>
+        ensures { Reads inline_exports self.old self.new (seen_exports result) }
+    {
+        let mut names = Seq::new(self.alloc);
+        self.export_names(&mut names);
         InlineExport { names }
     }
 
     /// `(import "a" "b")`, where it stands there (text format, imports: abbreviations).
-    fn import(&mut self) -> Option<InlineImport<'a>> {
+    fn import(&mut self) -> Option<InlineImport<'a>>
+        ensures { Decides inline_import self.old self.new (option_map seen_import result) }
+    {
         if !self.accept_form(Key::Import) {
             return None;
         }
@@ -69,34 +138,76 @@ impl<'a> Reader<'a> {
         Some(InlineImport { module, field })
     }
 
-    /// Locals behind `(local`.
-    fn local(&mut self, locals: &mut Seq<Local<'a>>) {
-        let (id, name) = (self.id(), self.name());
-        if id.is_some() || name.is_some() {
-            let ty = self.value_type();
-            let pushed = locals.push(Local { id, name, ty });
-            self.took(pushed);
-            return;
-        }
+    /// Puts a local behind the others.
+    fn push_local(&mut self, locals: &mut Seq<Local<'a>>, local: Local<'a>)
+        ensures make { self.new.make ≡ self.old.make }
+        ensures clean { self.new.fault ≡ None → self.old.fault ≡ None }
+        ensures pushed { self.new.fault ≡ None → locals.new ≡ locals.old ++ local.entry ∷ [] }
+        ensures left { self.new.fault ≡ None → left self.new ≡ left self.old }
+    {
+        let pushed = locals.push(local);
+        self.took(pushed);
+    }
+
+    /// Locals without ids, up to the end of the form.
+    #[tactic(auto, using(crate::proofs::Loops::seen_more, crate::proofs::Loops::part_end, crate::proofs::Loops::part_last))]
+    fn unnamed_locals(&mut self, locals: &mut Seq<Local<'a>>)
+        ensures { ReadsOnto unnamed_locals self.old self.new (map seen_local locals.old) (map seen_local locals.new) }
+    {
         for _ in 0..self.left() {
             if self.is_end() {
                 break;
             }
-            let pushed = locals.push(Local::new(None, self.value_type()));
-            self.took(pushed);
+            let ty = self.value_type();
+            self.push_local(locals, Local::new(None, ty));
+        }
+    }
+
+    /// Locals behind `(local`.
+    fn locals_of(&mut self, locals: &mut Seq<Local<'a>>)
+        ensures { ReadsOnto locals_of self.old self.new (map seen_local locals.old) (map seen_local locals.new) }
+    {
+        let (id, name) = (self.id(), self.name());
+        if id.is_some() || name.is_some() {
+            let ty = self.value_type();
+            self.push_local(locals, Local { id, name, ty });
+            return;
+        }
+        self.unnamed_locals(locals);
+    }
+
+    /// `(local ..)`, which is next.
+    #[tactic(auto, using(crate::proofs::Loops::closes))]
+    fn local(&mut self, locals: &mut Seq<Local<'a>>)
+        requires { is_form key.Local (left self.old) ≡ true }
+        ensures { ReadsOnto local self.old self.new (map seen_local locals.old) (map seen_local locals.new) }
+    {
+        self.skip();
+        self.skip();
+        self.locals_of(locals);
+        self.close();
+    }
+
+    /// The locals of a function, each form in its parentheses.
+    #[tactic(auto, using(crate::proofs::Loops::list_more, crate::proofs::Loops::list_end, crate::proofs::Loops::list_last))]
+    fn all_locals(&mut self, locals: &mut Seq<Local<'a>>)
+        ensures { ReadsOnto locals_rule self.old self.new (map seen_local locals.old) (map seen_local locals.new) }
+    {
+        for _ in 0..self.left() {
+            if !self.is_form(Key::Local) {
+                break;
+            }
+            self.local(locals);
         }
     }
 
     /// The locals of a function (text format, functions).
-    fn locals(&mut self) -> Seq<Local<'a>> {
+    #[tactic(auto, using(crate::proofs::Loops::from_nothing))]
+    fn locals(&mut self) -> Seq<Local<'a>>
+        ensures { Reads locals_rule self.old self.new (map seen_local result) }
+    {
         let mut locals = Seq::new(self.alloc);
-        for _ in 0..self.left() {
-            if !self.accept_form(Key::Local) {
-                break;
-            }
-            self.local(&mut locals);
-            self.close();
-        }
+        self.all_locals(&mut locals);
         locals
     }
 
@@ -277,17 +388,16 @@ impl<'a> Reader<'a> {
     }
 
     /// `(tag ..)` (text format, tags).
-    pub fn tag_field(&mut self) -> Tag<'a> {
+    pub fn tag_field(&mut self) -> Tag<'a>
+        ensures { Reads tagfield self.old self.new (seen_tag result) }
+    {
         let Head {
             span,
             id,
             name,
             exports,
         } = self.head();
-        let kind = match self.import() {
-            Some(import) => TagKind::Import(import),
-            None => TagKind::Inline,
-        };
+        let kind = tag_kind(self.import());
         let ty = TagType::Exception(self.type_use(true));
         Tag {
             span,
@@ -300,7 +410,9 @@ impl<'a> Reader<'a> {
     }
 
     /// The kind of a function that is imported.
-    fn func_kind(&mut self) -> ItemKind<'a> {
+    fn func_kind(&mut self) -> ItemKind<'a>
+        ensures { Reads functype_of self.old self.new (seen_item_kind result) }
+    {
         if !self.accept_form(Key::Exact) {
             return ItemKind::Func(self.type_use(true));
         }
@@ -310,7 +422,9 @@ impl<'a> Reader<'a> {
     }
 
     /// The kind of an item that is imported, behind its keyword, its id and its name annotation (text format, imports).
-    fn item_kind(&mut self, key: Option<Key>) -> ItemKind<'a> {
+    fn item_kind(&mut self, key: Option<Key>) -> ItemKind<'a>
+        ensures { Reads (externtype_of key) self.old self.new (seen_item_kind result) }
+    {
         match key {
             Some(Key::Table) => ItemKind::Table(self.table_type()),
             Some(Key::Memory) => ItemKind::Memory(self.memory_type()),
@@ -325,7 +439,9 @@ impl<'a> Reader<'a> {
     }
 
     /// What an imported item is, in its parentheses (text format, imports).
-    fn item_sig(&mut self) -> ItemSig<'a> {
+    fn item_sig(&mut self) -> ItemSig<'a>
+        ensures { Reads externtype self.old self.new (seen_item_sig result) }
+    {
         self.open();
         let span = self.place();
         let key = self.key(0);
@@ -342,86 +458,148 @@ impl<'a> Reader<'a> {
     }
 
     /// `(import ..)` (text format, imports).
-    pub fn import_field(&mut self) -> Imports<'a> {
+    pub fn import_field(&mut self) -> Imports<'a>
+        ensures { Reads importfield self.old self.new (seen_imports result) }
+    {
         let span = self.place();
         self.skip();
         let module = self.text();
-        let items = match self.is_string() {
-            true => {
-                let name = self.text();
-                let sig = self.item_sig();
-                ImportItems::Single { module, name, sig }
-            }
-            false => self.import_group(module),
-        };
+        let items = self.import_items(module);
         Imports { span, items }
     }
 
-    /// Items of one module that are of one kind, behind the first of their names (compact import section).
-    fn shared_sig(&mut self, module: &'a str, first: &'a str) -> ImportItems<'a> {
-        let mut items = Seq::new(self.alloc);
-        let pushed = items.push(first);
-        self.took(pushed);
-        for _ in 0..self.left() {
-            if !self.accept_form(Key::Item) {
-                break;
-            }
-            let pushed = items.push(self.text());
-            self.took(pushed);
-            self.close();
-        }
-        let sig = self.item_sig();
-        ImportItems::Group2 { module, sig, items }
-    }
-
-    /// Items of one module (compact import section).
-    fn import_group(&mut self, module: &'a str) -> ImportItems<'a> {
+    /// `(item`
+    fn item_form(&mut self)
+        ensures { Expects (form key.Item) self.old self.new }
+    {
         if !self.accept_form(Key::Item) {
             self.expected("a string or `(item`");
         }
-        let first = self.text();
-        if self.is_end() {
-            self.close();
-            return self.shared_sig(module, first);
-        }
-        let mut items = Seq::new(self.alloc);
-        let sig = self.item_sig();
-        if items.push((first, sig)).is_err() {
-            self.fail(TextFault::Memory);
-        }
-        self.close();
-        for _ in 0..self.left() {
-            if !self.accept_form(Key::Item) {
-                break;
-            }
+    }
+
+    /// What is imported from a module.
+    fn import_items(&mut self, module: &'a str) -> ImportItems<'a>
+        ensures { Reads (import_items_from (seen_text «module».entry)) self.old self.new (seen_items result) }
+    {
+        if self.is_string() {
             let name = self.text();
             let sig = self.item_sig();
-            if items.push((name, sig)).is_err() {
-                self.fail(TextFault::Memory);
-            }
-            self.close();
+            return ImportItems::Single { module, name, sig };
         }
+        self.item_form();
+        let first = self.text();
+        self.import_group(module, first)
+    }
+
+    /// The name of one more item, which is next.
+    fn import_name(&mut self) -> &'a str
+        requires { is_form key.Item (left self.old) ≡ true }
+        ensures { Decides import_name self.old self.new (seen_text result) }
+    {
+        self.skip();
+        self.skip();
+        let name = self.text();
+        self.close();
+        name
+    }
+
+    /// Names of items, as many as there are.
+    #[tactic(auto, using(crate::proofs::Loops::seen_more, crate::proofs::Loops::part_end, crate::proofs::Loops::part_last))]
+    fn import_names(&mut self, names: &mut Seq<&'a str>)
+        ensures { ReadsOnto import_names self.old self.new (map seen_text names.old) (map seen_text names.new) }
+    {
+        for _ in 0..self.left() {
+            if !self.is_form(Key::Item) {
+                break;
+            }
+            let name = self.import_name();
+            self.push_name(names, name);
+        }
+    }
+
+    /// One more item, which is next.
+    fn import_item(&mut self) -> (&'a str, ItemSig<'a>)
+        requires { is_form key.Item (left self.old) ≡ true }
+        ensures { Reads import_item self.old self.new (seen_item result) }
+    {
+        self.skip();
+        self.skip();
+        let name = self.text();
+        let sig = self.item_sig();
+        self.close();
+        (name, sig)
+    }
+
+    /// Puts an item behind the others.
+    fn push_item(&mut self, items: &mut Seq<(&'a str, ItemSig<'a>)>, item: (&'a str, ItemSig<'a>))
+        ensures make { self.new.make ≡ self.old.make }
+        ensures clean { self.new.fault ≡ None → self.old.fault ≡ None }
+        ensures pushed { self.new.fault ≡ None → items.new ≡ items.old ++ item.entry ∷ [] }
+        ensures left { self.new.fault ≡ None → left self.new ≡ left self.old }
+    {
+        let pushed = items.push(item);
+        self.took(pushed);
+    }
+
+    /// Items with their types, as many as there are.
+    #[tactic(auto, using(crate::proofs::Loops::seen_more, crate::proofs::Loops::part_end, crate::proofs::Loops::part_last))]
+    fn typed_items(&mut self, items: &mut Seq<(&'a str, ItemSig<'a>)>)
+        ensures { ReadsOnto import_items_of self.old self.new (map seen_item items.old) (map seen_item items.new) }
+    {
+        for _ in 0..self.left() {
+            if !self.is_form(Key::Item) {
+                break;
+            }
+            let item = self.import_item();
+            self.push_item(items, item);
+        }
+    }
+
+    /// Items of one module, behind the name of the first (compact import section).
+    fn import_group(&mut self, module: &'a str, first: &'a str) -> ImportItems<'a>
+        ensures { Reads (import_group (seen_text «module».entry) (seen_text first.entry)) self.old self.new (seen_items result) }
+    {
+        if self.is_end() {
+            self.close();
+            let mut items = Seq::new(self.alloc);
+            self.push_name(&mut items, first);
+            self.import_names(&mut items);
+            let sig = self.item_sig();
+            return ImportItems::Group2 { module, sig, items };
+        }
+        let sig = self.item_sig();
+        let mut items = Seq::new(self.alloc);
+        self.push_item(&mut items, (first, sig));
+        self.close();
+        self.typed_items(&mut items);
         ImportItems::Group1 { module, items }
     }
 
+    /// The keyword of what is exported.
+    fn export_kind(&mut self) -> ExportKind
+        ensures { Decides externidx_keyword self.old self.new result }
+    {
+        match export_kind(self.key(0)) {
+            Some(kind) => {
+                self.skip();
+                kind
+            }
+            None => {
+                self.expected("`func`, `table`, `memory`, `global` or `tag`");
+                ExportKind::Func
+            }
+        }
+    }
+
     /// `(export ..)` (text format, exports).
-    pub fn export_field(&mut self) -> Export<'a> {
+    pub fn export_field(&mut self) -> Export<'a>
+        ensures { Decides exportfield self.old self.new (seen_export result) }
+    {
         let span = self.place();
         self.skip();
         let name = self.text();
         self.open();
-        let kind = match self.key(0) {
-            Some(Key::Func) => ExportKind::Func,
-            Some(Key::Table) => ExportKind::Table,
-            Some(Key::Memory) => ExportKind::Memory,
-            Some(Key::Global) => ExportKind::Global,
-            Some(Key::Tag) => ExportKind::Tag,
-            _ => {
-                self.expected("`func`, `table`, `memory`, `global` or `tag`");
-                ExportKind::Func
-            }
-        };
-        self.skip();
+        let kind = self.export_kind();
         let item = self.index();
         self.close();
         Export {

@@ -1,7 +1,9 @@
 //! Modules.
 
 ghost use Rattle.std.specs.Prelude.{◌≡◌, ◌≤◌, true, is_none, length, IsTrue, IfOk, IfErr};
+ghost use Rattle.wat_syntax.specs.Modules.{startfield};
 ghost use Rattle.wast_tree_nodes.specs.WellFormed.{is_well_formed};
+ghost use Rattle.wat_text.specs.Readers.{Decides};
 ghost use Rattle.wat_text.specs.Texts.{is_well_formed_text};
 
 use crate::quotes::{Quote, quoted_tokens};
@@ -61,7 +63,9 @@ impl<'a> Reader<'a> {
     }
 
     /// `(start ..)` (text format, start function).
-    fn start_field(&mut self) -> ModuleField<'a> {
+    fn start_field(&mut self) -> ModuleField<'a>
+        ensures { Decides startfield self.old self.new result }
+    {
         self.skip();
         ModuleField::Start(self.index())
     }

@@ -3,6 +3,15 @@
 //! A reader keeps the first fault, and from then on has no tokens left: so what reads a part of the tree always gives one, has
 //! no error to pass on and nothing to drop, and each loop over the tokens that are left ends.
 
+ghost use Rattle.std.specs.Prelude.{◌≡◌, ◌≢◌, true, false, None, Some, Ok, Err, [], ◌∷◌, ◌++◌, option_map};
+ghost use Rattle.wat_grammar.specs.Integers.{uN};
+ghost use Rattle.wat_syntax.specs.Tokens.{peek, after, position, position_in, count, is_lparen, is_end, word_of, key_of, is_key, is_form, lparen, rparen, keyword, form};
+ghost use Rattle.wat_tokens.specs.declared.faults.TextFault.TheVariants as fault;
+ghost use Rattle.wat_syntax.specs.Keywords.{number_of_key};
+ghost use Rattle.wat_syntax.specs.Values.{number_text, u32, is_number, is_string, is_index, string, name, id, name_annotation, index, optional_index, index_or_zero};
+ghost use Rattle.wat_syntax.specs.Seen.{seen_text, seen_name};
+ghost use Rattle.wat_text.specs.Readers.{left, IsClean, IsRefused, Reads, Decides, Expects, Accepts, Finds, Fails};
+
 use std::alloc::{AllocError, Global};
 use wast_tree::{Id, Index, NameAnnotation, Seq, Span, TreeBuilder};
 use wat_tokens::{Annotation, Key, Placed, TextError, TextFault, Token, Word, unsigned32};
@@ -21,9 +30,20 @@ pub(crate) struct Reader<'a> {
     fault: Option<TextError>,
 }
 
+/// The number of a keyword.
+fn number_of(key: Key) -> u8
+    ensures { result ≡ number_of_key key }
+{
+    key as u8
+}
+
 impl<'a> Reader<'a> {
     /// Nothing is read yet.
-    pub(crate) fn new(alloc: Global, tokens: Vec<Placed<'a>>, end: Span) -> Reader<'a> {
+    #[tactic(auto, unfolding(crate::specs::Readers::left))]
+    pub(crate) fn new(alloc: Global, tokens: Vec<Placed<'a>>, end: Span) -> Reader<'a>
+        ensures left { left result ≡ record { before = position_in tokens.entry.items end; left = tokens.entry.items; end = end } }
+        ensures clean { IsClean result }
+    {
         Reader {
             alloc,
             make: TreeBuilder::new(alloc),
@@ -35,7 +55,9 @@ impl<'a> Reader<'a> {
     }
 
     /// The first fault, where there is one.
-    pub(crate) fn finish(self) -> Option<TextError> {
+    pub(crate) fn finish(self) -> Option<TextError>
+        ensures { result ≡ None → IsClean self.entry }
+    {
         if self.fault.is_none() && self.make.is_refused() {
             return Some(TextError::new(self.end, TextFault::Memory));
         }
@@ -43,12 +65,18 @@ impl<'a> Reader<'a> {
     }
 
     /// How many tokens are left.
-    pub(crate) fn left(&self) -> usize {
+    #[tactic(auto, unfolding(crate::specs::Readers::left, wat_syntax::specs::Tokens::count))]
+    pub(crate) fn left(&self) -> usize
+        ensures { result ≡ count (left self.now) }
+    {
         self.tokens.len().saturating_sub(self.at)
     }
 
     /// The token behind so many others; `None` at the end, and behind a fault.
-    pub(crate) fn look(&self, ahead: usize) -> Option<Token<'a>> {
+    #[tactic(auto, unfolding(crate::specs::Readers::left, wat_syntax::specs::Tokens::peek))]
+    pub(crate) fn look(&self, ahead: usize) -> Option<Token<'a>>
+        ensures { result ≡ peek ahead (left self.now) }
+    {
         match self.tokens.get(self.at.saturating_add(ahead)) {
             Some(placed) => Some(placed.token),
             None => None,
@@ -56,7 +84,10 @@ impl<'a> Reader<'a> {
     }
 
     /// The place of the next token.
-    pub(crate) fn place(&self) -> Span {
+    #[tactic(auto, unfolding(crate::specs::Readers::left, wat_syntax::specs::Tokens::position))]
+    pub(crate) fn place(&self) -> Span
+        ensures { result ≡ position (left self.now) }
+    {
         match self.tokens.get(self.at) {
             Some(placed) => placed.span,
             None => self.end,
@@ -64,7 +95,10 @@ impl<'a> Reader<'a> {
     }
 
     /// The place of the token that was read last.
-    pub(crate) fn place_before(&self) -> Span {
+    #[tactic(auto, unfolding(crate::specs::Readers::left))]
+    pub(crate) fn place_before(&self) -> Span
+        ensures { result ≡ (left self.now).before }
+    {
         match self.tokens.get(self.at.saturating_sub(1)) {
             Some(placed) => placed.span,
             None => self.end,
@@ -72,31 +106,46 @@ impl<'a> Reader<'a> {
     }
 
     /// Reads the next token, whatever it is.
-    pub(crate) fn skip(&mut self) {
-        self.at = self.at.saturating_add(1);
+    #[tactic(auto, unfolding(crate::specs::Readers::left, wat_syntax::specs::Tokens::after))]
+    pub(crate) fn skip(&mut self)
+        ensures left { left self.new ≡ after (left self.old) }
+        ensures fault { self.new.fault ≡ self.old.fault }
+        ensures make { self.new.make ≡ self.old.make }
+    {
+        if self.at < self.tokens.len() {
+            self.at += 1;
+        }
     }
 
     /// Keeps a fault at a place, unless there is one.
-    pub(crate) fn fail_at(&mut self, span: Span, fault: TextFault) {
-        if self.fault.is_none() {
-            self.fault = Some(TextError::new(span, fault));
-        }
+    pub(crate) fn fail_at(&mut self, span: Span, fault: TextFault)
+        ensures { Fails fault span self.old self.new }
+    {
         self.at = usize::MAX;
+        if self.fault.is_none() {
+            self.fault = Some(TextError { fault, span });
+        }
     }
 
     /// Keeps a fault at the next token, unless there is one.
-    pub(crate) fn fail(&mut self, fault: TextFault) {
+    pub(crate) fn fail(&mut self, fault: TextFault)
+        ensures { Fails fault (position (left self.old)) self.old self.new }
+    {
         let place = self.place();
         self.fail_at(place, fault);
     }
 
     /// Keeps that something else was expected.
-    pub(crate) fn expected(&mut self, what: &'static str) {
+    pub(crate) fn expected(&mut self, what: &'static str)
+        ensures { Fails (fault.Expected what.entry) (position (left self.old)) self.old self.new }
+    {
         self.fail(TextFault::Expected(what));
     }
 
     /// The next word, where a word of its own stands there.
-    pub(crate) fn word(&self, ahead: usize) -> Option<Word> {
+    pub(crate) fn word(&self, ahead: usize) -> Option<Word>
+        ensures { result ≡ word_of (peek ahead (left self.now)) }
+    {
         match self.look(ahead) {
             Some(Token::Word(word, _)) => Some(word),
             _ => None,
@@ -104,7 +153,9 @@ impl<'a> Reader<'a> {
     }
 
     /// The next key, where one stands there.
-    pub(crate) fn key(&self, ahead: usize) -> Option<Key> {
+    pub(crate) fn key(&self, ahead: usize) -> Option<Key>
+        ensures { result ≡ key_of (peek ahead (left self.now)) }
+    {
         match self.look(ahead) {
             Some(Token::Word(Word::Key(key), _)) => Some(key),
             _ => None,
@@ -112,30 +163,40 @@ impl<'a> Reader<'a> {
     }
 
     /// Whether this key stands there.
-    pub(crate) fn is_key(&self, ahead: usize, key: Key) -> bool {
+    pub(crate) fn is_key(&self, ahead: usize, key: Key) -> bool
+        ensures { result ≡ is_key key (key_of (peek ahead (left self.now))) }
+    {
         match self.key(ahead) {
-            Some(found) => found as u8 == key as u8,
+            Some(found) => number_of(found) == number_of(key),
             None => false,
         }
     }
 
     /// Whether `(` stands there.
-    pub(crate) fn is_open(&self, ahead: usize) -> bool {
+    pub(crate) fn is_open(&self, ahead: usize) -> bool
+        ensures { result ≡ is_lparen (peek ahead (left self.now)) }
+    {
         matches!(self.look(ahead), Some(Token::Open))
     }
 
     /// Whether the form or the text ends there.
-    pub(crate) fn is_end(&self) -> bool {
+    pub(crate) fn is_end(&self) -> bool
+        ensures { result ≡ is_end (peek 0 (left self.now)) }
+    {
         matches!(self.look(0), None | Some(Token::Close))
     }
 
     /// Whether `(` and this key stand there.
-    pub(crate) fn is_form(&self, key: Key) -> bool {
+    pub(crate) fn is_form(&self, key: Key) -> bool
+        ensures { result ≡ is_form key (left self.now) }
+    {
         self.is_open(0) && self.is_key(1, key)
     }
 
     /// Reads this key, where it stands there.
-    pub(crate) fn accept(&mut self, key: Key) -> bool {
+    pub(crate) fn accept(&mut self, key: Key) -> bool
+        ensures { Accepts (keyword key) self.old self.new result }
+    {
         let is_there = self.is_key(0, key);
         if is_there {
             self.skip();
@@ -144,7 +205,9 @@ impl<'a> Reader<'a> {
     }
 
     /// Reads `(` and this key, where they stand there.
-    pub(crate) fn accept_form(&mut self, key: Key) -> bool {
+    pub(crate) fn accept_form(&mut self, key: Key) -> bool
+        ensures { Accepts (form key) self.old self.new result }
+    {
         let is_there = self.is_form(key);
         if is_there {
             self.skip();
@@ -154,7 +217,9 @@ impl<'a> Reader<'a> {
     }
 
     /// Reads `(`.
-    pub(crate) fn open(&mut self) {
+    pub(crate) fn open(&mut self)
+        ensures { Expects lparen self.old self.new }
+    {
         match self.look(0) {
             Some(Token::Open) => self.skip(),
             _ => self.expected("`(`"),
@@ -162,7 +227,9 @@ impl<'a> Reader<'a> {
     }
 
     /// Reads `)`.
-    pub(crate) fn close(&mut self) {
+    pub(crate) fn close(&mut self)
+        ensures { Expects rparen self.old self.new }
+    {
         match self.look(0) {
             Some(Token::Close) => self.skip(),
             _ => self.expected("`)`"),
@@ -170,7 +237,9 @@ impl<'a> Reader<'a> {
     }
 
     /// An id, where one stands there (text format, identifiers).
-    pub(crate) fn id(&mut self) -> Option<Id<'a>> {
+    pub(crate) fn id(&mut self) -> Option<Id<'a>>
+        ensures { Finds id self.old self.new result }
+    {
         let place = self.place();
         match self.look(0) {
             Some(Token::Id(name)) => {
@@ -182,7 +251,9 @@ impl<'a> Reader<'a> {
     }
 
     /// `(@name "a")`, where it stands there (text format, custom annotations).
-    pub(crate) fn name(&mut self) -> Option<NameAnnotation<'a>> {
+    pub(crate) fn name(&mut self) -> Option<NameAnnotation<'a>>
+        ensures { Decides name_annotation self.old self.new (option_map seen_name result) }
+    {
         match self.look(0) {
             Some(Token::Annotation(Annotation::Name)) => {
                 self.skip();
@@ -195,7 +266,9 @@ impl<'a> Reader<'a> {
     }
 
     /// The bytes of a string.
-    pub(crate) fn bytes(&mut self) -> &'a [u8] {
+    pub(crate) fn bytes(&mut self) -> &'a [u8]
+        ensures { Decides string self.old self.new result }
+    {
         match self.look(0) {
             Some(Token::String(bytes)) => {
                 self.skip();
@@ -209,12 +282,17 @@ impl<'a> Reader<'a> {
     }
 
     /// Whether a string stands there.
-    pub(crate) fn is_string(&self) -> bool {
+    pub(crate) fn is_string(&self) -> bool
+        ensures { result ≡ is_string (peek 0 (left self.now)) }
+    {
         matches!(self.look(0), Some(Token::String(_)))
     }
 
     /// A name, which is a string in UTF-8 (text format, names).
-    pub(crate) fn text(&mut self) -> &'a str {
+    #[tactic(auto, using(crate::proofs::Names::utf8_is, crate::proofs::Names::utf8_not))]
+    pub(crate) fn text(&mut self) -> &'a str
+        ensures { Decides name self.old self.new (seen_text result) }
+    {
         let place = self.place();
         let bytes = self.bytes();
         match std::str::from_utf8(bytes) {
@@ -227,7 +305,9 @@ impl<'a> Reader<'a> {
     }
 
     /// Whether a number stands so far ahead.
-    pub(crate) fn is_number(&self, ahead: usize) -> bool {
+    pub(crate) fn is_number(&self, ahead: usize) -> bool
+        ensures { result ≡ is_number (peek ahead (left self.now)) }
+    {
         match self.look(ahead) {
             Some(Token::Other(text)) => {
                 matches!(text.as_bytes().first(), Some(b'0'..=b'9' | b'+' | b'-'))
@@ -237,7 +317,9 @@ impl<'a> Reader<'a> {
     }
 
     /// Whether an index stands so far ahead.
-    pub(crate) fn is_index(&self, ahead: usize) -> bool {
+    pub(crate) fn is_index(&self, ahead: usize) -> bool
+        ensures { result ≡ is_index (peek ahead (left self.now)) }
+    {
         match self.look(ahead) {
             Some(Token::Id(_)) => true,
             _ => self.is_number(ahead),
@@ -245,7 +327,9 @@ impl<'a> Reader<'a> {
     }
 
     /// The text of a number.
-    pub(crate) fn number(&mut self) -> &'a str {
+    pub(crate) fn number(&mut self) -> &'a str
+        ensures { Decides number_text self.old self.new result }
+    {
         match self.look(0) {
             Some(Token::Other(text)) => {
                 self.skip();
@@ -259,7 +343,14 @@ impl<'a> Reader<'a> {
     }
 
     /// What a text says, or a fault at its place.
-    pub(crate) fn value<T: Drop>(&mut self, span: Span, value: Result<T, TextFault>, none: T) -> T {
+    pub(crate) fn value<T: Drop>(&mut self, span: Span, value: Result<T, TextFault>, none: T) -> T
+        ensures make { self.new.make ≡ self.old.make }
+        ensures clean { self.new.fault ≡ None → self.old.fault ≡ None }
+        ensures gives { self.new.fault ≡ None → value ≡ Ok result }
+        ensures left { self.new.fault ≡ None → left self.new ≡ left self.old }
+        ensures keeps { self.old.fault ≢ None → self.new.fault ≡ self.old.fault }
+        ensures refuses { self.old.fault ≡ None → self.new.fault ≢ None → (e : TextFault) × (value ≡ Err e) }
+    {
         match value {
             Ok(value) => value,
             Err(fault) => {
@@ -270,14 +361,20 @@ impl<'a> Reader<'a> {
     }
 
     /// A number of 32 bits without a sign.
-    pub(crate) fn number32(&mut self) -> u32 {
+    #[tactic(auto, using(crate::proofs::Numbers::unsigned_is, crate::proofs::Numbers::unsigned_not))]
+    pub(crate) fn number32(&mut self) -> u32
+        ensures { Decides u32 self.old self.new result }
+    {
         let place = self.place();
         let text = self.number();
         self.value(place, unsigned32(text), 0)
     }
 
     /// An index (text format, indices).
-    pub(crate) fn index(&mut self) -> Index<'a> {
+    #[tactic(auto, using(crate::proofs::Numbers::no_u32))]
+    pub(crate) fn index(&mut self) -> Index<'a>
+        ensures { Decides index self.old self.new result }
+    {
         let place = self.place();
         if let Some(id) = self.id() {
             return Index::Id(id);
@@ -289,7 +386,9 @@ impl<'a> Reader<'a> {
     }
 
     /// An index, where one stands there.
-    pub(crate) fn optional_index(&mut self) -> Option<Index<'a>> {
+    pub(crate) fn optional_index(&mut self) -> Option<Index<'a>>
+        ensures { Decides optional_index self.old self.new result }
+    {
         if self.is_index(0) {
             return Some(self.index());
         }
@@ -297,7 +396,9 @@ impl<'a> Reader<'a> {
     }
 
     /// An index; where none stands there, 0, at the place of the token before.
-    pub(crate) fn index_or_zero(&mut self) -> Index<'a> {
+    pub(crate) fn index_or_zero(&mut self) -> Index<'a>
+        ensures { Decides index_or_zero self.old self.new result }
+    {
         let place = self.place_before();
         match self.optional_index() {
             Some(index) => index,
@@ -306,14 +407,28 @@ impl<'a> Reader<'a> {
     }
 
     /// Keeps that memory was refused, where it was.
-    pub(crate) fn took(&mut self, pushed: Result<(), AllocError>) {
+    pub(crate) fn took(&mut self, pushed: Result<(), AllocError>)
+        ensures make { self.new.make ≡ self.old.make }
+        ensures clean { self.new.fault ≡ None → self.old.fault ≡ None }
+        ensures pushed { self.new.fault ≡ None → pushed ≡ Ok tt }
+        ensures left { self.new.fault ≡ None → left self.new ≡ left self.old }
+        ensures keeps { self.old.fault ≢ None → self.new.fault ≡ self.old.fault }
+        ensures memory { self.old.fault ≡ None → IsRefused self.new.fault → ⊥ }
+    {
         if pushed.is_err() {
             self.fail(TextFault::Memory);
         }
     }
 
     /// Puts an index at the end of a list.
-    pub(crate) fn push_index(&mut self, indices: &mut Seq<Index<'a>>, index: Index<'a>) {
+    pub(crate) fn push_index(&mut self, indices: &mut Seq<Index<'a>>, index: Index<'a>)
+        ensures make { self.new.make ≡ self.old.make }
+        ensures clean { self.new.fault ≡ None → self.old.fault ≡ None }
+        ensures pushed { self.new.fault ≡ None → indices.new ≡ indices.old ++ index.entry ∷ [] }
+        ensures left { self.new.fault ≡ None → left self.new ≡ left self.old }
+        ensures keeps { self.old.fault ≢ None → self.new.fault ≡ self.old.fault }
+        ensures memory { self.old.fault ≡ None → IsRefused self.new.fault → ⊥ }
+    {
         let pushed = indices.push(index);
         self.took(pushed);
     }

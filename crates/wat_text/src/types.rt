@@ -1,5 +1,14 @@
 //! Types.
 
+ghost use Rattle.std.specs.Prelude.{◌≡◌, ◌≢◌, true, false, None, Some, [], ◌∷◌, ◌++◌, map};
+ghost use Rattle.wat_tokens.specs.declared.words.Key.TheVariants as key;
+ghost use Rattle.wat_syntax.specs.Tokens.{keyword, keyword_in, is_form, is_key, key_of, peek};
+ghost use Rattle.wat_syntax.specs.Seen.{seen_param, seen_function_type, seen_type_use, seen_struct_field, seen_struct_type, seen_composite, seen_type_def, seen_type, seen_rec};
+ghost use Rattle.wat_syntax.specs.Values.{u64};
+ghost use Rattle.wat_syntax.specs.Types.{absheaptype, refword, numtype_or_vectype, heaptype_form, heaptype, is_reftype, shared_reftype, reftype, valtype, valtypes, storagetype, fieldtype, unnamed_params, param, all_params, all_results, functype, unnamed_fields, struct_fields, struct_field, all_fields, structtype, comptype_form, comptype, related, described, maybe_shared, subtype, typedef, typedef_form, typedefs, rectype, addrtype, limits, tabletype, pagesize, memtype, is_shared_ref, globaltype, type_index, typeuse};
+ghost use Rattle.wat_syntax.specs.Types.{result as a_result, indices as all_indices, params as params_of};
+ghost use Rattle.wat_text.specs.Readers.{left, IsClean, Reads, Decides, Expects, Finds, Refuses, ReadsOnto};
+
 use crate::reader::Reader;
 use wast_tree::{
     AbstractHeapType, ArrayType, ContType, FunctionType, GlobalType, HeapType, Id, Index,
@@ -9,7 +18,9 @@ use wast_tree::{
 use wat_tokens::{Key, TextFault, unsigned64};
 
 /// The heap type that is one word (text format, heap types).
-fn abstract_heap(key: Key) -> Option<AbstractHeapType> {
+fn abstract_heap(key: Key) -> Option<AbstractHeapType>
+    ensures { result ≡ absheaptype key }
+{
     match key {
         Key::Func => Some(AbstractHeapType::Func),
         Key::Extern => Some(AbstractHeapType::Extern),
@@ -30,7 +41,9 @@ fn abstract_heap(key: Key) -> Option<AbstractHeapType> {
 }
 
 /// The heap type that the word of a reference type stands for (text format, reference types: abbreviations).
-fn referred(key: Key) -> Option<AbstractHeapType> {
+fn referred(key: Key) -> Option<AbstractHeapType>
+    ensures { result ≡ refword key }
+{
     match key {
         Key::Funcref => Some(AbstractHeapType::Func),
         Key::Externref => Some(AbstractHeapType::Extern),
@@ -51,7 +64,9 @@ fn referred(key: Key) -> Option<AbstractHeapType> {
 }
 
 /// A value type that is a word and no reference.
-fn plain_value<'a>(key: Key) -> Option<ValType<'a>> {
+fn plain_value<'a>(key: Key) -> Option<ValType<'a>>
+    ensures { result ≡ numtype_or_vectype key }
+{
     match key {
         Key::I32 => Some(ValType::I32),
         Key::I64 => Some(ValType::I64),
@@ -64,14 +79,18 @@ fn plain_value<'a>(key: Key) -> Option<ValType<'a>> {
 
 impl<'a> Reader<'a> {
     /// The word of a heap type, where one stands there.
-    fn abstract_heap(&mut self) -> Option<AbstractHeapType> {
+    fn abstract_heap(&mut self) -> Option<AbstractHeapType>
+        ensures { Finds (keyword_in absheaptype) self.old self.new result }
+    {
         let ty = abstract_heap(self.key(0)?)?;
         self.skip();
         Some(ty)
     }
 
     /// A heap type in parentheses: `(shared any)`, `(exact $t)`.
-    fn heap_form(&mut self) -> HeapType<'a> {
+    fn heap_form(&mut self) -> HeapType<'a>
+        ensures { Decides heaptype_form self.old self.new result }
+    {
         let heap = if self.accept_form(Key::Shared) {
             match self.abstract_heap() {
                 Some(ty) => HeapType::Abstract { shared: true, ty },
@@ -87,13 +106,18 @@ impl<'a> Reader<'a> {
     }
 
     /// Where no heap type stands.
-    fn no_heap_type(&mut self) -> HeapType<'a> {
+    fn no_heap_type(&mut self) -> HeapType<'a>
+        ensures { Refuses self.old self.new }
+    {
         self.expected("a heap type");
         HeapType::of(AbstractHeapType::Any)
     }
 
     /// A heap type (text format, heap types).
-    pub(crate) fn heap_type(&mut self) -> HeapType<'a> {
+    #[tactic(auto, using(crate::proofs::Numbers::no_index))]
+    pub(crate) fn heap_type(&mut self) -> HeapType<'a>
+        ensures { Decides heaptype self.old self.new result }
+    {
         if let Some(ty) = self.abstract_heap() {
             return HeapType::of(ty);
         }
@@ -107,7 +131,9 @@ impl<'a> Reader<'a> {
     }
 
     /// Whether a reference type stands there.
-    pub(crate) fn is_ref_type(&self) -> bool {
+    pub(crate) fn is_ref_type(&self) -> bool
+        ensures { result ≡ is_reftype (left self.now) }
+    {
         if let Some(key) = self.key(0) {
             return referred(key).is_some();
         }
@@ -115,14 +141,18 @@ impl<'a> Reader<'a> {
     }
 
     /// The word of a reference type, where one stands there.
-    fn ref_word(&mut self) -> Option<AbstractHeapType> {
+    fn ref_word(&mut self) -> Option<AbstractHeapType>
+        ensures { Finds (keyword_in refword) self.old self.new result }
+    {
         let ty = referred(self.key(0)?)?;
         self.skip();
         Some(ty)
     }
 
     /// `(shared funcref)`, behind `(shared`.
-    fn shared_ref(&mut self) -> RefType<'a> {
+    fn shared_ref(&mut self) -> RefType<'a>
+        ensures { Decides shared_reftype self.old self.new result }
+    {
         let ty = match self.ref_word() {
             Some(ty) => ty,
             None => {
@@ -135,7 +165,9 @@ impl<'a> Reader<'a> {
     }
 
     /// A reference type (text format, reference types).
-    pub(crate) fn ref_type(&mut self) -> RefType<'a> {
+    pub(crate) fn ref_type(&mut self) -> RefType<'a>
+        ensures { Decides reftype self.old self.new result }
+    {
         if let Some(ty) = self.ref_word() {
             return RefType::new(true, HeapType::of(ty));
         }
@@ -152,14 +184,19 @@ impl<'a> Reader<'a> {
     }
 
     /// The word of a value type that is no reference, where one stands there.
-    fn value_word(&mut self) -> Option<ValType<'a>> {
+    fn value_word(&mut self) -> Option<ValType<'a>>
+        ensures { Finds (keyword_in numtype_or_vectype) self.old self.new result }
+    {
         let ty = plain_value(self.key(0)?)?;
         self.skip();
         Some(ty)
     }
 
     /// A value type (text format, value types).
-    pub(crate) fn value_type(&mut self) -> ValType<'a> {
+    #[tactic(auto, using(crate::proofs::References::no_reftype))]
+    pub(crate) fn value_type(&mut self) -> ValType<'a>
+        ensures { Decides valtype self.old self.new result }
+    {
         if let Some(ty) = self.value_word() {
             return ty;
         }
@@ -170,7 +207,9 @@ impl<'a> Reader<'a> {
     }
 
     /// What a field of a struct or an array holds (text format, composite types).
-    fn storage_type(&mut self) -> StorageType<'a> {
+    fn storage_type(&mut self) -> StorageType<'a>
+        ensures { Decides storagetype self.old self.new result }
+    {
         if self.accept(Key::I8) {
             return StorageType::I8;
         }
@@ -181,7 +220,9 @@ impl<'a> Reader<'a> {
     }
 
     /// What a field holds, and whether it can be changed.
-    fn field_type(&mut self) -> (bool, StorageType<'a>) {
+    fn field_type(&mut self) -> (bool, StorageType<'a>)
+        ensures { Decides fieldtype self.old self.new result }
+    {
         if self.accept_form(Key::Mut) {
             let ty = self.storage_type();
             self.close();
@@ -191,7 +232,10 @@ impl<'a> Reader<'a> {
     }
 
     /// Value types up to the end of the form.
-    pub(crate) fn values(&mut self, values: &mut Seq<ValType<'a>>) {
+    #[tactic(auto, using(crate::proofs::Loops::part_more, crate::proofs::Loops::part_end, crate::proofs::Loops::part_last))]
+    pub(crate) fn values(&mut self, values: &mut Seq<ValType<'a>>)
+        ensures { ReadsOnto valtypes self.old self.new values.old values.new }
+    {
         for _ in 0..self.left() {
             if self.is_end() {
                 break;
@@ -201,20 +245,16 @@ impl<'a> Reader<'a> {
         }
     }
 
-    /// Parameters behind `(param`, with a name where they may have one.
-    fn params(
+    /// Parameters without ids, up to the end of the form.
+    #[tactic(auto, using(crate::proofs::Params::param_more, crate::proofs::Loops::part_end, crate::proofs::Loops::part_last))]
+    fn unnamed_params(
         &mut self,
         params: &mut Seq<(Option<Id<'a>>, Option<NameAnnotation<'a>>, ValType<'a>)>,
-        are_named: bool,
-    ) {
-        let id = if are_named { self.id() } else { None };
-        let name = if are_named { self.name() } else { None };
-        if id.is_some() || name.is_some() {
-            let pushed = params.push((id, name, self.value_type()));
-            self.took(pushed);
-        }
+    )
+        ensures { ReadsOnto unnamed_params self.old self.new (map seen_param params.old) (map seen_param params.new) }
+    {
         for _ in 0..self.left() {
-            if self.is_end() || id.is_some() || name.is_some() {
+            if self.is_end() {
                 break;
             }
             let pushed = params.push((None, None, self.value_type()));
@@ -222,24 +262,94 @@ impl<'a> Reader<'a> {
         }
     }
 
+    /// Parameters behind `(param`, with a name where they may have one.
+    fn params(
+        &mut self,
+        params: &mut Seq<(Option<Id<'a>>, Option<NameAnnotation<'a>>, ValType<'a>)>,
+        are_named: bool,
+    )
+        ensures { ReadsOnto (params_of are_named) self.old self.new (map seen_param params.old) (map seen_param params.new) }
+    {
+        if !are_named {
+            self.unnamed_params(params);
+            return;
+        }
+        let (id, name) = (self.id(), self.name());
+        if id.is_some() || name.is_some() {
+            let pushed = params.push((id, name, self.value_type()));
+            self.took(pushed);
+            return;
+        }
+        self.unnamed_params(params);
+    }
+
+    /// `(param ..)`, which is next.
+    #[tactic(auto, using(crate::proofs::Loops::closes))]
+    fn param(
+        &mut self,
+        params: &mut Seq<(Option<Id<'a>>, Option<NameAnnotation<'a>>, ValType<'a>)>,
+        are_named: bool,
+    )
+        requires { is_form key.Param (left self.old) ≡ true }
+        ensures { ReadsOnto (param are_named) self.old self.new (map seen_param params.old) (map seen_param params.new) }
+    {
+        self.skip();
+        self.skip();
+        self.params(params, are_named);
+        self.close();
+    }
+
+    /// The parameters of a function.
+    #[tactic(auto, using(crate::proofs::Loops::list_more, crate::proofs::Loops::list_end, crate::proofs::Loops::list_last))]
+    fn all_params(
+        &mut self,
+        params: &mut Seq<(Option<Id<'a>>, Option<NameAnnotation<'a>>, ValType<'a>)>,
+        are_named: bool,
+    )
+        ensures { ReadsOnto (all_params are_named) self.old self.new (map seen_param params.old) (map seen_param params.new) }
+    {
+        for _ in 0..self.left() {
+            if !self.is_form(Key::Param) {
+                break;
+            }
+            self.param(params, are_named);
+        }
+    }
+
+    /// `(result ..)`, which is next.
+    #[tactic(auto, using(crate::proofs::Loops::closes))]
+    fn result(&mut self, results: &mut Seq<ValType<'a>>)
+        requires { is_form key.Result (left self.old) ≡ true }
+        ensures { ReadsOnto a_result self.old self.new results.old results.new }
+    {
+        self.skip();
+        self.skip();
+        self.values(results);
+        self.close();
+    }
+
+    /// The results of a function.
+    #[tactic(auto, using(crate::proofs::Loops::list_more, crate::proofs::Loops::list_end, crate::proofs::Loops::list_last))]
+    pub(crate) fn all_results(&mut self, results: &mut Seq<ValType<'a>>)
+        ensures { ReadsOnto all_results self.old self.new results.old results.new }
+    {
+        for _ in 0..self.left() {
+            if !self.is_form(Key::Result) {
+                break;
+            }
+            self.result(results);
+        }
+    }
+
     /// The parameters and results of a function (text format, composite types).
-    pub(crate) fn function_type(&mut self, are_named: bool) -> FunctionType<'a> {
+    #[tactic(auto, using(crate::proofs::Loops::from_nothing))]
+    pub(crate) fn function_type(&mut self, are_named: bool) -> FunctionType<'a>
+        ensures { Reads (functype are_named) self.old self.new (seen_function_type result) }
+    {
         let mut params = Seq::new(self.alloc);
         let mut results = Seq::new(self.alloc);
-        for _ in 0..self.left() {
-            if !self.accept_form(Key::Param) {
-                break;
-            }
-            self.params(&mut params, are_named);
-            self.close();
-        }
-        for _ in 0..self.left() {
-            if !self.accept_form(Key::Result) {
-                break;
-            }
-            self.values(&mut results);
-            self.close();
-        }
+        self.all_params(&mut params, are_named);
+        self.all_results(&mut results);
         if self.is_form(Key::Param) {
             self.skip();
             self.fail(TextFault::ParamBehindResult);
@@ -248,7 +358,9 @@ impl<'a> Reader<'a> {
     }
 
     /// `(type $t)`, where it stands there.
-    fn type_index(&mut self) -> Option<Index<'a>> {
+    fn type_index(&mut self) -> Option<Index<'a>>
+        ensures { Decides type_index self.old self.new result }
+    {
         if self.accept_form(Key::Ty) {
             let index = self.index();
             self.close();
@@ -258,7 +370,9 @@ impl<'a> Reader<'a> {
     }
 
     /// A type use (text format, type uses), with names of parameters where they may have some.
-    pub(crate) fn type_use(&mut self, are_named: bool) -> TypeUse<'a, FunctionType<'a>> {
+    pub(crate) fn type_use(&mut self, are_named: bool) -> TypeUse<'a, FunctionType<'a>>
+        ensures { Reads (typeuse are_named) self.old self.new (seen_type_use result) }
+    {
         let index = self.type_index();
         let is_inline = self.is_form(Key::Param) || self.is_form(Key::Result);
         match (index, is_inline) {
@@ -270,13 +384,34 @@ impl<'a> Reader<'a> {
     }
 
     /// Puts a field of a struct behind the others.
-    fn push_struct_field(&mut self, fields: &mut Seq<StructField<'a>>, field: StructField<'a>) {
+    fn push_struct_field(&mut self, fields: &mut Seq<StructField<'a>>, field: StructField<'a>)
+        ensures make { self.new.make ≡ self.old.make }
+        ensures clean { self.new.fault ≡ None → self.old.fault ≡ None }
+        ensures pushed { self.new.fault ≡ None → fields.new ≡ fields.old ++ field.entry ∷ [] }
+        ensures left { self.new.fault ≡ None → left self.new ≡ left self.old }
+    {
         let pushed = fields.push(field);
         self.took(pushed);
     }
 
+    /// Fields without ids, up to the end of the form.
+    #[tactic(auto, using(crate::proofs::Loops::seen_more, crate::proofs::Loops::part_end, crate::proofs::Loops::part_last))]
+    fn unnamed_fields(&mut self, fields: &mut Seq<StructField<'a>>)
+        ensures { ReadsOnto unnamed_fields self.old self.new (map seen_struct_field fields.old) (map seen_struct_field fields.new) }
+    {
+        for _ in 0..self.left() {
+            if self.is_end() {
+                break;
+            }
+            let (mutable, ty) = self.field_type();
+            self.push_struct_field(fields, StructField::new(None, mutable, ty));
+        }
+    }
+
     /// Fields behind `(field`.
-    fn struct_field(&mut self, fields: &mut Seq<StructField<'a>>) {
+    fn struct_fields(&mut self, fields: &mut Seq<StructField<'a>>)
+        ensures { ReadsOnto struct_fields self.old self.new (map seen_struct_field fields.old) (map seen_struct_field fields.new) }
+    {
         let (id, name) = (self.id(), self.name());
         if id.is_some() || name.is_some() {
             let (mutable, ty) = self.field_type();
@@ -289,51 +424,80 @@ impl<'a> Reader<'a> {
             self.push_struct_field(fields, field);
             return;
         }
+        self.unnamed_fields(fields);
+    }
+
+    /// `(field ..)`, which is next.
+    #[tactic(auto, using(crate::proofs::Loops::closes))]
+    fn struct_field(&mut self, fields: &mut Seq<StructField<'a>>)
+        requires { is_form key.Field (left self.old) ≡ true }
+        ensures { ReadsOnto struct_field self.old self.new (map seen_struct_field fields.old) (map seen_struct_field fields.new) }
+    {
+        self.skip();
+        self.skip();
+        self.struct_fields(fields);
+        self.close();
+    }
+
+    /// The fields of a struct, each in its parentheses.
+    #[tactic(auto, using(crate::proofs::Loops::list_more, crate::proofs::Loops::list_end, crate::proofs::Loops::list_last))]
+    fn all_fields(&mut self, fields: &mut Seq<StructField<'a>>)
+        ensures { ReadsOnto all_fields self.old self.new (map seen_struct_field fields.old) (map seen_struct_field fields.new) }
+    {
         for _ in 0..self.left() {
-            if self.is_end() {
+            if !self.is_form(Key::Field) {
                 break;
             }
-            let (mutable, ty) = self.field_type();
-            self.push_struct_field(fields, StructField::new(None, mutable, ty));
+            self.struct_field(fields);
         }
     }
 
     /// The fields of a struct, behind `(struct`.
-    fn struct_type(&mut self) -> StructType<'a> {
+    #[tactic(auto, using(crate::proofs::Loops::from_nothing))]
+    fn struct_type(&mut self) -> StructType<'a>
+        ensures { Reads structtype self.old self.new (seen_struct_type result) }
+    {
         let mut fields = Seq::new(self.alloc);
-        for _ in 0..self.left() {
-            if !self.accept_form(Key::Field) {
-                break;
-            }
-            self.struct_field(&mut fields);
-            self.close();
-        }
+        self.all_fields(&mut fields);
         StructType { fields }
     }
 
-    /// A composite type in its parentheses (text format, composite types).
-    fn composite(&mut self) -> InnerTypeKind<'a> {
-        let kind = if self.accept_form(Key::Func) {
-            InnerTypeKind::Func(self.function_type(true))
-        } else if self.accept_form(Key::Struct) {
-            InnerTypeKind::Struct(self.struct_type())
-        } else if self.accept_form(Key::Array) {
+    /// A composite type behind its `(`, up to its `)`.
+    fn composite_form(&mut self) -> InnerTypeKind<'a>
+        ensures { Reads comptype_form self.old self.new (seen_composite result) }
+    {
+        if self.accept_form(Key::Func) {
+            return InnerTypeKind::Func(self.function_type(true));
+        }
+        if self.accept_form(Key::Struct) {
+            return InnerTypeKind::Struct(self.struct_type());
+        }
+        if self.accept_form(Key::Array) {
             let (mutable, ty) = self.field_type();
-            InnerTypeKind::Array(ArrayType { mutable, ty })
-        } else if self.accept_form(Key::Cont) {
-            InnerTypeKind::Cont(ContType(self.index()))
-        } else {
-            self.expected("`(func`, `(struct`, `(array` or `(cont`");
-            InnerTypeKind::Struct(StructType {
-                fields: Seq::new(self.alloc),
-            })
-        };
+            return InnerTypeKind::Array(ArrayType { mutable, ty });
+        }
+        if self.accept_form(Key::Cont) {
+            return InnerTypeKind::Cont(ContType(self.index()));
+        }
+        self.expected("`(func`, `(struct`, `(array` or `(cont`");
+        InnerTypeKind::Struct(StructType {
+            fields: Seq::new(self.alloc),
+        })
+    }
+
+    /// A composite type in its parentheses (text format, composite types).
+    fn composite(&mut self) -> InnerTypeKind<'a>
+        ensures { Reads comptype self.old self.new (seen_composite result) }
+    {
+        let kind = self.composite_form();
         self.close();
         kind
     }
 
     /// `(describes $t)` or `(descriptor $t)`, where it stands there.
-    fn related(&mut self, key: Key) -> Option<Index<'a>> {
+    fn related(&mut self, key: Key) -> Option<Index<'a>>
+        ensures { Decides (related key) self.old self.new result }
+    {
         if self.accept_form(key) {
             let index = self.index();
             self.close();
@@ -342,15 +506,18 @@ impl<'a> Reader<'a> {
         None
     }
 
-    /// A composite type and what stands before it, without what it is a subtype of.
-    fn plain_def(&mut self, final_type: Option<bool>, parents: Seq<Index<'a>>) -> TypeDef<'a> {
-        let shared = self.accept_form(Key::Shared);
+    /// A composite type with what it describes, and what describes it.
+    fn described(
+        &mut self,
+        shared: bool,
+        final_type: Option<bool>,
+        parents: Seq<Index<'a>>,
+    ) -> TypeDef<'a>
+        ensures { Reads (described shared final_type parents.entry) self.old self.new (seen_type_def result) }
+    {
         let describes = self.related(Key::Describes);
         let descriptor = self.related(Key::Descriptor);
         let kind = self.composite();
-        if shared {
-            self.close();
-        }
         TypeDef {
             kind,
             shared,
@@ -361,30 +528,63 @@ impl<'a> Reader<'a> {
         }
     }
 
+    /// A composite type and what stands before it, without what it is a subtype of.
+    fn plain_def(&mut self, final_type: Option<bool>, parents: Seq<Index<'a>>) -> TypeDef<'a>
+        ensures { Reads (maybe_shared final_type parents.entry) self.old self.new (seen_type_def result) }
+    {
+        if self.accept_form(Key::Shared) {
+            let def = self.described(true, final_type, parents);
+            self.close();
+            return def;
+        }
+        self.described(false, final_type, parents)
+    }
+
+    /// Indices, as many as there are.
+    #[tactic(auto, using(crate::proofs::Loops::part_more, crate::proofs::Loops::part_end, crate::proofs::Loops::part_last))]
+    fn indices(&mut self, indices: &mut Seq<Index<'a>>)
+        ensures { ReadsOnto all_indices self.old self.new indices.old indices.new }
+    {
+        for _ in 0..self.left() {
+            if !self.is_index(0) {
+                break;
+            }
+            let index = self.index();
+            self.push_index(indices, index);
+        }
+    }
+
     /// What a type is defined as (text format, recursive types).
-    fn type_def(&mut self) -> TypeDef<'a> {
+    #[tactic(auto, using(crate::proofs::Loops::from_nothing))]
+    fn type_def(&mut self) -> TypeDef<'a>
+        ensures { Reads subtype self.old self.new (seen_type_def result) }
+    {
         let mut parents = Seq::new(self.alloc);
         if !self.accept_form(Key::Sub) {
             return self.plain_def(None, parents);
         }
         let is_final = self.accept(Key::Final);
-        for _ in 0..self.left() {
-            match self.optional_index() {
-                Some(index) => self.push_index(&mut parents, index),
-                None => break,
-            }
-        }
+        self.indices(&mut parents);
         let def = self.plain_def(Some(is_final), parents);
         self.close();
         def
     }
 
-    /// A type definition, behind its `(` (text format, types).
-    pub(crate) fn type_field(&mut self) -> Type<'a> {
-        let span = self.place();
+    /// `type`
+    fn type_keyword(&mut self)
+        ensures { Expects (keyword key.Ty) self.old self.new }
+    {
         if !self.accept(Key::Ty) {
             self.expected("`type`");
         }
+    }
+
+    /// A type definition, behind its `(` (text format, types).
+    pub(crate) fn type_field(&mut self) -> Type<'a>
+        ensures { Reads typedef self.old self.new (seen_type result) }
+    {
+        let span = self.place();
+        self.type_keyword();
         let (id, name) = (self.id(), self.name());
         let def = self.type_def();
         Type {
@@ -395,37 +595,74 @@ impl<'a> Reader<'a> {
         }
     }
 
-    /// Types that may refer to each other, behind their `(` (text format, recursive types).
-    pub(crate) fn rec_field(&mut self) -> Rec<'a> {
-        let span = self.place();
-        self.skip();
-        let mut types = Seq::new(self.alloc);
+    /// `(type ..)` in a group.
+    fn rec_type(&mut self) -> Type<'a>
+        ensures { Reads typedef_form self.old self.new (seen_type result) }
+    {
+        self.open();
+        let ty = self.type_field();
+        self.close();
+        ty
+    }
+
+    /// Puts a type of a group behind the others.
+    #[tactic(auto, using(crate::proofs::Makes::none_failed), unfolding(crate::specs::Readers::left))]
+    fn push_type(&mut self, types: &mut Seq<Type<'a>>, ty: Type<'a>)
+        ensures clean { IsClean self.new → IsClean self.old }
+        ensures pushed { IsClean self.new → types.new ≡ types.old ++ ty.entry ∷ [] }
+        ensures left { left self.new ≡ left self.old }
+    {
+        self.make.push_type(types, ty);
+    }
+
+    /// The types of a group, up to the end of the form.
+    #[tactic(auto, using(crate::proofs::Loops::seen_more, crate::proofs::Loops::part_end, crate::proofs::Loops::part_last))]
+    fn rec_types(&mut self, types: &mut Seq<Type<'a>>)
+        ensures { ReadsOnto typedefs self.old self.new (map seen_type types.old) (map seen_type types.new) }
+    {
         for _ in 0..self.left() {
             if self.is_end() {
                 break;
             }
-            self.open();
-            let ty = self.type_field();
-            self.make.push_type(&mut types, ty);
-            self.close();
+            let ty = self.rec_type();
+            self.push_type(types, ty);
         }
+    }
+
+    /// Types that may refer to each other, behind their `(` (text format, recursive types).
+    #[tactic(auto, using(crate::proofs::Loops::from_nothing))]
+    pub(crate) fn rec_field(&mut self) -> Rec<'a>
+        requires { is_key key.Rec (key_of (peek 0 (left self.old))) ≡ true }
+        ensures { Reads rectype self.old self.new (seen_rec result) }
+    {
+        let span = self.place();
+        self.skip();
+        let mut types = Seq::new(self.alloc);
+        self.rec_types(&mut types);
         Rec::new(span, types)
     }
 
     /// A number of 64 bits without a sign.
-    pub(crate) fn number64(&mut self) -> u64 {
+    #[tactic(auto, using(crate::proofs::Numbers::unsigned_is, crate::proofs::Numbers::unsigned_not))]
+    pub(crate) fn number64(&mut self) -> u64
+        ensures { Decides u64 self.old self.new result }
+    {
         let place = self.place();
         let text = self.number();
         self.value(place, unsigned64(text), 0)
     }
 
     /// Reads `i32` or `i64`, if one of them is there: whether indices have 64 bits (text format, address types).
-    pub(crate) fn is64(&mut self) -> bool {
+    pub(crate) fn is64(&mut self) -> bool
+        ensures { Decides addrtype self.old self.new result }
+    {
         !self.accept(Key::I32) && self.accept(Key::I64)
     }
 
     /// Limits, with indices of 64 bits or of 32 (text format, limits).
-    pub(crate) fn limits(&mut self, is64: bool) -> Limits {
+    pub(crate) fn limits(&mut self, is64: bool) -> Limits
+        ensures { Decides (limits is64) self.old self.new result }
+    {
         let min = self.number64();
         let max = match self.is_number(0) {
             true => Some(self.number64()),
@@ -435,7 +672,9 @@ impl<'a> Reader<'a> {
     }
 
     /// A table type (text format, table types).
-    pub(crate) fn table_type(&mut self) -> TableType<'a> {
+    pub(crate) fn table_type(&mut self) -> TableType<'a>
+        ensures { Decides tabletype self.old self.new result }
+    {
         let shared = self.accept(Key::Shared);
         let is64 = self.is64();
         let limits = self.limits(is64);
@@ -447,7 +686,9 @@ impl<'a> Reader<'a> {
     }
 
     /// `(pagesize 1)`, where it stands there: the power of two.
-    pub(crate) fn page_size(&mut self) -> Option<u32> {
+    pub(crate) fn page_size(&mut self) -> Option<u32>
+        ensures { Decides pagesize self.old self.new result }
+    {
         if !self.accept_form(Key::Pagesize) {
             return None;
         }
@@ -462,7 +703,9 @@ impl<'a> Reader<'a> {
     }
 
     /// A memory type (text format, memory types).
-    pub(crate) fn memory_type(&mut self) -> MemoryType {
+    pub(crate) fn memory_type(&mut self) -> MemoryType
+        ensures { Decides memtype self.old self.new result }
+    {
         let is64 = self.is64();
         let limits = self.limits(is64);
         let shared = self.accept(Key::Shared);
@@ -475,29 +718,41 @@ impl<'a> Reader<'a> {
     }
 
     /// A global type (text format, global types).
-    pub(crate) fn global_type(&mut self) -> GlobalType<'a> {
-        let shared = self.is_form(Key::Shared) && !self.is_shared_ref();
-        if shared {
+    pub(crate) fn global_type(&mut self) -> GlobalType<'a>
+        ensures { Decides globaltype self.old self.new result }
+    {
+        if self.is_form(Key::Shared) && !self.is_shared_ref() {
             self.skip();
             self.skip();
-        }
-        let mutable = match shared {
-            true => self.accept(Key::Mut),
-            false => self.accept_form(Key::Mut),
-        };
-        let ty = self.value_type();
-        if shared || mutable {
+            let mutable = self.accept(Key::Mut);
+            let ty = self.value_type();
             self.close();
+            return GlobalType {
+                ty,
+                mutable,
+                shared: true,
+            };
+        }
+        if self.accept_form(Key::Mut) {
+            let ty = self.value_type();
+            self.close();
+            return GlobalType {
+                ty,
+                mutable: true,
+                shared: false,
+            };
         }
         GlobalType {
-            ty,
-            mutable,
-            shared,
+            ty: self.value_type(),
+            mutable: false,
+            shared: false,
         }
     }
 
     /// Whether `(shared` and the word of a reference type stand there.
-    fn is_shared_ref(&self) -> bool {
+    fn is_shared_ref(&self) -> bool
+        ensures { result ≡ is_shared_ref (left self.now) }
+    {
         match self.key(2) {
             Some(key) => referred(key).is_some(),
             None => false,

@@ -1,0 +1,10 @@
+use Rattle.wat_syntax.specs.Tokens.{after}
+use Rattle.wat_text.specs.Readers.{left}
+use Rattle.wat_text.proofs.Lefts.{skipped}
+use Rattle.wat_text.proofs.reader.Reader.skip.Goals as goal
+use Rattle.std.proofs.Common.{rules}
+
+-- `search` does not see that one more token is skipped
+pub returns-then-self-len-clause-left : goal.returns-then-self-len-clause-left
+unfolding left after
+returns-then-self-len-clause-left c = skipped c.args.self.now.at c.args.self.now.tokens.items c.args.self.now.end (search rules)
