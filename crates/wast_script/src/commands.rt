@@ -64,7 +64,7 @@ pub enum Execution<'a> {
     Module(ScriptModule<'a>),
 }
 
-/// What a command says. Messages are those that the reference interpreter gives.
+/// What a command does or asserts. Messages are those of the reference interpreter.
 #[derive(Clone, Copy)]
 pub enum CommandKind<'a> {
     /// `(module ..)`: a module that is instantiated.
@@ -111,6 +111,6 @@ pub enum CommandKind<'a> {
 pub struct Command<'a> {
     /// The position of its keyword; of the end of a thread that of its parenthesis.
     pub span: Span,
-    /// What it says.
+    /// What it does or asserts.
     pub kind: CommandKind<'a>,
 }

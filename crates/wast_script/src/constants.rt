@@ -266,7 +266,7 @@ impl<'a> Reader<'a> {
     }
 
     /// One step in the alternatives of `either`, of which so many are open; how many are then. An `either` in another is
-    /// one with it, because both say that the result is one of their values.
+    /// one with it, because both are for a result that is one of their values.
     fn alternative(&mut self, depth: usize) -> usize {
         if self.is_close() {
             self.skip();

@@ -1,4 +1,4 @@
-//! Reads scripts of tests: modules in the text format, with commands that run them and say what has to come of it.
+//! Reads scripts of tests: modules in the text format, with commands that run them and assert results.
 //!
 //! A script is a file `NAME.wast` of the specification's suite of tests. Runners of tests and the command `wat2json` use this crate.
 //!
@@ -10,7 +10,7 @@
 //! # Modules
 //!
 //! - `commands`: commands and actions, `values`: numbers, vectors and references.
-//! - `scripts`: [`read_script`], and what a [`Script`] gives of its modules.
+//! - `scripts`: [`read_script`], and what a [`Script`] has of its modules.
 //! - `directives`, `modules`, `actions`, `constants`: the reader of each part, over the tokens that `reader` has.
 //! - `words`: the words that begin commands and values.
 //!

@@ -1,4 +1,4 @@
-//! Reads where a module is, and in which form.
+//! Finds the tokens of a module, and its form.
 
 use crate::commands::{ModuleForm, ScriptModule};
 use crate::reader::Reader;
@@ -27,7 +27,7 @@ impl<'a> Reader<'a> {
         self.expected("`)`");
     }
 
-    /// Reads strings up to the end of the form, and its end. Returns where the strings are.
+    /// Reads strings up to the end of the form, and its end. Returns the part that the strings are.
     fn skip_strings(&mut self) -> Part {
         let start = self.at();
         for _ in 0..self.left() {
@@ -56,7 +56,7 @@ impl<'a> Reader<'a> {
         }
     }
 
-    /// Reads a module from its name annotation or its contents on, up to its end. Returns its form, and where its strings are.
+    /// Reads a module from its name annotation or its contents on, up to its end. Returns its form, and the part that its strings are.
     fn contents(&mut self) -> (ModuleForm, Part) {
         self.skip_name();
         if self.accept("binary") {

@@ -104,7 +104,7 @@ impl<'a> Reader<'a> {
         self.fail_at(place, TextFault::Expected(what));
     }
 
-    /// Keeps that memory was refused, unless something was added to a list.
+    /// Keeps that allocation failed, unless something was added to a list.
     fn took(&mut self, is_pushed: bool) {
         if !is_pushed {
             let place = self.place();
@@ -247,7 +247,7 @@ impl<'a> Reader<'a> {
         }
     }
 
-    /// Returns what a text says, or keeps a fault at its position.
+    /// Returns the value of a text, or keeps a fault at its position.
     pub(crate) fn value<T: Drop>(&mut self, span: Span, value: Result<T, TextFault>, none: T) -> T {
         match value {
             Ok(value) => value,

@@ -1,4 +1,4 @@
-//! Scripts, and what they give of their modules.
+//! Scripts, and the modules in them.
 
 ghost use Rattle.std.specs.Prelude.{◌≤◌, length, All, IsTrue, IfOk, IfErr};
 ghost use Rattle.wat_text.specs.Texts.{is_well_formed_text};

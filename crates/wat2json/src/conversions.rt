@@ -51,7 +51,7 @@ struct Converter<'a> {
     stem: String,
 }
 
-/// Returns a form that no encoder covers with its word and the position of that, as encoding the text of the module finds them.
+/// Returns an unsupported construct with its word and the position of that, as encoding the text of the module finds them.
 fn as_written<'a>(
     alloc: Global,
     script: &Script<'a>,
@@ -97,7 +97,7 @@ fn text_contents(alloc: Global, text: &str) -> Result<Contents, AllocError> {
     })
 }
 
-/// Returns the file of a module with fields. If its names are wrong, and an assertion says that it is wrong, this is its text.
+/// Returns the file of a module with fields. If its names are wrong, and it may be wrong because an assertion is about that, this is its text.
 fn contents_of_fields<'a>(
     alloc: Global,
     script: &Script<'a>,

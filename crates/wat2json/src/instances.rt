@@ -26,7 +26,7 @@ impl<'a> Instances<'a> {
         }
     }
 
-    /// Gives an id to a module.
+    /// Adds the id of a module.
     fn name(&mut self, id: Option<Id<'a>>, number: usize) -> Result<(), AllocError> {
         if let Some(id) = id {
             self.names.push((id, number))?;

@@ -9,7 +9,7 @@
 //! - `options` reads the arguments, and `outputs` names and writes the files.
 //! - `conversions` converts commands. `values` writes arguments and results, `json` strings and members, and `lines` counts lines.
 //! - `instances` knows which modules actions refer to. `interfaces` and `binary` read the exports of a module from its bytes.
-//! - `refusals` says why a script is not converted.
+//! - `refusals` has the errors of a script that is not converted.
 #![tactic(auto)]
 
 mod binary;

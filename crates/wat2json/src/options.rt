@@ -13,7 +13,7 @@ pub(crate) struct Options {
     pub target: Option<String>,
 }
 
-/// What the arguments ask for.
+/// What is to be done.
 #[derive(Drop)]
 pub(crate) enum Request {
     /// Convert a script.
@@ -77,7 +77,7 @@ fn is_option(word: &str) -> bool {
 }
 
 impl Reading {
-    /// Returns the request that a word makes whatever else the arguments say.
+    /// Returns the request of a word that decides, whatever the other arguments are.
     fn request_of(&self, word: &str) -> Option<Request> {
         if self.awaits_target || self.is_past_options {
             return None;
@@ -152,7 +152,7 @@ impl Reading {
     }
 }
 
-/// Reads the arguments, of which the first is the program's name, from left to right. The first that asks for the help or the
+/// Reads the arguments, of which the first is the program's name, from left to right. The first that is for the help or the
 /// version decides, and so does the first that is wrong.
 pub(crate) fn request_of(arguments: Args) -> Result<Request, Misuse> {
     let mut reading = Reading {

@@ -5,7 +5,7 @@ use wast_tree::Span;
 use wat_bytes::Refused;
 use wat_text::{TextError, TextFault};
 
-/// Why a script is not converted: what [`Refused`] says of its text or of a module in it.
+/// Why a script is not converted: an error of its text, or of a module in it.
 #[derive(Clone, Copy)]
 pub(crate) struct Refusal<'a>(pub Refused<'a>);
 
@@ -25,8 +25,8 @@ impl From<AllocError> for Refusal<'_> {
 /// The number of the last fault of names and type uses, E9.
 const LAST: u32 = 9;
 
-/// Returns whether a module is refused because of its names, its type uses or the order of its imports (E1 to E9), as one that is
-/// malformed or not valid may be.
+/// Returns whether an error is about names, type uses or the order of imports (E1 to E9). A module that is malformed or not valid may
+/// have one.
 pub(crate) fn is_of_names(refused: &Refused<'_>) -> bool {
     match (refused, refused.number()) {
         (Refused::Module(_), Some(number)) => number <= LAST,
