@@ -1,7 +1,7 @@
 //! Lists the commands of scripts: each line of standard input is a script, in which `\n` stands for a line feed.
 //!
 //! For a script it prints its text, and then a line for each command: its line and column, its word, and what it has. A module is read
-//! too, and printed with its form, and with the number of its fields or the error. CI compares the output with a stored one.
+//! too, and printed with its form, and with the error if there is one. CI compares the output with a stored one.
 #![tactic(auto)]
 
 mod values;
@@ -37,8 +37,8 @@ fn word_of(kind: &CommandKind<'_>) -> &'static str {
     }
 }
 
-/// Drops a module, and returns how many fields or pieces of bytes it had.
-fn count_of(module: TextModule<'_>) -> usize {
+/// Drops a module.
+fn drop_module(module: TextModule<'_>) {
     let TextModule {
         span: _span,
         id: _id,
@@ -46,16 +46,12 @@ fn count_of(module: TextModule<'_>) -> usize {
         kind,
     } = module;
     match kind {
-        TextKind::Fields(fields) => {
-            let count = fields.len();
-            discard_fields(fields);
-            count
-        }
-        TextKind::Binary(pieces) => pieces.len(),
+        TextKind::Fields(fields) => discard_fields(fields),
+        TextKind::Binary(_pieces) => (),
     }
 }
 
-/// Prints the form of a module and the bytes of its strings, and how many fields or pieces it has, or the error if it cannot be read.
+/// Prints the form of a module and the bytes of its strings, and whether it is read, or the error if it is not.
 fn print_module<'a>(
     rt: &impl Print,
     alloc: Global,
@@ -72,8 +68,8 @@ fn print_module<'a>(
     }
     match script.read(alloc, module, strings) {
         Ok(read) => {
-            let count = count_of(read);
-            print!(rt; " {count}")
+            drop_module(read);
+            print!(rt; " read")
         }
         Err(error) => {
             let (line, column) = line_and_column(script.text, error.span);
@@ -188,13 +184,18 @@ fn print_script(rt: &impl Print, alloc: Global, text: &str) -> io::Result<()> {
     }
 }
 
+/// Prints a line of the input, and the commands of the script in it, in which `\n` stands for a line feed.
+fn print_line(rt: &impl Print, alloc: Global, line: &str) -> io::Result<()> {
+    let text = line.replace(alloc, "\\n", "\n")?;
+    println!(rt; "{line}")?;
+    print_script(rt, alloc, text.as_str())
+}
+
 fn main(rt: HostRuntime) -> io::Result<()> {
     let alloc = rt.alloc();
     for line in BufReader::new(alloc, rt.reader())?.lines(alloc) {
         let line = line?;
-        let text = line.as_str().replace(alloc, "\\n", "\n")?;
-        println!(rt; "{line}")?;
-        print_script(&rt, alloc, text.as_str())?;
+        print_line(&rt, alloc, line.as_str())?;
     }
     Ok(())
 }
