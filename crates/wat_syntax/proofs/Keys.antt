@@ -1,9 +1,9 @@
--- The numbers of keywords say which keyword it is.
+-- The numbers of keywords say which keyword it is. tools/ops writes this file.
 use Rattle.std.specs.Prelude.{ℕ, ◌≡◌, ◌==◌, true, List, [], ◌∷◌, drop, Option, None, Some}
 use Rattle.std.proofs.Common.{refl, sym, ap, ◌∙◌, eqb-true}
 use Rattle.wat_tokens.specs.declared.words.Key.{Key}
 use Rattle.wat_tokens.specs.declared.words.Key.TheVariants as key
-use Rattle.wat_syntax.specs.Keywords.{number_of_key, is_same_key}
+use Rattle.wat_syntax.specs.Keywords.{number_of_key, is_same_key, AreDistinct}
 
 -- all keywords, in the order of their numbers
 keys : List Key
@@ -125,5 +125,5 @@ some_of : {a b : Key} → Some a ≡ Some b → a ≡ b
 some_of e = cc
 
 -- two keywords with one number are the same
-pub same_keys : (a b : Key) → is_same_key a b ≡ true → a ≡ b
+pub same_keys : AreDistinct
 same_keys a b h = some_of (sym (is_numbered a) ∙ ap numbered (eqb-true (number_of_key a) (number_of_key b) h) ∙ is_numbered b)

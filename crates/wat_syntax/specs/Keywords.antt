@@ -1,5 +1,6 @@
--- Keywords (text format: tokens). A keyword that is no instruction is a `Key`, which the lexer makes of its text.
-use Rattle.std.specs.Prelude.{ℕ, ◌==◌, Bool}
+-- Keywords (text format: tokens). A keyword that is no instruction is a `Key`, which the lexer makes of its text. tools/ops writes
+-- this file.
+use Rattle.std.specs.Prelude.{ℕ, ◌≡◌, ◌==◌, Bool, true}
 use Rattle.wat_tokens.specs.declared.words.Key.{Key}
 use Rattle.wat_tokens.specs.declared.words.Key.TheVariants as key
 
@@ -111,3 +112,7 @@ number_of_key key.Absolute = 101
 -- whether two keywords are the same
 abbrev pub is_same_key : Key → Key → Bool
 is_same_key a b = number_of_key a == number_of_key b
+
+-- no two keywords have the same number
+abbrev pub AreDistinct : Type 0
+AreDistinct = (a b : Key) → is_same_key a b ≡ true → a ≡ b

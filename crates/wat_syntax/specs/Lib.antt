@@ -1,9 +1,13 @@
+pub mod Bodies
+pub mod Instructions
 pub mod Keywords
 pub mod Modules
+pub mod Operators
 pub mod Seen
 pub mod Tokens
 pub mod Tree
 pub mod Types
 pub mod Values
 pub mod Worked
+pub mod WorkedBodies
 pub mod WorkedTypes

@@ -6,9 +6,10 @@
 -- rules give each name the address 0, and the contracts speak of what is seen of a tree: the tree with each name at address 0.
 use Rattle.std.specs.Prelude.{ℕ, List, [], ◌∷◌, Option, None, Some, option_map, map}
 use Rattle.std.specs.Borrow.{Bor}
-use Rattle.wat_syntax.specs.Tree.{Span, InlineExport, InlineImport, Local, Tag, TagType, TagKind, ItemKind, ItemSig, ImportItems, Imports, Export, Id, Index, NameAnnotation, ValType, StructField, StructType, FunctionType, TypeUse, InnerTypeKind, TypeDef, Rec}
+use Rattle.wat_syntax.specs.Tree.{BlockType, CallIndirect, TryTable, Instruction, Span, InlineExport, InlineImport, Local, Tag, TagType, TagKind, ItemKind, ItemSig, ImportItems, Imports, Export, Id, Index, NameAnnotation, ValType, StructField, StructType, FunctionType, TypeUse, InnerTypeKind, TypeDef, Rec}
 use Rattle.wat_syntax.specs.Tree.inner
 use Rattle.wat_syntax.specs.Tree.ty
+use Rattle.wat_syntax.specs.Tree.instr
 use Rattle.wat_syntax.specs.Tree.tag
 use Rattle.wat_syntax.specs.Tree.tag_kind
 use Rattle.wat_syntax.specs.Tree.kind
@@ -61,6 +62,26 @@ seen_type t = record { span = t.span; id = t.id; name = seen_name_option t.name;
 
 abbrev pub seen_rec : Rec → Rec
 seen_rec r = record { span = r.span; types = map seen_type r.types }
+
+-- instructions: those with a block type or a type use have names
+abbrev pub seen_block : BlockType → BlockType
+seen_block b = record { label = b.label; label_name = seen_name_option b.label_name; ty = seen_type_use b.ty }
+
+abbrev pub seen_call : CallIndirect → CallIndirect
+seen_call c = record { table = c.table; ty = seen_type_use c.ty }
+
+abbrev pub seen_try_table : TryTable → TryTable
+seen_try_table t = record { block = seen_block t.block; catches = t.catches }
+
+abbrev pub seen_instr : Instruction → Instruction
+seen_instr (instr.block b) = instr.block (seen_block b)
+seen_instr (instr.loop_ b) = instr.loop_ (seen_block b)
+seen_instr (instr.if_ b) = instr.if_ (seen_block b)
+seen_instr (instr.try_ b) = instr.try_ (seen_block b)
+seen_instr (instr.try_table t) = instr.try_table (seen_try_table t)
+seen_instr (instr.call_indirect c) = instr.call_indirect (seen_call c)
+seen_instr (instr.return_call_indirect c) = instr.return_call_indirect (seen_call c)
+seen_instr i = i
 
 -- exports and imports of a field
 abbrev pub seen_exports : InlineExport → InlineExport

@@ -1,5 +1,7 @@
 //! Tokens, and what the rules make of them.
 
+ghost use Rattle.wat_syntax.specs.Keywords.{AreDistinct};
+ghost use Rattle.wat_syntax.specs.WorkedBodies.{Folds, Blocks, Fields};
 ghost use Rattle.wat_syntax.specs.WorkedTypes.{Values, References, Composites, Externals};
 
 /// Numbers, names, ids and indices.
@@ -14,4 +16,18 @@ pub(crate) fn types()
     ensures references { References }
     ensures composites { Composites }
     ensures externals { Externals }
+{}
+
+/// Keywords are told apart by their numbers.
+#[tactic(auto, using(crate::proofs::Keys::same_keys))]
+pub(crate) fn keywords()
+    ensures { AreDistinct }
+{}
+
+/// Expressions and fields, each with one that is read and one that is not.
+#[tactic(auto, using(crate::proofs::WorkedBodies::folds, crate::proofs::WorkedBodies::blocks, crate::proofs::WorkedBodies::fields))]
+pub(crate) fn bodies()
+    ensures folds { Folds }
+    ensures blocks { Blocks }
+    ensures fields { Fields }
 {}
