@@ -9,6 +9,7 @@ pub mod Rounded
 pub mod Scanned
 pub mod SignedFloats
 pub mod TwosComplement
+pub mod WorkedWords
 pub mod Fronts
 pub mod Braces
 pub mod Scalars
@@ -18,6 +19,7 @@ pub mod Quotes
 pub mod Tables
 pub mod Idchars
 pub mod Parts
+pub mod Buckets
 pub mod Ascii
 pub mod Steps
 pub mod FirstBytes

@@ -1,13 +1,14 @@
 -- Closes what reading a part of a text leaves: each lemma is one arm of a rule, by the first bytes of the text.
-use Rattle.std.proofs.Common.{◌≡◌, ◌≢◌, ◌∙◌, ℕ, zero, suc, ◌+◌, ◌-◌, ◌<◌, ◌≤◌, ◌==◌, Bool, true, false, List, [], ◌∷◌, ◌++◌, length, drop, take, get_or, Option, None, Some, Result, Ok, Err, refl, sym, ap, subst, arith, add-one, drop-cons, append_assoc, append-nil, eqb-true, ◌⊎◌, inl, inr}
+use Rattle.std.proofs.Common.{◌≡◌, ◌∙◌, ℕ, zero, suc, ◌+◌, ◌-◌, ◌<◌, ◌≤◌, ◌==◌, Bool, true, false, List, [], ◌∷◌, ◌++◌, length, drop, Option, None, Some, refl, sym, ap, arith, append_assoc, append-nil, eqb-true, ◌⊎◌, inl, inr}
 use Rattle.std.proofs.lemmas.Bool.{cases_lt}
 use Rattle.std.proofs.lemmas.List.{drop-drop, length-drop}
-use Rattle.std.specs.Prelude.{if◌then◌else◌, ◌&&◌, ◌||◌, map, MatchResult}
+use Rattle.std.proofs.lemmas.List.Elements.{All-push}
+use Rattle.std.specs.Prelude.{if◌then◌else◌, ◌&&◌, ◌||◌, All}
 use Rattle.wat_grammar.specs.Parts.{◌>>=◌, front}
 use Rattle.wat_grammar.specs.Space.{is_blank, is_linechar, behind, linecomment, blockcomment}
 use Rattle.wat_grammar.specs.Tokens as grammar
 use Rattle.wat_grammar.specs.Tokens.{Contents, is_idchar, is_reserved, a_string, an_id, begins_comment, skipped_open, skipped_part, skipped, annotation, opened, one_token, string_token, id_token, word, part, parts, has_meaning}
-use Rattle.wat_tokens.specs.Scans.{first_of, is_first, begins_of, kind_of, opens_of, token_of, placed, seen_all, seen}
+use Rattle.wat_tokens.specs.Scans.{first_of, is_first, begins_of, kind_of, opens_of, token_of, placed, seen_all, seen, IsNamed}
 use Rattle.wat_tokens.specs.declared.tokens.Placed.{Placed}
 use Rattle.wat_tokens.specs.declared.tokens.Token.TheVariants as token
 use Rattle.wat_tokens.proofs.Fronts.{front_more}
@@ -356,6 +357,9 @@ pa_end X m len t before none = ap (λ x. with_before before (parts X m len x)) n
 pub seen_more : (ts : List Placed) (t : Placed) → seen_all (ts ++ t ∷ []) ≡ seen_all ts ++ (seen t.token, t.span.offset) ∷ []
 seen_more [] t = refl
 seen_more (x ∷ ts) t = ap (λ ys. (seen x.token, x.span.offset) ∷ ys) (seen_more ts t)
+
+pub named_more : (ts : List Placed) (t : Placed) → All (λ p. IsNamed p.token) ts → IsNamed t.token → All (λ p. IsNamed p.token) (ts ++ t ∷ [])
+named_more ts t before now = All-push (λ p. IsNamed p.token) ts t before now
 
 pub strict : (a b : ℕ) → a ≤ b → (a ≡ b → ⊥) → a < b
 strict a b h k = go (cases_lt a b)

@@ -1,5 +1,5 @@
 -- What cutting a text into tokens returns (text format: tokens). The rules are those of wat_grammar.
-use Rattle.std.specs.Prelude.{◌≡◌, ◌≢◌, ◌<◌, ◌≤◌, ◌==◌, ℕ, Bool, true, false, if◌then◌else◌, List, [], ◌∷◌, length, drop, map, Option, None, Some, Result, MatchResult, codes}
+use Rattle.std.specs.Prelude.{◌≡◌, ◌≢◌, ◌<◌, ◌≤◌, ◌==◌, ℕ, Bool, true, false, if◌then◌else◌, List, [], ◌∷◌, length, drop, map, Option, None, Some, Result, MatchResult, codes, ⊤}
 use Rattle.wat_grammar.specs.Space.{is_blank}
 use Rattle.wat_grammar.specs.Tokens as grammar
 use Rattle.wat_tokens.specs.declared.faults.TextError.{TextError}
@@ -13,6 +13,7 @@ use Rattle.wat_tokens.specs.declared.scans.Kind.{Kind}
 use Rattle.wat_tokens.specs.declared.scans.Kind.TheVariants as kind
 use Rattle.wat_tokens.specs.declared.scans.Part.{Part}
 use Rattle.wat_tokens.specs.declared.scans.Skipped.{Skipped}
+use Rattle.wat_tokens.specs.Words.{word_named}
 
 -- the id of an annotation with a meaning
 abbrev pub id_of : Annotation → List ℕ
@@ -31,6 +32,12 @@ seen (token.Word word text) = grammar.Word text.now
 seen (token.Other text) = grammar.Word text.now
 seen (token.Id name) = grammar.Id name.now
 seen (token.String bytes) = grammar.String bytes.now
+
+-- The word of a token is that of its text: a word that means something of its own has its meaning, and others have none.
+abbrev pub IsNamed : Token → Type 0
+IsNamed (token.Word word text) = word_named text.now ≡ Some word
+IsNamed (token.Other text) = word_named text.now ≡ None
+IsNamed other = ⊤
 
 -- a token at a place
 abbrev pub placed : Token → ℕ → Placed
@@ -85,6 +92,11 @@ pub record IsName (read : Option (List ℕ × List ℕ)) (text : List ℕ) (begi
 abbrev pub token_of : Option Placed → List grammar.Placed
 token_of None = []
 token_of (Some p) = (seen p.token, p.span.offset) ∷ []
+
+-- the word of the token of a part, if it has one, is that of its text
+abbrev pub IsNamedPart : Option Placed → Type 0
+IsNamedPart None = ⊤
+IsNamedPart (Some p) = IsNamed p.token
 
 -- A part is what a rule reads. If memory is refused, the text may be right.
 abbrev pub Reads : Option (List grammar.Placed × List ℕ) → List ℕ → Result Part TextError → Type 0

@@ -3,6 +3,7 @@
 //! A call takes memory only where its text says so. A call that can fail says when, and with what.
 #![tactic(auto)]
 
+mod examples;
 mod faults;
 mod floats;
 mod integers;

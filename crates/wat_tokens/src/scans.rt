@@ -1,10 +1,10 @@
 //! A text is cut into tokens.
 
-ghost use Rattle.std.specs.Prelude.{◌≡◌, ◌≢◌, ◌==◌, ◌&&◌, ◌||◌, ◌<◌, ◌≤◌, ◌+◌, ◌++◌, suc, true, false, length, drop, Some, None, IsUtf8, IsCharBoundary, IfErr, MatchOption, MatchResult};
+ghost use Rattle.std.specs.Prelude.{◌≡◌, ◌≢◌, ◌==◌, ◌&&◌, ◌||◌, ◌<◌, ◌≤◌, ◌+◌, ◌++◌, suc, true, false, length, drop, Some, None, IsUtf8, IsCharBoundary, All, IfOk, IfErr, MatchOption, MatchResult};
 ghost use Rattle.wat_grammar.specs.Parts.{front};
 ghost use Rattle.wat_grammar.specs.Space.{is_blank, is_linechar, blockcomment};
 ghost use Rattle.wat_grammar.specs.Tokens.{is_idchar, is_reserved, id_chars, string_length, has_meaning, a_string, a_name, an_id, ends, one_token, skipped_open, skipped_part, skipped, annotation, opened, string_token, id_token, word, part, tokens, bytes_of, as_written};
-ghost use Rattle.wat_tokens.specs.Scans.{id_of, seen, seen_all, placed, contents_of, token_of, first_of, is_first, begins_of, kind_of, IsRead, IsName, IsFault, IsInside, Reads, Skips};
+ghost use Rattle.wat_tokens.specs.Scans.{id_of, seen, seen_all, placed, contents_of, token_of, first_of, is_first, begins_of, kind_of, IsNamed, IsNamedPart, IsRead, IsName, IsFault, IsInside, Reads, Skips};
 ghost use Rattle.wat_tokens.specs.declared.faults.TextFault.TheVariants as fault;
 
 use crate::faults::{TextError, TextFault};
@@ -392,8 +392,10 @@ impl<'a> Source<'a> {
     fn one_token(&self, token: Token<'a>, place: usize, end: usize) -> Result<Part<'a>, TextError>
         requires place { place < end }
         requires end { end ≤ length self.now.text.now }
+        requires named { IsNamed token }
         ensures end { MatchResult result (λ x. IsInside self.now.text.now place x.end) (λ e. e.span.offset ≤ length self.now.text.now) }
         ensures read { Reads (one_token (seen token.entry) place (drop end self.now.text.now)) self.now.text.now result }
+        ensures words { IfOk result (λ x. IsNamedPart x.token) }
     {
         match ends(self.rest(end)) {
             true => {
@@ -548,6 +550,7 @@ impl<'a> Source<'a> {
         requires at { is_first 0x40 (drop (place + 1) self.now.text.now) ≡ true }
         ensures end { MatchResult result (λ x. IsInside self.now.text.now place x.end) (λ e. e.span.offset ≤ length self.now.text.now) }
         ensures read { Reads (annotation (contents_of self.now.strings) (suc place) (drop (place + 2) self.now.text.now)) self.now.text.now result }
+        ensures words { IfOk result (λ x. IsNamedPart x.token) }
     {
         let id = match self.annotation_id_at(place) {
             Ok(id) => id,
@@ -589,6 +592,7 @@ impl<'a> Source<'a> {
         requires begin { place < length self.now.text.now }
         ensures end { MatchResult result (λ x. IsInside self.now.text.now place x.end) (λ e. e.span.offset ≤ length self.now.text.now) }
         ensures read { Reads (opened (contents_of self.now.strings) place (drop (place + 1) self.now.text.now)) self.now.text.now result }
+        ensures words { IfOk result (λ x. IsNamedPart x.token) }
     {
         if self.is_at(place + 1, b';') {
             return match self.comment_at(place) {
@@ -603,13 +607,14 @@ impl<'a> Source<'a> {
     }
 
     /// Reads a word at `place`. If it begins with a letter, it may be a keyword, which has a meaning of its own.
-    #[tactic(auto, using(crate::proofs::Ascii::at_byte, crate::proofs::Ascii::idchar_boundary, crate::proofs::Ascii::some_word))]
+    #[tactic(auto, using(crate::proofs::Ascii::at_byte, crate::proofs::Ascii::idchar_boundary, crate::proofs::Ascii::some_word, crate::proofs::Buckets::low_word))]
     fn word_token_at(&self, place: usize, first: u8) -> Result<Part<'a>, TextError>
         requires utf8 { IsUtf8 self.now.text.now }
         requires first { first_of (drop place self.now.text.now) ≡ Some first }
         requires word { is_idchar first ≡ true }
         ensures end { MatchResult result (λ x. IsInside self.now.text.now place x.end) (λ e. e.span.offset ≤ length self.now.text.now) }
         ensures read { Reads (word place (drop place self.now.text.now)) self.now.text.now result }
+        ensures words { IfOk result (λ x. IsNamedPart x.token) }
     {
         let word = self.word_at(place);
         if first < b'a' {
@@ -626,6 +631,7 @@ impl<'a> Source<'a> {
         requires begin { place < length self.now.text.now }
         ensures end { MatchResult result (λ x. IsInside self.now.text.now place x.end) (λ e. e.span.offset ≤ length self.now.text.now) }
         ensures read { Reads (string_token (contents_of self.now.strings) place (drop (place + 1) self.now.text.now)) self.now.text.now result }
+        ensures words { IfOk result (λ x. IsNamedPart x.token) }
     {
         match self.string_at(place, place + 1) {
             Ok(string) => self.one_token(Token::String(string.bytes), place, string.end),
@@ -640,6 +646,7 @@ impl<'a> Source<'a> {
         requires dollar { first_of (drop place self.now.text.now) ≡ Some 0x24 }
         ensures end { MatchResult result (λ x. IsInside self.now.text.now place x.end) (λ e. e.span.offset ≤ length self.now.text.now) }
         ensures read { Reads (id_token (contents_of self.now.strings) place (drop (place + 1) self.now.text.now)) self.now.text.now result }
+        ensures words { IfOk result (λ x. IsNamedPart x.token) }
     {
         match self.id_at(place, place + 1, TextFault::EmptyId) {
             Ok(id) => self.one_token(Token::Id(id.name), place, id.end),
@@ -654,6 +661,7 @@ impl<'a> Source<'a> {
         requires begin { place < length self.now.text.now }
         ensures end { MatchResult result (λ x. IsInside self.now.text.now place x.end) (λ e. e.span.offset ≤ length self.now.text.now) }
         ensures read { Reads (part (contents_of self.now.strings) place (drop place self.now.text.now)) self.now.text.now result }
+        ensures words { IfOk result (λ x. IsNamedPart x.token) }
     {
         let Some(first) = self.byte(place) else {
             return Err(fault_at(place, TextFault::Character));
@@ -681,9 +689,10 @@ impl<'a> Source<'a> {
 }
 
 /// Appends a token, if there is one.
-#[tactic(auto, using(crate::proofs::Steps::seen_more))]
+#[tactic(auto, using(crate::proofs::Steps::seen_more, crate::proofs::Steps::named_more))]
 fn put<'a>(found: &mut Vec<Placed<'a>>, token: Option<Placed<'a>>) -> Result<(), TextFault>
-    ensures { MatchResult result (λ u. seen_all found.new.items ≡ seen_all found.old.items ++ token_of token.entry) (λ f. f ≡ fault.Memory) }
+    ensures put { MatchResult result (λ u. seen_all found.new.items ≡ seen_all found.old.items ++ token_of token.entry) (λ f. f ≡ fault.Memory) }
+    ensures words { IsNamedPart token.entry → All (λ p. IsNamed p.token) found.old.items → IfOk result (λ u. All (λ p. IsNamed p.token) found.new.items) }
 {
     match token {
         Some(token) => match found.push(token) {
@@ -702,6 +711,7 @@ fn scanned<'a>(
 ) -> Result<Vec<Placed<'a>>, TextError>
     ensures place { IfErr result (λ e. e.span.offset ≤ length text.now) }
     ensures read { MatchResult result (λ found. tokens (contents_of strings.entry) text.now ≡ Some (seen_all found.items)) (λ e. e.fault ≢ fault.Memory → tokens (contents_of strings.entry) text.now ≡ None) }
+    ensures words { IfOk result (λ found. All (λ p. IsNamed p.token) found.items) }
 {
     let source = Source {
         alloc,
@@ -738,6 +748,7 @@ pub fn tokens_of<'a>(
     strings: &'a Strings,
 ) -> Result<Vec<Placed<'a>>, TextError>
     ensures read { MatchResult result (λ found. tokens bytes_of text.now ≡ Some (seen_all found.items)) (λ e. e.fault ≢ fault.Memory → tokens bytes_of text.now ≡ None) }
+    ensures words { IfOk result (λ found. All (λ p. IsNamed p.token) found.items) }
     ensures place { IfErr result (λ e. e.span.offset ≤ length text.now) }
 {
     scanned(alloc, text, Some(strings))
@@ -751,6 +762,7 @@ pub fn tokens_of<'a>(
 /// A [`TextFault`] with the position of the token or the comment that is wrong. No escape is wrong, because none is read.
 pub fn written_tokens_of<'a>(alloc: Global, text: &'a str) -> Result<Vec<Placed<'a>>, TextError>
     ensures read { MatchResult result (λ found. tokens as_written text.now ≡ Some (seen_all found.items)) (λ e. e.fault ≢ fault.Memory → tokens as_written text.now ≡ None) }
+    ensures words { IfOk result (λ found. All (λ p. IsNamed p.token) found.items) }
     ensures place { IfErr result (λ e. e.span.offset ≤ length text.now) }
 {
     scanned(alloc, text, None)

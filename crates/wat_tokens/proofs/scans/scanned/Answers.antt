@@ -1,5 +1,5 @@
 -- Closes the steps of the loop over the parts of a text.
-use Rattle.std.proofs.Common.{◌≡◌, ◌≢◌, ◌∙◌, ap, sym, ◌+◌, ◌-◌, ◌≤◌, ◌<◌, suc, drop, length, true, false, Some, arith}
+use Rattle.std.proofs.Common.{◌≡◌, ◌∙◌, ◌+◌, ◌-◌, suc, drop, length, arith}
 use Rattle.wat_tokens.specs.Scans.{contents_of, seen_all, token_of}
 use Rattle.wat_tokens.proofs.Comments.{all_read}
 use Rattle.wat_tokens.proofs.Steps.{pa_more, pa_none, pa_end, strict}
@@ -27,7 +27,8 @@ loop-preserved c =
     record {
       inside = c.in-Ok.ensures.end.1;
       enough = omega (arith, c.loop.invariant.enough, c.in-Ok.ensures.end.0, one);
-      same = c.loop.invariant.same ∙ pa_more X N M c.loop.place c.in-Ok.part.end T (seen_all c.put.new.found.items) (seen_all c.loop.found.items) (token_of c.in-Ok.part.token) one below c.in-Ok.ensures.read c.in-Ok-put.ensures;
+      same = c.loop.invariant.same ∙ pa_more X N M c.loop.place c.in-Ok.part.end T (seen_all c.put.new.found.items) (seen_all c.loop.found.items) (token_of c.in-Ok.part.token) one below c.in-Ok.ensures.read c.in-Ok-put.ensures.put;
+      words = c.in-Ok-put.ensures.words c.in-Ok.ensures.words c.loop.invariant.words;
     }
 
 pub returns-clause-read : goal.returns-clause-read

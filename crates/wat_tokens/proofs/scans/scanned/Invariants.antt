@@ -1,7 +1,8 @@
 -- What is left of the text, after the tokens so far.
 use Rattle.std.proofs.Common.{◌≡◌, ◌≤◌, ◌-◌, length, drop}
+use Rattle.std.specs.Prelude.{All}
 use Rattle.wat_grammar.specs.Tokens.{parts}
-use Rattle.wat_tokens.specs.Scans.{contents_of, seen_all}
+use Rattle.wat_tokens.specs.Scans.{contents_of, seen_all, IsNamed}
 use Rattle.wat_tokens.proofs.Steps.{with_before}
 use Rattle.wat_tokens.proofs.scans.scanned.Given as goal
 
@@ -10,4 +11,5 @@ invariant-loop l = record {
   inside : l.place ≤ length l.text;
   enough : length l.text - l.place ≤ l.end - l.counter;
   same : parts (contents_of l.strings) (length l.text) (length l.text) l.text ≡ with_before (seen_all l.found.items) (parts (contents_of l.strings) (l.end - l.counter) (length l.text) (drop l.place l.text));
+  words : All (λ p. IsNamed p.token) l.found.items;
 }

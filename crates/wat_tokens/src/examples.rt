@@ -1,0 +1,11 @@
+//! Texts, and the words that they are.
+
+ghost use Rattle.wat_tokens.specs.WorkedWords.{Words, Others, AreDistinct};
+
+/// Words, texts that are none, and the whole table.
+#[tactic(auto, using(crate::proofs::WorkedWords::named, crate::proofs::WorkedWords::others, crate::proofs::WorkedWords::distinct))]
+pub(crate) fn words()
+    ensures words { Words }
+    ensures others { Others }
+    ensures distinct { AreDistinct }
+{}
