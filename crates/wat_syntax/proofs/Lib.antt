@@ -1,4 +1,6 @@
 pub mod Keys
 pub mod Numbers
 pub mod WorkedBodies
+pub mod WorkedCustoms
+pub mod WorkedFields
 pub mod WorkedTypes

@@ -15,7 +15,7 @@ references = (refl, refl, refl, refl, refl, refl, refl, refl, refl, refl)
 
 pub composites : Composites
 unfolding backwards peek after position count
-composites = (refl, refl, refl, refl, refl, refl, refl, refl)
+composites = (refl, refl, refl, refl, refl, refl, refl, refl, refl)
 
 pub externals : Externals
 unfolding backwards peek after position count ones count_trailing_zeros

@@ -1,14 +1,14 @@
 -- Plain instructions and their immediates (text format: instructions).
-use Rattle.std.specs.Prelude.{ℕ, zero, suc, ℤ, ◌&&◌, not, Bool, true, false, if◌then◌else◌, List, [], ◌∷◌, Option, None, Some, option_map, is_some, codes}
+use Rattle.std.specs.Prelude.{ℕ, zero, suc, ℤ, ◌&&◌, ◌||◌, not, Bool, true, false, if◌then◌else◌, List, [], ◌∷◌, Option, None, Some, option_map, is_some, codes}
 use Rattle.std.specs.Int.{is_power_of_two}
 use Rattle.std.specs.Float.{Format, binary32, binary64}
 use Rattle.std.specs.Borrow.{Bor}
-use Rattle.wat_syntax.specs.Tree.{Index, Ordering, MemArg, LaneArg, LoadOrStoreLane, StructAccess, ResumeTable, Handle, TryTableCatch, BlockType, F32, F64, V128Const, Instruction}
+use Rattle.wat_syntax.specs.Tree.{Index, Ordering, MemArg, MemArgOrdering, LaneArg, LoadOrStoreLane, StructAccess, CallIndirect, BrOnCast, ResumeTable, Handle, TryTableCatch, BlockType, F32, F64, V128Const, Instruction}
 use Rattle.wat_syntax.specs.Tree.instr
 use Rattle.wat_syntax.specs.Tree.ordering
 use Rattle.wat_syntax.specs.Tree.target
 use Rattle.wat_syntax.specs.Tree.v128
-use Rattle.wat_syntax.specs.Tree.handle
+use Rattle.wat_syntax.specs.Tree.handle as handler
 use Rattle.wat_syntax.specs.Tree.bare
 use Rattle.wat_syntax.specs.Tree.plain
 use Rattle.wat_syntax.specs.Tree.caught
@@ -59,24 +59,32 @@ abbrev pub times : {T : Type 0} → ℕ → (Toks → Parse T) → Toks → Pars
 times zero part toks = Some ([], toks)
 times (suc n) part toks = part toks >>= λ x. times n part x.1 >>= λ xs. Some (x.0 ∷ xs.0, xs.1)
 
+-- the lanes of a shape, one after another
+abbrev pub lanes : {T : Type 0} → (List T → V128Const) → ℕ → (Toks → Parse T) → Toks → Parse V128Const
+lanes shape n part toks = times n part toks >>= λ ls. Some (shape ls.0, ls.1)
+
 -- 'v128.const' 'i8x16' (n:i8)^16 ⇒ .. | .. (text format: vector instructions): without the word
 abbrev pub f64x2 : Toks → Parse V128Const
-f64x2 toks = keyword key.F64x2 toks >>= λ t. times 2 f64 t >>= λ ls. Some (v128.F64x2 ls.0, ls.1)
+f64x2 toks = keyword key.F64x2 toks >>= λ t. lanes v128.F64x2 2 f64 t
 
 abbrev pub f32x4 : Toks → Parse V128Const
-f32x4 toks = elim (keyword key.F32x4 toks) [ Some t ↦ times 4 f32 t >>= λ ls. Some (v128.F32x4 ls.0, ls.1) | None ↦ f64x2 toks ]
+f32x4 toks = elim (keyword key.F32x4 toks) [ Some t ↦ lanes v128.F32x4 4 f32 t | None ↦ f64x2 toks ]
 
 abbrev pub i64x2 : Toks → Parse V128Const
-i64x2 toks = elim (keyword key.I64x2 toks) [ Some t ↦ times 2 (signed_number 64) t >>= λ ls. Some (v128.I64x2 ls.0, ls.1) | None ↦ f32x4 toks ]
+i64x2 toks = elim (keyword key.I64x2 toks) [ Some t ↦ lanes v128.I64x2 2 (signed_number 64) t | None ↦ f32x4 toks ]
 
 abbrev pub i32x4 : Toks → Parse V128Const
-i32x4 toks = elim (keyword key.I32x4 toks) [ Some t ↦ times 4 (signed_number 32) t >>= λ ls. Some (v128.I32x4 ls.0, ls.1) | None ↦ i64x2 toks ]
+i32x4 toks = elim (keyword key.I32x4 toks) [ Some t ↦ lanes v128.I32x4 4 (signed_number 32) t | None ↦ i64x2 toks ]
 
 abbrev pub i16x8 : Toks → Parse V128Const
-i16x8 toks = elim (keyword key.I16x8 toks) [ Some t ↦ times 8 (signed_number 16) t >>= λ ls. Some (v128.I16x8 ls.0, ls.1) | None ↦ i32x4 toks ]
+i16x8 toks = elim (keyword key.I16x8 toks) [ Some t ↦ lanes v128.I16x8 8 (signed_number 16) t | None ↦ i32x4 toks ]
 
 abbrev pub v128const : Toks → Parse V128Const
-v128const toks = elim (keyword key.I8x16 toks) [ Some t ↦ times 16 (signed_number 8) t >>= λ ls. Some (v128.I8x16 ls.0, ls.1) | None ↦ i16x8 toks ]
+v128const toks = elim (keyword key.I8x16 toks) [ Some t ↦ lanes v128.I8x16 16 (signed_number 8) t | None ↦ i16x8 toks ]
+
+-- i8x16.shuffle i:laneidx^16 (text format: vector instructions): without the word
+abbrev pub shuffle : Toks → Parse Instruction
+shuffle toks = times 16 u8 toks >>= λ ls. Some (instr.i8x16_shuffle (record { lanes = ls.0 }), ls.1)
 
 -- two indices: a type and a field of it (text format: aggregate instructions)
 abbrev pub struct_access : Toks → Parse StructAccess
@@ -89,33 +97,40 @@ memory_ordering toks = elim (keyword key.SeqCst toks) [
   | None ↦ elim (keyword key.AcqRel toks) [ Some rest ↦ Some (Some ordering.AcqRel, rest) | None ↦ Some (None, toks) ]
 ]
 
--- the text after `offset=` or `align=`
+-- the text of a token after `offset=` or `align=`
 abbrev pub assigned : List ℕ → Option Token → Option (List ℕ)
 assigned name (Some (token.Other text)) = text_after name text.now
 assigned name t = None
 
+abbrev pub assignment : List ℕ → Toks → Parse (List ℕ)
+assignment name toks = assigned name (peek 0 toks) >>= λ text. Some (text, after toks)
+
 -- offset ::= 'offset=' n:u64 ⇒ n | ε ⇒ 0 (text format: memory instructions)
 abbrev pub offset : Toks → Parse ℕ
-offset toks = elim (assigned (codes "offset=") (peek 0 toks)) [
-  | Some digits ↦ uN 64 digits >>= λ n. Some (n, after toks)
+offset toks = elim (assignment (codes "offset=") toks) [
+  | Some digits ↦ uN 64 digits.0 >>= λ n. Some (n, digits.1)
   | None ↦ Some (0, toks)
 ]
 
 -- align_N ::= 'align=' m:u64 ⇒ m, if m is a power of two | ε ⇒ N
 abbrev pub align : ℕ → Toks → Parse ℕ
-align N toks = elim (assigned (codes "align=") (peek 0 toks)) [
-  | Some digits ↦ uN 64 digits >>= λ n. if is_power_of_two n then Some (n, after toks) else None
+align N toks = elim (assignment (codes "align=") toks) [
+  | Some digits ↦ uN 64 digits.0 >>= λ n. if is_power_of_two n then Some (n, digits.1) else None
   | None ↦ Some (N, toks)
 ]
 
--- x:memidx m:memarg_N, memarg_N ::= n:offset m:align_N: the memory may be left out, and an ordering is before it
+-- memarg_N ::= n:offset m:align_N, of a memory and with an ordering
+abbrev pub memarg_of : ℕ → Index → Option MemArgOrdering → Toks → Parse MemArg
+memarg_of N x o toks = offset toks >>= λ n. align N n.1 >>= λ a.
+    Some (record { align = a.0; offset = n.0; target = target.Memory x; ordering = o }, a.1)
+
+-- x:memidx m:memarg_N: the memory may be left out, and an ordering is before it
 abbrev pub memarg : ℕ → Toks → Parse MemArg
-memarg N toks = memory_ordering toks >>= λ o. index_or_zero o.1 >>= λ x. offset x.1 >>= λ n. align N n.1 >>= λ a.
-    Some (record { align = a.0; offset = n.0; target = target.Memory x.0; ordering = option_map access.Op o.0 }, a.1)
+memarg N toks = memory_ordering toks >>= λ o. index_or_zero o.1 >>= λ x. memarg_of N x.0 (option_map access.Op o.0) x.1
 
 -- whether a token is `offset=..` or `align=..`
 abbrev pub is_assigned : Option Token → Bool
-is_assigned t = not (not (is_some (assigned (codes "offset=") t)) && not (is_some (assigned (codes "align=") t)))
+is_assigned t = is_some (assigned (codes "offset=") t) || is_some (assigned (codes "align=") t)
 
 -- One number alone is that of a lane, and not that of a memory.
 abbrev pub is_lane_alone : Toks → Bool
@@ -172,38 +187,53 @@ abbrev pub is_switch : Option Word → Bool
 is_switch (Some (word.Pair two.switch)) = true
 is_switch w = false
 
--- '(' 'on' x:tagidx l:labelidx ')' | '(' 'on' x:tagidx 'switch' ')' (stack switching)
-abbrev pub on : Toks → Parse Handle
-on toks = form key.On toks >>= λ t. index t >>= λ x. elim (is_switch (word_of (peek 0 x.1))) [
-  | true ↦ rparen (after x.1) >>= λ rest. Some (handle.OnSwitch x.0, rest)
-  | false ↦ index x.1 >>= λ l. rparen l.1 >>= λ rest. Some (handle.OnLabel x.0 l.0, rest)
+-- x:tagidx l:labelidx | x:tagidx 'switch' (stack switching)
+abbrev pub handle : Toks → Parse Handle
+handle toks = index toks >>= λ x. elim (is_switch (word_of (peek 0 x.1))) [
+  | true ↦ Some (handler.OnSwitch x.0, after x.1)
+  | false ↦ index x.1 >>= λ l. Some (handler.OnLabel x.0 l.0, l.1)
 ]
 
+-- '(' 'on' x:tagidx l:labelidx ')' | '(' 'on' x:tagidx 'switch' ')'
+abbrev pub on : Toks → Parse Handle
+on toks = form key.On toks >>= λ t. handle t >>= λ h. rparen h.1 >>= λ rest. Some (h.0, rest)
+
+abbrev pub handlers : Toks → Parse (List Handle)
+handlers toks = many (is_form key.On) on (count toks) toks
+
 abbrev pub resumetable : Toks → Parse ResumeTable
-resumetable toks = many (is_form key.On) on (count toks) toks >>= λ hs. Some (record { handlers = hs.0 }, hs.1)
+resumetable toks = handlers toks >>= λ hs. Some (record { handlers = hs.0 }, hs.1)
+
+-- call_indirect x:tableidx t:typeuse, where the table may be left out (text format: control instructions): without the word
+abbrev pub callindirect : Toks → Parse CallIndirect
+callindirect toks = index_or_zero toks >>= λ x. typeuse false x.1 >>= λ u. Some (record { table = x.0; ty = u.0 }, u.1)
+
+-- br_on_cast l:labelidx t1:reftype t2:reftype (text format: control instructions): without the word
+abbrev pub cast : Toks → Parse BrOnCast
+cast toks = index toks >>= λ l. reftype l.1 >>= λ s. reftype s.1 >>= λ t. Some (record { label = l.0; from_type = s.0; to_type = t.0 }, t.1)
 
 -- an instruction with immediates of its own, without its word
 abbrev pub own_instr : OwnOp → Toks → Parse Instruction
 own_instr own.else_ toks = optional id toks >>= λ x. Some (instr.else_ x.0, x.1)
 own_instr own.end_ toks = optional id toks >>= λ x. Some (instr.end_ x.0, x.1)
 own_instr own.br_table toks = br_table toks
-own_instr own.call_indirect toks = index_or_zero toks >>= λ x. typeuse false x.1 >>= λ u. Some (instr.call_indirect (record { table = x.0; ty = u.0 }), u.1)
-own_instr own.return_call_indirect toks = index_or_zero toks >>= λ x. typeuse false x.1 >>= λ u. Some (instr.return_call_indirect (record { table = x.0; ty = u.0 }), u.1)
+own_instr own.call_indirect toks = callindirect toks >>= λ c. Some (instr.call_indirect c.0, c.1)
+own_instr own.return_call_indirect toks = callindirect toks >>= λ c. Some (instr.return_call_indirect c.0, c.1)
 own_instr own.select toks = select toks
 own_instr own.i32_const toks = signed_number 32 toks >>= λ n. Some (instr.i32_const n.0, n.1)
 own_instr own.i64_const toks = signed_number 64 toks >>= λ n. Some (instr.i64_const n.0, n.1)
 own_instr own.f32_const toks = f32 toks >>= λ n. Some (instr.f32_const n.0, n.1)
 own_instr own.f64_const toks = f64 toks >>= λ n. Some (instr.f64_const n.0, n.1)
 own_instr own.v128_const toks = v128const toks >>= λ v. Some (instr.v128_const v.0, v.1)
-own_instr own.i8x16_shuffle toks = times 16 u8 toks >>= λ ls. Some (instr.i8x16_shuffle (record { lanes = ls.0 }), ls.1)
+own_instr own.i8x16_shuffle toks = shuffle toks
 own_instr own.ref_null toks = heaptype toks >>= λ t. Some (instr.ref_null t.0, t.1)
 own_instr own.ref_test toks = reftype toks >>= λ t. Some (instr.ref_test (record { rt = t.0 }), t.1)
 own_instr own.ref_cast toks = reftype toks >>= λ t. Some (instr.ref_cast (record { rt = t.0 }), t.1)
 own_instr own.ref_cast_desc_eq toks = reftype toks >>= λ t. Some (instr.ref_cast_desc_eq (record { rt = t.0 }), t.1)
-own_instr own.br_on_cast toks = index toks >>= λ l. reftype l.1 >>= λ s. reftype s.1 >>= λ t. Some (instr.br_on_cast (record { label = l.0; from_type = s.0; to_type = t.0 }), t.1)
-own_instr own.br_on_cast_fail toks = index toks >>= λ l. reftype l.1 >>= λ s. reftype s.1 >>= λ t. Some (instr.br_on_cast_fail (record { label = l.0; from_type = s.0; to_type = t.0 }), t.1)
-own_instr own.br_on_cast_desc_eq toks = index toks >>= λ l. reftype l.1 >>= λ s. reftype s.1 >>= λ t. Some (instr.br_on_cast_desc_eq (record { label = l.0; from_type = s.0; to_type = t.0 }), t.1)
-own_instr own.br_on_cast_desc_eq_fail toks = index toks >>= λ l. reftype l.1 >>= λ s. reftype s.1 >>= λ t. Some (instr.br_on_cast_desc_eq_fail (record { label = l.0; from_type = s.0; to_type = t.0 }), t.1)
+own_instr own.br_on_cast toks = cast toks >>= λ c. Some (instr.br_on_cast c.0, c.1)
+own_instr own.br_on_cast_fail toks = cast toks >>= λ c. Some (instr.br_on_cast_fail (record { label = c.0.label; from_type = c.0.from_type; to_type = c.0.to_type }), c.1)
+own_instr own.br_on_cast_desc_eq toks = cast toks >>= λ c. Some (instr.br_on_cast_desc_eq (record { label = c.0.label; from_type = c.0.from_type; to_type = c.0.to_type }), c.1)
+own_instr own.br_on_cast_desc_eq_fail toks = cast toks >>= λ c. Some (instr.br_on_cast_desc_eq_fail (record { label = c.0.label; from_type = c.0.from_type; to_type = c.0.to_type }), c.1)
 own_instr own.array_new_fixed toks = array_new_fixed toks
 own_instr own.atomic_fence toks = memory_ordering toks >>= λ o. Some (instr.atomic_fence o.0, o.1)
 own_instr own.resume toks = index toks >>= λ x. resumetable x.1 >>= λ t. Some (instr.resume (record { type_index = x.0; table = t.0 }), t.1)
@@ -224,6 +254,12 @@ atomic_of atomic.Array o toks = index toks >>= λ x. Some (instr.ArrayAtomic (re
 
 abbrev pub atomic_instr : AtomicOp → Toks → Parse Instruction
 atomic_instr op toks = memory_ordering toks >>= λ o. atomic_of op (ordering_or_default o.0) o.1
+
+-- whether a word is one of a plain instruction, and neither a keyword nor the first word of a block
+abbrev pub is_plaininstr : Word → Bool
+is_plaininstr (word.Key k) = false
+is_plaininstr (word.Block op) = false
+is_plaininstr w = true
 
 -- plaininstr, by its word and without it. A word that no table knows keeps its name.
 abbrev pub plaininstr : Word → Bor (List ℕ) → Toks → Parse Instruction
@@ -268,8 +304,18 @@ catch_of (Some (word.Key key.CatchAllRef)) toks = index toks >>= λ l. Some (rec
 catch_of (Some (word.Plain (plain.Bare bare.catch_all))) toks = index toks >>= λ l. Some (record { kind = caught.CatchAll; label = l.0 }, l.1)
 catch_of w toks = None
 
+abbrev pub catch_clause : Toks → Parse TryTableCatch
+catch_clause toks = catch_of (word_of (peek 0 toks)) (after toks)
+
 abbrev pub catch : Toks → Parse TryTableCatch
-catch toks = lparen toks >>= λ t. catch_of (word_of (peek 0 t)) (after t) >>= λ c. rparen c.1 >>= λ rest. Some (c.0, rest)
+catch toks = lparen toks >>= λ t. catch_clause t >>= λ c. rparen c.1 >>= λ rest. Some (c.0, rest)
+
+abbrev pub catches : Toks → Parse (List TryTableCatch)
+catches toks = many is_catch catch (count toks) toks
+
+-- the clauses of `try_table`, after its block type
+abbrev pub try_table_of : BlockType → Toks → Parse Instruction
+try_table_of b toks = catches toks >>= λ cs. Some (instr.try_table (record { block = b; catches = cs.0 }), cs.1)
 
 -- the word of a block with its label and type, and of `try_table` its clauses: without the word
 abbrev pub opener : BlockOp → Toks → Parse Instruction
@@ -277,8 +323,7 @@ opener opens.block toks = blocktype toks >>= λ b. Some (instr.block b.0, b.1)
 opener opens.loop_ toks = blocktype toks >>= λ b. Some (instr.loop_ b.0, b.1)
 opener opens.if_ toks = blocktype toks >>= λ b. Some (instr.if_ b.0, b.1)
 opener opens.try_ toks = blocktype toks >>= λ b. Some (instr.try_ b.0, b.1)
-opener opens.try_table toks = blocktype toks >>= λ b. many is_catch catch (count b.1) b.1 >>= λ cs.
-    Some (instr.try_table (record { block = b.0; catches = cs.0 }), cs.1)
+opener opens.try_table toks = blocktype toks >>= λ b. try_table_of b.0 b.1
 
 -- an instruction without parentheses, by its token
 abbrev pub instruction_of : Option Token → Toks → Parse Instruction

@@ -170,9 +170,14 @@ all_params are_named toks = many_lists (is_form key.Param) (param are_named) (co
 abbrev pub all_results : Toks → Parse (List ValType)
 all_results toks = many_lists (is_form key.Result) result (count toks) toks
 
--- t1*:param* t2*:result* ⇒ t1* → t2* (text format: composite types)
+-- t1*:param* t2*:result* ⇒ t1* → t2* (text format: composite types). No form has a parameter after the results, so a function type
+-- is not followed by one: `(result i32) (param i32)` is refused.
 abbrev pub functype : Bool → Toks → Parse FunctionType
-functype are_named toks = all_params are_named toks >>= λ ps. all_results ps.1 >>= λ rs. Some (record { params = ps.0; results = rs.0 }, rs.1)
+functype are_named toks =
+    all_params are_named toks >>= λ ps. all_results ps.1 >>= λ rs. elim (is_form key.Param rs.1) [
+      | true ↦ None
+      | false ↦ Some (record { params = ps.0; results = rs.0 }, rs.1)
+    ]
 
 -- a field without an id
 abbrev pub unnamed_field : Toks → Parse StructField

@@ -39,7 +39,8 @@ References = (made (heaptype (toks (the key.Func ∷ []))) ≡ Some (heap.Abstra
     × (made (reftype (toks (token.Open ∷ the key.Ref ∷ token.Close ∷ []))) ≡ None) × (made (reftype (toks (token.Open ∷ the key.Func ∷ token.Close ∷ []))) ≡ None) × (made (reftype (toks (the key.I32 ∷ []))) ≡ None)
     × (made (valtype (toks (the key.I32 ∷ []))) ≡ Some (value.I32, 0)) × (made (valtype (toks (the key.I8 ∷ []))) ≡ None)
 
--- `(mut i8)`, `(param $x i32) (param i64 i64) (result f32)`; `(param $x i32 i64)` has an id for two
+-- `(mut i8)`, `(param $x i32) (param i64 i64) (result f32)`; `(param $x i32 i64)` has an id for two, and
+-- `(param i32)` is not after `(result i32)`
 abbrev pub Composites : Type 0
 Composites = (made (fieldtype (toks (token.Open ∷ the key.Mut ∷ the key.I8 ∷ token.Close ∷ []))) ≡ Some ((true, storage.I8), 0)) × (made (fieldtype (toks (token.Open ∷ the key.Mut ∷ token.Close ∷ []))) ≡ None)
     × (made (functype true (toks (token.Open ∷ the key.Param ∷ named (codes "x") ∷ the key.I32 ∷ token.Close ∷ token.Open ∷ the key.Param ∷ the key.I64 ∷ the key.I64 ∷ token.Close
@@ -47,6 +48,7 @@ Composites = (made (fieldtype (toks (token.Open ∷ the key.Mut ∷ the key.I8 �
     ≡ Some (record { params = (Some (source_id (text_of (codes "x")) (at 2)), None, value.I32) ∷ (None, None, value.I64) ∷ (None, None, value.I64) ∷ []; results = value.F32 ∷ [] }, 0))
     × (made (functype true (toks (token.Open ∷ the key.Param ∷ named (codes "x") ∷ the key.I32 ∷ the key.I64 ∷ token.Close ∷ []))) ≡ None)
     × (made (functype false (toks (token.Open ∷ the key.Param ∷ named (codes "x") ∷ the key.I32 ∷ token.Close ∷ []))) ≡ None)
+    × (made (functype true (toks (token.Open ∷ the key.Result ∷ the key.I32 ∷ token.Close ∷ token.Open ∷ the key.Param ∷ the key.I32 ∷ token.Close ∷ []))) ≡ None)
     × (made (comptype (toks (token.Open ∷ the key.Array ∷ the key.I8 ∷ token.Close ∷ []))) ≡ Some (inner.Array (record { mutable = false; ty = storage.I8 }), 0))
     × (made (subtype (toks (token.Open ∷ the key.Sub ∷ num (codes "0") ∷ token.Open ∷ the key.Struct ∷ token.Close ∷ token.Close ∷ [])))
     ≡ Some (record { kind = inner.Struct (record { fields = [] }); shared = false; parents = by.Num 0 (at 2) ∷ []; descriptor = None; describes = None; final_type = Some false }, 0))

@@ -1,5 +1,5 @@
 -- Parts one after another, as a loop reads them: one more, and the end.
-use Rattle.std.proofs.Common.{◌≡◌, ◌∙◌, ℕ, zero, suc, Bool, true, false, List, [], ◌∷◌, ◌++◌, map, Option, None, Some, refl, sym, ap, append_assoc}
+use Rattle.std.proofs.Common.{◌≡◌, ◌∙◌, ℕ, zero, suc, Bool, true, false, List, [], ◌∷◌, ◌++◌, map, None, Some, refl, sym, ap, append_assoc}
 use Rattle.wat_grammar.specs.Parts.{◌>>=◌}
 use Rattle.wat_syntax.specs.Tokens.{Toks, Parse, many, many_lists, with_parts, rparen}
 
@@ -12,7 +12,7 @@ mapped f [] x = refl
 mapped f (y ∷ ys) x = ap (λ zs. f y ∷ zs) (mapped f ys x)
 
 -- with parts before, and others before those
-after_both : {T : Type 0} (xs ys : List T) (p : Parse (List T)) → with_parts (xs ++ ys) p ≡ with_parts xs (with_parts ys p)
+pub after_both : {T : Type 0} (xs ys : List T) (p : Parse (List T)) → with_parts (xs ++ ys) p ≡ with_parts xs (with_parts ys p)
 after_both xs ys None = refl
 after_both xs ys (Some r) = ap (λ zs. Some (zs, r.1)) (append_assoc xs ys r.0)
 
@@ -28,15 +28,20 @@ part_more is_next part m n toks rest x found one yet gives =
     ap (λ k. with_parts found (many is_next part k toks)) one ∙ ap (with_parts found) (one_part is_next part n toks rest x yet gives)
     ∙ sym (after_both found (x ∷ []) (many is_next part n rest))
 
--- the same where the rule makes something else of each part
-pub seen_more : {S T : Type 0} (seen : S → T) (is_next : Toks → Bool) (part : Toks → Parse T) (m n : ℕ) (toks rest : Toks) (x : S) (found : List S)
-    → m ≡ suc n → is_next toks ≡ true → part toks ≡ Some (seen x, rest)
-    → with_parts (map seen found) (many is_next part m toks) ≡ with_parts (map seen (found ++ x ∷ [])) (many is_next part n rest)
-seen_more seen is_next part m n toks rest x found one yet gives =
-    part_more is_next part m n toks rest (seen x) (map seen found) one yet gives
-    ∙ ap (λ xs. with_parts xs (many is_next part n rest)) (sym (mapped seen found x))
+-- the rule does not produce the next part
+pub part_none : {T : Type 0} (is_next : Toks → Bool) (part : Toks → Parse T) (m n : ℕ) (toks : Toks) (found : List T)
+    → m ≡ suc n → is_next toks ≡ true → part toks ≡ None → with_parts found (many is_next part m toks) ≡ None
+part_none is_next part m n toks found one yet none = ap (λ k. with_parts found (many is_next part k toks)) one ∙ ap (with_parts found) (no_part is_next part n toks yet none)
+  where
+    no_part : {T : Type 0} (is_next : Toks → Bool) (part : Toks → Parse T) (n : ℕ) (toks : Toks) → is_next toks ≡ true → part toks ≡ None → many is_next part (suc n) toks ≡ None
+    no_part is_next part n toks yet none = rw (many, yet, none) refl
 
-stops : {T : Type 0} (is_next : Toks → Bool) (part : Toks → Parse T) (n : ℕ) (toks : Toks) → is_next toks ≡ false → many is_next part n toks ≡ Some ([], toks)
+-- with parts before, a rule produces what it produces without
+pub none_after : {T : Type 0} (found : List T) (p : Parse (List T)) → with_parts found p ≡ None → p ≡ None
+none_after found None e = refl
+none_after found (Some x) e = absurd cc
+
+pub stops : {T : Type 0} (is_next : Toks → Bool) (part : Toks → Parse T) (n : ℕ) (toks : Toks) → is_next toks ≡ false → many is_next part n toks ≡ Some ([], toks)
 stops is_next part zero toks ends = refl
 stops is_next part (suc n) toks ends = rw (many, ends) refl
 
@@ -76,6 +81,14 @@ list_more is_next part m n toks rest found after one yet gives =
     ap (λ k. with_parts found (many_lists is_next part k toks)) one ∙ ap (with_parts found) (one_list is_next part n toks yet)
     ∙ then_list found after (part toks) rest (many_lists is_next part n) gives
 
+-- the rule does not produce the next list of parts
+pub list_none : {T : Type 0} (is_next : Toks → Bool) (part : Toks → Parse (List T)) (m n : ℕ) (toks : Toks) (found : List T)
+    → m ≡ suc n → is_next toks ≡ true → part toks ≡ None → with_parts found (many_lists is_next part m toks) ≡ None
+list_none is_next part m n toks found one yet none = ap (λ k. with_parts found (many_lists is_next part k toks)) one ∙ ap (with_parts found) (no_list is_next part n toks yet none)
+  where
+    no_list : {T : Type 0} (is_next : Toks → Bool) (part : Toks → Parse (List T)) (n : ℕ) (toks : Toks) → is_next toks ≡ true → part toks ≡ None → many_lists is_next part (suc n) toks ≡ None
+    no_list is_next part n toks yet none = rw (many_lists, yet, none) refl
+
 lists_stop : {T : Type 0} (is_next : Toks → Bool) (part : Toks → Parse (List T)) (n : ℕ) (toks : Toks) → is_next toks ≡ false → many_lists is_next part n toks ≡ Some ([], toks)
 lists_stop is_next part zero toks ends = refl
 lists_stop is_next part (suc n) toks ends = rw (many_lists, ends) refl
@@ -98,8 +111,3 @@ closes {T = T} found after (Some x) toks rest e close =
   where
     the_same : {A : Type 0} {x y : A} → Some x ≡ Some y → x ≡ y
     the_same e = cc
-
--- a list of one part
-pub one_only : {T : Type 0} (found : List T) (x : T) (rest : Toks) (p : Parse T) → p ≡ Some (x, rest)
-    → with_parts found (p >>= λ y. Some (y.0 ∷ [], y.1)) ≡ Some (found ++ x ∷ [], rest)
-one_only found x rest p e = ap (λ o. with_parts found (o >>= λ y. Some (y.0 ∷ [], y.1))) e

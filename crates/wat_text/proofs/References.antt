@@ -1,16 +1,12 @@
 -- Where no reference type is next, there is none.
-use Rattle.std.proofs.Common.{◌≡◌, ◌∙◌, ℕ, Bool, true, false, Option, None, Some, refl, sym, ap}
-use Rattle.std.specs.Prelude.{is_some, ◌||◌, ◌&&◌}
-use Rattle.wat_grammar.specs.Parts.{◌>>=◌}
+use Rattle.std.proofs.Common.{◌≡◌, Bool, true, false, Option, None, Some, refl}
+use Rattle.std.specs.Prelude.{is_some, ◌||◌}
 use Rattle.wat_tokens.specs.declared.tokens.Token.{Token}
 use Rattle.wat_tokens.specs.declared.tokens.Token.TheVariants as token
 use Rattle.wat_tokens.specs.declared.words.Key.{Key}
 use Rattle.wat_tokens.specs.declared.words.Key.TheVariants as key
-use Rattle.wat_tokens.specs.declared.words.Word.TheVariants as word
-use Rattle.wat_syntax.specs.Tokens.{Toks, Parse, peek, after, key_of, is_form, is_lparen, is_key, keyword_in, form}
+use Rattle.wat_syntax.specs.Tokens.{Toks, peek, key_of, is_form, is_lparen, keyword_in, form}
 use Rattle.wat_syntax.specs.Types.{is_reftype, reftype, refword}
-use Rattle.wast_tree_nodes.specs.declared.types.AbstractHeapType.{AbstractHeapType}
-use Rattle.wast_tree_nodes.specs.declared.types.RefType.{RefType}
 
 none_of : {A : Type 0} (o : Option A) → is_some o ≡ false → o ≡ None
 none_of None h = refl

@@ -1,3 +1,9 @@
+pub mod Cursors
+pub mod Denotes
+pub mod Finishes
 pub mod Heads
+pub mod Machine
+pub mod MadeProducers
+pub mod OneModule
 pub mod Readers
 pub mod Texts

@@ -1,5 +1,5 @@
 -- What a reader has left, and what it means that it read a part of the text.
-use Rattle.std.specs.Prelude.{◌≡◌, ◌≢◌, ⊤, ◌-◌, Bool, true, false, List, drop, Option, None, Some}
+use Rattle.std.specs.Prelude.{◌≡◌, ◌≢◌, ⊤, ◌-◌, Bool, true, false, List, [], ◌∷◌, ◌++◌, drop, Option, None, Some}
 use Rattle.wast_base.specs.declared.ids.Span.{Span}
 use Rattle.wat_tokens.specs.declared.faults.TextFault.{TextFault}
 use Rattle.wat_tokens.specs.declared.faults.TextFault.TheVariants as fault
@@ -24,11 +24,15 @@ abbrev pub IsRefused : Option TextError → Type 0
 IsRefused None = ⊥
 IsRefused (Some e) = IsRefusal e.fault
 
--- A reader read a part by a rule: if nothing is wrong afterwards, then nothing was wrong before, and of the tokens that were
--- left, the rule makes this part and the tokens that are left now.
+-- A reader read a part by a rule. If nothing is wrong afterwards, then nothing was wrong before, and of the tokens that were left,
+-- the rule makes this part and the tokens that are left now. A fault is kept. If the reader refused the tokens and no allocation of
+-- the tree failed, then the rule does not produce them.
 pub record Reads {T : Type 0} (rule : Toks → Parse T) (old new : Reader) (part : T) : Type 0 where
-  pub clean : IsClean new → IsClean old
+  pub made : new.make ≡ false → old.make ≡ false
+  pub clean : new.fault ≡ None → old.fault ≡ None
   pub gives : IsClean new → rule (left old) ≡ Some (part, left new)
+  pub keeps : old.fault ≢ None → new.fault ≡ old.fault
+  pub refuses : old.fault ≡ None → new.make ≡ false → IsRefused new.fault → rule (left old) ≡ None
 
 -- The same of a rule that no list of the tree is made for: the fault alone says whether something went wrong. A fault is kept, and
 -- if the reader refused the tokens, then the rule does not produce them.
@@ -79,5 +83,24 @@ pub record Refuses (old new : Reader) : Type 0 where
 
 -- A reader read a list of parts by a rule, and put them behind those that a list had before.
 pub record ReadsOnto {T : Type 0} (rule : Toks → Parse (List T)) (old new : Reader) (before after : List T) : Type 0 where
-  pub clean : IsClean new → IsClean old
+  pub made : new.make ≡ false → old.make ≡ false
+  pub clean : new.fault ≡ None → old.fault ≡ None
   pub gives : IsClean new → with_parts before (rule (left old)) ≡ Some (after, left new)
+  pub keeps : old.fault ≢ None → new.fault ≡ old.fault
+  pub refuses : old.fault ≡ None → new.make ≡ false → IsRefused new.fault → rule (left old) ≡ None
+
+-- A reader put a part at the end of a list, or kept that the allocation failed.
+pub record Pushes {T : Type 0} (old new : Reader) (part : T) (before after : List T) : Type 0 where
+  pub make : new.make ≡ old.make
+  pub clean : new.fault ≡ None → old.fault ≡ None
+  pub pushed : new.fault ≡ None → after ≡ before ++ part ∷ []
+  pub left : new.fault ≡ None → left new ≡ left old
+  pub keeps : old.fault ≢ None → new.fault ≡ old.fault
+  pub memory : old.fault ≡ None → IsRefused new.fault → ⊥
+
+-- The same of what builds the tree: if the allocation failed, `make` keeps that, and no fault is added.
+pub record Builds {T : Type 0} (old new : Reader) (part : T) (before after : List T) : Type 0 where
+  pub made : new.make ≡ false → old.make ≡ false
+  pub fault : new.fault ≡ old.fault
+  pub pushed : new.make ≡ false → after ≡ before ++ part ∷ []
+  pub left : left new ≡ left old

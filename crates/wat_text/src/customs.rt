@@ -1,5 +1,14 @@
 //! Custom sections.
 
+ghost use Rattle.std.specs.Prelude.{◌≡◌, true, false, None, Some, ◌++◌, map};
+ghost use Rattle.wat_syntax.specs.Seen.{seen_text};
+ghost use Rattle.wat_syntax.specs.SeenCustoms.{seen_version, seen_producers_field, seen_exported, seen_imported, seen_subsection, seen_custom};
+ghost use Rattle.wat_syntax.specs.Customs.{section_of, section, place_of, customfield, known_field, producer_open, producer, all_producers, named_field, fields_of, producersfield, flag_of, again, exported, imported, exports_info, imports_info, memory_info, subsection_form, subsections, dylinkfield};
+ghost use Rattle.wat_syntax.specs.Customs.{version as version_rule, flag as flag_rule, flags as flags_rule, names as names_rule, size_and_align as size_rule, subsection as subsection_rule};
+ghost use Rattle.wat_text.specs.Readers.{left, Reads, Decides, Accepts, Refuses, ReadsOnto, Pushes, Builds};
+ghost use Rattle.wat_text.specs.MadeProducers.{seen_tool, seen_value, PushesValue, ReadsProducers};
+ghost use Rattle.wat_syntax.specs.Tokens.{one};
+
 use crate::reader::Reader;
 use wast_tree::{
     Custom, CustomPlace, CustomPlaceAnchor, Dylink0, Dylink0Subsection, Producers,
@@ -8,7 +17,9 @@ use wast_tree::{
 use wat_tokens::{Key, Token};
 
 /// A section beside which a custom section can stand (text format, custom annotations).
-fn anchor(key: Key) -> Option<CustomPlaceAnchor> {
+fn anchor(key: Key) -> Option<CustomPlaceAnchor>
+    ensures { result ≡ section_of key }
+{
     match key {
         Key::Ty => Some(CustomPlaceAnchor::Ty),
         Key::Import => Some(CustomPlaceAnchor::Import),
@@ -27,7 +38,9 @@ fn anchor(key: Key) -> Option<CustomPlaceAnchor> {
 }
 
 /// The flag of a word (tool conventions, dynamic linking).
-fn flag(key: Key) -> Option<u32> {
+fn flag(key: Key) -> Option<u32>
+    ensures { result ≡ flag_of key }
+{
     match key {
         Key::BindingWeak => Some(0x1),
         Key::BindingLocal => Some(0x2),
@@ -42,6 +55,17 @@ fn flag(key: Key) -> Option<u32> {
     }
 }
 
+/// A field of `producers`.
+#[derive(Clone, Copy)]
+enum Tool {
+    /// `language`
+    Language,
+    /// `sdk`
+    Sdk,
+    /// `processed-by`
+    ProcessedBy,
+}
+
 /// Values of a field of `producers`, by the fields.
 struct Made<'a> {
     languages: Seq<(&'a str, &'a str)>,
@@ -51,7 +75,9 @@ struct Made<'a> {
 
 impl<'a> Reader<'a> {
     /// A section beside which a custom section stands.
-    fn anchor(&mut self) -> CustomPlaceAnchor {
+    fn anchor(&mut self) -> CustomPlaceAnchor
+        ensures { Decides section self.old self.new result }
+    {
         let found = match self.key(0) {
             Some(key) => anchor(key),
             None => None,
@@ -69,7 +95,9 @@ impl<'a> Reader<'a> {
     }
 
     /// Where a custom section stands in the module, behind `(` (text format, custom annotations).
-    fn custom_place(&mut self) -> CustomPlace {
+    fn custom_place(&mut self) -> CustomPlace
+        ensures { Decides place_of self.old self.new result }
+    {
         if self.accept(Key::Before) {
             if self.accept(Key::First) {
                 return CustomPlace::BeforeFirst;
@@ -86,7 +114,9 @@ impl<'a> Reader<'a> {
     }
 
     /// `(@custom ..)` (text format, custom annotations).
-    pub fn custom_field(&mut self) -> Custom<'a> {
+    pub fn custom_field(&mut self) -> Custom<'a>
+        ensures { Reads customfield self.old self.new (seen_custom result) }
+    {
         let span = self.place();
         self.skip();
         let name = self.text();
@@ -99,14 +129,7 @@ impl<'a> Reader<'a> {
             }
             false => CustomPlace::AfterLast,
         };
-        let mut bytes = Seq::new(self.alloc);
-        for _ in 0..self.left() {
-            if self.is_end() {
-                break;
-            }
-            let pushed = bytes.push(self.bytes());
-            self.took(pushed);
-        }
+        let bytes = self.pieces();
         Custom::Raw(RawCustomSection {
             span,
             place,
@@ -115,51 +138,110 @@ impl<'a> Reader<'a> {
         })
     }
 
-    /// One value of a field of `producers`, in its parentheses.
-    fn producer(&mut self, made: &mut Made<'a>) {
+    /// Reads a name and a version.
+    fn version(&mut self) -> (&'a str, &'a str)
+        ensures { Decides version_rule self.old self.new (seen_version result) }
+    {
+        (self.text(), self.text())
+    }
+
+    /// Puts a value behind the others of a field of `producers`.
+    fn push_version(&mut self, versions: &mut Seq<(&'a str, &'a str)>, version: (&'a str, &'a str))
+        ensures { Pushes self.old self.new version.entry versions.old versions.new }
+    {
+        let pushed = versions.push(version);
+        self.took(pushed);
+    }
+
+    /// Where no field of `producers` stands.
+    fn no_tool(&mut self) -> Tool
+        ensures { Refuses self.old self.new }
+    {
+        self.expected("`language`, `sdk` or `processed-by`");
+        Tool::Language
+    }
+
+    /// The field of `producers` that a key is.
+    fn tool(&mut self, key: Option<Key>) -> Tool
+        ensures { Decides (known_field key) self.old self.new (seen_tool result) }
+    {
+        match key {
+            Some(Key::Language) => Tool::Language,
+            Some(Key::Sdk) => Tool::Sdk,
+            Some(Key::ProcessedBy) => Tool::ProcessedBy,
+            _ => self.no_tool(),
+        }
+    }
+
+    /// Reads one value of a field of `producers` before its `)`.
+    fn producer_open(&mut self) -> (Tool, (&'a str, &'a str))
+        ensures { Decides producer_open self.old self.new (seen_value result) }
+    {
         self.open();
         let key = self.key(0);
         self.skip();
-        let value = (self.text(), self.text());
-        let pushed = match key {
-            Some(Key::Language) => made.languages.push(value),
-            Some(Key::Sdk) => made.sdks.push(value),
-            Some(Key::ProcessedBy) => made.processors.push(value),
-            _ => {
-                self.expected("`language`, `sdk` or `processed-by`");
-                Ok(())
-            }
-        };
-        self.took(pushed);
+        let version = self.version();
+        (self.tool(key), version)
+    }
+
+    /// Puts a value behind the others of its field.
+    fn push_tool(&mut self, made: &mut Made<'a>, tool: Tool, version: (&'a str, &'a str))
+        ensures { PushesValue self.old self.new (tool, version.entry) made.old made.new }
+    {
+        match tool {
+            Tool::Language => self.push_version(&mut made.languages, version),
+            Tool::Sdk => self.push_version(&mut made.sdks, version),
+            Tool::ProcessedBy => self.push_version(&mut made.processors, version),
+        }
+    }
+
+    /// One value of a field of `producers`, in its parentheses.
+    fn producer(&mut self, made: &mut Made<'a>)
+        ensures { ReadsProducers (one producer) self.old self.new made.old made.new }
+    {
+        let (tool, version) = self.producer_open();
+        self.push_tool(made, tool, version);
         self.close();
     }
 
     /// Puts a field of `producers`, where it has values.
+    #[tactic(auto, using(crate::proofs::Makes::none_failed), unfolding(crate::specs::Readers::left))]
     fn put_producers(
         &mut self,
         fields: &mut Seq<(&'a str, Seq<(&'a str, &'a str)>)>,
         name: &'a str,
         values: Seq<(&'a str, &'a str)>,
-    ) {
+    )
+        ensures made { self.new.make ≡ false → self.old.make ≡ false }
+        ensures fault { self.new.fault ≡ self.old.fault }
+        ensures left { left self.new ≡ left self.old }
+        ensures put { self.new.make ≡ false → map seen_producers_field fields.new ≡ map seen_producers_field fields.old ++ named_field name.now (map seen_version values.entry) }
+    {
         if !values.is_empty() {
             self.make.push_producers(fields, name, values);
         }
     }
 
-    /// `(@producers ..)` (tool conventions, producers section).
-    pub fn producers_field(&mut self) -> Custom<'a> {
-        self.skip();
-        let mut made = Made {
-            languages: Seq::new(self.alloc),
-            sdks: Seq::new(self.alloc),
-            processors: Seq::new(self.alloc),
-        };
+    /// Reads values of the fields of `producers`, up to the end of the form.
+    #[tactic(auto, using(crate::proofs::Producing::gathers_more, crate::proofs::Producing::gathers_end, crate::proofs::Producing::gathers_last))]
+    fn all_producers(&mut self, made: &mut Made<'a>)
+        ensures { ReadsProducers all_producers self.old self.new made.old made.new }
+    {
         for _ in 0..self.left() {
             if self.is_end() {
                 break;
             }
-            self.producer(&mut made);
+            self.producer(made);
         }
+    }
+
+    /// The fields of `producers` that have values.
+    fn made_producers(&mut self, made: Made<'a>) -> Seq<(&'a str, Seq<(&'a str, &'a str)>)>
+        ensures made { self.new.make ≡ false → self.old.make ≡ false }
+        ensures fault { self.new.fault ≡ self.old.fault }
+        ensures left { left self.new ≡ left self.old }
+        ensures put { self.new.make ≡ false → map seen_producers_field result ≡ fields_of (map seen_version made.entry.languages) (map seen_version made.entry.sdks) (map seen_version made.entry.processors) }
+    {
         let Made {
             languages,
             sdks,
@@ -169,33 +251,61 @@ impl<'a> Reader<'a> {
         self.put_producers(&mut fields, "language", languages);
         self.put_producers(&mut fields, "sdk", sdks);
         self.put_producers(&mut fields, "processed-by", processors);
+        fields
+    }
+
+    /// `(@producers ..)` (tool conventions, producers section).
+    pub fn producers_field(&mut self) -> Custom<'a>
+        ensures { Reads producersfield self.old self.new (seen_custom result) }
+    {
+        self.skip();
+        let mut made = Made {
+            languages: Seq::new(self.alloc),
+            sdks: Seq::new(self.alloc),
+            processors: Seq::new(self.alloc),
+        };
+        self.all_producers(&mut made);
+        let fields = self.made_producers(made);
         Custom::Producers(Producers { fields })
     }
 
+    /// Reads a flag, or a number that has the bits of flags (tool conventions, dynamic linking).
+    fn one_flag(&mut self) -> u32
+        ensures { Decides flag_rule self.old self.new result }
+    {
+        let known = match self.key(0) {
+            Some(key) => flag(key),
+            None => None,
+        };
+        match known {
+            Some(flag) => {
+                self.skip();
+                flag
+            }
+            None => self.number32(),
+        }
+    }
+
     /// Flags up to the end of the form (tool conventions, dynamic linking).
-    fn flags(&mut self) -> u32 {
+    #[tactic(auto, using(crate::proofs::Flags::flag_more, crate::proofs::Flags::flag_end, crate::proofs::Flags::flag_last))]
+    fn flags(&mut self) -> u32
+        ensures { Reads flags_rule self.old self.new result }
+    {
         let mut flags = 0;
         for _ in 0..self.left() {
             if self.is_end() {
                 break;
             }
-            let known = match self.key(0) {
-                Some(key) => flag(key),
-                None => None,
-            };
-            flags |= match known {
-                Some(flag) => {
-                    self.skip();
-                    flag
-                }
-                None => self.number32(),
-            };
+            let flag = self.one_flag();
+            flags |= flag;
         }
         flags
     }
 
     /// A size and an alignment, in their parentheses, where they stand there.
-    fn size_and_align(&mut self, key: Key) -> (u32, u32) {
+    fn size_and_align(&mut self, key: Key) -> (u32, u32)
+        ensures { Decides (size_rule key) self.old self.new result }
+    {
         if !self.accept_form(key) {
             return (0, 0);
         }
@@ -205,21 +315,34 @@ impl<'a> Reader<'a> {
         (size, align)
     }
 
-    /// Names up to the end of the form.
-    fn names(&mut self) -> Seq<&'a str> {
-        let mut names = Seq::new(self.alloc);
+    /// Reads names up to the end of the form.
+    #[tactic(auto, using(crate::proofs::Steps::one_seen, crate::proofs::Loops::part_end, crate::proofs::Loops::part_last, crate::proofs::Loops::none_after))]
+    fn all_names(&mut self, names: &mut Seq<&'a str>)
+        ensures { ReadsOnto names_rule self.old self.new (map seen_text names.old) (map seen_text names.new) }
+    {
         for _ in 0..self.left() {
             if self.is_end() {
                 break;
             }
-            let pushed = names.push(self.text());
-            self.took(pushed);
+            let name = self.text();
+            self.push_name(names, name);
         }
+    }
+
+    /// Names up to the end of the form.
+    #[tactic(auto, using(crate::proofs::Loops::from_nothing))]
+    fn names(&mut self) -> Seq<&'a str>
+        ensures { Reads names_rule self.old self.new (map seen_text result) }
+    {
+        let mut names = Seq::new(self.alloc);
+        self.all_names(&mut names);
         names
     }
 
     /// Goes on to the next form of the same key, if it comes next: the entries of neighbouring forms are one subsection.
-    fn accept_next(&mut self, key: Key) -> bool {
+    fn accept_next(&mut self, key: Key) -> bool
+        ensures { Accepts (again key) self.old self.new result }
+    {
         let is_next = matches!(self.look(0), Some(Token::Close))
             && self.is_open(1)
             && self.is_key(2, key);
@@ -231,78 +354,181 @@ impl<'a> Reader<'a> {
         is_next
     }
 
-    /// Reads `(export-info "a" 1)` from its name on, and the forms of the same key that follow (tool conventions, dynamic
-    /// linking).
-    fn export_info(&mut self) -> Dylink0Subsection<'a> {
-        let mut items = Seq::new(self.alloc);
+    /// Reads the name of an export and its flags (tool conventions, dynamic linking).
+    fn exported(&mut self) -> (&'a str, u32)
+        ensures { Reads exported self.old self.new (seen_exported result) }
+    {
+        (self.text(), self.flags())
+    }
+
+    /// Reads the module and the name of an import and its flags (tool conventions, dynamic linking).
+    fn imported(&mut self) -> (&'a str, &'a str, u32)
+        ensures { Reads imported self.old self.new (seen_imported result) }
+    {
+        (self.text(), self.text(), self.flags())
+    }
+
+    /// Puts an export behind the others.
+    fn push_exported(&mut self, items: &mut Seq<(&'a str, u32)>, item: (&'a str, u32))
+        ensures { Pushes self.old self.new item.entry items.old items.new }
+    {
+        let pushed = items.push(item);
+        self.took(pushed);
+    }
+
+    /// Puts an import behind the others.
+    fn push_imported(
+        &mut self,
+        items: &mut Seq<(&'a str, &'a str, u32)>,
+        item: (&'a str, &'a str, u32),
+    )
+        ensures { Pushes self.old self.new item.entry items.old items.new }
+    {
+        let pushed = items.push(item);
+        self.took(pushed);
+    }
+
+    /// Reads exports from the name of the first on: neighbouring forms of the same key (tool conventions, dynamic linking).
+    #[tactic(auto, using(crate::proofs::Entries::entry_last, crate::proofs::Loops::none_after))]
+    fn all_exported(&mut self, items: &mut Seq<(&'a str, u32)>)
+        ensures { ReadsOnto exports_info self.old self.new (map seen_exported items.old) (map seen_exported items.new) }
+    {
         for _ in 0..self.left() {
-            let name = self.text();
-            let flags = self.flags();
-            let pushed = items.push((name, flags));
-            self.took(pushed);
+            let item = self.exported();
+            self.push_exported(items, item);
             if !self.accept_next(Key::ExportInfo) {
-                break;
+                return;
             }
         }
-        Dylink0Subsection::ExportInfo(items)
+    }
+
+    /// Reads imports from the names of the first on: neighbouring forms of the same key (tool conventions, dynamic linking).
+    #[tactic(auto, using(crate::proofs::Entries::entry_last, crate::proofs::Loops::none_after))]
+    fn all_imported(&mut self, items: &mut Seq<(&'a str, &'a str, u32)>)
+        ensures { ReadsOnto imports_info self.old self.new (map seen_imported items.old) (map seen_imported items.new) }
+    {
+        for _ in 0..self.left() {
+            let item = self.imported();
+            self.push_imported(items, item);
+            if !self.accept_next(Key::ImportInfo) {
+                return;
+            }
+        }
+    }
+
+    /// Reads `(export-info "a" 1)` from its name on, and the forms of the same key that follow (tool conventions, dynamic
+    /// linking).
+    #[tactic(auto, using(crate::proofs::Loops::from_nothing))]
+    fn export_info(&mut self) -> Seq<(&'a str, u32)>
+        ensures { Reads exports_info self.old self.new (map seen_exported result) }
+    {
+        let mut items = Seq::new(self.alloc);
+        self.all_exported(&mut items);
+        items
     }
 
     /// Reads `(import-info "a" "b" 1)` from its names on, and the forms of the same key that follow (tool conventions, dynamic
     /// linking).
-    fn import_info(&mut self) -> Dylink0Subsection<'a> {
+    #[tactic(auto, using(crate::proofs::Loops::from_nothing))]
+    fn import_info(&mut self) -> Seq<(&'a str, &'a str, u32)>
+        ensures { Reads imports_info self.old self.new (map seen_imported result) }
+    {
         let mut items = Seq::new(self.alloc);
-        for _ in 0..self.left() {
-            let (module, name) = (self.text(), self.text());
-            let flags = self.flags();
-            let pushed = items.push((module, name, flags));
-            self.took(pushed);
-            if !self.accept_next(Key::ImportInfo) {
-                break;
-            }
+        self.all_imported(&mut items);
+        items
+    }
+
+    /// Reads the sizes of `mem-info` (tool conventions, dynamic linking).
+    fn memory_info(&mut self) -> Dylink0Subsection<'a>
+        ensures { Decides memory_info self.old self.new (seen_subsection result) }
+    {
+        let (memory_size, memory_align) = self.size_and_align(Key::Memory);
+        let (table_size, table_align) = self.size_and_align(Key::Table);
+        Dylink0Subsection::MemInfo {
+            memory_size,
+            memory_align,
+            table_size,
+            table_align,
         }
-        Dylink0Subsection::ImportInfo(items)
+    }
+
+    /// Where no subsection stands.
+    fn no_subsection(&mut self) -> Dylink0Subsection<'a>
+        ensures { Refuses self.old self.new }
+    {
+        self.expected("`dylink.0` subsection name");
+        Dylink0Subsection::TargetArch("")
     }
 
     /// Reads a subsection of `dylink.0` after its `(` (tool conventions, dynamic linking).
-    fn subsection(&mut self) -> Dylink0Subsection<'a> {
+    fn subsection(&mut self) -> Dylink0Subsection<'a>
+        ensures { Reads subsection_rule self.old self.new (seen_subsection result) }
+    {
         let key = self.key(0);
         self.skip();
         match key {
-            Some(Key::MemInfo) => {
-                let (memory_size, memory_align) = self.size_and_align(Key::Memory);
-                let (table_size, table_align) = self.size_and_align(Key::Table);
-                Dylink0Subsection::MemInfo {
-                    memory_size,
-                    memory_align,
-                    table_size,
-                    table_align,
-                }
-            }
+            Some(Key::MemInfo) => self.memory_info(),
             Some(Key::Needed) => Dylink0Subsection::Needed(self.names()),
-            Some(Key::ExportInfo) => self.export_info(),
-            Some(Key::ImportInfo) => self.import_info(),
+            Some(Key::ExportInfo) => Dylink0Subsection::ExportInfo(self.export_info()),
+            Some(Key::ImportInfo) => Dylink0Subsection::ImportInfo(self.import_info()),
             Some(Key::RuntimePath) => Dylink0Subsection::RuntimePath(self.names()),
             Some(Key::TargetArch) => Dylink0Subsection::TargetArch(self.text()),
-            _ => {
-                self.expected("`dylink.0` subsection name");
-                Dylink0Subsection::TargetArch("")
-            }
+            _ => self.no_subsection(),
         }
     }
 
     /// `(@dylink.0 ..)` (tool conventions, dynamic linking).
-    pub fn dylink_field(&mut self) -> Custom<'a> {
+    pub fn dylink_field(&mut self) -> Custom<'a>
+        ensures { Reads dylinkfield self.old self.new (seen_custom result) }
+    {
         self.skip();
-        let mut subsections = Seq::new(self.alloc);
+        let subsections = self.subsections();
+        Custom::Dylink0(Dylink0 { subsections })
+    }
+
+    /// Reads a subsection of `dylink.0` in its parentheses.
+    fn subsection_form(&mut self) -> Dylink0Subsection<'a>
+        ensures { Reads subsection_form self.old self.new (seen_subsection result) }
+    {
+        self.open();
+        let subsection = self.subsection();
+        self.close();
+        subsection
+    }
+
+    /// Puts a subsection behind the others.
+    #[tactic(auto, using(crate::proofs::Makes::none_failed), unfolding(crate::specs::Readers::left))]
+    fn push_subsection(
+        &mut self,
+        subsections: &mut Seq<Dylink0Subsection<'a>>,
+        subsection: Dylink0Subsection<'a>,
+    )
+        ensures { Builds self.old self.new subsection.entry subsections.old subsections.new }
+    {
+        self.make.push_subsection(subsections, subsection);
+    }
+
+    /// Reads subsections of `dylink.0`, up to the end of the form.
+    #[tactic(auto, using(crate::proofs::Steps::one_built, crate::proofs::Loops::part_end, crate::proofs::Loops::part_last, crate::proofs::Loops::none_after))]
+    fn all_subsections(&mut self, found: &mut Seq<Dylink0Subsection<'a>>)
+        ensures { ReadsOnto subsections self.old self.new (map seen_subsection found.old) (map seen_subsection found.new) }
+    {
         for _ in 0..self.left() {
             if self.is_end() {
                 break;
             }
-            self.open();
-            let subsection = self.subsection();
-            self.make.push_subsection(&mut subsections, subsection);
-            self.close();
+            let subsection = self.subsection_form();
+            self.push_subsection(found, subsection);
         }
-        Custom::Dylink0(Dylink0 { subsections })
+    }
+
+    /// Reads subsections of `dylink.0`, up to the end of the form.
+    #[tactic(auto, using(crate::proofs::Loops::from_nothing))]
+    fn subsections(&mut self) -> Seq<Dylink0Subsection<'a>>
+        ensures { Reads subsections self.old self.new (map seen_subsection result) }
+    {
+        let mut found = Seq::new(self.alloc);
+        self.all_subsections(&mut found);
+        found
     }
 }

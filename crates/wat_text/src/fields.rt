@@ -3,17 +3,20 @@
 ghost use Rattle.std.specs.Prelude.{◌≡◌, true, false, None, Some, [], ◌∷◌, ◌++◌, map, option_map};
 ghost use Rattle.wat_tokens.specs.declared.words.Key.TheVariants as key;
 ghost use Rattle.wat_syntax.specs.Tokens.{is_form, form};
-ghost use Rattle.wat_syntax.specs.Seen.{seen_text, seen_exports, seen_import, seen_local, seen_tag_kind, seen_tag, seen_item_kind, seen_item_sig, seen_item, seen_items, seen_imports, seen_export};
-ghost use Rattle.wat_syntax.specs.Modules.{head, inline_export, export_names, inline_exports, inline_import, unnamed_locals, locals_of, local, locals as locals_rule, tag_kind_of, tagfield, functype_of, externtype_of, externtype, importfield, import_items_from, import_name, import_names, import_item, import_items_of, import_group, export_kind, externidx_keyword, exportfield};
+ghost use Rattle.wat_syntax.specs.Seen.{seen_type_use, seen_expression, seen_text, seen_exports, seen_import, seen_local, seen_tag_kind, seen_tag, seen_item_kind, seen_item_sig, seen_item, seen_items, seen_imports, seen_export};
+ghost use Rattle.wat_syntax.specs.Modules.{head, inline_export, export_names, inline_exports, inline_import, unnamed_local, unnamed_locals, locals_of, local, locals as locals_rule, tag_kind_of, tagfield, functype_of, externtype_of, externtype, importfield, import_items_from, import_name, import_names, import_item, import_items_of, import_group, export_kind, externidx_keyword, exportfield};
+ghost use Rattle.wat_syntax.specs.SeenFields.{seen_func_kind, seen_func_of, seen_func, seen_payload, seen_table_kind, seen_table, seen_memory_kind, seen_memory, seen_global_kind, seen_global};
+ghost use Rattle.wat_syntax.specs.Segments.{is_funcref};
+ghost use Rattle.wat_syntax.specs.Fields.{imported_func, func_body, func_of, funcfield, inline_elements, init_expression, table_of_type, table_of_elements, defined_table, table_of, tablefield, has_inline_data, inline_data, defined_memory, memory_of, memoryfield, global_of, globalfield};
 ghost use Rattle.wat_text.specs.Heads.{seen_head};
-ghost use Rattle.wat_text.specs.Readers.{left, Reads, Decides, Expects, ReadsOnto};
+ghost use Rattle.wat_text.specs.Readers.{left, Reads, Decides, Expects, ReadsOnto, Pushes};
 
 use crate::reader::Reader;
 use wast_tree::{
-    AbstractHeapType, ElemPayload, Export, ExportKind, Func, FuncKind, Global, GlobalKind,
-    HeapType, Id, ImportItems, Imports, InlineExport, InlineImport, ItemKind, ItemSig, Local,
-    Memory, MemoryKind, NameAnnotation, RefType, Seq, Span, Table, TableKind, TableType, Tag,
-    TagKind, TagType,
+    AbstractHeapType, ElemPayload, Export, ExportKind, Expression, Func, FuncKind, FunctionType,
+    Global, GlobalKind, HeapType, Id, ImportItems, Imports, InlineExport, InlineImport, ItemKind,
+    ItemSig, Local, Memory, MemoryKind, NameAnnotation, RefType, Seq, Span, Table, TableKind,
+    TableType, Tag, TagKind, TagType, TypeUse,
 };
 use wat_tokens::Key;
 
@@ -26,7 +29,9 @@ pub(crate) struct Head<'a> {
 }
 
 /// Whether it is `funcref`.
-pub(crate) fn is_funcref(ty: RefType<'_>) -> bool {
+pub(crate) fn is_funcref(ty: RefType<'_>) -> bool
+    ensures { result ≡ is_funcref ty.entry }
+{
     let is_func = matches!(
         ty.heap,
         HeapType::Abstract {
@@ -91,18 +96,15 @@ impl<'a> Reader<'a> {
     }
 
     /// Puts a name behind the others.
-    fn push_name(&mut self, names: &mut Seq<&'a str>, name: &'a str)
-        ensures make { self.new.make ≡ self.old.make }
-        ensures clean { self.new.fault ≡ None → self.old.fault ≡ None }
-        ensures pushed { self.new.fault ≡ None → names.new ≡ names.old ++ name.entry ∷ [] }
-        ensures left { self.new.fault ≡ None → left self.new ≡ left self.old }
+    pub(crate) fn push_name(&mut self, names: &mut Seq<&'a str>, name: &'a str)
+        ensures { Pushes self.old self.new name.entry names.old names.new }
     {
         let pushed = names.push(name);
         self.took(pushed);
     }
 
     /// The names under which a field is exported in place, as many as there are.
-    #[tactic(auto, using(crate::proofs::Loops::seen_more, crate::proofs::Loops::part_end, crate::proofs::Loops::part_last))]
+    #[tactic(auto, using(crate::proofs::Steps::one_seen, crate::proofs::Loops::part_end, crate::proofs::Loops::part_last, crate::proofs::Loops::none_after))]
     fn export_names(&mut self, names: &mut Seq<&'a str>)
         ensures { ReadsOnto export_names self.old self.new (map seen_text names.old) (map seen_text names.new) }
     {
@@ -140,17 +142,22 @@ impl<'a> Reader<'a> {
 
     /// Puts a local behind the others.
     fn push_local(&mut self, locals: &mut Seq<Local<'a>>, local: Local<'a>)
-        ensures make { self.new.make ≡ self.old.make }
-        ensures clean { self.new.fault ≡ None → self.old.fault ≡ None }
-        ensures pushed { self.new.fault ≡ None → locals.new ≡ locals.old ++ local.entry ∷ [] }
-        ensures left { self.new.fault ≡ None → left self.new ≡ left self.old }
+        ensures { Pushes self.old self.new local.entry locals.old locals.new }
     {
         let pushed = locals.push(local);
         self.took(pushed);
     }
 
+    /// A local without an id.
+    fn unnamed_local(&mut self) -> Local<'a>
+        ensures { Decides unnamed_local self.old self.new (seen_local result) }
+    {
+        let ty = self.value_type();
+        Local::new(None, ty)
+    }
+
     /// Locals without ids, up to the end of the form.
-    #[tactic(auto, using(crate::proofs::Loops::seen_more, crate::proofs::Loops::part_end, crate::proofs::Loops::part_last))]
+    #[tactic(auto, using(crate::proofs::Steps::one_seen, crate::proofs::Loops::part_end, crate::proofs::Loops::part_last, crate::proofs::Loops::none_after))]
     fn unnamed_locals(&mut self, locals: &mut Seq<Local<'a>>)
         ensures { ReadsOnto unnamed_locals self.old self.new (map seen_local locals.old) (map seen_local locals.new) }
     {
@@ -158,8 +165,8 @@ impl<'a> Reader<'a> {
             if self.is_end() {
                 break;
             }
-            let ty = self.value_type();
-            self.push_local(locals, Local::new(None, ty));
+            let local = self.unnamed_local();
+            self.push_local(locals, local);
         }
     }
 
@@ -189,7 +196,7 @@ impl<'a> Reader<'a> {
     }
 
     /// The locals of a function, each form in its parentheses.
-    #[tactic(auto, using(crate::proofs::Loops::list_more, crate::proofs::Loops::list_end, crate::proofs::Loops::list_last))]
+    #[tactic(auto, using(crate::proofs::Steps::one_list, crate::proofs::Loops::list_end, crate::proofs::Loops::list_last, crate::proofs::Loops::none_after))]
     fn all_locals(&mut self, locals: &mut Seq<Local<'a>>)
         ensures { ReadsOnto locals_rule self.old self.new (map seen_local locals.old) (map seen_local locals.new) }
     {
@@ -211,8 +218,50 @@ impl<'a> Reader<'a> {
         locals
     }
 
-    /// `(func ..)` (text format, functions).
-    pub fn func_field(&mut self) -> Func<'a> {
+    /// Reads the type of an imported function, in `(exact ..)` if it is exact (custom descriptors).
+    fn imported_func(
+        &mut self,
+        import: InlineImport<'a>,
+    ) -> (FuncKind<'a>, TypeUse<'a, FunctionType<'a>>)
+        ensures { Reads (imported_func (seen_import import.entry)) self.old self.new (seen_func_of result) }
+    {
+        let exact = self.accept_form(Key::Exact);
+        let ty = self.type_use(true);
+        if exact {
+            self.close();
+        }
+        (FuncKind::Import(import, exact), ty)
+    }
+
+    /// Reads the locals and the body of a function.
+    fn func_body(&mut self) -> FuncKind<'a>
+        ensures { Reads func_body self.old self.new (seen_func_kind result) }
+    {
+        let locals = self.locals();
+        let expression = self.function_body();
+        FuncKind::Inline { locals, expression }
+    }
+
+    /// Reads what a function is, after its inline import if it has one.
+    fn func_of(
+        &mut self,
+        import: Option<InlineImport<'a>>,
+    ) -> (FuncKind<'a>, TypeUse<'a, FunctionType<'a>>)
+        ensures { Reads (func_of (option_map seen_import import.entry)) self.old self.new (seen_func_of result) }
+    {
+        match import {
+            Some(import) => self.imported_func(import),
+            None => {
+                let ty = self.type_use(true);
+                (self.func_body(), ty)
+            }
+        }
+    }
+
+    /// Reads `(func ..)` (text format, functions).
+    pub fn func_field(&mut self) -> Func<'a>
+        ensures { Reads funcfield self.old self.new (seen_func result) }
+    {
         let Head {
             span,
             id,
@@ -220,15 +269,7 @@ impl<'a> Reader<'a> {
             exports,
         } = self.head();
         let import = self.import();
-        let exact = import.is_some() && self.accept_form(Key::Exact);
-        let ty = self.type_use(true);
-        if exact {
-            self.close();
-        }
-        let kind = match import {
-            Some(import) => FuncKind::Import(import, exact),
-            None => self.func_body(),
-        };
+        let (kind, ty) = self.func_of(import);
         Func {
             span,
             id,
@@ -239,18 +280,13 @@ impl<'a> Reader<'a> {
         }
     }
 
-    /// The locals and the body of a function.
-    fn func_body(&mut self) -> FuncKind<'a> {
-        let locals = self.locals();
-        let expression = self.function_body();
-        FuncKind::Inline { locals, expression }
-    }
-
     /// Reads the elements inline in a table, after `(elem` (text format, tables: abbreviations).
     ///
     /// Functions by index are expressions of the type of the table if that is not `funcref`, because the bytes of a segment of
     /// functions have no place for another type: `(table (ref $t) (elem $f))` has the element `ref.func $f`.
-    fn inline_elements(&mut self, ty: RefType<'a>) -> ElemPayload<'a> {
+    fn inline_elements(&mut self, ty: RefType<'a>) -> ElemPayload<'a>
+        ensures { Reads (inline_elements ty.entry) self.old self.new (seen_payload result) }
+    {
         if self.is_open(0) {
             return self.expressions(ty);
         }
@@ -260,28 +296,46 @@ impl<'a> Reader<'a> {
         }
     }
 
-    /// What a table is made of that is not imported in place (text format, tables).
-    fn table_kind(&mut self) -> TableKind<'a> {
-        let shared = self.accept(Key::Shared);
-        let is64 = self.is64();
-        if self.is_number(0) {
-            let limits = self.limits(is64);
-            let elem = self.ref_type();
-            let ty = TableType {
-                limits,
-                elem,
-                shared,
-            };
-            let init_expr = match self.is_end() {
-                true => None,
-                false => Some(self.expression()),
-            };
-            return TableKind::Normal { ty, init_expr };
+    /// Reads the initial value of the elements of a table, if it is there.
+    fn init_expression(&mut self) -> Option<Expression<'a>>
+        ensures { Reads init_expression self.old self.new (option_map seen_expression result) }
+    {
+        match self.is_end() {
+            true => None,
+            false => Some(self.expression()),
         }
+    }
+
+    /// Reads a table by its limits and the type of its elements, after its address type.
+    fn table_of_type(&mut self, shared: bool, is64: bool) -> TableKind<'a>
+        ensures { Reads (table_of_type shared is64) self.old self.new (seen_table_kind result) }
+    {
+        let limits = self.limits(is64);
         let elem = self.ref_type();
+        let ty = TableType {
+            limits,
+            elem,
+            shared,
+        };
+        let init_expr = self.init_expression();
+        TableKind::Normal { ty, init_expr }
+    }
+
+    /// Reads `(elem`.
+    fn elem_form(&mut self)
+        ensures { Expects (form key.Elem) self.old self.new }
+    {
         if !self.accept_form(Key::Elem) {
             self.expected("`(elem`");
         }
+    }
+
+    /// Reads a table by its elements, after its address type (text format, tables: abbreviations).
+    fn table_of_elements(&mut self, shared: bool, is64: bool) -> TableKind<'a>
+        ensures { Reads (table_of_elements shared is64) self.old self.new (seen_table_kind result) }
+    {
+        let elem = self.ref_type();
+        self.elem_form();
         let payload = self.inline_elements(elem);
         self.close();
         TableKind::Inline {
@@ -292,21 +346,43 @@ impl<'a> Reader<'a> {
         }
     }
 
-    /// `(table ..)` (text format, tables).
-    pub fn table_field(&mut self) -> Table<'a> {
+    /// Reads what a table is that has no inline import (text format, tables).
+    fn table_kind(&mut self) -> TableKind<'a>
+        ensures { Reads defined_table self.old self.new (seen_table_kind result) }
+    {
+        let shared = self.accept(Key::Shared);
+        let is64 = self.is64();
+        match self.is_number(0) {
+            true => self.table_of_type(shared, is64),
+            false => self.table_of_elements(shared, is64),
+        }
+    }
+
+    /// Reads what a table is, after its inline import if it has one.
+    fn table_of(&mut self, import: Option<InlineImport<'a>>) -> TableKind<'a>
+        ensures { Reads (table_of (option_map seen_import import.entry)) self.old self.new (seen_table_kind result) }
+    {
+        match import {
+            Some(import) => TableKind::Import {
+                import,
+                ty: self.table_type(),
+            },
+            None => self.table_kind(),
+        }
+    }
+
+    /// Reads `(table ..)` (text format, tables).
+    pub fn table_field(&mut self) -> Table<'a>
+        ensures { Reads tablefield self.old self.new (seen_table result) }
+    {
         let Head {
             span,
             id,
             name,
             exports,
         } = self.head();
-        let kind = match self.import() {
-            Some(import) => TableKind::Import {
-                import,
-                ty: self.table_type(),
-            },
-            None => self.table_kind(),
-        };
+        let import = self.import();
+        let kind = self.table_of(import);
         Table {
             span,
             id,
@@ -316,20 +392,32 @@ impl<'a> Reader<'a> {
         }
     }
 
-    /// What a memory is made of that is not imported in place (text format, memories).
-    fn memory_kind(&mut self) -> MemoryKind<'a> {
-        let ahead = match self.key(0) {
-            Some(Key::I32 | Key::I64) => 1,
-            _ => 0,
-        };
-        if !self.is_open(ahead) {
-            return MemoryKind::Normal(self.memory_type());
+    /// Returns whether a memory has inline data: a `(` is next, after the address type if there is one.
+    fn has_inline_data(&self) -> bool
+        ensures { result ≡ has_inline_data (left self.now) }
+    {
+        match self.key(0) {
+            Some(Key::I32 | Key::I64) => self.is_open(1),
+            _ => self.is_open(0),
         }
-        let is64 = self.is64();
-        let page_size_log2 = self.page_size();
+    }
+
+    /// Reads `(data`.
+    fn data_form(&mut self)
+        ensures { Expects (form key.Data) self.old self.new }
+    {
         if !self.accept_form(Key::Data) {
             self.expected("`(data`");
         }
+    }
+
+    /// Reads the data inline in a memory (text format, memories: abbreviations).
+    fn inline_data(&mut self) -> MemoryKind<'a>
+        ensures { Reads inline_data self.old self.new (seen_memory_kind result) }
+    {
+        let is64 = self.is64();
+        let page_size_log2 = self.page_size();
+        self.data_form();
         let bytes = self.data_bytes();
         self.close();
         MemoryKind::Inline {
@@ -339,21 +427,41 @@ impl<'a> Reader<'a> {
         }
     }
 
-    /// `(memory ..)` (text format, memories).
-    pub fn memory_field(&mut self) -> Memory<'a> {
+    /// Reads what a memory is that has no inline import (text format, memories).
+    fn memory_kind(&mut self) -> MemoryKind<'a>
+        ensures { Reads defined_memory self.old self.new (seen_memory_kind result) }
+    {
+        match self.has_inline_data() {
+            true => self.inline_data(),
+            false => MemoryKind::Normal(self.memory_type()),
+        }
+    }
+
+    /// Reads what a memory is, after its inline import if it has one.
+    fn memory_of(&mut self, import: Option<InlineImport<'a>>) -> MemoryKind<'a>
+        ensures { Reads (memory_of (option_map seen_import import.entry)) self.old self.new (seen_memory_kind result) }
+    {
+        match import {
+            Some(import) => MemoryKind::Import {
+                import,
+                ty: self.memory_type(),
+            },
+            None => self.memory_kind(),
+        }
+    }
+
+    /// Reads `(memory ..)` (text format, memories).
+    pub fn memory_field(&mut self) -> Memory<'a>
+        ensures { Reads memoryfield self.old self.new (seen_memory result) }
+    {
         let Head {
             span,
             id,
             name,
             exports,
         } = self.head();
-        let kind = match self.import() {
-            Some(import) => MemoryKind::Import {
-                import,
-                ty: self.memory_type(),
-            },
-            None => self.memory_kind(),
-        };
+        let import = self.import();
+        let kind = self.memory_of(import);
         Memory {
             span,
             id,
@@ -363,8 +471,20 @@ impl<'a> Reader<'a> {
         }
     }
 
-    /// `(global ..)` (text format, globals).
-    pub fn global_field(&mut self) -> Global<'a> {
+    /// Reads the value of a global that has no inline import.
+    fn global_of(&mut self, import: Option<InlineImport<'a>>) -> GlobalKind<'a>
+        ensures { Reads (global_of (option_map seen_import import.entry)) self.old self.new (seen_global_kind result) }
+    {
+        match import {
+            Some(import) => GlobalKind::Import(import),
+            None => GlobalKind::Inline(self.expression()),
+        }
+    }
+
+    /// Reads `(global ..)` (text format, globals).
+    pub fn global_field(&mut self) -> Global<'a>
+        ensures { Reads globalfield self.old self.new (seen_global result) }
+    {
         let Head {
             span,
             id,
@@ -373,10 +493,7 @@ impl<'a> Reader<'a> {
         } = self.head();
         let import = self.import();
         let ty = self.global_type();
-        let kind = match import {
-            Some(import) => GlobalKind::Import(import),
-            None => GlobalKind::Inline(self.expression()),
-        };
+        let kind = self.global_of(import);
         Global {
             span,
             id,
@@ -504,7 +621,7 @@ impl<'a> Reader<'a> {
     }
 
     /// Names of items, as many as there are.
-    #[tactic(auto, using(crate::proofs::Loops::seen_more, crate::proofs::Loops::part_end, crate::proofs::Loops::part_last))]
+    #[tactic(auto, using(crate::proofs::Steps::one_seen, crate::proofs::Loops::part_end, crate::proofs::Loops::part_last, crate::proofs::Loops::none_after))]
     fn import_names(&mut self, names: &mut Seq<&'a str>)
         ensures { ReadsOnto import_names self.old self.new (map seen_text names.old) (map seen_text names.new) }
     {
@@ -532,17 +649,14 @@ impl<'a> Reader<'a> {
 
     /// Puts an item behind the others.
     fn push_item(&mut self, items: &mut Seq<(&'a str, ItemSig<'a>)>, item: (&'a str, ItemSig<'a>))
-        ensures make { self.new.make ≡ self.old.make }
-        ensures clean { self.new.fault ≡ None → self.old.fault ≡ None }
-        ensures pushed { self.new.fault ≡ None → items.new ≡ items.old ++ item.entry ∷ [] }
-        ensures left { self.new.fault ≡ None → left self.new ≡ left self.old }
+        ensures { Pushes self.old self.new item.entry items.old items.new }
     {
         let pushed = items.push(item);
         self.took(pushed);
     }
 
     /// Items with their types, as many as there are.
-    #[tactic(auto, using(crate::proofs::Loops::seen_more, crate::proofs::Loops::part_end, crate::proofs::Loops::part_last))]
+    #[tactic(auto, using(crate::proofs::Steps::one_read, crate::proofs::Loops::part_end, crate::proofs::Loops::part_last, crate::proofs::Loops::none_after))]
     fn typed_items(&mut self, items: &mut Seq<(&'a str, ItemSig<'a>)>)
         ensures { ReadsOnto import_items_of self.old self.new (map seen_item items.old) (map seen_item items.new) }
     {

@@ -1,5 +1,16 @@
 //! Instructions with immediates of their own.
 
+ghost use Rattle.std.specs.Prelude.{◌≡◌, true, List, [], ◌∷◌, ◌++◌, ℕ, option_map};
+ghost use Rattle.std.specs.Borrow.{Bor};
+ghost use Rattle.wat_tokens.specs.declared.words.Key.TheVariants as key;
+ghost use Rattle.wat_tokens.specs.declared.words.OwnOp.TheVariants as own;
+ghost use Rattle.wat_syntax.specs.Tokens.{peek, is_form};
+ghost use Rattle.wat_syntax.specs.Seen.{seen_call, seen_instr};
+ghost use Rattle.wat_syntax.specs.Instructions.{assignment, offset, align, memory_ordering, memarg, memarg_of, is_assigned, is_lane_alone, lane_memarg, struct_access, one_or_two, none_or_two, array_new_fixed, select, atomic_instr, atomic_of, br_table, callindirect, cast, handle, on, resumetable, own_instr};
+ghost use Rattle.wat_syntax.specs.Instructions.{handlers as handlers_rule};
+ghost use Rattle.wat_syntax.specs.Types.{indices};
+ghost use Rattle.wat_text.specs.Readers.{left, Reads, Decides, Finds, ReadsOnto, Pushes};
+
 use crate::reader::Reader;
 use wast_tree::{
     ArrayNewFixed, BrOnCast, BrOnCastDescEq, BrOnCastDescEqFail, BrOnCastFail, BrTableIndices,
@@ -11,7 +22,10 @@ use wat_tokens::{AtomicOp, Key, OwnOp, PairOp, TextFault, Token, Word, unsigned6
 
 impl<'a> Reader<'a> {
     /// What stands behind `=` in a word that begins so, where one does.
-    fn assigned(&mut self, name: &'static str) -> Option<&'a str> {
+    #[tactic(auto, using(crate::proofs::Prefixes::after_is, crate::proofs::Prefixes::after_not))]
+    fn assigned(&mut self, name: &'static str) -> Option<&'a str>
+        ensures { Finds (assignment name.now) self.old self.new (option_map (λ (text : Bor (List ℕ)). text.now) result) }
+    {
         match self.look(0) {
             Some(Token::Other(text)) => {
                 let value = text.strip_prefix(name)?;
@@ -23,7 +37,10 @@ impl<'a> Reader<'a> {
     }
 
     /// `offset=4`, where it stands there, or else 0.
-    fn offset(&mut self) -> u64 {
+    #[tactic(auto, using(crate::proofs::Numbers::unsigned_is, crate::proofs::Numbers::unsigned_not))]
+    fn offset(&mut self) -> u64
+        ensures { Decides offset self.old self.new result }
+    {
         let place = self.place();
         match self.assigned("offset=") {
             Some(text) => self.value(place, unsigned64(text), 0),
@@ -32,7 +49,10 @@ impl<'a> Reader<'a> {
     }
 
     /// `align=4`, where it stands there.
-    fn align(&mut self, natural: u64) -> u64 {
+    #[tactic(auto, using(crate::proofs::Numbers::unsigned_is, crate::proofs::Numbers::unsigned_not))]
+    fn align(&mut self, natural: u64) -> u64
+        ensures { Decides (align natural) self.old self.new result }
+    {
         let place = self.place();
         let Some(text) = self.assigned("align=") else {
             return natural;
@@ -45,7 +65,9 @@ impl<'a> Reader<'a> {
     }
 
     /// An ordering, where one stands there (threads).
-    fn ordering(&mut self) -> Option<Ordering> {
+    fn ordering(&mut self) -> Option<Ordering>
+        ensures { Decides memory_ordering self.old self.new result }
+    {
         if self.accept(Key::SeqCst) {
             return Some(Ordering::SeqCst);
         }
@@ -56,7 +78,9 @@ impl<'a> Reader<'a> {
     }
 
     /// A memory argument (text format, memory instructions).
-    pub fn mem_arg(&mut self, natural: u64) -> MemArg<'a> {
+    pub fn mem_arg(&mut self, natural: u64) -> MemArg<'a>
+        ensures { Decides (memarg natural) self.old self.new result }
+    {
         let ordering = self.ordering().map(MemArgOrdering::Op);
         let memory = self.index_or_zero();
         self.mem_arg_of(natural, memory, ordering)
@@ -68,7 +92,9 @@ impl<'a> Reader<'a> {
         natural: u64,
         memory: Index<'a>,
         ordering: Option<MemArgOrdering>,
-    ) -> MemArg<'a> {
+    ) -> MemArg<'a>
+        ensures { Decides (memarg_of natural memory.entry ordering) self.old self.new result }
+    {
         let offset = self.offset();
         let align = self.align(natural);
         MemArg {
@@ -79,17 +105,28 @@ impl<'a> Reader<'a> {
         }
     }
 
-    /// Whether the number that comes next is that of a lane, and not that of a memory.
-    fn is_lane_alone(&self) -> bool {
-        let is_assigned = match self.look(1) {
+    /// Whether `offset=4` or `align=4` stands so far ahead.
+    #[tactic(auto, using(crate::proofs::Prefixes::after_is, crate::proofs::Prefixes::after_not))]
+    fn is_assigned(&self, ahead: usize) -> bool
+        ensures { result ≡ is_assigned (peek ahead (left self.now)) }
+    {
+        match self.look(ahead) {
             Some(Token::Other(text)) => text.starts_with("offset=") || text.starts_with("align="),
             _ => false,
-        };
-        self.is_number(0) && !self.is_number(1) && !is_assigned
+        }
+    }
+
+    /// Whether the number that comes next is that of a lane, and not that of a memory.
+    fn is_lane_alone(&self) -> bool
+        ensures { result ≡ is_lane_alone (left self.now) }
+    {
+        self.is_number(0) && !self.is_number(1) && !self.is_assigned(1)
     }
 
     /// A memory argument and the number of a lane (text format, vector instructions).
-    pub fn load_or_store_lane(&mut self, natural: u64) -> LoadOrStoreLane<'a> {
+    pub fn load_or_store_lane(&mut self, natural: u64) -> LoadOrStoreLane<'a>
+        ensures { Decides (lane_memarg natural) self.old self.new result }
+    {
         let memarg = if self.is_lane_alone() {
             let place = self.place_before();
             MemArg::new(Index::Num(0, place), natural, 0)
@@ -101,18 +138,18 @@ impl<'a> Reader<'a> {
     }
 
     /// A type and a field of a struct (text format, aggregate instructions).
-    pub fn struct_access(&mut self) -> StructAccess<'a> {
+    pub fn struct_access(&mut self) -> StructAccess<'a>
+        ensures { Decides struct_access self.old self.new result }
+    {
         let owner = self.index();
         let field = self.index();
         StructAccess { owner, field }
     }
 
-    /// An atomic access of what is no memory (shared-everything threads).
-    pub fn atomic(&mut self, op: AtomicOp) -> Instruction<'a> {
-        let ordering = match self.ordering() {
-            Some(ordering) => ordering,
-            None => Ordering::SeqCst,
-        };
+    /// An atomic access of what is no memory, behind its ordering.
+    fn atomic_of(&mut self, op: AtomicOp, ordering: Ordering) -> Instruction<'a>
+        ensures { Decides (atomic_of op ordering) self.old self.new (seen_instr result) }
+    {
         match op {
             AtomicOp::Global => {
                 let inner = self.index();
@@ -134,47 +171,70 @@ impl<'a> Reader<'a> {
         }
     }
 
-    /// `br_table` and its labels (text format, control instructions).
-    fn br_table(&mut self) -> Instruction<'a> {
-        let mut labels = Seq::new(self.alloc);
-        let mut default = self.index();
-        for _ in 0..self.left() {
-            match self.optional_index() {
-                Some(index) => {
-                    self.push_index(&mut labels, default);
-                    default = index;
-                }
-                None => break,
-            }
+    /// An atomic access of what is no memory (shared-everything threads).
+    pub fn atomic(&mut self, op: AtomicOp) -> Instruction<'a>
+        ensures { Decides (atomic_instr op) self.old self.new (seen_instr result) }
+    {
+        match self.ordering() {
+            Some(ordering) => self.atomic_of(op, ordering),
+            None => self.atomic_of(op, Ordering::SeqCst),
         }
+    }
+
+    /// Labels behind the first, as many as there are: the last of all is the result, and those before it are put into a list.
+    #[tactic(auto, using(crate::proofs::Labels::one_label, crate::proofs::Loops::part_end, crate::proofs::Loops::part_last, crate::proofs::Loops::none_after))]
+    fn labels(&mut self, labels: &mut Seq<Index<'a>>, first: Index<'a>) -> Index<'a>
+        ensures { ReadsOnto indices self.old self.new (labels.old ++ first.entry ∷ []) (labels.new ++ result ∷ []) }
+    {
+        let mut last = first;
+        for _ in 0..self.left() {
+            if !self.is_index(0) {
+                break;
+            }
+            let index = self.index();
+            self.push_index(labels, last);
+            last = index;
+        }
+        last
+    }
+
+    /// `br_table` and its labels (text format, control instructions).
+    #[tactic(auto, using(crate::proofs::Labels::table_is))]
+    fn br_table(&mut self) -> Instruction<'a>
+        ensures { Reads br_table self.old self.new (seen_instr result) }
+    {
+        let mut labels = Seq::new(self.alloc);
+        let first = self.index();
+        let default = self.labels(&mut labels, first);
         Instruction::br_table(BrTableIndices { labels, default })
     }
 
     /// Reads the table and the type of an indirect call (text format, control instructions).
-    fn call_indirect(&mut self) -> CallIndirect<'a> {
+    fn call_indirect(&mut self) -> CallIndirect<'a>
+        ensures { Reads callindirect self.old self.new (seen_call result) }
+    {
         let table = self.index_or_zero();
         let ty = self.type_use(false);
         CallIndirect { table, ty }
     }
 
     /// `select` and the types of what it gives (text format, parametric instructions).
-    fn select(&mut self) -> Instruction<'a> {
+    #[tactic(auto, using(crate::proofs::Loops::from_nothing))]
+    fn select(&mut self) -> Instruction<'a>
+        ensures { Reads select self.old self.new (seen_instr result) }
+    {
         if !self.is_form(Key::Result) {
             return Instruction::select(SelectTypes { tys: None });
         }
         let mut values = Seq::new(self.alloc);
-        for _ in 0..self.left() {
-            if !self.accept_form(Key::Result) {
-                break;
-            }
-            self.values(&mut values);
-            self.close();
-        }
+        self.all_results(&mut values);
         Instruction::select(SelectTypes { tys: Some(values) })
     }
 
     /// One index or two: where one stands there, the first is 0, at the place of the token before.
-    pub fn one_or_two(&mut self) -> (Index<'a>, Index<'a>) {
+    pub fn one_or_two(&mut self) -> (Index<'a>, Index<'a>)
+        ensures { Decides one_or_two self.old self.new result }
+    {
         let place = self.place_before();
         let first = self.index();
         match self.optional_index() {
@@ -184,7 +244,9 @@ impl<'a> Reader<'a> {
     }
 
     /// No index or two: where none stands there, both are 0, at the place of the token before.
-    pub fn none_or_two(&mut self) -> (Index<'a>, Index<'a>) {
+    pub fn none_or_two(&mut self) -> (Index<'a>, Index<'a>)
+        ensures { Decides none_or_two self.old self.new result }
+    {
         let place = self.place_before();
         match self.optional_index() {
             Some(first) => (first, self.index()),
@@ -192,8 +254,10 @@ impl<'a> Reader<'a> {
         }
     }
 
-    /// A handler of a resumption (stack switching).
-    fn handle(&mut self) -> Handle<'a> {
+    /// A tag and what its handler does (stack switching).
+    fn handle(&mut self) -> Handle<'a>
+        ensures { Decides handle self.old self.new result }
+    {
         let tag = self.index();
         if let Some(Word::Pair(PairOp::switch)) = self.word(0) {
             self.skip();
@@ -203,100 +267,202 @@ impl<'a> Reader<'a> {
         Handle::OnLabel { tag, label }
     }
 
-    /// The handlers of a resumption (stack switching).
-    fn resume_table(&mut self) -> ResumeTable<'a> {
-        let mut handlers = Seq::new(self.alloc);
+    /// `(on ..)`, which is next.
+    fn on_clause(&mut self) -> Handle<'a>
+        requires { is_form key.On (left self.old) ≡ true }
+        ensures { Decides on self.old self.new result }
+    {
+        self.skip();
+        self.skip();
+        let handle = self.handle();
+        self.close();
+        handle
+    }
+
+    /// Puts a handler behind the others.
+    fn push_handle(&mut self, handlers: &mut Seq<Handle<'a>>, handle: Handle<'a>)
+        ensures { Pushes self.old self.new handle.entry handlers.old handlers.new }
+    {
+        let pushed = handlers.push(handle);
+        self.took(pushed);
+    }
+
+    /// The handlers of a resumption, as many as there are.
+    #[tactic(auto, using(crate::proofs::Steps::one_more, crate::proofs::Loops::part_end, crate::proofs::Loops::part_last, crate::proofs::Loops::none_after))]
+    fn on_clauses(&mut self, handlers: &mut Seq<Handle<'a>>)
+        ensures { ReadsOnto handlers_rule self.old self.new handlers.old handlers.new }
+    {
         for _ in 0..self.left() {
-            if !self.accept_form(Key::On) {
+            if !self.is_form(Key::On) {
                 break;
             }
-            let pushed = handlers.push(self.handle());
-            self.took(pushed);
-            self.close();
+            let handle = self.on_clause();
+            self.push_handle(handlers, handle);
         }
+    }
+
+    /// The handlers of a resumption (stack switching).
+    #[tactic(auto, using(crate::proofs::Loops::from_nothing))]
+    fn resume_table(&mut self) -> ResumeTable<'a>
+        ensures { Reads resumetable self.old self.new result }
+    {
+        let mut handlers = Seq::new(self.alloc);
+        self.on_clauses(&mut handlers);
         ResumeTable { handlers }
     }
 
     /// `array.new_fixed` (text format, aggregate instructions).
-    fn array_new_fixed(&mut self) -> Instruction<'a> {
+    fn array_new_fixed(&mut self) -> Instruction<'a>
+        ensures { Decides array_new_fixed self.old self.new (seen_instr result) }
+    {
         let array = self.index();
         let length = self.number32();
         Instruction::array_new_fixed(ArrayNewFixed { array, length })
     }
 
-    /// A branch by a cast (text format, control instructions).
-    fn cast_branch(&mut self, op: OwnOp) -> Instruction<'a> {
+    /// The label and the types of a branch by a cast (text format, control instructions).
+    fn cast(&mut self) -> BrOnCast<'a>
+        ensures { Decides cast self.old self.new result }
+    {
         let label = self.index();
         let from_type = self.ref_type();
         let to_type = self.ref_type();
-        match op {
-            OwnOp::br_on_cast => self.make.br_on_cast(BrOnCast {
-                label,
-                from_type,
-                to_type,
-            }),
-            OwnOp::br_on_cast_fail => self.make.br_on_cast_fail(BrOnCastFail {
-                label,
-                from_type,
-                to_type,
-            }),
-            OwnOp::br_on_cast_desc_eq => self.make.br_on_cast_desc_eq(BrOnCastDescEq {
-                label,
-                from_type,
-                to_type,
-            }),
-            _ => self.make.br_on_cast_desc_eq_fail(BrOnCastDescEqFail {
-                label,
-                from_type,
-                to_type,
-            }),
+        BrOnCast {
+            label,
+            from_type,
+            to_type,
         }
     }
 
-    /// An instruction on continuations (stack switching).
-    fn resumption(&mut self, op: OwnOp) -> Instruction<'a> {
+    /// `br_on_cast`.
+    #[tactic(auto, using(crate::proofs::Makes::none_failed), unfolding(crate::specs::Readers::left))]
+    fn br_on_cast(&mut self) -> Instruction<'a>
+        ensures { Reads (own_instr own.br_on_cast) self.old self.new (seen_instr result) }
+    {
+        let cast = self.cast();
+        self.make.br_on_cast(cast)
+    }
+
+    /// `br_on_cast_fail`.
+    #[tactic(auto, using(crate::proofs::Makes::none_failed), unfolding(crate::specs::Readers::left))]
+    fn br_on_cast_fail(&mut self) -> Instruction<'a>
+        ensures { Reads (own_instr own.br_on_cast_fail) self.old self.new (seen_instr result) }
+    {
+        let BrOnCast {
+            label,
+            from_type,
+            to_type,
+        } = self.cast();
+        self.make.br_on_cast_fail(BrOnCastFail {
+            label,
+            from_type,
+            to_type,
+        })
+    }
+
+    /// `br_on_cast_desc_eq`.
+    #[tactic(auto, using(crate::proofs::Makes::none_failed), unfolding(crate::specs::Readers::left))]
+    fn br_on_cast_desc_eq(&mut self) -> Instruction<'a>
+        ensures { Reads (own_instr own.br_on_cast_desc_eq) self.old self.new (seen_instr result) }
+    {
+        let BrOnCast {
+            label,
+            from_type,
+            to_type,
+        } = self.cast();
+        self.make.br_on_cast_desc_eq(BrOnCastDescEq {
+            label,
+            from_type,
+            to_type,
+        })
+    }
+
+    /// `br_on_cast_desc_eq_fail`.
+    #[tactic(auto, using(crate::proofs::Makes::none_failed), unfolding(crate::specs::Readers::left))]
+    fn br_on_cast_desc_eq_fail(&mut self) -> Instruction<'a>
+        ensures { Reads (own_instr own.br_on_cast_desc_eq_fail) self.old self.new (seen_instr result) }
+    {
+        let BrOnCast {
+            label,
+            from_type,
+            to_type,
+        } = self.cast();
+        self.make.br_on_cast_desc_eq_fail(BrOnCastDescEqFail {
+            label,
+            from_type,
+            to_type,
+        })
+    }
+
+    /// `resume` (stack switching).
+    fn resume(&mut self) -> Instruction<'a>
+        ensures { Reads (own_instr own.resume) self.old self.new (seen_instr result) }
+    {
         let type_index = self.index();
-        match op {
-            OwnOp::resume => {
-                let table = self.resume_table();
-                Instruction::resume(Resume { type_index, table })
-            }
-            OwnOp::resume_throw => {
-                let tag_index = self.index();
-                let table = self.resume_table();
-                self.make.resume_throw(ResumeThrow {
-                    type_index,
-                    tag_index,
-                    table,
-                })
-            }
-            _ => {
-                let table = self.resume_table();
-                Instruction::resume_throw_ref(ResumeThrowRef { type_index, table })
-            }
-        }
+        let table = self.resume_table();
+        Instruction::resume(Resume { type_index, table })
+    }
+
+    /// `resume_throw` (stack switching).
+    #[tactic(auto, using(crate::proofs::Makes::none_failed), unfolding(crate::specs::Readers::left))]
+    fn resume_throw(&mut self) -> Instruction<'a>
+        ensures { Reads (own_instr own.resume_throw) self.old self.new (seen_instr result) }
+    {
+        let type_index = self.index();
+        let tag_index = self.index();
+        let table = self.resume_table();
+        self.make.resume_throw(ResumeThrow {
+            type_index,
+            tag_index,
+            table,
+        })
+    }
+
+    /// `resume_throw_ref` (stack switching).
+    fn resume_throw_ref(&mut self) -> Instruction<'a>
+        ensures { Reads (own_instr own.resume_throw_ref) self.old self.new (seen_instr result) }
+    {
+        let type_index = self.index();
+        let table = self.resume_table();
+        Instruction::resume_throw_ref(ResumeThrowRef { type_index, table })
+    }
+
+    /// `call_indirect`.
+    #[tactic(auto, using(crate::proofs::Makes::none_failed), unfolding(crate::specs::Readers::left))]
+    fn indirect_call(&mut self) -> Instruction<'a>
+        ensures { Reads (own_instr own.call_indirect) self.old self.new (seen_instr result) }
+    {
+        let call = self.call_indirect();
+        self.make.call_indirect(call)
+    }
+
+    /// `return_call_indirect`.
+    #[tactic(auto, using(crate::proofs::Makes::none_failed), unfolding(crate::specs::Readers::left))]
+    fn return_indirect_call(&mut self) -> Instruction<'a>
+        ensures { Reads (own_instr own.return_call_indirect) self.old self.new (seen_instr result) }
+    {
+        let call = self.call_indirect();
+        self.make.return_call_indirect(call)
     }
 
     /// An instruction with immediates of its own (text format, instructions).
-    pub fn own(&mut self, op: OwnOp) -> Instruction<'a> {
+    pub fn own(&mut self, op: OwnOp) -> Instruction<'a>
+        ensures { Reads (own_instr op) self.old self.new (seen_instr result) }
+    {
         match op {
             OwnOp::else_ => Instruction::else_(self.id()),
             OwnOp::end_ => Instruction::end_(self.id()),
             OwnOp::br_table => self.br_table(),
-            OwnOp::call_indirect => {
-                let call = self.call_indirect();
-                self.make.call_indirect(call)
-            }
-            OwnOp::return_call_indirect => {
-                let call = self.call_indirect();
-                self.make.return_call_indirect(call)
-            }
+            OwnOp::call_indirect => self.indirect_call(),
+            OwnOp::return_call_indirect => self.return_indirect_call(),
             OwnOp::select => self.select(),
-            OwnOp::resume | OwnOp::resume_throw | OwnOp::resume_throw_ref => self.resumption(op),
-            OwnOp::br_on_cast
-            | OwnOp::br_on_cast_fail
-            | OwnOp::br_on_cast_desc_eq
-            | OwnOp::br_on_cast_desc_eq_fail => self.cast_branch(op),
+            OwnOp::resume => self.resume(),
+            OwnOp::resume_throw => self.resume_throw(),
+            OwnOp::resume_throw_ref => self.resume_throw_ref(),
+            OwnOp::br_on_cast => self.br_on_cast(),
+            OwnOp::br_on_cast_fail => self.br_on_cast_fail(),
+            OwnOp::br_on_cast_desc_eq => self.br_on_cast_desc_eq(),
+            OwnOp::br_on_cast_desc_eq_fail => self.br_on_cast_desc_eq_fail(),
             OwnOp::i32_const => Instruction::i32_const(self.integer32()),
             OwnOp::i64_const => Instruction::i64_const(self.integer64()),
             OwnOp::f32_const => Instruction::f32_const(self.single()),

@@ -7,6 +7,8 @@ mod bodies;
 mod customs;
 mod fields;
 mod immediates;
+mod instructions;
+mod meanings;
 mod modules;
 mod operators;
 mod quotes;
@@ -15,5 +17,6 @@ mod segments;
 mod types;
 mod vectors;
 
+pub use meanings::module_laws;
 pub use modules::{TextKind, TextModule, read, read_module_tokens, read_tokens};
 pub use wat_tokens::{Strings, TextError, TextFault};

@@ -1,10 +1,18 @@
 //! Modules.
 
-ghost use Rattle.std.specs.Prelude.{◌≡◌, ◌≤◌, true, is_none, length, IsTrue, IfOk, IfErr};
-ghost use Rattle.wat_syntax.specs.Modules.{startfield};
+ghost use Rattle.std.specs.Prelude.{◌≡◌, ◌≤◌, true, false, None, Some, length, map, is_none, IsTrue, IfOk, IfErr, IfSome};
+ghost use Rattle.std.specs.Option.{unwrap_or};
+ghost use Rattle.wast_base.specs.Ids.{text_start};
 ghost use Rattle.wast_tree_nodes.specs.WellFormed.{is_well_formed};
-ghost use Rattle.wat_text.specs.Readers.{Decides};
+ghost use Rattle.wat_syntax.specs.Modules.{startfield};
+ghost use Rattle.wat_syntax.specs.Customs.{strings as strings_rule};
+ghost use Rattle.wat_syntax.specs.ModuleFields.{fieldform, open_field, modulefield, modulefields};
+ghost use Rattle.wat_syntax.specs.SeenModuleFields.{seen_field};
+ghost use Rattle.wat_text.specs.Readers.{left, Reads, Decides, Expects, Finds, Refuses, ReadsOnto, Pushes, Builds};
 ghost use Rattle.wat_text.specs.Texts.{is_well_formed_text};
+ghost use Rattle.wat_text.specs.Denotes.{seen_module, seen_opening, opening, fields_of_module, all_of, fields_module, Means, MeansAs, Denotes, DenotesNothing, Explains, is_well_formed_module, AreFields, AreIllFormed, MeansIllFormed, DenotesIllFormed};
+ghost use Rattle.wat_text.specs.Denotes.{all_taken, module_keyword as keyword_rule, module_end as end_rule, rest_of_fields as fields_to_end, quote as quote_rule, quotes as quotes_rule, binary_module as binary_rule, Quotes as quotes_kind};
+ghost use Rattle.wat_text.specs.Finishes.{Finishes, IsClauseFault, WasRefused};
 
 use crate::quotes::{Quote, quoted_tokens};
 use crate::reader::Reader;
@@ -44,7 +52,9 @@ struct ModuleHead<'a> {
 
 impl<'a> Reader<'a> {
     /// A field behind `(` (text format, modules).
-    fn form(&mut self) -> ModuleField<'a> {
+    fn form(&mut self) -> ModuleField<'a>
+        ensures { Reads fieldform self.old self.new (seen_field result) }
+    {
         match self.key(0) {
             Some(Key::Ty) => ModuleField::Ty(self.type_field()),
             Some(Key::Rec) => ModuleField::Rec(self.rec_field()),
@@ -71,13 +81,17 @@ impl<'a> Reader<'a> {
     }
 
     /// Where no field stands.
-    fn no_field(&mut self) -> ModuleField<'a> {
+    fn no_field(&mut self) -> ModuleField<'a>
+        ensures { Refuses self.old self.new }
+    {
         self.expected("valid module field");
         ModuleField::Start(Index::from(0))
     }
 
     /// A field from its parenthesis on (text format, modules).
-    fn field(&mut self) -> ModuleField<'a> {
+    fn field(&mut self) -> ModuleField<'a>
+        ensures { Reads open_field self.old self.new (seen_field result) }
+    {
         match self.look(0) {
             Some(Token::Open) => {
                 self.skip();
@@ -94,22 +108,51 @@ impl<'a> Reader<'a> {
         }
     }
 
-    /// The fields up to the end of the form or the text.
-    fn fields(&mut self) -> Seq<ModuleField<'a>> {
-        let mut fields = Seq::new(self.alloc);
+    /// A field with its `)` (text format, modules).
+    fn module_field(&mut self) -> ModuleField<'a>
+        ensures { Reads modulefield self.old self.new (seen_field result) }
+    {
+        let field = self.field();
+        self.close();
+        field
+    }
+
+    /// Puts a field behind the others.
+    #[tactic(auto, using(crate::proofs::Makes::none_failed), unfolding(crate::specs::Readers::left))]
+    fn push_field(&mut self, fields: &mut Seq<ModuleField<'a>>, field: ModuleField<'a>)
+        ensures { Builds self.old self.new field.entry fields.old fields.new }
+    {
+        self.make.push_field(fields, field);
+    }
+
+    /// Reads fields up to the end of the form or the text.
+    #[tactic(auto, using(crate::proofs::Steps::one_built, crate::proofs::Loops::part_end, crate::proofs::Loops::part_last, crate::proofs::Loops::none_after))]
+    fn all_fields_of(&mut self, fields: &mut Seq<ModuleField<'a>>)
+        ensures { ReadsOnto modulefields self.old self.new (map seen_field fields.old) (map seen_field fields.new) }
+    {
         for _ in 0..self.left() {
             if self.is_end() {
                 break;
             }
-            let field = self.field();
-            self.make.push_field(&mut fields, field);
-            self.close();
+            let field = self.module_field();
+            self.push_field(fields, field);
         }
+    }
+
+    /// The fields up to the end of the form or the text.
+    #[tactic(auto, using(crate::proofs::Loops::from_nothing))]
+    fn fields(&mut self) -> Seq<ModuleField<'a>>
+        ensures { Reads modulefields self.old self.new (map seen_field result) }
+    {
+        let mut fields = Seq::new(self.alloc);
+        self.all_fields_of(&mut fields);
         fields
     }
 
     /// `(module`, where it stands there: the place of its keyword.
-    fn module_keyword(&mut self) -> Option<Span> {
+    fn module_keyword(&mut self) -> Option<Span>
+        ensures { Finds keyword_rule self.old self.new result }
+    {
         if !self.is_form(Key::Module) {
             return None;
         }
@@ -120,7 +163,9 @@ impl<'a> Reader<'a> {
     }
 
     /// Reads what a module begins with: `(module`, its id and its name annotation, if it is in parentheses.
-    fn module_head(&mut self) -> ModuleHead<'a> {
+    fn module_head(&mut self) -> ModuleHead<'a>
+        ensures { Decides opening self.old self.new (seen_opening result) }
+    {
         let keyword = self.module_keyword();
         let (id, name) = match keyword {
             Some(_) => (self.id(), self.name()),
@@ -129,44 +174,101 @@ impl<'a> Reader<'a> {
         ModuleHead { keyword, id, name }
     }
 
-    /// Reads strings up to the end of the form: the pieces of a binary module.
-    fn pieces(&mut self) -> Seq<&'a [u8]> {
-        let mut pieces = Seq::new(self.alloc);
+    /// Puts a piece behind the others.
+    fn push_piece(&mut self, pieces: &mut Seq<&'a [u8]>, piece: &'a [u8])
+        ensures { Pushes self.old self.new piece.entry pieces.old pieces.new }
+    {
+        let pushed = pieces.push(piece);
+        self.took(pushed);
+    }
+
+    /// Reads strings up to the end of the form.
+    #[tactic(auto, using(crate::proofs::Steps::one_more, crate::proofs::Loops::part_end, crate::proofs::Loops::part_last, crate::proofs::Loops::none_after))]
+    fn all_pieces(&mut self, pieces: &mut Seq<&'a [u8]>)
+        ensures { ReadsOnto strings_rule self.old self.new pieces.old pieces.new }
+    {
         for _ in 0..self.left() {
             if self.is_end() {
                 break;
             }
-            let pushed = pieces.push(self.bytes());
-            self.took(pushed);
+            let piece = self.bytes();
+            self.push_piece(pieces, piece);
         }
+    }
+
+    /// Reads strings up to the end of the form: the pieces of a binary module or of a custom section.
+    #[tactic(auto, using(crate::proofs::Loops::from_nothing))]
+    pub(crate) fn pieces(&mut self) -> Seq<&'a [u8]>
+        ensures { Reads strings_rule self.old self.new result }
+    {
+        let mut pieces = Seq::new(self.alloc);
+        self.all_pieces(&mut pieces);
         pieces
     }
 
-    /// Reads strings up to the end of the form, each with its place: the pieces of a text in quotes.
-    fn quotes(&mut self) -> Vec<Quote<'a>> {
-        let mut quotes = Vec::new(self.alloc);
+    /// Reads a string of a text in quotes, with its place.
+    fn quote(&mut self) -> Quote<'a>
+        ensures { Decides quote_rule self.old self.new result }
+    {
+        let span = self.place();
+        let bytes = self.bytes();
+        Quote { span, bytes }
+    }
+
+    /// Puts a string of a text in quotes behind the others.
+    fn push_quote(&mut self, quotes: &mut Vec<Quote<'a>>, quote: Quote<'a>)
+        ensures { Pushes self.old self.new quote.entry quotes.old.items quotes.new.items }
+    {
+        let pushed = quotes.push(quote).is_ok();
+        if !pushed {
+            self.fail(TextFault::Memory);
+        }
+    }
+
+    /// Reads strings up to the end of the form, each with its place.
+    #[tactic(auto, using(crate::proofs::Steps::one_more, crate::proofs::Loops::part_end, crate::proofs::Loops::part_last, crate::proofs::Loops::none_after))]
+    fn all_quotes(&mut self, quotes: &mut Vec<Quote<'a>>)
+        ensures { ReadsOnto quotes_rule self.old self.new quotes.old.items quotes.new.items }
+    {
         for _ in 0..self.left() {
             if self.is_end() {
                 break;
             }
-            let span = self.place();
-            let bytes = self.bytes();
-            let pushed = quotes.push(Quote { span, bytes }).is_ok();
-            if !pushed {
-                self.fail(TextFault::Memory);
-            }
+            let quote = self.quote();
+            self.push_quote(quotes, quote);
         }
+    }
+
+    /// Reads strings up to the end of the form, each with its place: the pieces of a text in quotes.
+    #[tactic(auto, using(crate::proofs::Loops::from_nothing))]
+    fn quotes(&mut self) -> Vec<Quote<'a>>
+        ensures { Reads quotes_rule self.old self.new result.items }
+    {
+        let mut quotes = Vec::new(self.alloc);
+        self.all_quotes(&mut quotes);
         quotes
     }
 
-    /// The end of a module and of the text.
-    fn module_end(&mut self, is_written: bool) {
-        if is_written {
-            self.close();
-        }
+    /// The end of the text.
+    #[tactic(auto, using(crate::proofs::Taken::none_left, crate::proofs::Taken::some_left))]
+    fn text_end(&mut self)
+        ensures { Expects all_taken self.old self.new }
+    {
         if self.left() > 0 {
             self.fail(TextFault::Trailing);
         }
+    }
+
+    /// The end of a module and of the text.
+    fn module_end(&mut self, is_written: bool)
+        ensures { Expects (end_rule is_written) self.old self.new }
+    {
+        if !is_written {
+            self.text_end();
+            return;
+        }
+        self.close();
+        self.text_end();
     }
 }
 
@@ -174,6 +276,7 @@ impl<'a> Reader<'a> {
 /// read, the prover would compare the type of the whole tree with itself.
 fn ill_formed<'a>(fields: &mut Seq<ModuleField<'a>>) -> Option<TextError>
     ensures none { is_none result ≡ is_well_formed fields.old }
+    ensures fault { IfSome result (λ e. IsClauseFault e.fault) }
     ensures stays { fields.new ≡ fields.old }
 {
     match first_ill_formed(fields.as_slice()) {
@@ -187,7 +290,8 @@ fn ill_formed<'a>(fields: &mut Seq<ModuleField<'a>>) -> Option<TextError>
 
 /// The fields if they are well formed; they are dropped otherwise.
 fn unless_ill_formed<'a>(fields: Seq<ModuleField<'a>>) -> Result<Seq<ModuleField<'a>>, TextError>
-    ensures { IfOk result (λ fields. is_well_formed fields ≡ true) }
+    ensures ok { IfOk result (λ same. (same ≡ fields.entry) × (is_well_formed same ≡ true)) }
+    ensures err { IfErr result (λ e. (is_well_formed fields.entry ≡ false) × IsClauseFault e.fault) }
 {
     let mut fields = fields;
     match ill_formed(&mut fields) {
@@ -204,7 +308,8 @@ fn unless<'a>(
     fault: Option<TextError>,
     fields: Seq<ModuleField<'a>>,
 ) -> Result<Seq<ModuleField<'a>>, TextError>
-    ensures { IfOk result (λ fields. is_well_formed fields ≡ true) }
+    ensures ok { IfOk result (λ same. (fault ≡ None) × (same ≡ fields.entry) × (is_well_formed same ≡ true)) }
+    ensures err { IfErr result (λ e. WasRefused fault (is_well_formed fields.entry) e) }
 {
     match fault {
         None => unless_ill_formed(fields),
@@ -220,7 +325,7 @@ fn rest_of_fields<'a>(
     reader: Reader<'a>,
     is_written: bool,
 ) -> Result<Seq<ModuleField<'a>>, TextError>
-    ensures { IfOk result (λ fields. is_well_formed fields ≡ true) }
+    ensures { Finishes is_well_formed (AreFields (fields_to_end is_written (left reader.entry))) (fields_to_end is_written (left reader.entry) ≡ None) reader.entry result }
 {
     let mut reader = reader;
     let fields = reader.fields();
@@ -234,29 +339,42 @@ fn module_of_fields<'a>(
     span: Span,
     head: ModuleHead<'a>,
 ) -> Result<TextModule<'a>, TextError>
-    ensures { IfOk result (λ m. IsTrue (is_well_formed_text m.kind)) }
+    ensures { Finishes is_well_formed_module (λ m. fields_module span (seen_opening head.entry) (left reader.entry) ≡ Some (seen_module m)) (fields_module span (seen_opening head.entry) (left reader.entry) ≡ None) reader.entry result }
 {
-    let fields = rest_of_fields(reader, head.keyword.is_some())?;
-    Ok(TextModule {
-        span,
-        id: head.id,
-        name: head.name,
-        kind: TextKind::Fields(fields),
-    })
+    match rest_of_fields(reader, head.keyword.is_some()) {
+        Ok(fields) => Ok(TextModule {
+            span,
+            id: head.id,
+            name: head.name,
+            kind: TextKind::Fields(fields),
+        }),
+        Err(fault) => Err(fault),
+    }
+}
+
+/// The position of the keyword of a module, or the start of the text if there is none.
+fn module_place(keyword: Option<Span>) -> Span
+    ensures { result ≡ unwrap_or keyword text_start }
+{
+    match keyword {
+        Some(span) => span,
+        None => Span { offset: 0 },
+    }
 }
 
 /// The module of the pieces of a binary module, which are read from `binary` on.
 fn binary_module<'a>(reader: Reader<'a>, head: ModuleHead<'a>) -> Result<TextModule<'a>, TextError>
-    ensures { IfOk result (λ m. IsTrue (is_well_formed_text m.kind)) }
+    ensures { Finishes is_well_formed_module (λ m. binary_rule (seen_opening head.entry) (left reader.entry) ≡ Some (seen_module m)) (binary_rule (seen_opening head.entry) (left reader.entry) ≡ None) reader.entry result }
 {
     let mut reader = reader;
     reader.skip();
+    let place = module_place(head.keyword);
     let pieces = reader.pieces();
     reader.module_end(true);
     match reader.finish() {
         Some(fault) => Err(fault),
         None => Ok(TextModule {
-            span: head.keyword.unwrap_or_default(),
+            span: place,
             id: head.id,
             name: head.name,
             kind: TextKind::Binary(pieces),
@@ -271,7 +389,7 @@ fn quoted_module<'a>(
     head: ModuleHead<'a>,
     strings: &'a Strings,
 ) -> Result<TextModule<'a>, TextError>
-    ensures { IfOk result (λ m. IsTrue (is_well_formed_text m.kind)) }
+    ensures { Finishes is_well_formed_module (λ m. MeansAs quotes_kind (seen_opening head.entry) (left reader.entry) (Some (seen_module m))) (MeansAs quotes_kind (seen_opening head.entry) (left reader.entry) None) reader.entry result }
 {
     let alloc = reader.alloc;
     let mut reader = reader;
@@ -285,17 +403,20 @@ fn quoted_module<'a>(
     let mut inner = Reader::new(alloc, tokens, place);
     let ModuleHead { keyword, id, name } = inner.module_head();
     let (id, name) = (head.id.or(id), head.name.or(name));
-    let span = head.keyword.unwrap_or_default();
+    let span = module_place(head.keyword);
     module_of_fields(inner, span, ModuleHead { keyword, id, name })
 }
 
 /// The module of a text, wherever its faults are.
+#[tactic(auto, using(crate::proofs::Opened::text_none, crate::proofs::Opened::text_ok))]
 fn read_module<'a>(
     alloc: Global,
     text: &'a str,
     strings: &'a Strings,
 ) -> Result<TextModule<'a>, TextError>
-    ensures { IfOk result (λ m. IsTrue (is_well_formed_text m.kind)) }
+    ensures well_formed { IfOk result (λ m. IsTrue (is_well_formed_text m.kind)) }
+    ensures denotes { IfOk result (λ m. Denotes text.now (seen_module m)) }
+    ensures refuses { IfErr result (λ e. Explains (DenotesNothing text.now) (DenotesIllFormed text.now) e.fault) }
 {
     let tokens = tokens_of(alloc, text, strings)?;
     let end = Span { offset: text.len() };
@@ -317,13 +438,17 @@ fn read_module<'a>(
 /// formed, as [`ill_formed`](wast_tree::ill_formed) lists it, or allocation failed ([`TextFault::Memory`]).
 ///
 /// # Guarantees
-/// `well_formed`: the fields are well formed. `place`: the position of an error is in the text or at its end.
+/// `well_formed`: the fields are well formed. `denotes`: the text denotes the module, by the rules of the text format. `refuses`: if
+/// no allocation failed, the text denotes no module, or the fault is [`TextFault::IllFormed`] and it denotes one that is not well
+/// formed. `place`: the position of an error is in the text or at its end.
 pub fn read<'a>(
     alloc: Global,
     text: &'a str,
     strings: &'a Strings,
 ) -> Result<TextModule<'a>, TextError>
     ensures well_formed { IfOk result (λ m. IsTrue (is_well_formed_text m.kind)) }
+    ensures denotes { IfOk result (λ m. Denotes text.now (seen_module m)) }
+    ensures refuses { IfErr result (λ e. Explains (DenotesNothing text.now) (DenotesIllFormed text.now) e.fault) }
     ensures place { IfErr result (λ e. e.span.offset ≤ length text.now) }
 {
     match read_module(alloc, text, strings) {
@@ -349,13 +474,17 @@ pub fn read<'a>(
 /// formed, or allocation failed ([`TextFault::Memory`]).
 ///
 /// # Guarantees
-/// `well_formed`: the fields are well formed.
+/// `well_formed`: the fields are well formed. `denotes`: the tokens are those of a module with these fields, by the rules of the text
+/// format. `refuses`: if no allocation failed, the tokens are those of no module of fields, or the fault is
+/// [`TextFault::IllFormed`] and the fields are not well formed.
 pub fn read_tokens<'a>(
     alloc: Global,
     tokens: Vec<Placed<'a>>,
     end: Span,
 ) -> Result<Seq<ModuleField<'a>>, TextError>
     ensures well_formed { IfOk result (λ fields. IsTrue (is_well_formed fields)) }
+    ensures denotes { IfOk result (AreFields (fields_of_module (all_of tokens.entry.items end))) }
+    ensures refuses { IfErr result (λ e. Explains (fields_of_module (all_of tokens.entry.items end) ≡ None) (AreIllFormed (fields_of_module (all_of tokens.entry.items end))) e.fault) }
 {
     let mut reader = Reader::new(alloc, tokens, end);
     let head = reader.module_head();
@@ -372,7 +501,8 @@ pub fn read_tokens<'a>(
 /// formed, or allocation failed ([`TextFault::Memory`]).
 ///
 /// # Guarantees
-/// `well_formed`: the fields are well formed.
+/// `well_formed`: the fields are well formed. `denotes`: the tokens mean the module, by the rules of the text format. `refuses`: if no
+/// allocation failed, the tokens mean no module, or the fault is [`TextFault::IllFormed`] and they mean one that is not well formed.
 pub fn read_module_tokens<'a>(
     alloc: Global,
     tokens: Vec<Placed<'a>>,
@@ -380,12 +510,14 @@ pub fn read_module_tokens<'a>(
     strings: &'a Strings,
 ) -> Result<TextModule<'a>, TextError>
     ensures well_formed { IfOk result (λ m. IsTrue (is_well_formed_text m.kind)) }
+    ensures denotes { IfOk result (λ m. Means (all_of tokens.entry.items end) (Some (seen_module m))) }
+    ensures refuses { IfErr result (λ e. Explains (Means (all_of tokens.entry.items end) None) (MeansIllFormed (all_of tokens.entry.items end)) e.fault) }
 {
     let mut reader = Reader::new(alloc, tokens, end);
     let head = reader.module_head();
     match reader.key(0) {
         Some(Key::Binary) if head.keyword.is_some() => binary_module(reader, head),
         Some(Key::Quote) if head.keyword.is_some() => quoted_module(reader, head, strings),
-        _ => module_of_fields(reader, head.keyword.unwrap_or_default(), head),
+        _ => module_of_fields(reader, module_place(head.keyword), head),
     }
 }

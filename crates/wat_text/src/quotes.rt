@@ -1,6 +1,13 @@
 //! Texts in quotes: `(module quote "(func" ")")`.
 
-use std::alloc::Global;
+ghost use Rattle.std.specs.Prelude.{◌≡◌, ◌≢◌, ◌+◌, ◌<◌, ◌≤◌, ◌^◌, ◌++◌, List, length, map, None, IfSome, IfOk, MatchResult, slice_get};
+ghost use Rattle.std.specs.Str.{is_utf8};
+ghost use Rattle.wat_tokens.specs.declared.faults.TextFault.TheVariants as fault;
+ghost use Rattle.wat_text.specs.Denotes.{text_in, position_of, put_in, AreTokensIf};
+ghost use Rattle.wat_text.specs.declared.quotes.Quote.{Quote};
+ghost use Rattle.wat_text.specs.Cursors.{IsAt, IsIn, ArePlaced, bytes_at, offset_at, position_at, put_at};
+
+use std::alloc::{AllocError, Global};
 use std::str;
 use wast_tree::Span;
 use wat_tokens::{Placed, Strings, TextError, TextFault, tokens_of};
@@ -19,21 +26,48 @@ struct Cursor {
     begin: usize,
 }
 
-/// The next string, if the one at the cursor ends at or before an offset and is not the last.
-fn next(quotes: &[Quote<'_>], cursor: Cursor, offset: usize) -> Option<Cursor> {
-    let number = cursor.number.saturating_add(1);
-    let begin = match quotes.get(cursor.number) {
-        Some(quote) => cursor.begin.saturating_add(quote.bytes.len()),
-        None => return None,
-    };
-    match begin <= offset && number < quotes.len() {
-        true => Some(Cursor { number, begin }),
-        false => None,
+/// The string of a number.
+fn quote_at<'a>(quotes: &[Quote<'a>], number: usize) -> Option<Quote<'a>>
+    ensures { result ≡ slice_get quotes.now number }
+{
+    match quotes.get(number) {
+        Some(quote) => Some(*quote),
+        None => None,
     }
 }
 
+/// The next string, if the one at the cursor ends at or before an offset and is not the last.
+#[tactic(auto, using(crate::proofs::Quoting::is_next, crate::proofs::Quoting::is_before, crate::proofs::Quoting::is_last, crate::proofs::Quoting::is_none))]
+fn next(quotes: &[Quote<'_>], cursor: Cursor, offset: usize) -> Option<Cursor>
+    requires fits { length (text_in quotes.now) < 2 ^ 64 }
+    requires at { IsAt quotes.now cursor }
+    requires before { cursor.begin ≤ offset }
+    ensures next { IfSome result (λ c. IsAt quotes.now c × (c.begin ≤ offset) × (c.number ≡ cursor.number + 1)) }
+    ensures last { result ≡ None → IsIn quotes.now cursor offset }
+{
+    let number = cursor.number.saturating_add(1);
+    let quote = match quote_at(quotes, cursor.number) {
+        Some(quote) => quote,
+        None => return None,
+    };
+    let begin = cursor.begin.saturating_add(quote.bytes.len());
+    if offset < begin {
+        return None;
+    }
+    if quotes.len() <= number {
+        return None;
+    }
+    Some(Cursor { number, begin })
+}
+
 /// The string in which an offset is, which is the one at the cursor or comes after it.
-fn advance(quotes: &[Quote<'_>], cursor: Cursor, offset: usize) -> Cursor {
+fn advance(quotes: &[Quote<'_>], cursor: Cursor, offset: usize) -> Cursor
+    requires fits { length (text_in quotes.now) < 2 ^ 64 }
+    requires at { IsAt quotes.now cursor }
+    requires before { cursor.begin ≤ offset }
+    ensures at { IsAt quotes.now result }
+    ensures inside { IsIn quotes.now result offset }
+{
     let mut cursor = cursor;
     for _ in 0..quotes.len() {
         match next(quotes, cursor, offset) {
@@ -45,15 +79,19 @@ fn advance(quotes: &[Quote<'_>], cursor: Cursor, offset: usize) -> Cursor {
 }
 
 /// The place of the string at the cursor.
-fn place_at(quotes: &[Quote<'_>], cursor: Cursor, none: Span) -> Span {
-    match quotes.get(cursor.number) {
+fn place_at(quotes: &[Quote<'_>], cursor: Cursor, none: Span) -> Span
+    ensures { result ≡ position_at none quotes.now cursor.number }
+{
+    match quote_at(quotes, cursor.number) {
         Some(quote) => quote.span,
         None => none,
     }
 }
 
 /// The offset of a token.
-fn offset_of(tokens: &[Placed<'_>], at: usize) -> usize {
+fn offset_of(tokens: &[Placed<'_>], at: usize) -> usize
+    ensures { result ≡ offset_at tokens.now at }
+{
     match tokens.get(at) {
         Some(placed) => placed.span.offset,
         None => 0,
@@ -61,46 +99,84 @@ fn offset_of(tokens: &[Placed<'_>], at: usize) -> usize {
 }
 
 /// Gives a token another place.
-fn set_place(tokens: &mut Vec<Placed<'_>>, at: usize, span: Span) {
+fn set_place(tokens: &mut Vec<Placed<'_>>, at: usize, span: Span)
+    ensures { tokens.new.items ≡ put_at tokens.old.items at span }
+{
     if let Some(placed) = tokens.get_mut(at) {
         placed.span = span;
     }
 }
 
+/// The cursor, or the one at the first string if an offset is before the string at the cursor.
+fn not_after(cursor: Cursor, offset: usize) -> Cursor
+    ensures at { (quotes : List Quote) → IsAt quotes cursor → IsAt quotes result }
+    ensures before { result.begin ≤ offset }
+{
+    match cursor.begin <= offset {
+        true => cursor,
+        false => Cursor {
+            number: 0,
+            begin: 0,
+        },
+    }
+}
+
 /// Gives each token of a text in quotes the place of the string in which it begins.
-fn place_tokens(tokens: &mut Vec<Placed<'_>>, quotes: &[Quote<'_>], none: Span) {
+#[tactic(auto, using(crate::proofs::Quoting::placed_more))]
+fn place_tokens(tokens: &mut Vec<Placed<'_>>, quotes: &[Quote<'_>], none: Span)
+    requires fits { length (text_in quotes.now) < 2 ^ 64 }
+    ensures { tokens.new.items ≡ map (put_in none quotes.now) tokens.old.items }
+{
     let mut cursor = Cursor {
         number: 0,
         begin: 0,
     };
     for at in 0..tokens.len() {
         let offset = offset_of(tokens.as_slice(), at);
-        cursor = advance(quotes, cursor, offset);
+        cursor = advance(quotes, not_after(cursor, offset), offset);
         set_place(tokens, at, place_at(quotes, cursor, none));
     }
 }
 
+/// Puts the bytes of a string, if there is one of the number, behind others.
+fn push_string(bytes: &mut Vec<u8>, quotes: &[Quote<'_>], number: usize) -> Result<(), AllocError>
+    ensures { IfOk result (λ u. bytes.new.items ≡ bytes.old.items ++ bytes_at quotes.now number) }
+{
+    match quote_at(quotes, number) {
+        Some(quote) => bytes.extend_from_slice(quote.bytes),
+        None => Ok(()),
+    }
+}
+
 /// The text that strings make, one directly after another, kept in `strings`.
+#[tactic(auto, using(crate::proofs::Quoting::text_next, crate::proofs::Quoting::text_all))]
 fn joined<'a>(
     alloc: Global,
     quotes: &[Quote<'a>],
     strings: &'a Strings,
-) -> Result<&'a [u8], TextFault> {
+) -> Result<&'a [u8], TextFault>
+    ensures { MatchResult result (λ kept. kept.now ≡ text_in quotes.now) (λ f. f ≡ fault.Memory) }
+{
     let mut bytes = Vec::new(alloc);
-    for quote in quotes {
-        bytes.extend_from_slice(quote.bytes)?;
+    for at in 0..quotes.len() {
+        if push_string(&mut bytes, quotes, at).is_err() {
+            return Err(TextFault::Memory);
+        }
     }
     strings.keep(bytes.as_slice())
 }
 
 /// The tokens of a text in quotes, each at the place of the string in which it begins. A text without strings has none, and its
 /// place is the one given.
+#[tactic(auto, using(crate::proofs::Quoting::cut_ok, crate::proofs::Quoting::cut_none, crate::proofs::Quoting::cut_not))]
 pub(crate) fn quoted_tokens<'a>(
     alloc: Global,
     quotes: &[Quote<'a>],
     none: Span,
     strings: &'a Strings,
-) -> Result<Vec<Placed<'a>>, TextError> {
+) -> Result<Vec<Placed<'a>>, TextError>
+    ensures { MatchResult result (λ found. ArePlaced none quotes.now found.items) (λ e. e.fault ≢ fault.Memory → AreTokensIf (is_utf8 (text_in quotes.now)) (text_in quotes.now) None) }
+{
     let bytes = match joined(alloc, quotes, strings) {
         Ok(bytes) => bytes,
         Err(fault) => return Err(TextError::new(none, fault)),

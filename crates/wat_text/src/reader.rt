@@ -3,14 +3,14 @@
 //! A reader keeps the first fault, and from then on has no tokens left: so what reads a part of the tree always gives one, has
 //! no error to pass on and nothing to drop, and each loop over the tokens that are left ends.
 
-ghost use Rattle.std.specs.Prelude.{◌≡◌, ◌≢◌, true, false, None, Some, Ok, Err, [], ◌∷◌, ◌++◌, option_map};
+ghost use Rattle.std.specs.Prelude.{◌≡◌, ◌≢◌, true, false, None, Some, Ok, Err, option_map, IfSome};
 ghost use Rattle.wat_grammar.specs.Integers.{uN};
 ghost use Rattle.wat_syntax.specs.Tokens.{peek, after, position, position_in, count, is_lparen, is_end, word_of, key_of, is_key, is_form, lparen, rparen, keyword, form};
 ghost use Rattle.wat_tokens.specs.declared.faults.TextFault.TheVariants as fault;
 ghost use Rattle.wat_syntax.specs.Keywords.{number_of_key};
 ghost use Rattle.wat_syntax.specs.Values.{number_text, u32, is_number, is_string, is_index, string, name, id, name_annotation, index, optional_index, index_or_zero};
 ghost use Rattle.wat_syntax.specs.Seen.{seen_text, seen_name};
-ghost use Rattle.wat_text.specs.Readers.{left, IsClean, IsRefused, Reads, Decides, Expects, Accepts, Finds, Fails};
+ghost use Rattle.wat_text.specs.Readers.{left, IsClean, IsRefused, Reads, Decides, Expects, Accepts, Finds, Fails, Pushes};
 
 use std::alloc::{AllocError, Global};
 use wast_tree::{Id, Index, NameAnnotation, Seq, Span, TreeBuilder};
@@ -54,11 +54,13 @@ impl<'a> Reader<'a> {
         }
     }
 
-    /// The first fault, where there is one.
+    /// Returns the first fault, if there is one. If an allocation of the tree failed, the fault is `Memory`, whatever else is wrong,
+    /// so that any other fault is one of the text.
     pub(crate) fn finish(self) -> Option<TextError>
-        ensures { result ≡ None → IsClean self.entry }
+        ensures clean { result ≡ None → IsClean self.entry }
+        ensures refused { IfSome result (λ e. e.fault ≢ fault.Memory → (self.entry.make ≡ false) × (self.entry.fault ≡ Some e)) }
     {
-        if self.fault.is_none() && self.make.is_refused() {
+        if self.make.is_refused() {
             return Some(TextError::new(self.end, TextFault::Memory));
         }
         self.fault
@@ -422,12 +424,7 @@ impl<'a> Reader<'a> {
 
     /// Puts an index at the end of a list.
     pub(crate) fn push_index(&mut self, indices: &mut Seq<Index<'a>>, index: Index<'a>)
-        ensures make { self.new.make ≡ self.old.make }
-        ensures clean { self.new.fault ≡ None → self.old.fault ≡ None }
-        ensures pushed { self.new.fault ≡ None → indices.new ≡ indices.old ++ index.entry ∷ [] }
-        ensures left { self.new.fault ≡ None → left self.new ≡ left self.old }
-        ensures keeps { self.old.fault ≢ None → self.new.fault ≡ self.old.fault }
-        ensures memory { self.old.fault ≡ None → IsRefused self.new.fault → ⊥ }
+        ensures { Pushes self.old self.new index.entry indices.old indices.new }
     {
         let pushed = indices.push(index);
         self.took(pushed);

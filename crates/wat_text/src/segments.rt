@@ -1,5 +1,12 @@
 //! Segments of elements and of data.
 
+ghost use Rattle.std.specs.Prelude.{◌≡◌, ◌≢◌, ◌++◌, None, map, OnOk};
+ghost use Rattle.wat_syntax.specs.Types.{reftype};
+ghost use Rattle.wat_syntax.specs.Seen.{seen_expression};
+ghost use Rattle.wat_syntax.specs.SeenFields.{seen_payload, seen_elem_kind, seen_elem_of, seen_elem, seen_data_kind, seen_data};
+ghost use Rattle.wat_syntax.specs.Segments.{expression_in, elemexpr, elemexprs, funcindices, funcref_of, funcrefs, exprs_payload, funcs_payload, funcrefs_payload, elemlist, short_elemlist, tableuse, optional_number_index, table_or_first, active_elems, is_active, elem_of, elemfield, data_number, numtype, numtype_keyword, data_numbers, numlist, datavalue, datastring, is_numlist, memuse, is_data, data_kind_of, datafield};
+ghost use Rattle.wat_text.specs.Readers.{left, IsRefused, Reads, Decides, ReadsOnto, Builds};
+
 use crate::fields::is_funcref;
 use crate::operators::with_index;
 use crate::reader::Reader;
@@ -10,18 +17,32 @@ use wast_tree::{
 };
 use wat_tokens::Key;
 
-/// Puts bytes, the lowest first.
-fn put<const N: usize>(out: &mut Vec<u8>, bytes: [u8; N]) -> Result<(), AllocError> {
+/// Appends bytes, the lowest first.
+fn put<const N: usize>(out: &mut Vec<u8>, bytes: [u8; N]) -> Result<(), AllocError>
+    ensures { OnOk result (out.new.items ≡ out.old.items ++ bytes.entry) }
+{
     out.extend_from_slice(&bytes)
 }
 
-/// The table of an active element segment: the one that is written, or the first if its elements are not of type `funcref`,
+/// Returns the type of the numbers of a data segment that a keyword is, if it is one.
+fn number_type(key: Option<Key>) -> Option<Key>
+    ensures { result ≡ numtype key }
+{
+    match key {
+        Some(key @ (Key::I8 | Key::I16 | Key::I32 | Key::I64 | Key::F32 | Key::F64)) => Some(key),
+        _ => None,
+    }
+}
+
+/// Returns the table of an active element segment: the one that is written, or the first if its elements are not of type `funcref`,
 /// because the bytes of a segment without a table have no place for another type. The first table is at the place given.
 fn number_or_first<'a>(
     number: Option<Index<'a>>,
     payload: &ElemPayload<'a>,
     place: Span,
-) -> Option<Index<'a>> {
+) -> Option<Index<'a>>
+    ensures { result ≡ table_or_first number.entry payload.now place }
+{
     match (number, payload) {
         (None, ElemPayload::Exprs { ty, .. }) if !is_funcref(*ty) => Some(Index::Num(0, place)),
         (number, _) => number,
@@ -29,9 +50,11 @@ fn number_or_first<'a>(
 }
 
 impl<'a> Reader<'a> {
-    /// Where a segment begins, in its parentheses: `(offset ..)`, or one folded instruction.
-    fn segment_offset(&mut self) -> Expression<'a> {
-        if self.accept_form(Key::Offset) {
+    /// Reads an expression after `(` and this keyword, or one folded instruction: an offset or an element.
+    fn expression_in(&mut self, key: Key) -> Expression<'a>
+        ensures { Reads (expression_in key) self.old self.new (seen_expression result) }
+    {
+        if self.accept_form(key) {
             let expression = self.expression();
             self.close();
             return expression;
@@ -39,71 +62,122 @@ impl<'a> Reader<'a> {
         self.folded()
     }
 
-    /// Functions up to the end of the form (text format, element segments).
-    pub(crate) fn functions(&mut self) -> Seq<Index<'a>> {
-        let mut indices = Seq::new(self.alloc);
+    /// Reads functions up to the end of the form, and appends them.
+    #[tactic(auto, using(crate::proofs::Steps::one_more, crate::proofs::Loops::part_end, crate::proofs::Loops::part_last, crate::proofs::Loops::none_after))]
+    fn all_functions(&mut self, indices: &mut Seq<Index<'a>>)
+        ensures { ReadsOnto funcindices self.old self.new indices.old indices.new }
+    {
         for _ in 0..self.left() {
             if self.is_end() {
                 break;
             }
             let index = self.index();
-            self.push_index(&mut indices, index);
+            self.push_index(indices, index);
         }
+    }
+
+    /// Reads functions up to the end of the form (text format, element segments).
+    #[tactic(auto, using(crate::proofs::Loops::from_nothing))]
+    pub(crate) fn functions(&mut self) -> Seq<Index<'a>>
+        ensures { Reads funcindices self.old self.new result }
+    {
+        let mut indices = Seq::new(self.alloc);
+        self.all_functions(&mut indices);
         indices
     }
 
-    /// One element: `(item ..)`, or one folded instruction.
-    fn element(&mut self) -> Expression<'a> {
-        if self.accept_form(Key::Item) {
-            let expression = self.expression();
-            self.close();
-            return expression;
-        }
-        self.folded()
+    /// Appends an expression to a list.
+    #[tactic(auto, using(crate::proofs::Makes::none_failed), unfolding(crate::specs::Readers::left))]
+    fn push_expression(&mut self, exprs: &mut Seq<Expression<'a>>, expression: Expression<'a>)
+        ensures { Builds self.old self.new expression.entry exprs.old exprs.new }
+    {
+        self.make.push_expression(exprs, expression);
     }
 
-    /// Elements of a type, up to the end of the form (text format, element segments).
-    pub(crate) fn expressions(&mut self, ty: RefType<'a>) -> ElemPayload<'a> {
-        let mut exprs = Seq::new(self.alloc);
+    /// Reads elements up to the end of the form, and appends them.
+    #[tactic(auto, using(crate::proofs::Steps::one_built, crate::proofs::Loops::part_end, crate::proofs::Loops::part_last, crate::proofs::Loops::none_after))]
+    fn all_expressions(&mut self, exprs: &mut Seq<Expression<'a>>)
+        ensures { ReadsOnto elemexprs self.old self.new (map seen_expression exprs.old) (map seen_expression exprs.new) }
+    {
         for _ in 0..self.left() {
             if self.is_end() {
                 break;
             }
-            let expression = self.element();
-            self.make.push_expression(&mut exprs, expression);
+            let expression = self.expression_in(Key::Item);
+            self.push_expression(exprs, expression);
         }
+    }
+
+    /// Reads elements of a type, up to the end of the form (text format, element segments).
+    #[tactic(auto, using(crate::proofs::Loops::from_nothing))]
+    pub(crate) fn expressions(&mut self, ty: RefType<'a>) -> ElemPayload<'a>
+        ensures { Reads (exprs_payload ty.entry) self.old self.new (seen_payload result) }
+    {
+        let mut exprs = Seq::new(self.alloc);
+        self.all_expressions(&mut exprs);
         ElemPayload::Exprs { ty, exprs }
+    }
+
+    /// Reads a function, as the expression `ref.func $f`.
+    #[tactic(auto, using(crate::proofs::Makes::none_failed), unfolding(crate::specs::Readers::left))]
+    fn function_expression(&mut self) -> Expression<'a>
+        ensures { Reads funcref_of self.old self.new (seen_expression result) }
+    {
+        let reference = with_index(IndexOp::RefFunc, self.index());
+        self.make.one_instruction(reference)
+    }
+
+    /// Reads functions up to the end of the form, and appends them as expressions.
+    #[tactic(auto, using(crate::proofs::Steps::one_built, crate::proofs::Loops::part_end, crate::proofs::Loops::part_last, crate::proofs::Loops::none_after))]
+    fn all_function_expressions(&mut self, exprs: &mut Seq<Expression<'a>>)
+        ensures { ReadsOnto funcrefs self.old self.new (map seen_expression exprs.old) (map seen_expression exprs.new) }
+    {
+        for _ in 0..self.left() {
+            if self.is_end() {
+                break;
+            }
+            let expression = self.function_expression();
+            self.push_expression(exprs, expression);
+        }
     }
 
     /// Reads functions up to the end of the form, as expressions of a type: `ref.func $f` for `$f`.
-    pub(crate) fn function_expressions(&mut self, ty: RefType<'a>) -> ElemPayload<'a> {
+    #[tactic(auto, using(crate::proofs::Loops::from_nothing))]
+    pub(crate) fn function_expressions(&mut self, ty: RefType<'a>) -> ElemPayload<'a>
+        ensures { Reads (funcrefs_payload ty.entry) self.old self.new (seen_payload result) }
+    {
         let mut exprs = Seq::new(self.alloc);
-        for _ in 0..self.left() {
-            if self.is_end() {
-                break;
-            }
-            let reference = with_index(IndexOp::RefFunc, self.index());
-            let expression = self.make.one_instruction(reference);
-            self.make.push_expression(&mut exprs, expression);
-        }
+        self.all_function_expressions(&mut exprs);
         ElemPayload::Exprs { ty, exprs }
     }
 
-    /// Reads a list of elements with its `func` or its type (text format, element segments).
-    fn element_list(&mut self) -> ElemPayload<'a> {
-        if self.accept(Key::Func) {
-            return ElemPayload::Indices(self.functions());
-        }
+    /// Reads the type of elements.
+    #[tactic(auto, using(crate::proofs::References::no_reftype))]
+    fn element_type(&mut self) -> RefType<'a>
+        ensures { Decides reftype self.old self.new result }
+    {
         if !self.is_ref_type() {
             self.expected("`func` or a reference type");
         }
-        let ty = self.ref_type();
+        self.ref_type()
+    }
+
+    /// Reads a list of elements with its `func` or its type (text format, element segments).
+    fn element_list(&mut self) -> ElemPayload<'a>
+        ensures { Reads elemlist self.old self.new (seen_payload result) }
+    {
+        if self.accept(Key::Func) {
+            return ElemPayload::Indices(self.functions());
+        }
+        let ty = self.element_type();
         self.expressions(ty)
     }
 
     /// Reads the list of elements of an active segment whose table is not written as `(table ..)`, which may leave out its `func`
     /// (text format, element segments: abbreviations).
-    fn short_element_list(&mut self) -> ElemPayload<'a> {
+    fn short_element_list(&mut self) -> ElemPayload<'a>
+        ensures { Reads short_elemlist self.old self.new (seen_payload result) }
+    {
         if self.is_key(0, Key::Func) || self.is_ref_type() {
             return self.element_list();
         }
@@ -111,7 +185,9 @@ impl<'a> Reader<'a> {
     }
 
     /// Reads `(table $t)`, if it is there.
-    fn table_use(&mut self) -> Option<Index<'a>> {
+    fn table_use(&mut self) -> Option<Index<'a>>
+        ensures { Decides tableuse self.old self.new result }
+    {
         if !self.accept_form(Key::Table) {
             return None;
         }
@@ -120,38 +196,57 @@ impl<'a> Reader<'a> {
         Some(index)
     }
 
+    /// Reads the number of a table, if it is there.
+    fn table_number(&mut self) -> Option<Index<'a>>
+        ensures { Decides optional_number_index self.old self.new result }
+    {
+        match self.is_number(0) {
+            true => Some(self.index()),
+            false => None,
+        }
+    }
+
     /// Reads an active element segment from its table on (text format, element segments).
-    fn active_elements(&mut self) -> (ElemKind<'a>, ElemPayload<'a>) {
+    fn active_elements(&mut self) -> (ElemKind<'a>, ElemPayload<'a>)
+        ensures { Reads active_elems self.old self.new (seen_elem_of result) }
+    {
         let place = self.place_before();
         if let Some(table) = self.table_use() {
-            let offset = self.segment_offset();
+            let offset = self.expression_in(Key::Offset);
             let table = Some(table);
             return (ElemKind::Active { table, offset }, self.element_list());
         }
-        let number = match self.is_number(0) {
-            true => Some(self.index()),
-            false => None,
-        };
-        let offset = self.segment_offset();
+        let number = self.table_number();
+        let offset = self.expression_in(Key::Offset);
         let payload = self.short_element_list();
         let table = number_or_first(number, &payload, place);
         (ElemKind::Active { table, offset }, payload)
     }
 
+    /// Returns whether an element segment is active: a table or an offset is next.
+    fn is_active(&self) -> bool
+        ensures { result ≡ is_active (left self.now) }
+    {
+        self.is_number(0) || self.is_open(0) && !self.is_ref_type()
+    }
+
     /// Reads what an element segment is for, and its elements (text format, element segments).
-    fn elem_kind(&mut self) -> (ElemKind<'a>, ElemPayload<'a>) {
+    fn elem_kind(&mut self) -> (ElemKind<'a>, ElemPayload<'a>)
+        ensures { Reads elem_of self.old self.new (seen_elem_of result) }
+    {
         if self.accept(Key::Declare) {
             return (ElemKind::Declared, self.element_list());
         }
-        let is_active = self.is_number(0) || self.is_open(0) && !self.is_ref_type();
-        match is_active {
+        match self.is_active() {
             true => self.active_elements(),
             false => (ElemKind::Passive, self.element_list()),
         }
     }
 
     /// Reads `(elem ..)` (text format, element segments).
-    pub(crate) fn elem_field(&mut self) -> Elem<'a> {
+    pub(crate) fn elem_field(&mut self) -> Elem<'a>
+        ensures { Reads elemfield self.old self.new (seen_elem result) }
+    {
         let span = self.place();
         self.skip();
         let (id, name) = (self.id(), self.name());
@@ -165,59 +260,140 @@ impl<'a> Reader<'a> {
         }
     }
 
-    /// The bytes of one number of a data segment.
-    fn data_number(&mut self, key: Key, out: &mut Vec<u8>) {
-        let pushed = match key {
-            Key::I8 => put(out, self.integer8().to_le_bytes()),
-            Key::I16 => put(out, self.integer16().to_le_bytes()),
-            Key::I32 => put(out, self.integer32().to_le_bytes()),
-            Key::I64 => put(out, self.integer64().to_le_bytes()),
-            Key::F32 => put(out, self.single().bits.to_le_bytes()),
-            _ => put(out, self.double().bits.to_le_bytes()),
-        };
+    /// Appends the bytes of a number.
+    fn put_number<const N: usize>(&mut self, out: &mut Vec<u8>, bytes: [u8; N])
+        ensures make { self.new.make ≡ self.old.make }
+        ensures clean { self.new.fault ≡ None → self.old.fault ≡ None }
+        ensures pushed { self.new.fault ≡ None → out.new.items ≡ out.old.items ++ bytes.entry }
+        ensures left { self.new.fault ≡ None → left self.new ≡ left self.old }
+        ensures keeps { self.old.fault ≢ None → self.new.fault ≡ self.old.fault }
+        ensures memory { self.old.fault ≡ None → IsRefused self.new.fault → ⊥ }
+    {
+        let pushed = put(out, bytes);
         self.took(pushed);
     }
 
-    /// The bytes of numbers: `(i16 1 2)`.
-    fn data_numbers(&mut self) -> DataVal<'a> {
-        self.open();
-        let mut out = Vec::new(self.alloc);
-        let key = match self.key(0) {
-            Some(key @ (Key::I8 | Key::I16 | Key::I32 | Key::I64 | Key::F32 | Key::F64)) => key,
-            _ => {
+    /// Reads one number of a data segment, and appends its bytes.
+    fn data_number(&mut self, key: Key, out: &mut Vec<u8>)
+        ensures { ReadsOnto (data_number key) self.old self.new out.old.items out.new.items }
+    {
+        match key {
+            Key::I8 => {
+                let number = self.integer8();
+                self.put_number(out, number.to_le_bytes());
+            }
+            Key::I16 => {
+                let number = self.integer16();
+                self.put_number(out, number.to_le_bytes());
+            }
+            Key::I32 => {
+                let number = self.integer32();
+                self.put_number(out, number.to_le_bytes());
+            }
+            Key::I64 => {
+                let number = self.integer64();
+                self.put_number(out, number.to_le_bytes());
+            }
+            Key::F32 => {
+                let number = self.single();
+                self.put_number(out, number.bits.to_le_bytes());
+            }
+            Key::F64 => {
+                let number = self.double();
+                self.put_number(out, number.bits.to_le_bytes());
+            }
+            _ => self.expected("a number type"),
+        }
+    }
+
+    /// Reads the type of numbers.
+    fn data_number_type(&mut self) -> Key
+        ensures { Decides numtype_keyword self.old self.new result }
+    {
+        match number_type(self.key(0)) {
+            Some(key) => {
+                self.skip();
+                key
+            }
+            None => {
                 self.expected("a string or a number type");
                 Key::I8
             }
-        };
-        self.skip();
+        }
+    }
+
+    /// Reads numbers up to the end of the form, and appends their bytes.
+    #[tactic(auto, using(crate::proofs::Steps::one_list, crate::proofs::Loops::list_end, crate::proofs::Loops::list_last, crate::proofs::Loops::none_after))]
+    fn all_numbers(&mut self, key: Key, out: &mut Vec<u8>)
+        ensures { ReadsOnto (data_numbers key) self.old self.new out.old.items out.new.items }
+    {
         for _ in 0..self.left() {
             if self.is_end() {
                 break;
             }
-            self.data_number(key, &mut out);
+            self.data_number(key, out);
         }
+    }
+
+    /// Reads the bytes of numbers: `(i16 1 2)`.
+    #[tactic(auto, using(crate::proofs::Loops::from_nothing))]
+    fn data_numbers(&mut self) -> DataVal<'a>
+        ensures { Reads numlist self.old self.new result }
+    {
+        self.open();
+        let mut out = Vec::new(self.alloc);
+        let key = self.data_number_type();
+        self.all_numbers(key, &mut out);
         self.close();
         DataVal::Integral(Seq::from_vec(out))
     }
 
-    /// The bytes of a data segment, up to the end of the form (text format, data segments).
-    pub(crate) fn data_bytes(&mut self) -> Seq<DataVal<'a>> {
-        let mut pieces = Seq::new(self.alloc);
+    /// Reads a string or numbers.
+    fn data_value(&mut self) -> DataVal<'a>
+        ensures { Reads datavalue self.old self.new result }
+    {
+        match self.is_string() {
+            true => DataVal::String(self.bytes()),
+            false => self.data_numbers(),
+        }
+    }
+
+    /// Appends a piece to a list.
+    #[tactic(auto, using(crate::proofs::Makes::none_failed), unfolding(crate::specs::Readers::left))]
+    fn push_data(&mut self, pieces: &mut Seq<DataVal<'a>>, piece: DataVal<'a>)
+        ensures { Builds self.old self.new piece.entry pieces.old pieces.new }
+    {
+        self.make.push_data(pieces, piece);
+    }
+
+    /// Reads the bytes of a data segment up to the end of the form, and appends them.
+    #[tactic(auto, using(crate::proofs::Steps::one_built_plain, crate::proofs::Loops::part_end, crate::proofs::Loops::part_last, crate::proofs::Loops::none_after))]
+    fn all_data(&mut self, pieces: &mut Seq<DataVal<'a>>)
+        ensures { ReadsOnto datastring self.old self.new pieces.old pieces.new }
+    {
         for _ in 0..self.left() {
             if self.is_end() {
                 break;
             }
-            let piece = match self.is_string() {
-                true => DataVal::String(self.bytes()),
-                false => self.data_numbers(),
-            };
-            self.make.push_data(&mut pieces, piece);
+            let piece = self.data_value();
+            self.push_data(pieces, piece);
         }
+    }
+
+    /// Reads the bytes of a data segment, up to the end of the form (text format, data segments).
+    #[tactic(auto, using(crate::proofs::Loops::from_nothing))]
+    pub(crate) fn data_bytes(&mut self) -> Seq<DataVal<'a>>
+        ensures { Reads datastring self.old self.new result }
+    {
+        let mut pieces = Seq::new(self.alloc);
+        self.all_data(&mut pieces);
         pieces
     }
 
-    /// Whether numbers stand there: `(i16 1 2)`.
-    fn is_numbers(&self) -> bool {
+    /// Returns whether numbers are next: `(i16 1 2)`.
+    fn is_numbers(&self) -> bool
+        ensures { result ≡ is_numlist (left self.now) }
+    {
         let is_type = matches!(
             self.key(1),
             Some(Key::I8 | Key::I16 | Key::I32 | Key::I64 | Key::F32 | Key::F64 | Key::V128)
@@ -226,7 +402,9 @@ impl<'a> Reader<'a> {
     }
 
     /// Reads the memory of a data segment, `(memory $m)` or its number alone; the first memory if none is written.
-    fn data_memory(&mut self) -> Index<'a> {
+    fn data_memory(&mut self) -> Index<'a>
+        ensures { Decides memuse self.old self.new result }
+    {
         let place = self.place_before();
         if self.accept_form(Key::Memory) {
             let index = self.index();
@@ -239,18 +417,29 @@ impl<'a> Reader<'a> {
         }
     }
 
-    /// What becomes of a data segment (text format, data segments).
-    fn data_kind(&mut self) -> DataKind<'a> {
-        if self.is_end() || self.is_string() || self.is_numbers() {
+    /// Returns whether the bytes of a data segment are next.
+    fn is_data(&self) -> bool
+        ensures { result ≡ is_data (left self.now) }
+    {
+        self.is_end() || self.is_string() || self.is_numbers()
+    }
+
+    /// Reads what becomes of a data segment (text format, data segments).
+    fn data_kind(&mut self) -> DataKind<'a>
+        ensures { Reads data_kind_of self.old self.new (seen_data_kind result) }
+    {
+        if self.is_data() {
             return DataKind::Passive;
         }
         let memory = self.data_memory();
-        let offset = self.segment_offset();
+        let offset = self.expression_in(Key::Offset);
         DataKind::Active { memory, offset }
     }
 
-    /// `(data ..)` (text format, data segments).
-    pub(crate) fn data_field(&mut self) -> Data<'a> {
+    /// Reads `(data ..)` (text format, data segments).
+    pub(crate) fn data_field(&mut self) -> Data<'a>
+        ensures { Reads datafield self.old self.new (seen_data result) }
+    {
         let span = self.place();
         self.skip();
         let (id, name) = (self.id(), self.name());

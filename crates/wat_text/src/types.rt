@@ -1,13 +1,13 @@
 //! Types.
 
-ghost use Rattle.std.specs.Prelude.{◌≡◌, ◌≢◌, true, false, None, Some, [], ◌∷◌, ◌++◌, map};
+ghost use Rattle.std.specs.Prelude.{◌≡◌, true, false, None, Some, map};
 ghost use Rattle.wat_tokens.specs.declared.words.Key.TheVariants as key;
 ghost use Rattle.wat_syntax.specs.Tokens.{keyword, keyword_in, is_form, is_key, key_of, peek};
 ghost use Rattle.wat_syntax.specs.Seen.{seen_param, seen_function_type, seen_type_use, seen_struct_field, seen_struct_type, seen_composite, seen_type_def, seen_type, seen_rec};
 ghost use Rattle.wat_syntax.specs.Values.{u64};
-ghost use Rattle.wat_syntax.specs.Types.{absheaptype, refword, numtype_or_vectype, heaptype_form, heaptype, is_reftype, shared_reftype, reftype, valtype, valtypes, storagetype, fieldtype, unnamed_params, param, all_params, all_results, functype, unnamed_fields, struct_fields, struct_field, all_fields, structtype, comptype_form, comptype, related, described, maybe_shared, subtype, typedef, typedef_form, typedefs, rectype, addrtype, limits, tabletype, pagesize, memtype, is_shared_ref, globaltype, type_index, typeuse};
+ghost use Rattle.wat_syntax.specs.Types.{absheaptype, refword, numtype_or_vectype, heaptype_form, heaptype, is_reftype, shared_reftype, reftype, valtype, valtypes, storagetype, fieldtype, unnamed_param, unnamed_params, param, all_params, all_results, functype, unnamed_field, unnamed_fields, struct_fields, struct_field, all_fields, structtype, comptype_form, comptype, related, described, maybe_shared, subtype, typedef, typedef_form, typedefs, rectype, addrtype, limits, tabletype, pagesize, memtype, is_shared_ref, globaltype, type_index, typeuse};
 ghost use Rattle.wat_syntax.specs.Types.{result as a_result, indices as all_indices, params as params_of};
-ghost use Rattle.wat_text.specs.Readers.{left, IsClean, Reads, Decides, Expects, Finds, Refuses, ReadsOnto};
+ghost use Rattle.wat_text.specs.Readers.{left, Reads, Decides, Expects, Finds, Refuses, ReadsOnto, Pushes, Builds};
 
 use crate::reader::Reader;
 use wast_tree::{
@@ -231,8 +231,16 @@ impl<'a> Reader<'a> {
         (false, self.storage_type())
     }
 
+    /// Puts a value type behind the others.
+    fn push_value(&mut self, values: &mut Seq<ValType<'a>>, ty: ValType<'a>)
+        ensures { Pushes self.old self.new ty.entry values.old values.new }
+    {
+        let pushed = values.push(ty);
+        self.took(pushed);
+    }
+
     /// Value types up to the end of the form.
-    #[tactic(auto, using(crate::proofs::Loops::part_more, crate::proofs::Loops::part_end, crate::proofs::Loops::part_last))]
+    #[tactic(auto, using(crate::proofs::Steps::one_more, crate::proofs::Loops::part_end, crate::proofs::Loops::part_last, crate::proofs::Loops::none_after))]
     pub(crate) fn values(&mut self, values: &mut Seq<ValType<'a>>)
         ensures { ReadsOnto valtypes self.old self.new values.old values.new }
     {
@@ -240,13 +248,32 @@ impl<'a> Reader<'a> {
             if self.is_end() {
                 break;
             }
-            let pushed = values.push(self.value_type());
-            self.took(pushed);
+            let ty = self.value_type();
+            self.push_value(values, ty);
         }
     }
 
+    /// Puts a parameter behind the others.
+    fn push_param(
+        &mut self,
+        params: &mut Seq<(Option<Id<'a>>, Option<NameAnnotation<'a>>, ValType<'a>)>,
+        param: (Option<Id<'a>>, Option<NameAnnotation<'a>>, ValType<'a>),
+    )
+        ensures { Pushes self.old self.new param.entry params.old params.new }
+    {
+        let pushed = params.push(param);
+        self.took(pushed);
+    }
+
+    /// A parameter without an id.
+    fn unnamed_param(&mut self) -> (Option<Id<'a>>, Option<NameAnnotation<'a>>, ValType<'a>)
+        ensures { Decides unnamed_param self.old self.new (seen_param result) }
+    {
+        (None, None, self.value_type())
+    }
+
     /// Parameters without ids, up to the end of the form.
-    #[tactic(auto, using(crate::proofs::Params::param_more, crate::proofs::Loops::part_end, crate::proofs::Loops::part_last))]
+    #[tactic(auto, using(crate::proofs::Steps::one_seen, crate::proofs::Loops::part_end, crate::proofs::Loops::part_last, crate::proofs::Loops::none_after))]
     fn unnamed_params(
         &mut self,
         params: &mut Seq<(Option<Id<'a>>, Option<NameAnnotation<'a>>, ValType<'a>)>,
@@ -257,8 +284,8 @@ impl<'a> Reader<'a> {
             if self.is_end() {
                 break;
             }
-            let pushed = params.push((None, None, self.value_type()));
-            self.took(pushed);
+            let param = self.unnamed_param();
+            self.push_param(params, param);
         }
     }
 
@@ -276,8 +303,8 @@ impl<'a> Reader<'a> {
         }
         let (id, name) = (self.id(), self.name());
         if id.is_some() || name.is_some() {
-            let pushed = params.push((id, name, self.value_type()));
-            self.took(pushed);
+            let ty = self.value_type();
+            self.push_param(params, (id, name, ty));
             return;
         }
         self.unnamed_params(params);
@@ -300,7 +327,7 @@ impl<'a> Reader<'a> {
     }
 
     /// The parameters of a function.
-    #[tactic(auto, using(crate::proofs::Loops::list_more, crate::proofs::Loops::list_end, crate::proofs::Loops::list_last))]
+    #[tactic(auto, using(crate::proofs::Steps::one_list, crate::proofs::Loops::list_end, crate::proofs::Loops::list_last, crate::proofs::Loops::none_after))]
     fn all_params(
         &mut self,
         params: &mut Seq<(Option<Id<'a>>, Option<NameAnnotation<'a>>, ValType<'a>)>,
@@ -329,7 +356,7 @@ impl<'a> Reader<'a> {
     }
 
     /// The results of a function.
-    #[tactic(auto, using(crate::proofs::Loops::list_more, crate::proofs::Loops::list_end, crate::proofs::Loops::list_last))]
+    #[tactic(auto, using(crate::proofs::Steps::one_list, crate::proofs::Loops::list_end, crate::proofs::Loops::list_last, crate::proofs::Loops::none_after))]
     pub(crate) fn all_results(&mut self, results: &mut Seq<ValType<'a>>)
         ensures { ReadsOnto all_results self.old self.new results.old results.new }
     {
@@ -385,17 +412,22 @@ impl<'a> Reader<'a> {
 
     /// Puts a field of a struct behind the others.
     fn push_struct_field(&mut self, fields: &mut Seq<StructField<'a>>, field: StructField<'a>)
-        ensures make { self.new.make ≡ self.old.make }
-        ensures clean { self.new.fault ≡ None → self.old.fault ≡ None }
-        ensures pushed { self.new.fault ≡ None → fields.new ≡ fields.old ++ field.entry ∷ [] }
-        ensures left { self.new.fault ≡ None → left self.new ≡ left self.old }
+        ensures { Pushes self.old self.new field.entry fields.old fields.new }
     {
         let pushed = fields.push(field);
         self.took(pushed);
     }
 
+    /// A field without an id.
+    fn unnamed_field(&mut self) -> StructField<'a>
+        ensures { Decides unnamed_field self.old self.new (seen_struct_field result) }
+    {
+        let (mutable, ty) = self.field_type();
+        StructField::new(None, mutable, ty)
+    }
+
     /// Fields without ids, up to the end of the form.
-    #[tactic(auto, using(crate::proofs::Loops::seen_more, crate::proofs::Loops::part_end, crate::proofs::Loops::part_last))]
+    #[tactic(auto, using(crate::proofs::Steps::one_seen, crate::proofs::Loops::part_end, crate::proofs::Loops::part_last, crate::proofs::Loops::none_after))]
     fn unnamed_fields(&mut self, fields: &mut Seq<StructField<'a>>)
         ensures { ReadsOnto unnamed_fields self.old self.new (map seen_struct_field fields.old) (map seen_struct_field fields.new) }
     {
@@ -403,8 +435,8 @@ impl<'a> Reader<'a> {
             if self.is_end() {
                 break;
             }
-            let (mutable, ty) = self.field_type();
-            self.push_struct_field(fields, StructField::new(None, mutable, ty));
+            let field = self.unnamed_field();
+            self.push_struct_field(fields, field);
         }
     }
 
@@ -440,7 +472,7 @@ impl<'a> Reader<'a> {
     }
 
     /// The fields of a struct, each in its parentheses.
-    #[tactic(auto, using(crate::proofs::Loops::list_more, crate::proofs::Loops::list_end, crate::proofs::Loops::list_last))]
+    #[tactic(auto, using(crate::proofs::Steps::one_list, crate::proofs::Loops::list_end, crate::proofs::Loops::list_last, crate::proofs::Loops::none_after))]
     fn all_fields(&mut self, fields: &mut Seq<StructField<'a>>)
         ensures { ReadsOnto all_fields self.old self.new (map seen_struct_field fields.old) (map seen_struct_field fields.new) }
     {
@@ -541,7 +573,7 @@ impl<'a> Reader<'a> {
     }
 
     /// Indices, as many as there are.
-    #[tactic(auto, using(crate::proofs::Loops::part_more, crate::proofs::Loops::part_end, crate::proofs::Loops::part_last))]
+    #[tactic(auto, using(crate::proofs::Steps::one_more, crate::proofs::Loops::part_end, crate::proofs::Loops::part_last, crate::proofs::Loops::none_after))]
     fn indices(&mut self, indices: &mut Seq<Index<'a>>)
         ensures { ReadsOnto all_indices self.old self.new indices.old indices.new }
     {
@@ -608,15 +640,13 @@ impl<'a> Reader<'a> {
     /// Puts a type of a group behind the others.
     #[tactic(auto, using(crate::proofs::Makes::none_failed), unfolding(crate::specs::Readers::left))]
     fn push_type(&mut self, types: &mut Seq<Type<'a>>, ty: Type<'a>)
-        ensures clean { IsClean self.new → IsClean self.old }
-        ensures pushed { IsClean self.new → types.new ≡ types.old ++ ty.entry ∷ [] }
-        ensures left { left self.new ≡ left self.old }
+        ensures { Builds self.old self.new ty.entry types.old types.new }
     {
         self.make.push_type(types, ty);
     }
 
     /// The types of a group, up to the end of the form.
-    #[tactic(auto, using(crate::proofs::Loops::seen_more, crate::proofs::Loops::part_end, crate::proofs::Loops::part_last))]
+    #[tactic(auto, using(crate::proofs::Steps::one_built, crate::proofs::Loops::part_end, crate::proofs::Loops::part_last, crate::proofs::Loops::none_after))]
     fn rec_types(&mut self, types: &mut Seq<Type<'a>>)
         ensures { ReadsOnto typedefs self.old self.new (map seen_type types.old) (map seen_type types.new) }
     {

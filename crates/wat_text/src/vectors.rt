@@ -1,5 +1,14 @@
 //! The lanes of vectors.
 
+ghost use Rattle.std.specs.Prelude.{◌≡◌, IfOk, IfErr, None, Some};
+ghost use Rattle.std.specs.Float.{binary32, binary64};
+ghost use Rattle.wat_grammar.specs.Floats.{fN};
+ghost use Rattle.wat_syntax.specs.Tree.v128;
+ghost use Rattle.wat_syntax.specs.Seen.{seen_instr};
+ghost use Rattle.wat_syntax.specs.Instructions.{u8 as u8_rule, f32 as f32_rule, f64 as f64_rule, signed_number, laneidx, lanes, v128const};
+ghost use Rattle.wat_syntax.specs.Instructions.{shuffle as shuffle_rule};
+ghost use Rattle.wat_text.specs.Readers.{IsRefusal, Decides};
+
 use crate::reader::Reader;
 use std::alloc::Global;
 use wast_tree::{F32, F64, I8x16Shuffle, Instruction, LaneArg, V128Const};
@@ -8,76 +17,118 @@ use wat_tokens::{
 };
 
 /// The bits of a number of 32 bits.
-pub(crate) fn single(alloc: Global, text: &str) -> Result<F32, TextFault> {
+#[tactic(auto, using(crate::proofs::Signs::float_is, crate::proofs::Signs::float_not))]
+pub(crate) fn single(alloc: Global, text: &str) -> Result<F32, TextFault>
+    ensures gives { IfOk result (λ x. fN binary32 text.now ≡ Some x.bits) }
+    ensures refuses { IfErr result (λ e. IsRefusal e → fN binary32 text.now ≡ None) }
+{
     let bits = float32(alloc, text)?;
     Ok(F32 { bits })
 }
 
 /// The bits of a number of 64 bits.
-pub(crate) fn double(alloc: Global, text: &str) -> Result<F64, TextFault> {
+#[tactic(auto, using(crate::proofs::Signs::float_is, crate::proofs::Signs::float_not))]
+pub(crate) fn double(alloc: Global, text: &str) -> Result<F64, TextFault>
+    ensures gives { IfOk result (λ x. fN binary64 text.now ≡ Some x.bits) }
+    ensures refuses { IfErr result (λ e. IsRefusal e → fN binary64 text.now ≡ None) }
+{
     let bits = float64(alloc, text)?;
     Ok(F64 { bits })
 }
 
 impl<'a> Reader<'a> {
     /// A number of 8 bits.
-    pub fn integer8(&mut self) -> i8 {
+    #[tactic(auto, using(crate::proofs::Signs::signed_is, crate::proofs::Signs::signed_not))]
+    pub fn integer8(&mut self) -> i8
+        ensures { Decides (signed_number 8) self.old self.new result }
+    {
         let place = self.place();
         let text = self.number();
         self.value(place, integer8(text), 0)
     }
 
     /// A number of 16 bits.
-    pub fn integer16(&mut self) -> i16 {
+    #[tactic(auto, using(crate::proofs::Signs::signed_is, crate::proofs::Signs::signed_not))]
+    pub fn integer16(&mut self) -> i16
+        ensures { Decides (signed_number 16) self.old self.new result }
+    {
         let place = self.place();
         let text = self.number();
         self.value(place, integer16(text), 0)
     }
 
     /// A number of 32 bits.
-    pub fn integer32(&mut self) -> i32 {
+    #[tactic(auto, using(crate::proofs::Signs::signed_is, crate::proofs::Signs::signed_not))]
+    pub fn integer32(&mut self) -> i32
+        ensures { Decides (signed_number 32) self.old self.new result }
+    {
         let place = self.place();
         let text = self.number();
         self.value(place, integer32(text), 0)
     }
 
     /// A number of 64 bits.
-    pub fn integer64(&mut self) -> i64 {
+    #[tactic(auto, using(crate::proofs::Signs::signed_is, crate::proofs::Signs::signed_not))]
+    pub fn integer64(&mut self) -> i64
+        ensures { Decides (signed_number 64) self.old self.new result }
+    {
         let place = self.place();
         let text = self.number();
         self.value(place, integer64(text), 0)
     }
 
     /// A number of 32 bits with a fraction.
-    pub fn single(&mut self) -> F32 {
+    pub fn single(&mut self) -> F32
+        ensures { Decides f32_rule self.old self.new result }
+    {
         let place = self.place();
         let text = self.number();
-        let alloc = self.alloc;
-        self.value(place, single(alloc, text), F32 { bits: 0 })
+        match single(self.alloc, text) {
+            Ok(bits) => bits,
+            Err(fault) => {
+                self.fail_at(place, fault);
+                F32 { bits: 0 }
+            }
+        }
     }
 
     /// A number of 64 bits with a fraction.
-    pub fn double(&mut self) -> F64 {
+    pub fn double(&mut self) -> F64
+        ensures { Decides f64_rule self.old self.new result }
+    {
         let place = self.place();
         let text = self.number();
-        let alloc = self.alloc;
-        self.value(place, double(alloc, text), F64 { bits: 0 })
+        match double(self.alloc, text) {
+            Ok(bits) => bits,
+            Err(fault) => {
+                self.fail_at(place, fault);
+                F64 { bits: 0 }
+            }
+        }
     }
 
     /// The number of a lane (text format, vector instructions).
-    pub fn lane(&mut self) -> u8 {
+    #[tactic(auto, using(crate::proofs::Numbers::unsigned_is, crate::proofs::Numbers::unsigned_not))]
+    pub fn lane(&mut self) -> u8
+        ensures { Decides u8_rule self.old self.new result }
+    {
         let place = self.place();
         let text = self.number();
         self.value(place, unsigned8(text), 0)
     }
 
     /// The number of a lane, as an immediate.
-    pub fn lane_arg(&mut self) -> LaneArg {
+    pub fn lane_arg(&mut self) -> LaneArg
+        ensures { Decides laneidx self.old self.new result }
+    {
         LaneArg { lane: self.lane() }
     }
 
     /// `i8x16.shuffle` and its lanes (text format, vector instructions).
-    pub fn shuffle(&mut self) -> Instruction<'a> {
+    #[tactic(auto, using(crate::proofs::Fills::filled_begun, crate::proofs::Fills::filled_more, crate::proofs::Fills::filled_all))]
+    pub fn shuffle(&mut self) -> Instruction<'a>
+        ensures { Decides shuffle_rule self.old self.new (seen_instr result) }
+    {
         let mut lanes = [0; 16];
         for place in 0..16 {
             lanes[place] = self.lane();
@@ -86,7 +137,10 @@ impl<'a> Reader<'a> {
     }
 
     /// 16 lanes.
-    fn lanes16(&mut self) -> V128Const {
+    #[tactic(auto, using(crate::proofs::Fills::filled_begun, crate::proofs::Fills::filled_more, crate::proofs::Fills::filled_all))]
+    fn lanes16(&mut self) -> V128Const
+        ensures { Decides (lanes v128.I8x16 16 (signed_number 8)) self.old self.new result }
+    {
         let mut lanes = [0; 16];
         for place in 0..16 {
             lanes[place] = self.integer8();
@@ -95,7 +149,10 @@ impl<'a> Reader<'a> {
     }
 
     /// Eight lanes.
-    fn lanes8(&mut self) -> V128Const {
+    #[tactic(auto, using(crate::proofs::Fills::filled_begun, crate::proofs::Fills::filled_more, crate::proofs::Fills::filled_all))]
+    fn lanes8(&mut self) -> V128Const
+        ensures { Decides (lanes v128.I16x8 8 (signed_number 16)) self.old self.new result }
+    {
         let mut lanes = [0; 8];
         for place in 0..8 {
             lanes[place] = self.integer16();
@@ -104,21 +161,41 @@ impl<'a> Reader<'a> {
     }
 
     /// Four lanes.
-    fn lanes4(&mut self) -> V128Const {
+    fn lanes4(&mut self) -> V128Const
+        ensures { Decides (lanes v128.I32x4 4 (signed_number 32)) self.old self.new result }
+    {
         let (a, b) = (self.integer32(), self.integer32());
         let (c, d) = (self.integer32(), self.integer32());
         V128Const::I32x4([a, b, c, d])
     }
 
     /// Four lanes of numbers with a fraction.
-    fn singles4(&mut self) -> V128Const {
+    fn singles4(&mut self) -> V128Const
+        ensures { Decides (lanes v128.F32x4 4 f32_rule) self.old self.new result }
+    {
         let (a, b) = (self.single(), self.single());
         let (c, d) = (self.single(), self.single());
         V128Const::F32x4([a, b, c, d])
     }
 
+    /// Two lanes.
+    fn lanes2(&mut self) -> V128Const
+        ensures { Decides (lanes v128.I64x2 2 (signed_number 64)) self.old self.new result }
+    {
+        V128Const::I64x2([self.integer64(), self.integer64()])
+    }
+
+    /// Two lanes of numbers with a fraction.
+    fn doubles2(&mut self) -> V128Const
+        ensures { Decides (lanes v128.F64x2 2 f64_rule) self.old self.new result }
+    {
+        V128Const::F64x2([self.double(), self.double()])
+    }
+
     /// The lanes of a vector (text format, vector instructions).
-    pub fn vector(&mut self) -> V128Const {
+    pub fn vector(&mut self) -> V128Const
+        ensures { Decides v128const self.old self.new result }
+    {
         if self.accept(Key::I8x16) {
             return self.lanes16();
         }
@@ -129,7 +206,7 @@ impl<'a> Reader<'a> {
             return self.lanes4();
         }
         if self.accept(Key::I64x2) {
-            return V128Const::I64x2([self.integer64(), self.integer64()]);
+            return self.lanes2();
         }
         if self.accept(Key::F32x4) {
             return self.singles4();
@@ -137,6 +214,6 @@ impl<'a> Reader<'a> {
         if !self.accept(Key::F64x2) {
             self.expected("a vector shape such as `i32x4`");
         }
-        V128Const::F64x2([self.double(), self.double()])
+        self.doubles2()
     }
 }

@@ -1,12 +1,10 @@
-use Rattle.std.proofs.Common.{◌≡◌, ◌-◌, map}
+use Rattle.std.proofs.Common.{◌-◌, map}
 use Rattle.wat_syntax.specs.Tokens.{many, with_parts}
 use Rattle.wat_syntax.specs.Seen.{seen_type}
 use Rattle.wat_syntax.specs.Types.{goes_on, typedef_form, typedefs}
-use Rattle.wat_text.specs.Readers.{left, IsClean}
+use Rattle.wat_text.specs.Readers.{left}
+use Rattle.wat_text.proofs.Steps.{Steps}
 use Rattle.wat_text.proofs.reader.Reader.rec_types.Given as goal
 
 abbrev pub invariant-loop : goal.invariant-loop
-invariant-loop l = record {
-  clean : IsClean l.self → IsClean l.fn.self;
-  goes : IsClean l.self → with_parts (map seen_type l.fn.types) (typedefs (left l.fn.self)) ≡ with_parts (map seen_type l.types) (many goes_on typedef_form (l.end - l.counter) (left l.self));
-}
+invariant-loop l = Steps l.fn.self l.self (with_parts (map seen_type l.fn.types) (typedefs (left l.fn.self))) (with_parts (map seen_type l.types) (many goes_on typedef_form (l.end - l.counter) (left l.self)))

@@ -1,0 +1,199 @@
+-- What is read to the end of the tokens, and what an error then says.
+use Rattle.std.proofs.Common.{◌≡◌, ◌≢◌, ◌∙◌, ◌⊎◌, ℕ, Bool, true, false, List, map, Option, None, Some, Result, Ok, Err, refl, sym, ap, subst, inl, inr}
+use Rattle.std.specs.Prelude.{IfSome, IfOk, IfErr, is_some}
+use Rattle.std.specs.Borrow.{Bor}
+use Rattle.wast_tree_nodes.specs.WellFormed.{is_well_formed}
+use Rattle.wat_grammar.specs.Parts.{◌>>=◌}
+use Rattle.wat_tokens.specs.declared.faults.TextError.{TextError}
+use Rattle.wat_tokens.specs.declared.faults.TextFault.{TextFault}
+use Rattle.wat_tokens.specs.declared.faults.TextFault.TheVariants as fault
+use Rattle.wat_syntax.specs.Tree.{Span, ModuleField}
+use Rattle.wat_syntax.specs.Tokens.{Toks, Parse, after}
+use Rattle.wat_syntax.specs.Customs.{strings}
+use Rattle.wat_syntax.specs.SeenModuleFields.{seen_field}
+use Rattle.wat_text.specs.Readers.{left, IsClean, IsRefusal, IsRefused, Reads, Expects}
+use Rattle.wat_text.specs.Denotes.{Explains, IsIllFormed, AreFields, rest_of_fields, pieces_of, module_end, module_position, fields_module, binary_module, is_well_formed_module, seen_module, seen_opening}
+use Rattle.wat_text.specs.Finishes.{Finishes, IsClauseFault, WasRefused}
+use Rattle.wat_text.specs.declared.modules.ModuleHead.{ModuleHead}
+use Rattle.wat_text.specs.declared.modules.TextKind.TheVariants as kind
+use Rattle.wat_text.specs.declared.modules.TextModule.{TextModule}
+use Rattle.wat_text.specs.declared.reader.Reader.{Reader}
+
+-- a fault that is not of memory
+refusal : (f : TextFault) → f ≢ fault.Memory → IsRefusal f
+refusal fault.Memory h = absurd (h refl)
+refusal f h = tt
+
+pub memory_or : (f : TextFault) → (f ≡ fault.Memory) ⊎ (f ≢ fault.Memory)
+memory_or fault.Memory = inl refl
+memory_or f = inr (λ e. cc)
+
+pub explains_nothing : {A : Type 0} (B : Type 0) (f : TextFault) → (IsRefusal f → A) → Explains A B f
+explains_nothing B fault.Memory h = tt
+explains_nothing B (fault.IllFormed clause) h = inl (h tt)
+explains_nothing B f h = h tt
+
+pub explains_ill : (A : Type 0) {B : Type 0} (f : TextFault) → IsClauseFault f → B → Explains A B f
+explains_ill A (fault.IllFormed clause) h b = inr b
+explains_ill A f h b = absurd h
+
+pub explains_map : (A B C D : Type 0) (f : TextFault) → (A → C) → (B → D) → Explains A B f → Explains C D f
+explains_map A B C D fault.Memory g h e = tt
+explains_map A B C D (fault.IllFormed clause) g h (inl a) = inl (g a)
+explains_map A B C D (fault.IllFormed clause) g h (inr b) = inr (h b)
+explains_map A B C D f g h e = g e
+
+-- A reader read a part by a rule, and all tokens that were left.
+pub record ReadsAll {T : Type 0} (rule : Option T) (old new : Reader) (part : T) : Type 0 where
+  pub made : new.make ≡ false → old.make ≡ false
+  pub clean : new.fault ≡ None → old.fault ≡ None
+  pub gives : IsClean new → rule ≡ Some part
+  pub keeps : old.fault ≢ None → new.fault ≡ old.fault
+  pub refuses : old.fault ≡ None → new.make ≡ false → IsRefused new.fault → rule ≡ None
+
+-- a rule and the end of the tokens
+abbrev pub to_end : {T : Type 0} → Parse T → (Toks → Option Toks) → Option T
+to_end part end = part >>= λ x. end x.1 >>= λ rest. Some x.0
+
+pub reads_all : {T : Type 0} (rule : Toks → Parse T) (end : Toks → Option Toks) (a b c : Reader) (x : T)
+    → Reads rule a b x → Expects end b c → ReadsAll (to_end (rule (left a)) end) a c x
+reads_all rule end a b c x r e = record {
+  made = λ h. r.made (sym e.make ∙ h);
+  clean = λ h. r.clean (e.clean h);
+  gives = λ h. ap (λ p. to_end p end) (r.gives (e.clean h.0, sym e.make ∙ h.1)) ∙ ap (λ o. o >>= λ rest. Some x) (e.gives h.0);
+  keeps = λ h. e.keeps (λ n. h (r.clean n)) ∙ r.keeps h;
+  refuses = λ h m f. go b.fault refl h (sym e.make ∙ m) f;
+}
+  where
+    go : (o : Option TextError) → b.fault ≡ o → a.fault ≡ None → b.make ≡ false → IsRefused c.fault → to_end (rule (left a)) end ≡ None
+    go None n h m f = ap (λ p. to_end p end) (r.gives (n, m)) ∙ ap (λ o. o >>= λ rest. Some x) (e.refuses n f)
+    go (Some y) s h m f = ap (λ p. to_end p end) (r.refuses h m (subst IsRefused (e.keeps (λ n. cc)) f))
+
+-- the same before a step that only takes tokens
+pub all_after : {T : Type 0} (rule : Option T) (a b c : Reader) (x : T) → b.fault ≡ a.fault → b.make ≡ a.make → ReadsAll rule b c x → ReadsAll rule a c x
+all_after rule a b c x same make r = record {
+  made = λ h. sym make ∙ r.made h;
+  clean = λ h. sym same ∙ r.clean h;
+  gives = r.gives;
+  keeps = λ h. r.keeps (λ n. h (sym same ∙ n)) ∙ same;
+  refuses = λ h m f. r.refuses (same ∙ h) m f;
+}
+
+-- what `finish` returns
+pub record Finished (old : Reader) (error : Option TextError) : Type 0 where
+  pub clean : error ≡ None → IsClean old
+  pub refused : IfSome error (λ e. e.fault ≢ fault.Memory → (old.make ≡ false) × (old.fault ≡ Some e))
+
+-- an error of a reader
+pub fails_all : {S T : Type 0} (is_well : S → Bool) (denoted : S → Type 0) (nothing : Type 0) (rule : Option T) (a c : Reader) (x : T) (e : TextError)
+    → ReadsAll rule a c x → (e.fault ≢ fault.Memory → (c.make ≡ false) × (c.fault ≡ Some e)) → (rule ≡ None → nothing)
+    → Finishes is_well denoted nothing a (Err e)
+fails_all is_well denoted nothing rule a c x e r h none = record {
+  clean = tt;
+  gives = tt;
+  well = tt;
+  made = λ m. r.made (h m).0;
+  keeps = λ n m. sym (r.keeps n) ∙ (h m).1;
+  refuses = λ n. explains_nothing (IsIllFormed is_well denoted) e.fault (λ f. none (refused n f (memory_or e.fault)));
+}
+  where
+    refused : a.fault ≡ None → IsRefusal e.fault → (e.fault ≡ fault.Memory) ⊎ (e.fault ≢ fault.Memory) → rule ≡ None
+    refused n f (inl m) = absurd (subst IsRefusal m f)
+    refused n f (inr m) = r.refuses n (h m).0 (subst IsRefused (sym (h m).1) f)
+
+-- a part that is returned
+pub gives_all : {S T : Type 0} (is_well : S → Bool) (denoted : S → Type 0) (nothing : Type 0) (rule : Option T) (a c : Reader) (x : T) (s : S)
+    → ReadsAll rule a c x → IsClean c → (rule ≡ Some x → denoted s) → is_well s ≡ true → Finishes is_well denoted nothing a (Ok s)
+gives_all is_well denoted nothing rule a c x s r clean gives well = record {
+  clean = (r.clean clean.0, r.made clean.1);
+  gives = gives (r.gives clean);
+  well = well;
+  made = tt;
+  keeps = λ n. tt;
+  refuses = λ n. tt;
+}
+
+-- fields that are returned unless they are not well formed
+pub fields_finish : (rule : Option (List ModuleField)) (a c : Reader) (fields : List ModuleField) (error : Option TextError) (result : Result (List ModuleField) TextError)
+    → ReadsAll rule a c (map seen_field fields) → Finished c error
+    → IfOk result (λ same. (error ≡ None) × (same ≡ fields) × (is_well_formed same ≡ true))
+    → IfErr result (λ e. WasRefused error (is_well_formed fields) e)
+    → Finishes is_well_formed (AreFields rule) (rule ≡ None) a result
+fields_finish rule a c fields error (Ok same) r f ok err =
+    gives_all is_well_formed (AreFields rule) (rule ≡ None) rule a c (map seen_field fields) same r (f.clean ok.0) (λ e. e ∙ ap (λ xs. Some (map seen_field xs)) (sym ok.1)) ok.2
+fields_finish rule a c fields (Some x) (Err e) r f ok err =
+    subst (λ y. Finishes is_well_formed (AreFields rule) (rule ≡ None) a (Err y)) (sym err)
+    (fails_all is_well_formed (AreFields rule) (rule ≡ None) rule a c (map seen_field fields) x r f.refused (λ h. h))
+fields_finish rule a c fields None (Err e) r f ok err =
+    let clean : IsClean c = f.clean refl in
+    record {
+      clean = tt;
+      gives = tt;
+      well = tt;
+      made = λ m. r.made clean.1;
+      keeps = λ n m. absurd (n (r.clean clean.0));
+      refuses = λ n. explains_ill (rule ≡ None) e.fault err.1 (record { part = fields; denotes = r.gives clean; ill = err.0 });
+    }
+
+-- what is refused, as something else that is denoted
+pub finish_err : {S T : Type 0} (is_well : S → Bool) (denoted : S → Type 0) (nothing : Type 0) (is_well' : T → Bool) (denoted' : T → Type 0) (nothing' : Type 0)
+    (a : Reader) (e : TextError) → Finishes is_well denoted nothing a (Err e) → (nothing → nothing') → (IsIllFormed is_well denoted → IsIllFormed is_well' denoted')
+    → Finishes is_well' denoted' nothing' a (Err e)
+finish_err is_well denoted nothing is_well' denoted' nothing' a e f none ill = record {
+  clean = tt;
+  gives = tt;
+  well = tt;
+  made = f.made;
+  keeps = f.keeps;
+  refuses = λ n. explains_map nothing (IsIllFormed is_well denoted) nothing' (IsIllFormed is_well' denoted') e.fault none ill (f.refuses n);
+}
+
+-- fields as those of a module
+abbrev module_with : Span → ModuleHead → List ModuleField → TextModule
+module_with span h fields = record { span = span; id = h.id; name = h.name; kind = kind.Fields fields }
+
+module _ (span : Span) (h : ModuleHead) (toks : Toks) where
+  abbrev rule_of : Option (List ModuleField)
+  rule_of = rest_of_fields (is_some h.keyword) toks
+
+  abbrev denotes_module : TextModule → Type 0
+  denotes_module m = fields_module span (seen_opening h) toks ≡ Some (seen_module m)
+
+  pub module_err : (is_written : Bool) (a : Reader) (e : TextError) → is_written ≡ is_some h.keyword
+      → Finishes is_well_formed (AreFields (rest_of_fields is_written toks)) (rest_of_fields is_written toks ≡ None) a (Err e)
+      → Finishes is_well_formed_module denotes_module (fields_module span (seen_opening h) toks ≡ None) a (Err e)
+  module_err is_written a e same f =
+      finish_err is_well_formed (AreFields rule_of) (rule_of ≡ None) is_well_formed_module denotes_module (fields_module span (seen_opening h) toks ≡ None) a e
+      (subst (λ w. Finishes is_well_formed (AreFields (rest_of_fields w toks)) (rest_of_fields w toks ≡ None) a (Err e)) same f)
+      (λ e. ap (λ o. o >>= λ fs. Some (module_with span (seen_opening h) fs)) e)
+      (λ i. record { part = module_with span h i.part; denotes = ap (λ o. o >>= λ fs. Some (module_with span (seen_opening h) fs)) i.denotes; ill = i.ill })
+
+-- a rule after a token that is skipped
+pub skipped : {T : Type 0} (rule : Toks → Parse T) (end : Toks → Option Toks) (r s a b : Reader) (x : T) → left s ≡ after (left r) → s.fault ≡ r.fault → s.make ≡ r.make
+    → Reads rule s a x → Expects end a b → ReadsAll (to_end (rule (after (left r))) end) r b x
+skipped rule end r s a b x same fault make reads ends =
+    all_after (to_end (rule (after (left r))) end) r s b x fault make
+    (subst (λ t. ReadsAll (to_end (rule t) end) s b x) same (reads_all rule end s a b x reads ends))
+
+module _ (h : ModuleHead) (r : Reader) where
+  abbrev denotes_binary : TextModule → Type 0
+  denotes_binary m = binary_module (seen_opening h) (left r) ≡ Some (seen_module m)
+
+  abbrev of_pieces : Span → List (Bor (List ℕ)) → TextModule
+  of_pieces span ps = record { span = span; id = h.id; name = h.name; kind = kind.Binary ps }
+
+  pub binary_err : (s a b : Reader) (pieces : List (Bor (List ℕ))) (e : TextError) → left s ≡ after (left r) → s.fault ≡ r.fault → s.make ≡ r.make
+      → Reads strings s a pieces → Expects (module_end true) a b → (e.fault ≢ fault.Memory → (b.make ≡ false) × (b.fault ≡ Some e))
+      → Finishes is_well_formed_module denotes_binary (binary_module (seen_opening h) (left r) ≡ None) r (Err e)
+  binary_err s a b pieces e same fault make reads ends f =
+      fails_all is_well_formed_module denotes_binary (binary_module (seen_opening h) (left r) ≡ None) (pieces_of (left r)) r b pieces e
+      (skipped strings (module_end true) r s a b pieces same fault make reads ends) f
+      (λ n. ap (λ o. o >>= λ ps. Some (seen_module (of_pieces (module_position h) ps))) n)
+
+  pub binary_ok : (s a b : Reader) (pieces : List (Bor (List ℕ))) (span : Span) → span ≡ module_position h → left s ≡ after (left r) → s.fault ≡ r.fault → s.make ≡ r.make
+      → Reads strings s a pieces → Expects (module_end true) a b → IsClean b
+      → Finishes is_well_formed_module denotes_binary (binary_module (seen_opening h) (left r) ≡ None) r (Ok (of_pieces span pieces))
+  binary_ok s a b pieces span at same fault make reads ends clean =
+      gives_all is_well_formed_module denotes_binary (binary_module (seen_opening h) (left r) ≡ None) (pieces_of (left r)) r b pieces (of_pieces span pieces)
+      (skipped strings (module_end true) r s a b pieces same fault make reads ends) clean
+      (λ g. ap (λ o. o >>= λ ps. Some (seen_module (of_pieces (module_position h) ps))) g ∙ ap (λ p. Some (seen_module (of_pieces p pieces))) (sym at)) refl

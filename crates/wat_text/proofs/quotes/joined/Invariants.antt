@@ -1,0 +1,6 @@
+use Rattle.std.proofs.Common.{◌≡◌, take}
+use Rattle.wat_text.specs.Denotes.{text_in}
+use Rattle.wat_text.proofs.quotes.joined.Given as goal
+
+abbrev pub invariant-loop-at : goal.invariant-loop-at
+invariant-loop-at l = l.bytes.items ≡ text_in (take l.at l.fn.quotes)

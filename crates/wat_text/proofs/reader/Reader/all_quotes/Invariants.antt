@@ -1,0 +1,10 @@
+use Rattle.std.proofs.Common.{◌-◌}
+use Rattle.wat_syntax.specs.Tokens.{many, with_parts}
+use Rattle.wat_syntax.specs.Types.{goes_on}
+use Rattle.wat_text.specs.Denotes.{quote, quotes}
+use Rattle.wat_text.specs.Readers.{left}
+use Rattle.wat_text.proofs.Steps.{Steps}
+use Rattle.wat_text.proofs.reader.Reader.all_quotes.Given as goal
+
+abbrev pub invariant-loop : goal.invariant-loop
+invariant-loop l = Steps l.fn.self l.self (with_parts l.fn.quotes.items (quotes (left l.fn.self))) (with_parts l.quotes.items (many goes_on quote (l.end - l.counter) (left l.self)))

@@ -1,0 +1,9 @@
+use Rattle.std.proofs.Common.{◌-◌}
+use Rattle.wat_syntax.specs.Tokens.{many, with_parts}
+use Rattle.wat_syntax.specs.Instructions.{is_catch, catch, catches}
+use Rattle.wat_text.specs.Readers.{left}
+use Rattle.wat_text.proofs.Steps.{Steps}
+use Rattle.wat_text.proofs.reader.Reader.catches.Given as goal
+
+abbrev pub invariant-loop : goal.invariant-loop
+invariant-loop l = Steps l.fn.self l.self (with_parts l.fn.catches (catches (left l.fn.self))) (with_parts l.catches (many is_catch catch (l.end - l.counter) (left l.self)))

@@ -1,0 +1,19 @@
+use Rattle.std.proofs.Common.{rules, ◌≡◌, ◌∙◌, ℤ, Ok, Err, sym, subst}
+use Rattle.std.specs.Prelude.{option_map}
+use Rattle.std.specs.Int.{w32}
+use Rattle.std.proofs.Math.Facts.{to_z-of_z}
+use Rattle.wat_grammar.specs.Integers.{integer, signed_of}
+use Rattle.wat_syntax.specs.Instructions.{signed_number}
+use Rattle.wat_text.specs.Readers.{Decides}
+use Rattle.wat_text.proofs.Signs.{signed_is, signed_not, number_read}
+use Rattle.wat_text.proofs.reader.Reader.integer32.Goals as goal
+
+pub returns : goal.returns
+returns c =
+    let v = c.value.ensures in
+    let text = c.number-text.result in
+    let read : Decides (signed_number 32) c.args.self.now c.value.new.self c.value.result =
+    number_read (λ t. option_map (signed_of 32) (integer 32 t)) c.args.self.now c.number-text.new.self c.value.new.self text c.value.result c.number-text.ensures
+    v.make v.clean (λ h. signed_is 32 text.now c.value.result (sym c.integer32.ensures ∙ v.gives h)) v.left v.keeps
+    (λ h r. let e = v.refuses h (search rules) in signed_not 32 text.now e.0 (sym c.integer32.ensures ∙ e.1)) in
+    subst (λ z. Decides (signed_number 32) c.args.self.now c.value.new.self z) (sym (to_z-of_z {w = w32} (search rules))) read

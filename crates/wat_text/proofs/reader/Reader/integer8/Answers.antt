@@ -1,0 +1,19 @@
+use Rattle.std.proofs.Common.{rules, ◌≡◌, ◌∙◌, ℤ, Ok, Err, sym, subst}
+use Rattle.std.specs.Prelude.{option_map}
+use Rattle.std.specs.Int.{w8}
+use Rattle.std.proofs.Math.Facts.{to_z-of_z}
+use Rattle.wat_grammar.specs.Integers.{integer, signed_of}
+use Rattle.wat_syntax.specs.Instructions.{signed_number}
+use Rattle.wat_text.specs.Readers.{Decides}
+use Rattle.wat_text.proofs.Signs.{signed_is, signed_not, number_read}
+use Rattle.wat_text.proofs.reader.Reader.integer8.Goals as goal
+
+pub returns : goal.returns
+returns c =
+    let v = c.value.ensures in
+    let text = c.number-text.result in
+    let read : Decides (signed_number 8) c.args.self.now c.value.new.self c.value.result =
+    number_read (λ t. option_map (signed_of 8) (integer 8 t)) c.args.self.now c.number-text.new.self c.value.new.self text c.value.result c.number-text.ensures
+    v.make v.clean (λ h. signed_is 8 text.now c.value.result (sym c.integer8.ensures ∙ v.gives h)) v.left v.keeps
+    (λ h r. let e = v.refuses h (search rules) in signed_not 8 text.now e.0 (sym c.integer8.ensures ∙ e.1)) in
+    subst (λ z. Decides (signed_number 8) c.args.self.now c.value.new.self z) (sym (to_z-of_z {w = w8} (search rules))) read

@@ -1,0 +1,6 @@
+use Rattle.wat_syntax.specs.Instructions.{signed_number}
+use Rattle.wat_text.proofs.Fills.{Filled}
+use Rattle.wat_text.proofs.reader.Reader.lanes16.Given as goal
+
+abbrev pub invariant-loop-place : goal.invariant-loop-place
+invariant-loop-place l = Filled (signed_number 8) 16 l.place l.fn.self l.self l.lanes

@@ -1,0 +1,59 @@
+-- Where the tokens of a text in quotes are, as the code finds them: by the string at a cursor.
+use Rattle.std.specs.Prelude.{◌≡◌, ℕ, ◌-◌, ◌≤◌, List, [], length, map, take, set, Option, None, Some, slice_get}
+use Rattle.std.specs.Str.{is_utf8}
+use Rattle.wast_base.specs.declared.ids.Span.{Span}
+use Rattle.wat_tokens.specs.declared.tokens.Placed.{Placed}
+use Rattle.wat_text.specs.declared.quotes.Quote.{Quote}
+use Rattle.wat_text.specs.declared.quotes.Cursor.{Cursor}
+use Rattle.wat_text.specs.Denotes.{text_in, position_of, put_in, AreTokensIf}
+
+-- the first string
+abbrev pub start : Cursor
+start = record { number = 0; begin = 0 }
+
+-- A cursor is at a string, with the number of bytes before it. Without strings it is at number 0.
+pub record IsAt (quotes : List Quote) (c : Cursor) : Type 0 where
+  pub number : c.number ≤ length quotes - 1
+  pub begin : c.begin ≡ length (text_in (take c.number quotes))
+
+-- the position of a string, or that given if there is none of this number
+abbrev pub span_of : Option Quote → Span → Span
+span_of (Some q) none = q.span
+span_of None none = none
+
+abbrev pub position_at : Span → List Quote → ℕ → Span
+position_at none quotes number = span_of (slice_get quotes number) none
+
+-- the offset is in the string at the cursor
+pub record IsIn (quotes : List Quote) (c : Cursor) (offset : ℕ) : Type 0 where
+  pub same : (none : Span) → position_of none quotes offset ≡ position_at none quotes c.number
+
+-- the bytes of a string, and none if there is none of this number
+abbrev pub bytes_of : Option Quote → List ℕ
+bytes_of (Some q) = q.bytes.now
+bytes_of None = []
+
+abbrev pub bytes_at : List Quote → ℕ → List ℕ
+bytes_at quotes number = bytes_of (slice_get quotes number)
+
+-- the offset of a token
+abbrev pub offset_in : Option Placed → ℕ
+offset_in (Some p) = p.span.offset
+offset_in None = 0
+
+abbrev pub offset_at : List Placed → ℕ → ℕ
+offset_at tokens at = offset_in (slice_get tokens at)
+
+-- a token at another position
+abbrev pub put_from : Option Placed → List Placed → ℕ → Span → List Placed
+put_from (Some p) tokens at span = set tokens at (record { token = p.token; span = span })
+put_from None tokens at span = tokens
+
+abbrev pub put_at : List Placed → ℕ → Span → List Placed
+put_at tokens at span = put_from (slice_get tokens at) tokens at span
+
+-- tokens of the text that strings make, each at the position of the string in which it begins
+pub record ArePlaced (none : Span) (quotes : List Quote) (placed : List Placed) : Type 0 where
+  pub found : List Placed
+  pub lexed : AreTokensIf (is_utf8 (text_in quotes)) (text_in quotes) (Some found)
+  pub put : placed ≡ map (put_in none quotes) found

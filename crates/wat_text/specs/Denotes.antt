@@ -1,0 +1,235 @@
+-- What a text denotes (text format: modules).
+--
+-- A text is cut into tokens by the rules of wat_grammar, and the rules of wat_syntax make the fields of a module of the tokens. Here
+-- are the rules of a module, of which all tokens must be taken.
+--
+--   (module $m (start 0))                   the module m, with one field
+--   (start 0)                               a module without an id, with one field
+--   (module binary "\00asm" "\01\00\00\00") two pieces
+--   (module quote "(start" " 0)")           the module of the text `(start 0)`
+--   (start 0) x                             no module: a token is left
+--
+-- The tokens of a text have references to their texts, and so have the ids and the strings of a module. No definition says at which
+-- addresses those are. So a text denotes a module if some tokens of the text, at whatever addresses, are a module by the rules.
+use Rattle.std.specs.Prelude.{◌≡◌, ◌⊎◌, ⊤, ℕ, ◌-◌, nat_lt, Bool, true, false, if◌then◌else◌, List, [], ◌∷◌, ◌++◌, length, map, All, Option, None, Some, is_some}
+use Rattle.std.specs.Option.{option_or, unwrap_or}
+use Rattle.std.specs.Str.{is_utf8}
+use Rattle.std.specs.Borrow.{Bor}
+use Rattle.wast_base.specs.Ids.{text_start}
+use Rattle.wast_tree_nodes.specs.WellFormed.{is_well_formed}
+use Rattle.wat_grammar.specs.Parts.{◌>>=◌}
+use Rattle.wat_grammar.specs.Tokens.{tokens, bytes_of}
+use Rattle.wat_tokens.specs.Scans.{seen_all, IsNamed}
+use Rattle.wat_tokens.specs.declared.faults.TextFault.{TextFault}
+use Rattle.wat_tokens.specs.declared.faults.TextFault.TheVariants as fault
+use Rattle.wat_tokens.specs.declared.tokens.Placed.{Placed}
+use Rattle.wat_tokens.specs.declared.words.Key.{Key}
+use Rattle.wat_tokens.specs.declared.words.Key.TheVariants as key
+use Rattle.wat_syntax.specs.Tree.{Span, Id, NameAnnotation, ModuleField}
+use Rattle.wat_syntax.specs.Tokens.{Toks, Parse, peek, after, position, position_in, count, key_of, rparen, form, optional, many}
+use Rattle.wat_syntax.specs.Values.{id, name_annotation, string}
+use Rattle.wat_syntax.specs.Types.{goes_on}
+use Rattle.wat_syntax.specs.Seen.{seen_name_option}
+use Rattle.wat_syntax.specs.Customs.{strings}
+use Rattle.wat_syntax.specs.ModuleFields.{modulefields}
+use Rattle.wat_syntax.specs.SeenModuleFields.{seen_field}
+use Rattle.wat_text.specs.Texts.{is_well_formed_text}
+use Rattle.wat_text.specs.declared.modules.ModuleHead.{ModuleHead}
+use Rattle.wat_text.specs.declared.modules.TextKind.{TextKind}
+use Rattle.wat_text.specs.declared.modules.TextKind.TheVariants as kind
+use Rattle.wat_text.specs.declared.modules.TextModule.{TextModule}
+use Rattle.wat_text.specs.declared.quotes.Quote.{Quote}
+
+-- modules without the addresses of their names, as in wat_syntax; the bytes of pieces are those of their tokens
+abbrev pub seen_kind : TextKind → TextKind
+seen_kind (kind.Fields fields) = kind.Fields (map seen_field fields)
+seen_kind (kind.Binary pieces) = kind.Binary pieces
+
+abbrev pub seen_module : TextModule → TextModule
+seen_module m = record { span = m.span; id = m.id; name = seen_name_option m.name; kind = seen_kind m.kind }
+
+abbrev pub seen_opening : ModuleHead → ModuleHead
+seen_opening h = record { keyword = h.keyword; id = h.id; name = seen_name_option h.name }
+
+-- '(' 'module': the position of the keyword
+abbrev pub module_keyword : Toks → Parse Span
+module_keyword toks = form key.Module toks >>= λ t. Some (position (after toks), t)
+
+-- '(' 'module' id?, or nothing (text format: modules): the position of the keyword if it is there, the id and the name annotation
+abbrev pub opening : Toks → Parse ModuleHead
+opening toks = elim (module_keyword toks) [
+  | Some k ↦ optional id k.1 >>= λ x. name_annotation x.1 >>= λ n. Some (record { keyword = Some k.0; id = x.0; name = n.0 }, n.1)
+  | None ↦ Some (record { keyword = None; id = None; name = None }, toks)
+]
+
+-- the end of the tokens
+abbrev pub taken_in : List Placed → Toks → Option Toks
+taken_in [] toks = Some toks
+taken_in (p ∷ ps) toks = None
+
+abbrev pub all_taken : Toks → Option Toks
+all_taken toks = taken_in toks.left toks
+
+-- the ')' of a module in parentheses, and the end of the tokens
+abbrev pub module_end : Bool → Toks → Option Toks
+module_end is_written toks = elim is_written [ true ↦ rparen toks >>= λ rest. all_taken rest | false ↦ all_taken toks ]
+
+-- the fields of a module after its opening, to the end of the tokens
+abbrev pub rest_of_fields : Bool → Toks → Option (List ModuleField)
+rest_of_fields is_written toks = modulefields toks >>= λ fs. module_end is_written fs.1 >>= λ rest. Some fs.0
+
+-- m ::= '(' 'module' id? modulefield* ')', or modulefield* alone (text format: modules): the fields
+abbrev pub fields_of_module : Toks → Option (List ModuleField)
+fields_of_module toks = opening toks >>= λ o. rest_of_fields (is_some o.0.keyword) o.1
+
+-- 'binary' string*: the bytes of a module in the binary format, in pieces
+abbrev pub pieces_of : Toks → Option (List (Bor (List ℕ)))
+pieces_of toks = strings (after toks) >>= λ ps. module_end true ps.1 >>= λ rest. Some ps.0
+
+-- a string with its position
+abbrev pub quote : Toks → Parse Quote
+quote toks = string toks >>= λ b. Some (record { span = position toks; bytes = b.0 }, b.1)
+
+abbrev pub quotes : Toks → Parse (List Quote)
+quotes toks = many goes_on quote (count toks) toks
+
+-- 'quote' string*: the strings that make the text of a module
+abbrev pub quotes_of : Toks → Option (List Quote)
+quotes_of toks = quotes (after toks) >>= λ qs. module_end true qs.1 >>= λ rest. Some qs.0
+
+-- the text that strings make, one after another
+abbrev pub text_in : List Quote → List ℕ
+text_in [] = []
+text_in (q ∷ qs) = q.bytes.now ++ text_in qs
+
+-- The position of the string in which a byte of this text is, by the number of bytes before it: of the strings "(a" and "b)", the
+-- bytes 0 and 1 are in the first, and 2 and 3 in the second. After the last byte it is that of the last string, and that given if
+-- there are no strings.
+abbrev pub position_of : Span → List Quote → ℕ → Span
+position_of last [] offset = last
+position_of last (q ∷ qs) offset = elim (nat_lt offset (length q.bytes.now)) [
+  | true ↦ q.span
+  | false ↦ position_of q.span qs (offset - length q.bytes.now)
+]
+
+-- a token of this text, at the position of the string in which it begins
+abbrev pub put_in : Span → List Quote → Placed → Placed
+put_in first qs p = record { token = p.token; span = position_of first qs p.span.offset }
+
+-- tokens of which none is taken; `end` is the position after the last one
+abbrev pub all_of : List Placed → Span → Toks
+all_of found end = record { before = position_in found end; left = found; end = end }
+
+-- what a module contains, by the word after its opening
+pub data Contents : Type 0 where
+  Fields : Contents
+  Binary : Contents
+  Quotes : Contents
+
+abbrev pub contents_of : Option Span → Option Key → Contents
+contents_of (Some keyword) (Some key.Binary) = Binary
+contents_of (Some keyword) (Some key.Quote) = Quotes
+contents_of keyword k = Fields
+
+-- the position of the keyword of a module, or the start of the text
+abbrev pub module_position : ModuleHead → Span
+module_position h = unwrap_or h.keyword text_start
+
+-- a module of fields, and one of pieces, after its opening
+abbrev pub fields_module : Span → ModuleHead → Toks → Option TextModule
+fields_module span h toks = rest_of_fields (is_some h.keyword) toks >>= λ fs. Some (record { span = span; id = h.id; name = h.name; kind = kind.Fields fs })
+
+abbrev pub binary_module : ModuleHead → Toks → Option TextModule
+binary_module h toks = pieces_of toks >>= λ ps. Some (record { span = module_position h; id = h.id; name = h.name; kind = kind.Binary ps })
+
+-- The module of the text in quotes, which is neither binary nor in quotes again. The position is that of the outer module, and so
+-- are its id and its name annotation, if it has any.
+abbrev pub inner_opening : ModuleHead → ModuleHead → ModuleHead
+inner_opening h o = record { keyword = o.keyword; id = option_or h.id o.id; name = option_or h.name o.name }
+
+abbrev pub inner_module : ModuleHead → Toks → Option TextModule
+inner_module h toks = opening toks >>= λ o. fields_module (module_position h) (inner_opening h o.0) o.1
+
+-- The tokens of a text, at whatever addresses their texts are. The word of each is that of its text.
+pub record AreTokens (text : List ℕ) (found : List Placed) : Type 0 where
+  pub lexed : tokens bytes_of text ≡ Some (seen_all found)
+  pub named : All (λ p. IsNamed p.token) found
+
+-- the tokens of bytes, if they are a text (in UTF-8) and have tokens
+abbrev pub AreTokensIf : Bool → List ℕ → Option (List Placed) → Type 0
+AreTokensIf true text (Some found) = AreTokens text found
+AreTokensIf true text None = tokens bytes_of text ≡ None
+AreTokensIf false text found = found ≡ None
+
+-- What strings in quotes mean as a module, with the opening of the outer one: a module, or nothing. `first` is the position of the
+-- first string, or of the `)` if there are none.
+pub record MeansInQuotes (h : ModuleHead) (first : Span) (qs : List Quote) (meaning : Option TextModule) : Type 0 where
+  pub inner : Option (List Placed)
+  pub lexed : AreTokensIf (is_utf8 (text_in qs)) (text_in qs) inner
+  pub gives : (inner >>= λ found. inner_module h (all_of (map (put_in first qs) found) first)) ≡ meaning
+
+abbrev pub MeansQuoted : ModuleHead → Span → Option (List Quote) → Option TextModule → Type 0
+MeansQuoted h first None meaning = meaning ≡ None
+MeansQuoted h first (Some qs) meaning = MeansInQuotes h first qs meaning
+
+-- what the tokens after an opening mean, by what the module contains
+abbrev pub MeansAs : Contents → ModuleHead → Toks → Option TextModule → Type 0
+MeansAs Fields h toks meaning = fields_module (module_position h) h toks ≡ meaning
+MeansAs Binary h toks meaning = binary_module h toks ≡ meaning
+MeansAs Quotes h toks meaning = MeansQuoted h (position (after toks)) (quotes_of toks) meaning
+
+abbrev pub MeansAfter : ModuleHead → Toks → Option TextModule → Type 0
+MeansAfter h toks meaning = MeansAs (contents_of h.keyword (key_of (peek 0 toks))) h toks meaning
+
+abbrev pub MeansOpened : Option (ModuleHead × Toks) → Option TextModule → Type 0
+MeansOpened None meaning = meaning ≡ None
+MeansOpened (Some o) meaning = MeansAfter o.0 o.1 meaning
+
+-- What tokens mean: a module, or nothing.
+abbrev pub Means : Toks → Option TextModule → Type 0
+Means toks meaning = MeansOpened (opening toks) meaning
+
+-- the tokens of a text with its end
+abbrev pub all_in : List ℕ → List Placed → Toks
+all_in text found = all_of found (record { offset = length text })
+
+-- A text denotes a module. The names of the module are at address 0.
+pub record Denotes (text : List ℕ) (m : TextModule) : Type 0 where
+  pub found : List Placed
+  pub tokens : AreTokens text found
+  pub means : Means (all_in text found) (Some m)
+
+-- A text denotes no module: it has no tokens, or its tokens are no module.
+pub data DenotesNothing (text : List ℕ) : Type 0 where
+  untokened : tokens bytes_of text ≡ None → DenotesNothing text
+  unread : (found : List Placed) → AreTokens text found → Means (all_in text found) None → DenotesNothing text
+
+-- What an error says, by its fault. If no allocation failed, either the rules produce nothing, or what they produce is not well
+-- formed, which one fault alone says. That fault is also one of the rules of expressions, for example of a branch hint without an
+-- instruction.
+abbrev pub Explains : Type 0 → Type 0 → TextFault → Type 0
+Explains nothing ill_formed fault.Memory = ⊤
+Explains nothing ill_formed (fault.IllFormed clause) = nothing ⊎ ill_formed
+Explains nothing ill_formed f = nothing
+
+-- a part that is denoted and is not well formed
+pub record IsIllFormed {T : Type 0} (is_well : T → Bool) (denoted : T → Type 0) : Type 0 where
+  pub part : T
+  pub denotes : denoted part
+  pub ill : is_well part ≡ false
+
+abbrev pub is_well_formed_module : TextModule → Bool
+is_well_formed_module m = is_well_formed_text m.kind
+
+-- fields, by a rule; a module, by its tokens and by its text
+abbrev pub AreFields : Option (List ModuleField) → List ModuleField → Type 0
+AreFields rule fields = rule ≡ Some (map seen_field fields)
+
+abbrev pub AreIllFormed : Option (List ModuleField) → Type 0
+AreIllFormed rule = IsIllFormed is_well_formed (AreFields rule)
+
+abbrev pub MeansIllFormed : Toks → Type 0
+MeansIllFormed toks = IsIllFormed is_well_formed_module (λ m. Means toks (Some (seen_module m)))
+
+abbrev pub DenotesIllFormed : List ℕ → Type 0
+DenotesIllFormed text = IsIllFormed is_well_formed_module (λ m. Denotes text (seen_module m))

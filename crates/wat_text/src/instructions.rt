@@ -1,0 +1,255 @@
+//! Instructions: the word of each, with its immediates (text format, instructions).
+
+ghost use Rattle.std.specs.Prelude.{◌≡◌, true, Some, map};
+ghost use Rattle.wat_syntax.specs.Tokens.{one, peek, word_of};
+ghost use Rattle.wat_syntax.specs.Seen.{seen_instr, seen_block};
+ghost use Rattle.wat_syntax.specs.Instructions.{instruction as instruction_rule, blocktype, is_catch_word, is_catch, catch_clause, catch as catch_rule, catches as catches_rule, try_table_of, opener, is_plaininstr, plaininstr};
+ghost use Rattle.wat_tokens.specs.declared.tokens.Token.TheVariants as token;
+ghost use Rattle.wat_text.specs.Readers.{left, Reads, Decides, ReadsOnto, Pushes, Builds};
+ghost use Rattle.wat_syntax.specs.Tree.instr;
+
+use crate::operators::{with_index, with_pair, with_uncovered};
+use crate::reader::Reader;
+use wast_base::IndexOp;
+use wast_tree::{
+    BareOp, BlockKind, BlockType, Instruction, Plain, Seq, TryTableCatch, TryTableCatchKind,
+};
+use wat_tokens::{BlockOp, Key, TextFault, Token, Word};
+
+impl<'a> Reader<'a> {
+    /// The label and the type of a block (text format, control instructions).
+    fn block_type(&mut self) -> BlockType<'a>
+        ensures { Reads blocktype self.old self.new (seen_block result) }
+    {
+        let (label, label_name) = (self.id(), self.name());
+        let ty = self.type_use(false);
+        BlockType {
+            label,
+            label_name,
+            ty,
+        }
+    }
+
+    /// A clause of `try_table` behind its `(` (text format, control instructions).
+    fn catch(&mut self) -> TryTableCatch<'a>
+        ensures { Decides catch_clause self.old self.new result }
+    {
+        let word = self.word(0);
+        self.skip();
+        match word {
+            Some(Word::Index(IndexOp::Catch)) => {
+                let tag = self.index();
+                TryTableCatch::new(TryTableCatchKind::Catch(tag), self.index())
+            }
+            Some(Word::Key(Key::CatchRef)) => {
+                let tag = self.index();
+                TryTableCatch::new(TryTableCatchKind::CatchRef(tag), self.index())
+            }
+            Some(Word::Key(Key::CatchAllRef)) => {
+                TryTableCatch::new(TryTableCatchKind::CatchAllRef, self.index())
+            }
+            Some(Word::Plain(Plain::Bare(BareOp::catch_all))) => {
+                TryTableCatch::new(TryTableCatchKind::CatchAll, self.index())
+            }
+            _ => {
+                self.fail(TextFault::Operator);
+                TryTableCatch::new(TryTableCatchKind::CatchAll, self.index())
+            }
+        }
+    }
+
+    /// Whether the word of a clause of `try_table` stands behind the next token.
+    fn is_catch_word(&self) -> bool
+        ensures { result ≡ is_catch_word (word_of (peek 1 (left self.now))) }
+    {
+        match self.word(1) {
+            Some(Word::Index(IndexOp::Catch)) => true,
+            Some(Word::Key(Key::CatchRef | Key::CatchAllRef)) => true,
+            Some(Word::Plain(Plain::Bare(BareOp::catch_all))) => true,
+            _ => false,
+        }
+    }
+
+    /// Whether a clause of `try_table` stands there.
+    fn is_catch(&self) -> bool
+        ensures { result ≡ is_catch (left self.now) }
+    {
+        self.is_open(0) && self.is_catch_word()
+    }
+
+    /// A clause of `try_table`, which is next.
+    fn catch_form(&mut self) -> TryTableCatch<'a>
+        requires { is_catch (left self.old) ≡ true }
+        ensures { Decides catch_rule self.old self.new result }
+    {
+        self.skip();
+        let catch = self.catch();
+        self.close();
+        catch
+    }
+
+    /// Puts a clause of `try_table` behind the others.
+    fn push_catch(&mut self, catches: &mut Seq<TryTableCatch<'a>>, catch: TryTableCatch<'a>)
+        ensures { Pushes self.old self.new catch.entry catches.old catches.new }
+    {
+        let pushed = catches.push(catch);
+        self.took(pushed);
+    }
+
+    /// The clauses of `try_table` (text format, control instructions).
+    #[tactic(auto, using(crate::proofs::Steps::one_more, crate::proofs::Loops::part_end, crate::proofs::Loops::part_last, crate::proofs::Loops::none_after))]
+    fn catches(&mut self, catches: &mut Seq<TryTableCatch<'a>>)
+        ensures { ReadsOnto catches_rule self.old self.new catches.old catches.new }
+    {
+        for _ in 0..self.left() {
+            if !self.is_catch() {
+                break;
+            }
+            let catch = self.catch_form();
+            self.push_catch(catches, catch);
+        }
+    }
+
+    /// Puts an instruction behind the others.
+    #[tactic(auto, using(crate::proofs::Makes::none_failed), unfolding(crate::specs::Readers::left))]
+    fn push_instruction(&mut self, instrs: &mut Seq<Instruction<'a>>, instruction: Instruction<'a>)
+        ensures { Builds self.old self.new instruction.entry instrs.old instrs.new }
+    {
+        self.make.push_instruction(instrs, instruction);
+    }
+
+    /// Puts `block` behind the others.
+    #[tactic(auto, using(crate::proofs::Makes::none_failed), unfolding(crate::specs::Readers::left))]
+    fn push_block(&mut self, instrs: &mut Seq<Instruction<'a>>, block: BlockType<'a>)
+        ensures { Builds self.old self.new (instr.block block.entry) instrs.old instrs.new }
+    {
+        self.make.push_block(instrs, BlockKind::Block, block);
+    }
+
+    /// Puts `loop` behind the others.
+    #[tactic(auto, using(crate::proofs::Makes::none_failed), unfolding(crate::specs::Readers::left))]
+    fn push_loop(&mut self, instrs: &mut Seq<Instruction<'a>>, block: BlockType<'a>)
+        ensures { Builds self.old self.new (instr.loop_ block.entry) instrs.old instrs.new }
+    {
+        self.make.push_block(instrs, BlockKind::Loop, block);
+    }
+
+    /// Puts `if` behind the others.
+    #[tactic(auto, using(crate::proofs::Makes::none_failed), unfolding(crate::specs::Readers::left))]
+    fn push_if(&mut self, instrs: &mut Seq<Instruction<'a>>, block: BlockType<'a>)
+        ensures { Builds self.old self.new (instr.if_ block.entry) instrs.old instrs.new }
+    {
+        self.make.push_block(instrs, BlockKind::If, block);
+    }
+
+    /// Puts `try` behind the others.
+    #[tactic(auto, using(crate::proofs::Makes::none_failed), unfolding(crate::specs::Readers::left))]
+    fn push_try(&mut self, instrs: &mut Seq<Instruction<'a>>, block: BlockType<'a>)
+        ensures { Builds self.old self.new (instr.try_ block.entry) instrs.old instrs.new }
+    {
+        self.make.push_block(instrs, BlockKind::Try, block);
+    }
+
+    /// Puts `try_table` behind the others.
+    #[tactic(auto, using(crate::proofs::Makes::none_failed), unfolding(crate::specs::Readers::left))]
+    fn push_try_table(
+        &mut self,
+        instrs: &mut Seq<Instruction<'a>>,
+        block: BlockType<'a>,
+        catches: Seq<TryTableCatch<'a>>,
+    )
+        ensures { Builds self.old self.new (instr.try_table (record { block = block.entry; catches = catches.entry })) instrs.old instrs.new }
+    {
+        self.make.push_try_table(instrs, block, catches);
+    }
+
+    /// `try_table` with its clauses, which are next, is put into a list.
+    #[tactic(auto, using(crate::proofs::Loops::from_nothing, crate::proofs::Loops::mapped))]
+    fn try_table(&mut self, block: BlockType<'a>, instrs: &mut Seq<Instruction<'a>>)
+        ensures { ReadsOnto (one (try_table_of (seen_block block.entry))) self.old self.new (map seen_instr instrs.old) (map seen_instr instrs.new) }
+    {
+        let mut catches = Seq::new(self.alloc);
+        self.catches(&mut catches);
+        self.push_try_table(instrs, block, catches);
+    }
+
+    /// The opener of a block, behind its word, is put into a list.
+    #[tactic(auto, using(crate::proofs::Loops::mapped))]
+    fn block(&mut self, op: BlockOp, instrs: &mut Seq<Instruction<'a>>)
+        ensures { ReadsOnto (one (opener op)) self.old self.new (map seen_instr instrs.old) (map seen_instr instrs.new) }
+    {
+        let block = self.block_type();
+        match op {
+            BlockOp::block => self.push_block(instrs, block),
+            BlockOp::loop_ => self.push_loop(instrs, block),
+            BlockOp::if_ => self.push_if(instrs, block),
+            BlockOp::try_ => self.push_try(instrs, block),
+            BlockOp::try_table => self.try_table(block, instrs),
+        }
+    }
+
+    /// An instruction that opens no block, behind its word (text format, instructions).
+    fn operator(&mut self, word: Word, name: &'a str) -> Instruction<'a>
+        requires { is_plaininstr word ≡ true }
+        ensures { Reads (plaininstr word name.entry) self.old self.new (seen_instr result) }
+    {
+        match word {
+            Word::Plain(op) => Instruction::Plain(op),
+            Word::Mem(op, align) => Instruction::Mem(op, self.mem_arg(align as u64)),
+            Word::Lane(op) => Instruction::Lane(op, self.lane_arg()),
+            Word::MemLane(op, align) => Instruction::MemLane(
+                op,
+                self.load_or_store_lane(align as u64),
+            ),
+            Word::Index(op) => with_index(op, self.index()),
+            Word::IndexOrZero(op) => with_index(op, self.index_or_zero()),
+            Word::Uncovered(op) => with_uncovered(op, self.index()),
+            Word::UncoveredOrZero(op) => with_uncovered(op, self.index_or_zero()),
+            Word::Pair(op) => {
+                let first = self.index();
+                with_pair(op, first, self.index())
+            }
+            Word::OneOrTwo(op) => {
+                let (first, second) = self.one_or_two();
+                with_pair(op, first, second)
+            }
+            Word::NoneOrTwo(op) => {
+                let (first, second) = self.none_or_two();
+                with_pair(op, first, second)
+            }
+            Word::Own(op) => self.own(op),
+            Word::Atomic(op) => self.atomic(op),
+            Word::Beyond | Word::Block(_) | Word::Key(_) => Instruction::Beyond(name),
+        }
+    }
+
+    /// An instruction that begins with this word is put into a list.
+    #[tactic(auto, using(crate::proofs::Words::not_opener, crate::proofs::Loops::mapped))]
+    fn worded(&mut self, word: Word, name: &'a str, instrs: &mut Seq<Instruction<'a>>)
+        requires { peek 0 (left self.old) ≡ Some (token.Word word name) }
+        ensures { ReadsOnto (one instruction_rule) self.old self.new (map seen_instr instrs.old) (map seen_instr instrs.new) }
+    {
+        match word {
+            Word::Key(_) => self.fail(TextFault::Operator),
+            Word::Block(op) => {
+                self.skip();
+                self.block(op, instrs);
+            }
+            _ => {
+                self.skip();
+                let instruction = self.operator(word, name);
+                self.push_instruction(instrs, instruction);
+            }
+        }
+    }
+
+    /// An instruction is put into a list (text format, instructions).
+    pub(crate) fn instruction(&mut self, instrs: &mut Seq<Instruction<'a>>)
+        ensures { ReadsOnto (one instruction_rule) self.old self.new (map seen_instr instrs.old) (map seen_instr instrs.new) }
+    {
+        match self.look(0) {
+            Some(Token::Word(word, name)) => self.worded(word, name, instrs),
+            _ => self.fail(TextFault::Operator),
+        }
+    }
+}
