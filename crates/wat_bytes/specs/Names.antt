@@ -1,4 +1,4 @@
--- The ids of a text and their indices: the names that resolving returns for a module that the parser may return.
+-- The ids of a text and their indices: the names that resolving returns for the module that the text denotes.
 --
 --   (module (func) (func $f))      $f is the function 1
 use Rattle.std.specs.Prelude.{◌≡◌, ℕ, Bool, not, is_none, List, [], ◌∷◌, ◌++◌, map, All, Option, Result, Ok, Err, ◌⊎◌}

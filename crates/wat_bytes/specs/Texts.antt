@@ -1,9 +1,9 @@
--- The bytes of a text: what encoding returns for a module that the parser may return.
+-- The bytes of a text: what encoding returns for the module that the text denotes (text format: modules; binary format:
+-- modules).
 --
--- The parser is not proved to return the module of the text. So the definitions speak of some module that it may
--- return.
---
---   (module (func))      the bytes of some well-formed module that parsing may return; tests check that it is this one
+--   (module (func))      the bytes of a module with one type and one function
+--   (module (func $f) (func $f))      an error of that module: $f is a duplicate identifier
+--   (module (func)      an error of the text: it denotes no module
 use Rattle.std.specs.Prelude.{◌≡◌, ℕ, ◌≤◌, List, length, Option, Some, None, Result, Ok, Err, ⊤, IsTrue}
 use Rattle.std.specs.Option.{unwrap_or}
 use Rattle.std.specs.Global.{Vec}
@@ -20,6 +20,7 @@ use Rattle.wat_text.specs.declared.modules.TextKind.{TextKind}
 use Rattle.wat_text.specs.declared.modules.TextKind.TheVariants as held
 use Rattle.wat_text.specs.declared.modules.TextModule.{TextModule}
 use Rattle.wat_text.specs.Texts.{is_well_formed_text}
+use Rattle.wat_text.specs.Denotes.{Denotes, DenotesNothing, DenotesIllFormed, Explains, seen_module}
 use Rattle.wast_core.specs.Uncovered.{head_of, uncovered_forms}
 use Rattle.wast_core.specs.declared.module.Module.{Module}
 use Rattle.wast_core.specs.declared.module.ModuleKind.{ModuleKind}
@@ -66,12 +67,11 @@ EncodesModule m (Err (answer.Uncovered u)) = EncodesReady m (Err (error_without_
 abbrev pub EncodesText : TextModule → Result (Vec ℕ) Refused → Type 0
 EncodesText t r = EncodesModule (module_of t) r
 
--- What parsing a text may return: a module whose fields are well formed, or an error with a position in the text. The
--- parser itself is not proved, so nothing more is known. The definition is opaque, and only the proof of `read_text`
--- unfolds it. So a function has a proof of "parsing may return it" only if it calls `read_text` with this text.
+-- What parsing a text returns: the module that the text denotes, if its fields are well formed. Otherwise it is an error with a
+-- position in the text, and its fault says why: the text denotes no module, or one that is not well formed, or allocation failed.
 unfoldable pub IsRead : List ℕ → Result TextModule TextError → Type 0
-IsRead bytes (Ok t) = IsTrue (is_well_formed_text t.kind)
-IsRead bytes (Err e) = e.span.offset ≤ length bytes
+IsRead bytes (Ok t) = Denotes bytes (seen_module t) × IsTrue (is_well_formed_text t.kind)
+IsRead bytes (Err e) = Explains (DenotesNothing bytes) (DenotesIllFormed bytes) e.fault × (e.span.offset ≤ length bytes)
 
 -- The result after parsing: that of the module, or the error of parsing.
 abbrev pub AfterReading : {A : Type 0} → (TextModule → Result A Refused → Type 0) → Result TextModule TextError → Result A Refused → Type 0

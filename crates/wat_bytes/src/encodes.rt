@@ -130,9 +130,8 @@ fn encoded_in<'a>(
 ///
 /// # Guarantees
 ///
-/// - `answer`: the result is that of [`encoded_text`] for some module that [`read`](wat_text::read)
-///   may return, or an error that it may return (`OfText`). That `read` returns the module of the
-///   text is tested, not proved.
+/// - `answer`: the result is that of [`encoded_text`] for the module that the text denotes, or an
+///   error of the text, which denotes no module then, or one that is not well formed (`OfText`).
 /// - `place`: an error of the text is in the text or at its end.
 pub fn encode_text<'a>(
     alloc: Global,

@@ -20,9 +20,9 @@
 //!
 //! # Guarantees
 //!
-//! - [`encode_text`], `answer`: the result is that of `encode_module` for some module that the
-//!   parser may return for this text, or an error that it may return. That it is the module of the
-//!   text is tested, not proved.
+//! - [`encode_text`], `answer`: the result is that of `encode_module` for the module that the text
+//!   denotes. Otherwise it is an error of the text, which denotes no module then, or one that is not
+//!   well formed.
 //! - `place`: an error of the text has a position in the text or at its end.
 //! - A call without an allocator among its parameters does not allocate.
 #![tactic(auto)]

@@ -12,7 +12,7 @@ use wat_text::{Strings, TextError, TextFault, TextKind, TextModule, read};
 /// The rule of well-formedness about generated ids.
 const GENERATED: u8 = 6;
 
-/// Parses a text. All that is proved of the result for a text goes back to this call: see `IsRead`.
+/// Parses a text. What is proved of the result for a text goes back to this call: see `IsRead`.
 pub(crate) fn read_text<'a>(
     alloc: Global,
     text: &'a str,

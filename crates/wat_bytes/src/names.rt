@@ -168,9 +168,8 @@ pub fn names_of<'a>(alloc: Global, text: TextModule<'a>) -> Result<Vec<Denoted<'
 ///
 /// # Guarantees
 ///
-/// - `answer`: the result is that of [`names_of`] for some module that [`read`](wat_text::read) may
-///   return, or an error that it may return (`OfText`). That `read` returns the module of the text
-///   is tested, not proved.
+/// - `answer`: the result is that of [`names_of`] for the module that the text denotes, or an error
+///   of the text, which denotes no module then, or one that is not well formed (`OfText`).
 /// - `place`: an error of the text is in the text or at its end.
 pub fn names_of_text<'a>(
     alloc: Global,
@@ -270,9 +269,8 @@ pub fn number_in<'a>(
 ///
 /// # Guarantees
 ///
-/// - `answer`: the result is that of [`number_in`] for some module that [`read`](wat_text::read)
-///   may return, or an error that it may return (`OfText`). That `read` returns the module of the
-///   text is tested, not proved.
+/// - `answer`: the result is that of [`number_in`] for the module that the text denotes, or an error
+///   of the text, which denotes no module then, or one that is not well formed (`OfText`).
 /// - `place`: an error of the text is in the text or at its end.
 pub fn number_in_text<'a>(
     alloc: Global,
