@@ -148,6 +148,8 @@ class SpecModule:
                     names = self.scope.bring(line.partition("use ")[2])
                     self.passed.update(names if "pub use " in line else [])
                 here = None
+            elif re.match(r"infix[lr]? ", line):
+                here = None
             elif re.match(r"module \S+", line):
                 block, here = line.removesuffix("where"), None
             elif bare and not bare.startswith("--"):
@@ -163,6 +165,7 @@ class SpecModule:
                 if here is not None:
                     here.lines.append(line)
         self.made = {name: it for it in self.own.values() for name in it.constructors}
+        self.signs = {part: name for name in self.own if "◌" in name for part in name.split("◌") if part}
 
     def item_of(self, name):
         """What a name of this module is to others."""
@@ -177,7 +180,7 @@ class SpecModule:
 
     def item(self, name):
         """What a name means in this file: a target, or None."""
-        return self.own.get(name) or self.made.get(name) or self.scope.item(name)
+        return self.own.get(self.signs.get(name, name)) or self.made.get(name) or self.scope.item(name)
 
     def targets(self, chunks, given):
         """What the names of some texts lead to, but for those that are given; a name that leads nowhere is `Missing`."""
@@ -244,7 +247,9 @@ class Reading:
         # The frames of binders: each bracket has one, and an alternative of `elim` one of its own.
         self.frames, self.brackets, self.paths = [set(given)], [], []
         self.in_pattern, self.in_head, self.in_let = is_clause, 0, None
-        self.at = 1 if is_clause else 0
+        # A clause begins with the name of its definition, but that of an operator such as `p >> q` with its first operand.
+        is_infix = len(self.tokens) > 1 and len(self.tokens[1]) == 1 and re.fullmatch(r"[^\w\s(){}\[\]∷=.,;:]+", self.tokens[1][0])
+        self.at = 1 if is_clause and not is_infix else 0
         self.binders = set(self.binders_before_colons())
         while self.at < len(self.tokens):
             self.step(self.tokens[self.at])
