@@ -1,4 +1,10 @@
 //! Converts one text.
+//!
+//! The contract of [`output_of`] says what is written for a text. That the bytes reach standard output or a file is tested,
+//! because no contract can say what a stream takes.
+
+ghost use Rattle.std.specs.Prelude.{◌≡◌, false, Ok, IfOk};
+ghost use Rattle.wat.specs.Outputs.{IsOutput, OutputOf, Writes, hex_line as hex_line_of};
 
 use crate::names::name_lines;
 use crate::options::{Options, Output};
@@ -14,7 +20,9 @@ use wat_command::{
 use wat_text::Strings;
 
 /// Removes the name section, if the options have `--no-names`.
-fn selected(alloc: Global, options: &Options, bytes: Vec<u8>) -> Result<Vec<u8>, AllocError> {
+fn selected(alloc: Global, options: &Options, bytes: Vec<u8>) -> Result<Vec<u8>, AllocError>
+    ensures { options.now.omits_names ≡ false → result ≡ Ok bytes.entry }
+{
     if options.omits_names {
         return without_names(alloc, bytes.as_slice());
     }
@@ -22,7 +30,9 @@ fn selected(alloc: Global, options: &Options, bytes: Vec<u8>) -> Result<Vec<u8>,
 }
 
 /// Returns bytes as one line of hexadecimal digits.
-fn hex_line(alloc: Global, bytes: &[u8]) -> Result<Vec<u8>, AllocError> {
+fn hex_line(alloc: Global, bytes: &[u8]) -> Result<Vec<u8>, AllocError>
+    ensures { IfOk result (λ line. line.items ≡ hex_line_of bytes.now) }
+{
     let mut line = hex::encode(alloc, bytes)?;
     line.push('\n')?;
     Ok(line.into_bytes())
@@ -33,7 +43,9 @@ fn output_of_bytes(
     alloc: Global,
     options: &Options,
     bytes: Vec<u8>,
-) -> Result<Vec<u8>, AllocError> {
+) -> Result<Vec<u8>, AllocError>
+    ensures { IfOk result (λ out. OutputOf options.now.output options.now.omits_names bytes.entry.items out.items) }
+{
     let bytes = selected(alloc, options, bytes)?;
     if let Output::Hex = options.output {
         return hex_line(alloc, bytes.as_slice());
@@ -42,7 +54,9 @@ fn output_of_bytes(
 }
 
 /// Returns an output, or reports that allocation failed.
-fn allocated(rt: &HostRuntime, output: Result<Vec<u8>, AllocError>) -> Result<Vec<u8>, Failure> {
+fn allocated(rt: &HostRuntime, output: Result<Vec<u8>, AllocError>) -> Result<Vec<u8>, Failure>
+    ensures { IfOk result (λ bytes. output.entry ≡ Ok bytes) }
+{
     match output {
         Ok(bytes) => Ok(bytes),
         Err(_) => Err(Failure::memory(rt)),
@@ -56,7 +70,9 @@ fn module_output<'a>(
     file: Escaped<'_>,
     text: &'a str,
     strings: &'a Strings,
-) -> Result<Vec<u8>, Failure> {
+) -> Result<Vec<u8>, Failure>
+    ensures { IfOk result (λ out. IsOutput options.now.output options.now.omits_names text.now out.items) }
+{
     match encode_text(rt.alloc(), text, strings) {
         Ok(bytes) => allocated(rt, output_of_bytes(rt.alloc(), options, bytes)),
         Err(refused) => Err(report(rt, rt.alloc(), file, text, &refused)),
@@ -82,7 +98,9 @@ fn output_of_text(
     options: &Options,
     file: Escaped<'_>,
     text: &str,
-) -> Result<Vec<u8>, Failure> {
+) -> Result<Vec<u8>, Failure>
+    ensures { IfOk result (λ out. Writes options.now.output options.now.omits_names text.now out.items) }
+{
     warn(rt, file, text);
     let strings = Strings::new(rt.alloc());
     match options.output {
@@ -97,7 +115,9 @@ fn output_of(
     options: &Options,
     file: Escaped<'_>,
     bytes: &[u8],
-) -> Result<Vec<u8>, Failure> {
+) -> Result<Vec<u8>, Failure>
+    ensures { IfOk result (λ out. Writes options.now.output options.now.omits_names bytes.now out.items) }
+{
     match str::from_utf8(bytes) {
         Ok(text) => output_of_text(rt, options, file, text),
         Err(error) => {
