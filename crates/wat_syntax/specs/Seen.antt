@@ -6,7 +6,7 @@
 -- rules give each name the address 0, and the contracts speak of what is seen of a tree: the tree with each name at address 0.
 use Rattle.std.specs.Prelude.{ℕ, List, [], ◌∷◌, Option, None, Some, option_map, map}
 use Rattle.std.specs.Borrow.{Bor}
-use Rattle.wat_syntax.specs.Tree.{BlockType, CallIndirect, TryTable, Instruction, Span, InlineExport, InlineImport, Local, Tag, TagType, TagKind, ItemKind, ItemSig, ImportItems, Imports, Export, Id, Index, NameAnnotation, ValType, StructField, StructType, FunctionType, TypeUse, InnerTypeKind, TypeDef, Rec}
+use Rattle.wat_syntax.specs.Tree.{BlockType, CallIndirect, TryTable, Instruction, Expression, Span, InlineExport, InlineImport, Local, Tag, TagType, TagKind, ItemKind, ItemSig, ImportItems, Imports, Export, Id, Index, NameAnnotation, ValType, StructField, StructType, FunctionType, TypeUse, InnerTypeKind, TypeDef, Rec}
 use Rattle.wat_syntax.specs.Tree.inner
 use Rattle.wat_syntax.specs.Tree.ty
 use Rattle.wat_syntax.specs.Tree.instr
@@ -82,6 +82,9 @@ seen_instr (instr.try_table t) = instr.try_table (seen_try_table t)
 seen_instr (instr.call_indirect c) = instr.call_indirect (seen_call c)
 seen_instr (instr.return_call_indirect c) = instr.return_call_indirect (seen_call c)
 seen_instr i = i
+
+abbrev pub seen_expression : Expression → Expression
+seen_expression e = record { instrs = map seen_instr e.instrs; branch_hints = e.branch_hints }
 
 -- exports and imports of a field
 abbrev pub seen_exports : InlineExport → InlineExport

@@ -133,6 +133,10 @@ many is_next part (suc n) toks = elim (is_next toks) [
 abbrev pub with_parts : {T : Type 0} → List T → Parse (List T) → Parse (List T)
 with_parts xs rest = rest >>= λ ys. Some (xs ++ ys.0, ys.1)
 
+-- one part, as a list of parts
+abbrev pub one : {T : Type 0} → (Toks → Parse T) → Toks → Parse (List T)
+one part toks = part toks >>= λ x. Some (x.0 ∷ [], x.1)
+
 -- The same for a part that is a list: (param*)* is the parameters of all forms, one after another.
 abbrev pub many_lists : {T : Type 0} → (Toks → Bool) → (Toks → Parse (List T)) → ℕ → Toks → Parse (List T)
 many_lists is_next part zero toks = Some ([], toks)

@@ -24,11 +24,15 @@ abbrev pub IsRefused : Option TextError → Type 0
 IsRefused None = ⊥
 IsRefused (Some e) = IsRefusal e.fault
 
--- A reader read a part by a rule: if nothing is wrong afterwards, then nothing was wrong before, and of the tokens that were
--- left, the rule makes this part and the tokens that are left now.
+-- A reader read a part by a rule. If nothing is wrong afterwards, then nothing was wrong before, and of the tokens that were left,
+-- the rule makes this part and the tokens that are left now. A fault is kept. If the reader refused the tokens and no allocation of
+-- the tree failed, then the rule does not produce them.
 pub record Reads {T : Type 0} (rule : Toks → Parse T) (old new : Reader) (part : T) : Type 0 where
-  pub clean : IsClean new → IsClean old
+  pub made : new.make ≡ false → old.make ≡ false
+  pub clean : new.fault ≡ None → old.fault ≡ None
   pub gives : IsClean new → rule (left old) ≡ Some (part, left new)
+  pub keeps : old.fault ≢ None → new.fault ≡ old.fault
+  pub refuses : old.fault ≡ None → new.make ≡ false → IsRefused new.fault → rule (left old) ≡ None
 
 -- The same of a rule that no list of the tree is made for: the fault alone says whether something went wrong. A fault is kept, and
 -- if the reader refused the tokens, then the rule does not produce them.
@@ -79,5 +83,8 @@ pub record Refuses (old new : Reader) : Type 0 where
 
 -- A reader read a list of parts by a rule, and put them behind those that a list had before.
 pub record ReadsOnto {T : Type 0} (rule : Toks → Parse (List T)) (old new : Reader) (before after : List T) : Type 0 where
-  pub clean : IsClean new → IsClean old
+  pub made : new.make ≡ false → old.make ≡ false
+  pub clean : new.fault ≡ None → old.fault ≡ None
   pub gives : IsClean new → with_parts before (rule (left old)) ≡ Some (after, left new)
+  pub keeps : old.fault ≢ None → new.fault ≡ old.fault
+  pub refuses : old.fault ≡ None → new.make ≡ false → IsRefused new.fault → rule (left old) ≡ None

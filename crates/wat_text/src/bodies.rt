@@ -4,14 +4,16 @@
 //! same list, because an `end` must close the block that was opened last, and a `)` must not close a block that has no `end`:
 //! `(func (block loop))` has no `end` for its `loop`.
 
-use crate::operators::{with_index, with_pair, with_uncovered};
+ghost use Rattle.wat_syntax.specs.Seen.{seen_expression};
+ghost use Rattle.wat_syntax.specs.Bodies.{expression as expression_rule, folded_expression};
+ghost use Rattle.wat_text.specs.Readers.{Reads};
+
 use crate::reader::Reader;
 use std::alloc::Global;
 use std::mem;
 use wast_base::IndexOp;
 use wast_tree::{
-    BareOp, BlockKind, BlockType, BranchHint, Expression, Instruction, Plain, Seq, Span,
-    TryTableCatch, TryTableCatchKind, discard_expression,
+    BareOp, BranchHint, Expression, Instruction, Plain, Seq, Span, discard_expression,
 };
 use wat_tokens::{Annotation, BlockOp, Key, OwnOp, TextFault, Token, Word};
 
@@ -237,122 +239,6 @@ impl<'a> Reader<'a> {
         self.put_hint(body, hint);
         if let Some(instruction) = body.take_waiting(self.alloc) {
             self.put(body, instruction);
-        }
-    }
-
-    /// The label and the type of a block (text format, control instructions).
-    fn block_type(&mut self) -> BlockType<'a> {
-        let (label, label_name) = (self.id(), self.name());
-        let ty = self.type_use(false);
-        BlockType {
-            label,
-            label_name,
-            ty,
-        }
-    }
-
-    /// A clause of `try_table` behind its `(` (text format, control instructions).
-    fn catch(&mut self) -> TryTableCatch<'a> {
-        let word = self.word(0);
-        self.skip();
-        let kind = match word {
-            Some(Word::Index(IndexOp::Catch)) => TryTableCatchKind::Catch(self.index()),
-            Some(Word::Key(Key::CatchRef)) => TryTableCatchKind::CatchRef(self.index()),
-            Some(Word::Key(Key::CatchAllRef)) => TryTableCatchKind::CatchAllRef,
-            _ => TryTableCatchKind::CatchAll,
-        };
-        TryTableCatch::new(kind, self.index())
-    }
-
-    /// Whether a clause of `try_table` stands there.
-    fn is_catch(&self) -> bool {
-        let is_word = match self.word(1) {
-            Some(Word::Index(IndexOp::Catch)) => true,
-            Some(Word::Key(Key::CatchRef | Key::CatchAllRef)) => true,
-            Some(Word::Plain(Plain::Bare(BareOp::catch_all))) => true,
-            _ => false,
-        };
-        self.is_open(0) && is_word
-    }
-
-    /// The clauses of `try_table` (text format, control instructions).
-    fn catches(&mut self) -> Seq<TryTableCatch<'a>> {
-        let mut catches = Seq::new(self.alloc);
-        for _ in 0..self.left() {
-            if !self.is_catch() {
-                break;
-            }
-            self.open();
-            let pushed = catches.push(self.catch());
-            self.took(pushed);
-            self.close();
-        }
-        catches
-    }
-
-    /// The opener of a block, behind its word, is put into a list.
-    fn block(&mut self, op: BlockOp, instrs: &mut Seq<Instruction<'a>>) {
-        let block = self.block_type();
-        let kind = match op {
-            BlockOp::block => BlockKind::Block,
-            BlockOp::loop_ => BlockKind::Loop,
-            BlockOp::if_ => BlockKind::If,
-            BlockOp::try_ => BlockKind::Try,
-            BlockOp::try_table => {
-                let catches = self.catches();
-                self.make.push_try_table(instrs, block, catches);
-                return;
-            }
-        };
-        self.make.push_block(instrs, kind, block);
-    }
-
-    /// An instruction that opens no block, behind its word (text format, instructions).
-    fn operator(&mut self, word: Word, name: &'a str) -> Instruction<'a> {
-        match word {
-            Word::Plain(op) => Instruction::Plain(op),
-            Word::Mem(op, align) => Instruction::Mem(op, self.mem_arg(align as u64)),
-            Word::Lane(op) => Instruction::Lane(op, self.lane_arg()),
-            Word::MemLane(op, align) => Instruction::MemLane(
-                op,
-                self.load_or_store_lane(align as u64),
-            ),
-            Word::Index(op) => with_index(op, self.index()),
-            Word::IndexOrZero(op) => with_index(op, self.index_or_zero()),
-            Word::Uncovered(op) => with_uncovered(op, self.index()),
-            Word::UncoveredOrZero(op) => with_uncovered(op, self.index_or_zero()),
-            Word::Pair(op) => {
-                let first = self.index();
-                with_pair(op, first, self.index())
-            }
-            Word::OneOrTwo(op) => {
-                let (first, second) = self.one_or_two();
-                with_pair(op, first, second)
-            }
-            Word::NoneOrTwo(op) => {
-                let (first, second) = self.none_or_two();
-                with_pair(op, first, second)
-            }
-            Word::Own(op) => self.own(op),
-            Word::Atomic(op) => self.atomic(op),
-            Word::Beyond | Word::Block(_) | Word::Key(_) => Instruction::Beyond(name),
-        }
-    }
-
-    /// An instruction is put into a list (text format, instructions).
-    fn instruction(&mut self, instrs: &mut Seq<Instruction<'a>>) {
-        match self.look(0) {
-            Some(Token::Word(Word::Key(_), _)) => self.fail(TextFault::Operator),
-            Some(Token::Word(Word::Block(op), _)) => {
-                self.skip();
-                self.block(op, instrs);
-            }
-            Some(Token::Word(word, name)) => {
-                self.skip();
-                let instruction = self.operator(word, name);
-                self.make.push_instruction(instrs, instruction);
-            }
-            _ => self.fail(TextFault::Operator),
         }
     }
 
@@ -633,17 +519,23 @@ impl<'a> Reader<'a> {
     }
 
     /// Reads the body of a function up to the end of the form (text format, functions).
-    pub fn function_body(&mut self) -> Expression<'a> {
+    pub fn function_body(&mut self) -> Expression<'a>
+        ensures { Reads (expression_rule true) self.old self.new (seen_expression result) }
+    {
         self.instructions(Purpose::Body)
     }
 
     /// Reads a constant expression up to the end of the form (text format, expressions).
-    pub fn expression(&mut self) -> Expression<'a> {
+    pub fn expression(&mut self) -> Expression<'a>
+        ensures { Reads (expression_rule false) self.old self.new (seen_expression result) }
+    {
         self.instructions(Purpose::Constant)
     }
 
     /// Reads an expression of one folded instruction (text format, folded instructions).
-    pub fn folded(&mut self) -> Expression<'a> {
+    pub fn folded(&mut self) -> Expression<'a>
+        ensures { Reads folded_expression self.old self.new (seen_expression result) }
+    {
         let mut body = Body::new(self.alloc, Purpose::Constant);
         self.open();
         self.opened(&mut body);

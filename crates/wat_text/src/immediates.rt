@@ -1,5 +1,9 @@
 //! Instructions with immediates of their own.
 
+ghost use Rattle.std.specs.Prelude.{◌≡◌};
+ghost use Rattle.wat_syntax.specs.Instructions.{memory_ordering, struct_access, one_or_two, none_or_two, array_new_fixed, select};
+ghost use Rattle.wat_text.specs.Readers.{Reads, Decides};
+
 use crate::reader::Reader;
 use wast_tree::{
     ArrayNewFixed, BrOnCast, BrOnCastDescEq, BrOnCastDescEqFail, BrOnCastFail, BrTableIndices,
@@ -45,7 +49,9 @@ impl<'a> Reader<'a> {
     }
 
     /// An ordering, where one stands there (threads).
-    fn ordering(&mut self) -> Option<Ordering> {
+    fn ordering(&mut self) -> Option<Ordering>
+        ensures { Decides memory_ordering self.old self.new result }
+    {
         if self.accept(Key::SeqCst) {
             return Some(Ordering::SeqCst);
         }
@@ -101,7 +107,9 @@ impl<'a> Reader<'a> {
     }
 
     /// A type and a field of a struct (text format, aggregate instructions).
-    pub fn struct_access(&mut self) -> StructAccess<'a> {
+    pub fn struct_access(&mut self) -> StructAccess<'a>
+        ensures { Decides struct_access self.old self.new result }
+    {
         let owner = self.index();
         let field = self.index();
         StructAccess { owner, field }
@@ -158,23 +166,22 @@ impl<'a> Reader<'a> {
     }
 
     /// `select` and the types of what it gives (text format, parametric instructions).
-    fn select(&mut self) -> Instruction<'a> {
+    #[tactic(auto, using(crate::proofs::Loops::from_nothing))]
+    fn select(&mut self) -> Instruction<'a>
+        ensures { Reads select self.old self.new result }
+    {
         if !self.is_form(Key::Result) {
             return Instruction::select(SelectTypes { tys: None });
         }
         let mut values = Seq::new(self.alloc);
-        for _ in 0..self.left() {
-            if !self.accept_form(Key::Result) {
-                break;
-            }
-            self.values(&mut values);
-            self.close();
-        }
+        self.all_results(&mut values);
         Instruction::select(SelectTypes { tys: Some(values) })
     }
 
     /// One index or two: where one stands there, the first is 0, at the place of the token before.
-    pub fn one_or_two(&mut self) -> (Index<'a>, Index<'a>) {
+    pub fn one_or_two(&mut self) -> (Index<'a>, Index<'a>)
+        ensures { Decides one_or_two self.old self.new result }
+    {
         let place = self.place_before();
         let first = self.index();
         match self.optional_index() {
@@ -184,7 +191,9 @@ impl<'a> Reader<'a> {
     }
 
     /// No index or two: where none stands there, both are 0, at the place of the token before.
-    pub fn none_or_two(&mut self) -> (Index<'a>, Index<'a>) {
+    pub fn none_or_two(&mut self) -> (Index<'a>, Index<'a>)
+        ensures { Decides none_or_two self.old self.new result }
+    {
         let place = self.place_before();
         match self.optional_index() {
             Some(first) => (first, self.index()),
@@ -218,7 +227,9 @@ impl<'a> Reader<'a> {
     }
 
     /// `array.new_fixed` (text format, aggregate instructions).
-    fn array_new_fixed(&mut self) -> Instruction<'a> {
+    fn array_new_fixed(&mut self) -> Instruction<'a>
+        ensures { Decides array_new_fixed self.old self.new result }
+    {
         let array = self.index();
         let length = self.number32();
         Instruction::array_new_fixed(ArrayNewFixed { array, length })

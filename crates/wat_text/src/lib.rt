@@ -7,6 +7,7 @@ mod bodies;
 mod customs;
 mod fields;
 mod immediates;
+mod instructions;
 mod modules;
 mod operators;
 mod quotes;

@@ -1,5 +1,8 @@
 //! Instructions with indices, by their words. `tools/ops` writes this file.
 
+ghost use Rattle.std.specs.Prelude.{◌≡◌};
+ghost use Rattle.wat_syntax.specs.Operators.{index_instr, uncovered_instr, pair_instr};
+
 use wast_base::IndexOp;
 use wast_tree::{
     ArrayCopy, ArrayFill, ArrayInit, ArrayNewData, ArrayNewElem, ContBind, Index, Instruction,
@@ -8,7 +11,9 @@ use wast_tree::{
 use wat_tokens::{PairOp, UncoveredOp};
 
 /// An instruction with an index (text format, instructions).
-pub(crate) fn with_index<'a>(op: IndexOp, index: Index<'a>) -> Instruction<'a> {
+pub(crate) fn with_index<'a>(op: IndexOp, index: Index<'a>) -> Instruction<'a>
+    ensures { result ≡ index_instr op index.entry }
+{
     match op {
         IndexOp::Catch => Instruction::catch(index),
         IndexOp::Throw => Instruction::throw(index),
@@ -51,7 +56,9 @@ pub(crate) fn with_index<'a>(op: IndexOp, index: Index<'a>) -> Instruction<'a> {
 }
 
 /// An instruction with an index, of a form that no encoder covers.
-pub(crate) fn with_uncovered<'a>(op: UncoveredOp, index: Index<'a>) -> Instruction<'a> {
+pub(crate) fn with_uncovered<'a>(op: UncoveredOp, index: Index<'a>) -> Instruction<'a>
+    ensures { result ≡ uncovered_instr op index.entry }
+{
     match op {
         UncoveredOp::struct_new_desc => Instruction::struct_new_desc(index),
         UncoveredOp::struct_new_default_desc => Instruction::struct_new_default_desc(index),
@@ -63,7 +70,9 @@ pub(crate) fn with_uncovered<'a>(op: UncoveredOp, index: Index<'a>) -> Instructi
 }
 
 /// An instruction with two indices, in the order of the text (text format, instructions).
-pub(crate) fn with_pair<'a>(op: PairOp, first: Index<'a>, second: Index<'a>) -> Instruction<'a> {
+pub(crate) fn with_pair<'a>(op: PairOp, first: Index<'a>, second: Index<'a>) -> Instruction<'a>
+    ensures { result ≡ pair_instr op first.entry second.entry }
+{
     match op {
         PairOp::struct_get => Instruction::struct_get(StructAccess {
             owner: first,

@@ -1,5 +1,8 @@
 //! The lanes of vectors.
 
+ghost use Rattle.wat_syntax.specs.Instructions.{u8 as u8_rule, laneidx};
+ghost use Rattle.wat_text.specs.Readers.{Decides};
+
 use crate::reader::Reader;
 use std::alloc::Global;
 use wast_tree::{F32, F64, I8x16Shuffle, Instruction, LaneArg, V128Const};
@@ -65,14 +68,19 @@ impl<'a> Reader<'a> {
     }
 
     /// The number of a lane (text format, vector instructions).
-    pub fn lane(&mut self) -> u8 {
+    #[tactic(auto, using(crate::proofs::Numbers::unsigned_is, crate::proofs::Numbers::unsigned_not))]
+    pub fn lane(&mut self) -> u8
+        ensures { Decides u8_rule self.old self.new result }
+    {
         let place = self.place();
         let text = self.number();
         self.value(place, unsigned8(text), 0)
     }
 
     /// The number of a lane, as an immediate.
-    pub fn lane_arg(&mut self) -> LaneArg {
+    pub fn lane_arg(&mut self) -> LaneArg
+        ensures { Decides laneidx self.old self.new result }
+    {
         LaneArg { lane: self.lane() }
     }
 
