@@ -1,13 +1,13 @@
 -- Expressions (text format: instructions, folded instructions, expressions).
 --
--- A rule for instructions returns items: instructions and branch hints, each hint before the instruction that it is for. The
--- recursion is open: a rule for a construct takes what reads the instructions inside it, `within`. So no rule calls another that
--- calls it, and `sequences` below ties the knot by the number of steps, of which each takes a token.
+-- A rule for instructions returns items: instructions and branch hints, each hint before the instruction that it is for. `p >> q`
+-- is p and then q. The recursion is open: a rule for a construct takes what reads the instructions inside it, `within`. So no rule
+-- calls another that calls it, and `sequences` below ties the knot by the number of steps, of which each takes a token.
 --
 --   (i32.add (i32.const 1) (i32.const 2))     i32.const 1, i32.const 2, i32.add
 --   (if (local.get 0) (then nop))             local.get 0, if, nop, end
 --   (i32.add i32.const 1 i32.const 2)         None: operands are folded
-use Rattle.std.specs.Prelude.{ℕ, zero, suc, ◌==◌, ◌&&◌, Bool, true, false, if◌then◌else◌, List, [], ◌∷◌, ◌++◌, Option, None, Some, length}
+use Rattle.std.specs.Prelude.{ℕ, zero, suc, ◌==◌, ◌&&◌, Bool, true, false, if◌then◌else◌, List, [], ◌∷◌, ◌++◌, Option, None, Some}
 use Rattle.wat_syntax.specs.Tree.{Instruction, BranchHint, Expression}
 use Rattle.wat_syntax.specs.Tree.instr
 use Rattle.wat_syntax.specs.Tree.bare
@@ -24,7 +24,7 @@ use Rattle.wat_tokens.specs.declared.tokens.Token.{Token}
 use Rattle.wat_tokens.specs.declared.tokens.Token.TheVariants as token
 use Rattle.wat_tokens.specs.declared.tokens.Annotation.{Annotation}
 use Rattle.wat_tokens.specs.declared.tokens.Annotation.TheVariants as annotation
-use Rattle.wat_syntax.specs.Tokens.{Toks, Parse, peek, after, count, word_of, is_lparen, is_end, lparen, rparen, form, is_form, many_lists}
+use Rattle.wat_syntax.specs.Tokens.{Toks, Parse, peek, after, count, word_of, is_lparen, is_end, lparen, rparen, form, is_form}
 use Rattle.wat_syntax.specs.Values.{string, index, annotation_of}
 use Rattle.wat_syntax.specs.Instructions.{instruction}
 
@@ -33,15 +33,38 @@ pub data Item : Type 0 where
   Instr : Instruction → Item
   Hint : ℕ → Item
 
--- Where instructions are read: anywhere, or where only folded ones may be. `may_hint` is false in constant expressions, which have
--- no branch hints.
+-- Where instructions are read: anywhere, or where only folded ones may be. Where only the parts of `catch` or the arms of `catch`
+-- may be, the instructions of all of them are read.
 pub data Place : Type 0 where
   Anywhere : Place
   Folded : Place
+  Catches : Place
+  CatchArms : Place
+
+-- what reads items
+abbrev pub Rule : Type 0
+Rule = Toks → Parse (List Item)
 
 -- what reads the instructions of a place
 abbrev pub Within : Type 0
-Within = Place → Toks → Parse (List Item)
+Within = Place → Rule
+
+infixr 20 ◌>>◌
+-- one rule and then another: the items of both
+abbrev pub ◌>>◌ : Rule → Rule → Rule
+p >> q = λ toks. p toks >>= λ x. q x.1 >>= λ y. Some (x.0 ++ y.0, y.1)
+
+-- a terminal, which means nothing by itself
+abbrev pub terminal : (Toks → Option Toks) → Rule
+terminal t toks = t toks >>= λ rest. Some ([], rest)
+
+-- items for which there is no token here
+abbrev pub writes : List Item → Rule
+writes xs toks = Some (xs, toks)
+
+-- one rule if a test is true of the tokens, and otherwise another
+abbrev pub choice : (Toks → Bool) → Rule → Rule → Rule
+choice test p q toks = elim (test toks) [ true ↦ p toks | false ↦ q toks ]
 
 -- whether a token is '(@metadata.code.branch_hint'
 abbrev pub is_hint : Option Annotation → Bool
@@ -53,20 +76,17 @@ abbrev pub hint_value : List ℕ → Option ℕ
 hint_value (v ∷ []) = if v == 0 then Some 0 else (if v == 1 then Some 1 else None)
 hint_value bytes = None
 
--- '(@metadata.code.branch_hint' "\00" ')' | '(@metadata.code.branch_hint' "\01" ')', or nothing (branch hinting)
-abbrev pub hint : Bool → Toks → Parse (List Item)
+-- '(@metadata.code.branch_hint' "\00" ')' | '(@metadata.code.branch_hint' "\01" ')', or nothing (branch hinting). `may_hint` is
+-- false in constant expressions, which have no branch hints.
+abbrev pub hint : Bool → Rule
 hint may_hint toks = elim (is_hint (annotation_of (peek 0 toks))) [
   | true ↦ string (after toks) >>= λ b. hint_value b.0.now >>= λ v. rparen b.1 >>= λ rest. if may_hint then Some (Hint v ∷ [], rest) else None
   | false ↦ Some ([], toks)
 ]
 
--- the tokens before a word: none, or the three of a hint
-abbrev pub hint_length : Toks → ℕ
-hint_length toks = if is_hint (annotation_of (peek 0 toks)) then 3 else 0
-
--- the token after a hint, or the next one if there is no hint
-abbrev pub unhinted : Toks → Option Token
-unhinted toks = peek (hint_length toks) toks
+-- an instruction after its hint
+abbrev pub hinted : List Item → Rule
+hinted h toks = instruction toks >>= λ i. Some (h ++ Instr i.0 ∷ [], i.1)
 
 -- the parts of a block without parentheses
 pub data Part : Type 0 where
@@ -92,166 +112,161 @@ same_part CatchAll (Some CatchAll) = true
 same_part Delegate (Some Delegate) = true
 same_part p q = false
 
--- whether this part is next, after a hint if there is one
-abbrev pub is_part : Part → Toks → Bool
-is_part p toks = same_part p (part_of (word_of (unhinted toks)))
+-- the part of a block whose word is next
+abbrev pub part_in : Toks → Option Part
+part_in toks = part_of (word_of (peek 0 toks))
 
--- what comes next in a place: the end of its instructions, one in parentheses, a block without, or a plain instruction without
+-- whether '(' and the word of this part are next
+abbrev pub is_arm : Part → Toks → Bool
+is_arm p toks = is_lparen (peek 0 toks) && same_part p (part_of (word_of (peek 1 toks)))
+
+-- '(' and the word of a part
+abbrev pub arm_word : Part → Toks → Option Toks
+arm_word p toks = elim (is_arm p toks) [ true ↦ Some (after (after toks)) | false ↦ None ]
+
+-- what comes next in a place, after a hint: the end of its instructions, one in parentheses, a block without, a plain instruction
+-- without, or a part or an arm of `catch`
 pub data Next : Type 0 where
   Ends : Next
   Folds : Next
   Opens : BlockOp → Next
   Stands : Next
+  Catching : Next
+  CatchingArm : Next
 
 abbrev pub next_of_word : Option Word → Next
 next_of_word (Some (word.Block op)) = Opens op
 next_of_word (Some w) = elim (part_of (Some w)) [ Some p ↦ Ends | None ↦ Stands ]
 next_of_word None = Stands
 
-abbrev pub next_of_token : Place → Option Token → Next
-next_of_token place None = Ends
-next_of_token place (Some token.Close) = Ends
-next_of_token place (Some token.Open) = Folds
-next_of_token Anywhere t = next_of_word (word_of t)
-next_of_token Folded t = Ends
+abbrev pub next_of_token : Option Token → Next
+next_of_token None = Ends
+next_of_token (Some token.Close) = Ends
+next_of_token (Some token.Open) = Folds
+next_of_token t = next_of_word (word_of t)
 
 -- '(' 'then' ends the condition of an `if`
 abbrev pub next_of : Place → Toks → Next
-next_of Anywhere toks = next_of_token Anywhere (unhinted toks)
-next_of Folded toks = elim (is_form key.Then toks) [ true ↦ Ends | false ↦ next_of_token Folded (unhinted toks) ]
+next_of Anywhere toks = next_of_token (peek 0 toks)
+next_of Folded toks = elim (is_form key.Then toks) [ true ↦ Ends | false ↦ elim (is_lparen (peek 0 toks)) [ true ↦ Folds | false ↦ Ends ] ]
+next_of Catches toks = elim (same_part Catch (part_in toks)) [ true ↦ Catching | false ↦ Ends ]
+next_of CatchArms toks = elim (is_arm Catch toks) [ true ↦ CatchingArm | false ↦ Ends ]
 
--- `end` is written by the ')' of a folded block
-abbrev pub end : Item
-end = Instr (instr.end_ None)
+-- what is written for the ')' of a folded block, and for the words of folded parts
+abbrev pub end : List Item
+end = Instr (instr.end_ None) ∷ []
+
+abbrev pub else_item : List Item
+else_item = Instr (instr.else_ None) ∷ []
+
+abbrev pub catch_all_item : List Item
+catch_all_item = Instr (instr.Plain (plain.Bare bare.catch_all)) ∷ []
+
+-- x:tagidx of `catch`, and l:labelidx of `delegate`
+abbrev pub catch_tag : Rule
+catch_tag toks = index toks >>= λ x. Some (Instr (instr.catch x.0) ∷ [], x.1)
+
+abbrev pub delegate_label : Rule
+delegate_label toks = index toks >>= λ l. Some (Instr (instr.delegate l.0) ∷ [], l.1)
+
+-- '(' k instr* ')'
+abbrev pub arm : Within → Rule
+arm within = within Anywhere >> terminal rparen
+
+-- the ')' of a folded block, for which an `end` is written
+abbrev pub ends : Rule
+ends = terminal rparen >> writes end
+
+-- ('(' 'else' instr* ')')?
+abbrev pub else_arm : Within → Rule
+else_arm within = choice (is_arm Else) (terminal (arm_word Else) >> writes else_item >> arm within) (writes [])
+
+-- foldedinstr* '(' 'then' instr* ')' ('(' 'else' instr* ')')? ')': after the word, the label and the type
+abbrev pub folded_if : Within → List Item → Rule
+folded_if within opener = within Folded >> terminal (form key.Then) >> writes opener >> arm within >> else_arm within >> ends
+
+-- '(' 'catch' x:tagidx instr* ')'
+abbrev pub catch_arm : Within → Rule
+catch_arm within = terminal (arm_word Catch) >> catch_tag >> arm within
+
+-- ('(' 'catch_all' instr* ')')?
+abbrev pub catch_all_arm : Within → Rule
+catch_all_arm within = choice (is_arm CatchAll) (terminal (arm_word CatchAll) >> writes catch_all_item >> arm within) (writes [])
+
+-- ('(' 'catch' x:tagidx instr* ')')* ('(' 'catch_all' instr* ')')? ')' | '(' 'delegate' l:labelidx ')' ')'
+abbrev pub handlers : Within → Rule
+handlers within = choice (is_arm Delegate)
+    (terminal (arm_word Delegate) >> delegate_label >> terminal rparen >> terminal rparen)
+    (within CatchArms >> catch_all_arm within >> ends)
+
+-- '(' 'do' instr* ')' handlers (exceptions of the old proposal): after the word, the label and the type
+abbrev pub folded_try : Within → List Item → Rule
+folded_try within opener = writes opener >> terminal (form key.Do) >> arm within >> handlers within
+
+-- a block in parentheses: instr* ')' after the word, the label and the type, or the arms of `if` and `try`
+abbrev pub folded_block : BlockOp → Within → List Item → Rule
+folded_block opens.if_ within opener = folded_if within opener
+folded_block opens.try_ within opener = folded_try within opener
+folded_block op within opener = writes opener >> within Anywhere >> ends
+
+-- a plain instruction in parentheses: foldedinstr* ')' after its immediates; it comes after its operands
+abbrev pub operands : Within → List Item → Rule
+operands within i = within Folded >> terminal rparen >> writes i
+
+abbrev pub folded_by : Next → Within → List Item → Rule
+folded_by (Opens op) within i = folded_block op within i
+folded_by Stands within i = operands within i
+folded_by n within i = λ toks. None
+
+-- foldedinstr (text format: folded instructions), after the hint that comes before its '('
+abbrev pub foldedinstr : Within → List Item → Rule
+foldedinstr within h toks = lparen toks >>= λ t. instruction t >>= λ i. folded_by (next_of_word (word_of (peek 0 t))) within (h ++ Instr i.0 ∷ []) i.1
 
 module _ (may_hint : Bool) where
-  -- an instruction with its hint
-  abbrev pub hinted : Toks → Parse (List Item)
-  hinted toks = hint may_hint toks >>= λ h. instruction h.1 >>= λ i. Some (h.0 ++ Instr i.0 ∷ [], i.1)
+  -- whether this part is next, after a hint if there is one
+  abbrev pub is_part : Part → Toks → Bool
+  is_part p toks = elim (hint may_hint toks) [ Some h ↦ same_part p (part_in h.1) | None ↦ false ]
 
   -- a part of a block, with its hint and its immediates
-  abbrev pub part : Part → Toks → Parse (List Item)
-  part p toks = elim (is_part p toks) [ true ↦ hinted toks | false ↦ None ]
+  abbrev pub part : Part → Rule
+  part p toks = hint may_hint toks >>= λ h. elim (same_part p (part_in h.1)) [ true ↦ hinted h.0 h.1 | false ↦ None ]
 
   -- instr* 'end' id?
-  abbrev pub to_end : Within → Toks → Parse (List Item)
-  to_end within toks = within Anywhere toks >>= λ xs. part End xs.1 >>= λ e. Some (xs.0 ++ e.0, e.1)
+  abbrev pub to_end : Within → Rule
+  to_end within = within Anywhere >> part End
 
-  -- instr* ('else' id? instr*)? 'end' id?
-  abbrev pub else_to_end : Within → Toks → Parse (List Item)
-  else_to_end within toks = within Anywhere toks >>= λ xs. elim (is_part Else xs.1) [
-    | true ↦ part Else xs.1 >>= λ e. to_end within e.1 >>= λ ys. Some (xs.0 ++ (e.0 ++ ys.0), ys.1)
-    | false ↦ part End xs.1 >>= λ e. Some (xs.0 ++ e.0, e.1)
-  ]
+  -- ('else' id? instr*)? 'end' id?
+  abbrev pub else_to_end : Within → Rule
+  else_to_end within = choice (is_part Else) (part Else >> to_end within) (part End)
 
-  -- 'catch' x:tagidx instr*
-  abbrev pub catch_part : Within → Toks → Parse (List Item)
-  catch_part within toks = part Catch toks >>= λ c. within Anywhere c.1 >>= λ xs. Some (c.0 ++ xs.0, xs.1)
+  -- ('catch_all' instr*)? 'end' id?
+  abbrev pub catch_all_to_end : Within → Rule
+  catch_all_to_end within = choice (is_part CatchAll) (part CatchAll >> to_end within) (part End)
 
-  abbrev pub catches : Within → Toks → Parse (List Item)
-  catches within toks = many_lists (is_part Catch) (catch_part within) (count toks) toks
-
-  -- after the parts of 'catch': ('catch_all' instr*)? 'end' id?
-  abbrev pub catch_all_to_end : Within → Toks → Parse (List Item)
-  catch_all_to_end within toks = elim (is_part CatchAll toks) [
-    | true ↦ part CatchAll toks >>= λ c. to_end within c.1 >>= λ xs. Some (c.0 ++ xs.0, xs.1)
-    | false ↦ part End toks
-  ]
-
-  -- instr* ('catch' x instr*)* ('catch_all' instr*)? 'end' id? | instr* 'delegate' l:labelidx (exceptions of the old proposal)
-  abbrev pub try_to_end : Within → Toks → Parse (List Item)
-  try_to_end within toks = within Anywhere toks >>= λ xs. elim (is_part Delegate xs.1) [
-    | true ↦ part Delegate xs.1 >>= λ d. Some (xs.0 ++ d.0, d.1)
-    | false ↦ catches within xs.1 >>= λ cs. catch_all_to_end within cs.1 >>= λ e. Some (xs.0 ++ (cs.0 ++ e.0), e.1)
-  ]
+  -- ('catch' x:tagidx instr*)* ('catch_all' instr*)? 'end' id? | 'delegate' l:labelidx (exceptions of the old proposal)
+  abbrev pub catches_to_end : Within → Rule
+  catches_to_end within = choice (is_part Delegate) (part Delegate) (within Catches >> catch_all_to_end within)
 
   -- what follows the word, the label and the type of a block without parentheses (text format: block instructions)
-  abbrev pub rest_of_block : BlockOp → Within → Toks → Parse (List Item)
-  rest_of_block opens.if_ within toks = else_to_end within toks
-  rest_of_block opens.try_ within toks = try_to_end within toks
-  rest_of_block op within toks = to_end within toks
+  abbrev pub rest_of_block : BlockOp → Within → Rule
+  rest_of_block opens.if_ within = within Anywhere >> else_to_end within
+  rest_of_block opens.try_ within = within Anywhere >> catches_to_end within
+  rest_of_block op within = to_end within
 
-  -- blockinstr
-  abbrev pub block : BlockOp → Within → Toks → Parse (List Item)
-  block op within toks = hinted toks >>= λ i. rest_of_block op within i.1 >>= λ xs. Some (i.0 ++ xs.0, xs.1)
-
-  -- '(' k instr* ')'
-  abbrev pub arm : Within → Toks → Parse (List Item)
-  arm within toks = within Anywhere toks >>= λ xs. rparen xs.1 >>= λ rest. Some (xs.0, rest)
-
-  -- whether '(' and this part are next
-  abbrev pub is_arm : Part → Toks → Bool
-  is_arm p toks = is_lparen (peek 0 toks) && same_part p (part_of (word_of (peek 1 toks)))
-
-  -- ('(' 'else' instr* ')')?
-  abbrev pub else_arm : Within → Toks → Parse (List Item)
-  else_arm within toks = elim (is_arm Else toks) [
-    | true ↦ arm within (after (after toks)) >>= λ xs. Some (Instr (instr.else_ None) ∷ xs.0, xs.1)
-    | false ↦ Some ([], toks)
-  ]
-
-  -- foldedinstr* '(' 'then' instr* ')' ('(' 'else' instr* ')')? ')': after the word, the label and the type
-  abbrev pub folded_if : Within → List Item → Toks → Parse (List Item)
-  folded_if within opener toks =
-      within Folded toks >>= λ cs. form key.Then cs.1 >>= λ t. arm within t >>= λ xs. else_arm within xs.1 >>= λ ys. rparen ys.1 >>= λ rest.
-      Some (cs.0 ++ (opener ++ (xs.0 ++ (ys.0 ++ end ∷ []))), rest)
-
-  -- '(' 'catch' x:tagidx instr* ')'
-  abbrev pub catch_arm : Within → Toks → Parse (List Item)
-  catch_arm within toks = index (after (after toks)) >>= λ x. arm within x.1 >>= λ xs. Some (Instr (instr.catch x.0) ∷ xs.0, xs.1)
-
-  -- ('(' 'catch_all' instr* ')')?
-  abbrev pub catch_all_arm : Within → Toks → Parse (List Item)
-  catch_all_arm within toks = elim (is_arm CatchAll toks) [
-    | true ↦ arm within (after (after toks)) >>= λ xs. Some (Instr (instr.Plain (plain.Bare bare.catch_all)) ∷ xs.0, xs.1)
-    | false ↦ Some ([], toks)
-  ]
-
-  -- '(' 'delegate' l:labelidx ')', or the arms of 'catch' and 'catch_all' and an `end`
-  abbrev pub handlers : Within → Toks → Parse (List Item)
-  handlers within toks = elim (is_arm Delegate toks) [
-    | true ↦ index (after (after toks)) >>= λ l. rparen l.1 >>= λ rest. Some (Instr (instr.delegate l.0) ∷ [], rest)
-    | false ↦ many_lists (is_arm Catch) (catch_arm within) (count toks) toks >>= λ cs. catch_all_arm within cs.1 >>= λ xs.
-        Some (cs.0 ++ (xs.0 ++ end ∷ []), xs.1)
-  ]
-
-  -- '(' 'do' instr* ')' handlers ')'
-  abbrev pub folded_try : Within → List Item → Toks → Parse (List Item)
-  folded_try within opener toks =
-      form key.Do toks >>= λ t. arm within t >>= λ xs. handlers within xs.1 >>= λ hs. rparen hs.1 >>= λ rest.
-      Some (opener ++ (xs.0 ++ hs.0), rest)
-
-  -- a block in parentheses: instr* ')' after the word, the label and the type, or the arms of `if` and `try`
-  abbrev pub folded_block : BlockOp → Within → List Item → Toks → Parse (List Item)
-  folded_block opens.if_ within opener toks = folded_if within opener toks
-  folded_block opens.try_ within opener toks = folded_try within opener toks
-  folded_block op within opener toks = arm within toks >>= λ xs. Some (opener ++ (xs.0 ++ end ∷ []), xs.1)
-
-  -- a plain instruction in parentheses: foldedinstr* ')' after its immediates; it comes after its operands
-  abbrev pub operands : Within → List Item → Toks → Parse (List Item)
-  operands within i toks = within Folded toks >>= λ xs. rparen xs.1 >>= λ rest. Some (xs.0 ++ i, rest)
-
-  abbrev pub folded_by : Next → Within → List Item → Toks → Parse (List Item)
-  folded_by (Opens op) within i toks = folded_block op within i toks
-  folded_by Stands within i toks = operands within i toks
-  folded_by n within i toks = None
-
-  -- foldedinstr (text format: folded instructions), with its hint before the '('
-  abbrev pub foldedinstr : Within → Toks → Parse (List Item)
-  foldedinstr within toks = hint may_hint toks >>= λ h. lparen h.1 >>= λ t. instruction t >>= λ i.
-      folded_by (next_of_word (word_of (peek 0 t))) within (h.0 ++ Instr i.0 ∷ []) i.1
-
-  -- one more instruction, and those after it
-  abbrev pub sequence : Within → Next → Place → Toks → Parse (List Item)
-  sequence within Ends place toks = Some ([], toks)
-  sequence within Folds place toks = foldedinstr within toks >>= λ xs. within place xs.1 >>= λ ys. Some (xs.0 ++ ys.0, ys.1)
-  sequence within (Opens op) place toks = block op within toks >>= λ xs. within place xs.1 >>= λ ys. Some (xs.0 ++ ys.0, ys.1)
-  sequence within Stands place toks = hinted toks >>= λ xs. within place xs.1 >>= λ ys. Some (xs.0 ++ ys.0, ys.1)
+  -- one more instruction after its hint, or a part or an arm with its instructions, and those after it; `toks` are the tokens
+  -- before the hint
+  abbrev pub sequence : Within → Next → Place → Toks → List Item → Rule
+  sequence within Ends place toks h = λ t. Some ([], toks)
+  sequence within Folds place toks h = foldedinstr within h >> within place
+  sequence within (Opens op) place toks h = hinted h >> rest_of_block op within >> within place
+  sequence within Stands place toks h = hinted h >> within place
+  sequence within Catching place toks h = hinted h >> within Anywhere >> within place
+  sequence within CatchingArm place toks h = λ t. (catch_arm within >> within place) toks
 
   -- the instructions of a place, in so many steps at most
-  abbrev pub sequences : ℕ → Place → Toks → Parse (List Item)
+  abbrev pub sequences : ℕ → Within
   sequences zero place toks = None
-  sequences (suc n) place toks = sequence (sequences n) (next_of place toks) place toks
+  sequences (suc n) place toks = hint may_hint toks >>= λ h. sequence (sequences n) (next_of place h.1) place toks h.0 h.1
 
 -- the instructions among items
 abbrev pub instrs_of : List Item → List Instruction
@@ -268,11 +283,16 @@ hints_of n (Hint v ∷ xs) = record { instr_index = n; value = v } ∷ hints_of 
 abbrev pub expression_of : List Item → Expression
 expression_of xs = record { instrs = instrs_of xs; branch_hints = hints_of 0 xs }
 
--- expr ::= in*:instr* (text format: expressions): a constant expression, or the body of a function, which may have branch hints.
--- Each step takes a token, so there are enough.
-abbrev pub expression : Bool → Toks → Parse Expression
-expression may_hint toks = sequences may_hint (suc (count toks)) Anywhere toks >>= λ xs. Some (expression_of xs.0, xs.1)
+-- expr ::= in*:instr* (text format: expressions): a constant expression, or the body of a function, which may have branch hints. It
+-- ends where its form does. Each step takes a token, so there are enough.
+abbrev pub at_end : Rule
+at_end toks = elim (is_end (peek 0 toks)) [ true ↦ Some ([], toks) | false ↦ None ]
 
--- an expression of one folded instruction, as an offset or an element may be (text format: element segments: abbreviations)
+abbrev pub expression : Bool → Toks → Parse Expression
+expression may_hint toks = (sequences may_hint (suc (count toks)) Anywhere >> at_end) toks >>= λ xs. Some (expression_of xs.0, xs.1)
+
+-- An expression of one folded instruction, as an offset or an element may be (text format: element segments: abbreviations). There
+-- are as many steps as tokens after its operator.
 abbrev pub folded_expression : Toks → Parse Expression
-folded_expression toks = foldedinstr false (sequences false (count toks)) toks >>= λ xs. Some (expression_of xs.0, xs.1)
+folded_expression toks = lparen toks >>= λ t. instruction t >>= λ i.
+    folded_by (next_of_word (word_of (peek 0 t))) (sequences false (suc (count i.1))) (Instr i.0 ∷ []) i.1 >>= λ xs. Some (expression_of xs.0, xs.1)
