@@ -1,3 +1,4 @@
 pub mod Heads
+pub mod Machine
 pub mod Readers
 pub mod Texts

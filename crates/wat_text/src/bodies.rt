@@ -3,10 +3,17 @@
 //! What is open is kept in a list, so that calls do not nest as deeply as the text does. Blocks without parentheses are in the
 //! same list, because an `end` must close the block that was opened last, and a `)` must not close a block that has no `end`:
 //! `(func (block loop))` has no `end` for its `loop`.
+//!
+//! Each function here takes a step of the machine in specs/Machine.antt, and proofs/ ties the machine to the grammar.
 
-ghost use Rattle.wat_syntax.specs.Seen.{seen_expression};
-ghost use Rattle.wat_syntax.specs.Bodies.{expression as expression_rule, folded_expression};
-ghost use Rattle.wat_text.specs.Readers.{Reads};
+ghost use Rattle.std.specs.Prelude.{◌≡◌, true, false, [], None, Some, map, option_map, reverse};
+ghost use Rattle.wat_syntax.specs.Seen.{seen_instr, seen_expression};
+ghost use Rattle.wat_syntax.specs.Tokens.{keyword, peek, word_of};
+ghost use Rattle.wat_syntax.specs.Bodies.{part_of, expression as expression_rule, folded_expression};
+ghost use Rattle.wat_text.specs.Readers.{left, Reads, Decides, Expects, Refuses};
+ghost use Rattle.wat_text.specs.Machine.{Does, Finishes, in_rule};
+ghost use Rattle.wat_text.specs.Machine as machine;
+ghost use Rattle.wat_tokens.specs.declared.words.Key.TheVariants as key;
 
 use crate::reader::Reader;
 use std::alloc::Global;
@@ -51,12 +58,34 @@ enum Level {
     Arm,
 }
 
+/// A part of a block without parentheses, or the word of an arm of one in parentheses.
+#[derive(Clone, Copy)]
+enum Part {
+    /// `end`
+    End,
+    /// `else`
+    Else,
+    /// `catch`
+    Catch,
+    /// `catch_all`
+    CatchAll,
+    /// `delegate`
+    Delegate,
+}
+
+/// A branch hint whose instruction comes next, with its place.
+#[derive(Clone, Copy)]
+struct Hint {
+    value: u32,
+    place: Span,
+}
+
 /// What is open, with the place of the word that opened it, and the branch hint of the instruction that waits in it.
 #[derive(Clone, Copy)]
 struct Open {
     level: Level,
     place: Span,
-    hint: Option<u32>,
+    hint: Option<Hint>,
 }
 
 /// What an expression is read for.
@@ -70,13 +99,10 @@ enum Purpose {
 
 /// An expression that is read: its instructions, those that wait for their operands, and what is open.
 struct Body<'a> {
-    purpose: Purpose,
     instrs: Seq<Instruction<'a>>,
     waiting: Seq<Instruction<'a>>,
     levels: Vec<Open>,
     hints: Seq<BranchHint>,
-    /// The value and the place of a branch hint whose instruction comes next.
-    hint: Option<(u32, Span)>,
 }
 
 /// Drops instructions.
@@ -85,7 +111,9 @@ fn discard<'a>(alloc: Global, instrs: Seq<Instruction<'a>>) {
 }
 
 /// The level of a block without parentheses.
-fn plain_level(op: BlockOp) -> Level {
+fn plain_level(op: BlockOp) -> Level
+    ensures { result ≡ machine.plain_level op }
+{
     match op {
         BlockOp::block | BlockOp::loop_ | BlockOp::try_table => Level::Plain,
         BlockOp::if_ => Level::PlainIf,
@@ -93,60 +121,74 @@ fn plain_level(op: BlockOp) -> Level {
     }
 }
 
-/// The word of an instruction that is a part of a block without parentheses, if it is one.
-fn part_of_block(word: Word) -> Option<&'static str> {
-    match word {
-        Word::Own(OwnOp::end_) => Some("`end`"),
-        Word::Own(OwnOp::else_) => Some("`else`"),
-        Word::Index(IndexOp::Catch) => Some("`catch`"),
-        Word::Index(IndexOp::Delegate) => Some("`delegate`"),
-        Word::Plain(Plain::Bare(BareOp::catch_all)) => Some("`catch_all`"),
-        _ => None,
-    }
-}
-
-/// The state of the block that was opened last, after one of its parts: `Some(None)` if it is closed, and `None` if such a
-/// part may not come there.
-fn after_part(level: Level, word: Word) -> Option<Option<Level>> {
-    match (word, level) {
-        (
-            Word::Own(OwnOp::end_),
-            Level::Plain | Level::PlainIf | Level::PlainTry | Level::PlainCatch,
-        ) => Some(None),
-        (Word::Own(OwnOp::else_), Level::PlainIf) => Some(Some(Level::Plain)),
-        (Word::Index(IndexOp::Catch), Level::PlainTry | Level::PlainCatch) => {
-            Some(Some(Level::PlainCatch))
+impl Part {
+    /// The part of a block that a word is, if it is one.
+    fn of(word: Word) -> Option<Part>
+        ensures { option_map in_rule result ≡ part_of (Some word) }
+    {
+        match word {
+            Word::Own(OwnOp::end_) => Some(Part::End),
+            Word::Own(OwnOp::else_) => Some(Part::Else),
+            Word::Index(IndexOp::Catch) => Some(Part::Catch),
+            Word::Index(IndexOp::Delegate) => Some(Part::Delegate),
+            Word::Plain(Plain::Bare(BareOp::catch_all)) => Some(Part::CatchAll),
+            _ => None,
         }
-        (Word::Plain(Plain::Bare(BareOp::catch_all)), Level::PlainTry | Level::PlainCatch) => Some(
-            Some(Level::Plain),
-        ),
-        (Word::Index(IndexOp::Delegate), Level::PlainTry) => Some(None),
-        _ => None,
+    }
+
+    /// Its word, as errors have it.
+    fn name(self) -> &'static str {
+        match self {
+            Part::End => "`end`",
+            Part::Else => "`else`",
+            Part::Catch => "`catch`",
+            Part::Delegate => "`delegate`",
+            Part::CatchAll => "`catch_all`",
+        }
+    }
+
+    /// The state of the block that was opened last, after this part of it: `Some(None)` if it is closed, and `None` if such a
+    /// part may not come there.
+    fn after(self, level: Level) -> Option<Option<Level>>
+        ensures { result ≡ machine.after_part level (in_rule self) }
+    {
+        match (self, level) {
+            (Part::End, Level::Plain | Level::PlainIf | Level::PlainTry | Level::PlainCatch) =>
+                Some(None),
+            (Part::Else, Level::PlainIf) => Some(Some(Level::Plain)),
+            (Part::Catch, Level::PlainTry | Level::PlainCatch) => Some(Some(Level::PlainCatch)),
+            (Part::CatchAll, Level::PlainTry | Level::PlainCatch) => Some(Some(Level::Plain)),
+            (Part::Delegate, Level::PlainTry) => Some(None),
+            _ => None,
+        }
     }
 }
 
 impl<'a> Body<'a> {
     /// Nothing is read.
-    fn new(alloc: Global, purpose: Purpose) -> Body<'a> {
+    fn new(alloc: Global) -> Body<'a>
+        ensures instrs { result.instrs ≡ [] }
+        ensures hints { result.hints ≡ [] }
+        ensures levels { result.levels.items ≡ [] }
+        ensures waiting { result.waiting ≡ [] }
+    {
         Body {
-            purpose,
             instrs: Seq::new(alloc),
             waiting: Seq::new(alloc),
             levels: Vec::new(alloc),
             hints: Seq::new(alloc),
-            hint: None,
         }
     }
 
     /// What was read. Instructions that still wait are dropped.
-    fn finish(self, alloc: Global) -> Expression<'a> {
+    fn finish(self, alloc: Global) -> Expression<'a>
+        ensures { result ≡ record { instrs = self.entry.instrs; branch_hints = self.entry.hints } }
+    {
         let Body {
-            purpose: _,
             instrs,
             waiting,
             levels,
             hints,
-            hint: _,
         } = self;
         drop(levels);
         discard(alloc, waiting);
@@ -157,7 +199,13 @@ impl<'a> Body<'a> {
     }
 
     /// The instruction that waits since last.
-    fn take_waiting(&mut self, alloc: Global) -> Option<Instruction<'a>> {
+    fn take_waiting(&mut self, alloc: Global) -> Option<Instruction<'a>>
+        ensures last { option_map seen_instr result ≡ machine.last_of (map seen_instr self.old.waiting) }
+        ensures others { map seen_instr self.new.waiting ≡ machine.before_last (map seen_instr self.old.waiting) }
+        ensures levels { self.new.levels ≡ self.old.levels }
+        ensures instrs { self.new.instrs ≡ self.old.instrs }
+        ensures hints { self.new.hints ≡ self.old.hints }
+    {
         let mut waiting = mem::replace(&mut self.waiting, Seq::new(alloc)).into_vec();
         let last = waiting.pop();
         let none = mem::replace(&mut self.waiting, Seq::from_vec(waiting));
@@ -166,25 +214,39 @@ impl<'a> Body<'a> {
     }
 
     /// What is open since last.
-    fn level(&self) -> Option<Level> {
+    fn level(&self) -> Option<Level>
+        ensures { result ≡ machine.level_of (reverse self.now.levels.items) }
+    {
         match self.levels.last() {
             Some(open) => Some(open.level),
             None => None,
         }
     }
 
-    /// The value of the branch hint that comes before the next instruction, which is that instruction's from here on.
-    fn take_hint(&mut self) -> Option<u32> {
-        let hint = self.hint;
-        self.hint = None;
-        match hint {
-            Some((value, _)) => Some(value),
+    /// Whether nothing is open.
+    fn is_closed(&self) -> bool
+        ensures { result ≡ machine.is_closed (reverse self.now.levels.items) }
+    {
+        match self.levels.last() {
+            Some(_) => false,
+            None => true,
+        }
+    }
+
+    /// The branch hint of what is open since last.
+    fn open_hint(&self) -> Option<Hint>
+        ensures { result ≡ machine.hint_of_level (reverse self.now.levels.items) }
+    {
+        match self.levels.last() {
+            Some(open) => open.hint,
             None => None,
         }
     }
 
     /// Whether instructions without parentheses may come next.
-    fn takes_plain(&self) -> bool {
+    fn takes_plain(&self) -> bool
+        ensures { result ≡ machine.takes_plain (machine.level_of (reverse self.now.levels.items)) }
+    {
         matches!(
             self.level(),
             None | Some(
@@ -201,7 +263,9 @@ impl<'a> Body<'a> {
 
 impl<'a> Reader<'a> {
     /// Opens a level at the place of its word.
-    fn enter(&mut self, body: &mut Body<'a>, level: Level, place: Span, hint: Option<u32>) {
+    fn enter(&mut self, body: &mut Body<'a>, level: Level, place: Span, hint: Option<Hint>)
+        ensures { Does (machine.entered level place hint) self.old self.new body.old body.new }
+    {
         let open = Open { level, place, hint };
         if body.levels.push(open).is_err() {
             self.fail(TextFault::Memory);
@@ -209,106 +273,191 @@ impl<'a> Reader<'a> {
     }
 
     /// Opens an arm of the level that is open.
-    fn enter_arm(&mut self, body: &mut Body<'a>) {
+    fn enter_arm(&mut self, body: &mut Body<'a>)
+        ensures { Does machine.arm_entered self.old self.new body.old body.new }
+    {
         let place = self.place_before();
         self.enter(body, Level::Arm, place, None);
     }
 
     /// Puts another level in the place of the last one, whose hint is used.
-    fn turn(&mut self, body: &mut Body<'a>, level: Level) {
+    fn turn(&mut self, body: &mut Body<'a>, level: Level)
+        ensures { Does (machine.turned level) self.old self.new body.old body.new }
+    {
         if let Some(open) = body.levels.pop() {
             self.enter(body, level, open.place, None);
         }
     }
 
     /// Puts a branch hint on the instruction that is put next.
-    fn put_hint(&mut self, body: &mut Body<'a>, hint: Option<u32>) {
-        if let Some(value) = hint {
-            let pushed = body.hints.push(BranchHint::new(body.instrs.len(), value));
+    fn put_hint(&mut self, body: &mut Body<'a>, hint: Option<Hint>)
+        ensures { Does (machine.hint_put hint) self.old self.new body.old body.new }
+    {
+        if let Some(hint) = hint {
+            let pushed = body
+                .hints
+                .push(BranchHint::new(body.instrs.len(), hint.value));
             self.took(pushed);
         }
     }
 
     /// Puts an instruction.
-    fn put(&mut self, body: &mut Body<'a>, instruction: Instruction<'a>) {
+    fn put(&mut self, body: &mut Body<'a>, instruction: Instruction<'a>)
+        ensures { Does (machine.put (seen_instr instruction.entry)) self.old self.new body.old body.new }
+    {
         self.make.push_instruction(&mut body.instrs, instruction);
     }
 
-    /// Puts the instruction that waits since last, with its branch hint.
-    fn put_waiting(&mut self, body: &mut Body<'a>, hint: Option<u32>) {
-        self.put_hint(body, hint);
+    /// Puts the instruction that waits since last, if there is one.
+    fn put_last(&mut self, body: &mut Body<'a>)
+        ensures { Does machine.last_put self.old self.new body.old body.new }
+    {
         if let Some(instruction) = body.take_waiting(self.alloc) {
             self.put(body, instruction);
         }
     }
 
-    /// Reads `(@metadata.code.branch_hint "\00")` from its string on. It belongs to the next instruction (branch hinting).
-    fn hint(&mut self, body: &mut Body<'a>, place: Span) {
-        let value_place = self.place();
+    /// Puts the instruction that waits since last, with its branch hint.
+    fn put_waiting(&mut self, body: &mut Body<'a>, hint: Option<Hint>)
+        ensures { Does (machine.waiting_put hint) self.old self.new body.old body.new }
+    {
+        self.put_hint(body, hint);
+        self.put_last(body);
+    }
+
+    /// Reads an instruction that waits for its operands.
+    fn wait(&mut self, body: &mut Body<'a>)
+        ensures { Does machine.waited self.old self.new body.old body.new }
+    {
+        self.instruction(&mut body.waiting);
+    }
+
+    /// Reads an instruction and puts it.
+    fn stand(&mut self, body: &mut Body<'a>)
+        ensures { Does machine.stood self.old self.new body.old body.new }
+    {
+        self.instruction(&mut body.instrs);
+    }
+
+    /// The value of a branch hint, from its string on to its `)`.
+    fn hint_value(&mut self) -> u32
+        ensures { Decides machine.value_of_hint self.old self.new result }
+    {
+        let place = self.place();
         let value = match self.bytes() {
             [0] => 0,
             [1] => 1,
             _ => {
-                self.fail_at(value_place, TextFault::Hint);
+                self.fail_at(place, TextFault::Hint);
                 0
             }
         };
         self.close();
-        match body.purpose {
-            Purpose::Constant => self.fail_at(place, TextFault::Unexpected("branch hint")),
-            Purpose::Body if body.hint.is_some() => self.fail_at(place, TextFault::IllFormed(2)),
-            Purpose::Body => body.hint = Some((value, place)),
+        value
+    }
+
+    /// Reads `(@metadata.code.branch_hint "\00")`, if it comes next. It belongs to the next instruction (branch hinting).
+    fn hint(&mut self, purpose: Purpose) -> Option<Hint>
+        ensures { Decides (machine.hint (machine.may_hint purpose)) self.old self.new result }
+    {
+        let place = self.place();
+        match self.look(0) {
+            Some(Token::Annotation(Annotation::BranchHint)) => {
+                self.skip();
+                let value = self.hint_value();
+                if matches!(purpose, Purpose::Constant) {
+                    self.fail_at(place, TextFault::Unexpected("branch hint"));
+                }
+                Some(Hint { value, place })
+            }
+            _ => None,
         }
     }
 
     /// Refuses a branch hint that comes before no instruction.
-    fn no_hint(&mut self, body: &Body<'a>) {
-        if let Some((_, place)) = body.hint {
-            self.fail_at(place, TextFault::IllFormed(2));
+    fn no_hint(&mut self, hint: Option<Hint>)
+        ensures { Expects (machine.without hint) self.old self.new }
+    {
+        if let Some(hint) = hint {
+            self.fail_at(hint.place, TextFault::IllFormed(2));
         }
     }
 
-    /// Reads `then` of an open `if` after its `(`, if it is there.
-    fn then_arm(&mut self, body: &mut Body<'a>) -> bool {
-        let is_there = self.is_key(0, Key::Then);
-        if is_there {
-            self.no_hint(body);
-            self.skip();
-            let hint = match body.levels.last() {
-                Some(open) => open.hint,
-                None => None,
-            };
-            self.put_waiting(body, hint);
-            self.turn(body, Level::Then);
-            self.enter_arm(body);
+    /// Refuses a branch hint that comes after another.
+    fn second_hint(&mut self, purpose: Purpose)
+        ensures { Refuses self.old self.new }
+    {
+        let place = self.place();
+        let _second = self.hint(purpose);
+        self.fail_at(place, TextFault::IllFormed(2));
+    }
+
+    /// The part of a block whose word is next.
+    fn part_in(&self) -> Option<Part>
+        ensures { option_map in_rule result ≡ part_of (word_of (peek 0 (left self.now))) }
+    {
+        match self.word(0) {
+            Some(word) => Part::of(word),
+            None => None,
         }
-        is_there
+    }
+
+    /// Reads `then` of an open `if` after its `(`.
+    fn then_arm(&mut self, body: &mut Body<'a>, hint: Option<Hint>)
+        ensures { Does (machine.then_arm hint) self.old self.new body.old body.new }
+    {
+        self.no_hint(hint);
+        self.skip();
+        let open = body.open_hint();
+        self.put_waiting(body, open);
+        self.turn(body, Level::Then);
+        self.enter_arm(body);
+    }
+
+    /// Reads `else`.
+    fn else_word(&mut self)
+        ensures { Expects machine.else_word self.old self.new }
+    {
+        match self.part_in() {
+            Some(Part::Else) => self.skip(),
+            _ => self.expected("`else`"),
+        }
     }
 
     /// Reads `else` of an open `if` after its `(`.
-    fn else_arm(&mut self, body: &mut Body<'a>) {
-        self.no_hint(body);
-        match self.word(0) {
-            Some(Word::Own(OwnOp::else_)) => self.skip(),
-            _ => self.expected("`else`"),
-        }
+    fn else_arm(&mut self, body: &mut Body<'a>, hint: Option<Hint>)
+        ensures { Does (machine.else_arm hint) self.old self.new body.old body.new }
+    {
+        self.no_hint(hint);
+        self.else_word();
         self.put(body, Instruction::else_(None));
         self.turn(body, Level::Last);
         self.enter_arm(body);
     }
 
-    /// Reads `do` of an open `try` after its `(`.
-    fn do_arm(&mut self, body: &mut Body<'a>) {
-        self.no_hint(body);
+    /// Reads `do`.
+    fn do_word(&mut self)
+        ensures { Expects (keyword key.Do) self.old self.new }
+    {
         if !self.accept(Key::Do) {
             self.expected("`do`");
         }
+    }
+
+    /// Reads `do` of an open `try` after its `(`.
+    fn do_arm(&mut self, body: &mut Body<'a>, hint: Option<Hint>)
+        ensures { Does (machine.do_arm hint) self.old self.new body.old body.new }
+    {
+        self.no_hint(hint);
+        self.do_word();
         self.turn(body, Level::Do);
         self.enter_arm(body);
     }
 
     /// Reads `catch` of an open `try`, from the word on.
-    fn catch_arm(&mut self, body: &mut Body<'a>) {
+    fn catch_arm(&mut self, body: &mut Body<'a>)
+        ensures { Does machine.catch_arm self.old self.new body.old body.new }
+    {
         self.skip();
         let tag = self.index();
         self.put(body, Instruction::catch(tag));
@@ -317,7 +466,9 @@ impl<'a> Reader<'a> {
     }
 
     /// Reads `catch_all` of an open `try`, from the word on.
-    fn catch_all_arm(&mut self, body: &mut Body<'a>) {
+    fn catch_all_arm(&mut self, body: &mut Body<'a>)
+        ensures { Does machine.catch_all_arm self.old self.new body.old body.new }
+    {
         self.skip();
         self.put(body, Instruction::Plain(Plain::Bare(BareOp::catch_all)));
         self.turn(body, Level::Last);
@@ -325,7 +476,9 @@ impl<'a> Reader<'a> {
     }
 
     /// Reads `delegate` of an open `try`, from the word to its `)`.
-    fn delegate_arm(&mut self, body: &mut Body<'a>) {
+    fn delegate_arm(&mut self, body: &mut Body<'a>)
+        ensures { Does machine.delegate_arm self.old self.new body.old body.new }
+    {
         self.skip();
         let label = self.index();
         self.close();
@@ -333,98 +486,131 @@ impl<'a> Reader<'a> {
         self.turn(body, Level::Delegated);
     }
 
-    /// Reads an arm of an open `try` after its `(`, which comes after the `do`.
-    fn handler(&mut self, body: &mut Body<'a>, level: Level) {
-        self.no_hint(body);
-        match (self.word(0), level) {
-            (Some(Word::Index(IndexOp::Catch)), Level::Do | Level::Catch) => self.catch_arm(body),
-            (Some(Word::Plain(Plain::Bare(BareOp::catch_all))), Level::Do | Level::Catch) => {
-                self.catch_all_arm(body)
-            }
-            (Some(Word::Index(IndexOp::Delegate)), Level::Do) => self.delegate_arm(body),
-            (_, Level::Do) => self.expected("`catch`, `catch_all` or `delegate`"),
+    /// Reads an arm of an open `try` that has its `do`, after the `(` of the arm.
+    fn first_handler(&mut self, body: &mut Body<'a>)
+        ensures { Does machine.first_handler self.old self.new body.old body.new }
+    {
+        match self.part_in() {
+            Some(Part::Catch) => self.catch_arm(body),
+            Some(Part::CatchAll) => self.catch_all_arm(body),
+            Some(Part::Delegate) => self.delegate_arm(body),
+            _ => self.expected("`catch`, `catch_all` or `delegate`"),
+        }
+    }
+
+    /// Reads an arm of an open `try` that has a `catch`, after the `(` of the arm.
+    fn next_handler(&mut self, body: &mut Body<'a>)
+        ensures { Does machine.next_handler self.old self.new body.old body.new }
+    {
+        match self.part_in() {
+            Some(Part::Catch) => self.catch_arm(body),
+            Some(Part::CatchAll) => self.catch_all_arm(body),
             _ => self.expected("`catch` or `catch_all`"),
         }
     }
 
-    /// Reads an arm of an open `if` or `try` after its `(`, if one has to come there.
-    fn arm(&mut self, body: &mut Body<'a>) -> bool {
-        let Some(level) = body.level() else {
-            return false;
-        };
-        match level {
-            Level::Condition => return self.then_arm(body),
-            Level::Then => self.else_arm(body),
-            Level::Try => self.do_arm(body),
-            Level::Do | Level::Catch => self.handler(body, level),
-            Level::Last | Level::Delegated => self.expected("`)`"),
-            _ => return false,
-        }
-        true
-    }
-
     /// Reads a folded block after its `(` (text format, folded instructions).
-    fn folded_block(&mut self, body: &mut Body<'a>, op: BlockOp) {
+    fn folded_block(&mut self, body: &mut Body<'a>, op: BlockOp, hint: Option<Hint>)
+        ensures { Does (machine.folded_block op hint) self.old self.new body.old body.new }
+    {
         let place = self.place();
-        let hint = body.take_hint();
         match op {
             BlockOp::if_ => {
-                self.instruction(&mut body.waiting);
+                self.wait(body);
                 self.enter(body, Level::Condition, place, hint);
             }
             BlockOp::try_ => {
                 self.put_hint(body, hint);
-                self.instruction(&mut body.instrs);
+                self.stand(body);
                 self.enter(body, Level::Try, place, None);
             }
             BlockOp::block | BlockOp::loop_ | BlockOp::try_table => {
                 self.put_hint(body, hint);
-                self.instruction(&mut body.instrs);
+                self.stand(body);
                 self.enter(body, Level::Block, place, None);
             }
         }
     }
 
-    /// Reads a folded instruction after its `(` (text format, folded instructions).
-    fn folded_operator(&mut self, body: &mut Body<'a>) {
-        let place = self.place();
-        match self.word(0) {
-            Some(Word::Block(op)) => self.folded_block(body, op),
-            word => {
-                if let Some(part) = word.and_then(part_of_block) {
-                    self.fail(TextFault::Unexpected(part));
-                }
-                let hint = body.take_hint();
-                self.instruction(&mut body.waiting);
-                self.enter(body, Level::Operands, place, hint);
-            }
+    /// Refuses the word of a part of a block, which no operator is.
+    fn no_part(&mut self)
+        ensures { Expects machine.no_part self.old self.new }
+    {
+        if let Some(part) = self.part_in() {
+            self.fail(TextFault::Unexpected(part.name()));
         }
     }
 
-    /// Reads what comes after `(` in an expression.
-    fn opened(&mut self, body: &mut Body<'a>) {
-        if !self.arm(body) {
-            self.folded_operator(body);
+    /// Reads an instruction with operands after its `(` (text format, folded instructions).
+    fn with_operands(&mut self, body: &mut Body<'a>, hint: Option<Hint>)
+        ensures { Does (machine.with_operands hint) self.old self.new body.old body.new }
+    {
+        let place = self.place();
+        self.no_part();
+        self.wait(body);
+        self.enter(body, Level::Operands, place, hint);
+    }
+
+    /// Reads a folded instruction after its `(` (text format, folded instructions).
+    fn folded_operator(&mut self, body: &mut Body<'a>, hint: Option<Hint>)
+        ensures { Does (machine.folded_operator hint) self.old self.new body.old body.new }
+    {
+        match self.word(0) {
+            Some(Word::Block(op)) => self.folded_block(body, op, hint),
+            _ => self.with_operands(body, hint),
+        }
+    }
+
+    /// Reads what comes after `(` in the condition of an `if`.
+    fn in_condition(&mut self, body: &mut Body<'a>, hint: Option<Hint>)
+        ensures { Does (machine.in_condition hint) self.old self.new body.old body.new }
+    {
+        if self.is_key(0, Key::Then) {
+            self.then_arm(body, hint);
+        } else {
+            self.folded_operator(body, hint);
+        }
+    }
+
+    /// Reads what comes after `(` in an expression: an arm of an open `if` or `try`, if one has to come there, or a folded
+    /// instruction.
+    fn opened(&mut self, body: &mut Body<'a>, hint: Option<Hint>)
+        ensures { Does (machine.opened hint) self.old self.new body.old body.new }
+    {
+        match body.level() {
+            Some(Level::Condition) => self.in_condition(body, hint),
+            Some(Level::Then) => self.else_arm(body, hint),
+            Some(Level::Try) => self.do_arm(body, hint),
+            Some(Level::Do) => {
+                self.no_hint(hint);
+                self.first_handler(body);
+            }
+            Some(Level::Catch) => {
+                self.no_hint(hint);
+                self.next_handler(body);
+            }
+            Some(Level::Last | Level::Delegated) => self.expected("`)`"),
+            _ => self.folded_operator(body, hint),
         }
     }
 
     /// Refuses an expression in which a block has no `end`, at the place of the block.
-    fn unclosed(&mut self, body: &Body<'a>, place: Span) {
-        let fault = match body.purpose {
+    fn unclosed(&mut self, purpose: Purpose, place: Span)
+        ensures { Refuses self.old self.new }
+    {
+        let fault = match purpose {
             Purpose::Body => TextFault::Expected("`end` of this block"),
             Purpose::Constant => TextFault::IllFormed(5),
         };
         self.fail_at(place, fault);
     }
 
-    /// Ends the level that `)` closes in an expression.
-    fn closed(&mut self, body: &mut Body<'a>) {
-        self.no_hint(body);
-        let Some(open) = body.levels.pop() else {
-            return;
-        };
-        match open.level {
-            Level::Operands => self.put_waiting(body, open.hint),
+    /// Ends a level at its `)`.
+    fn close_level(&mut self, body: &mut Body<'a>, last: Open, purpose: Purpose)
+        ensures { Does (machine.level_closed last) self.old self.new body.old body.new }
+    {
+        match last.level {
+            Level::Operands => self.put_waiting(body, last.hint),
             Level::Block | Level::Then | Level::Do | Level::Catch | Level::Last => {
                 self.put(body, Instruction::end_(None));
             }
@@ -432,26 +618,38 @@ impl<'a> Reader<'a> {
             Level::Try => self.expected("`do`"),
             Level::Delegated | Level::Arm => {}
             Level::Plain | Level::PlainIf | Level::PlainTry | Level::PlainCatch => {
-                self.unclosed(body, open.place);
+                self.unclosed(purpose, last.place);
             }
         }
     }
 
-    /// Refuses a part of a block, such as `else`, that no open block takes.
-    fn surplus(&mut self, body: &Body<'a>, word: Word, part: &'static str) {
-        match (body.purpose, word) {
-            (Purpose::Constant, Word::Own(OwnOp::end_)) => self.fail(TextFault::IllFormed(5)),
-            _ => self.fail(TextFault::Unexpected(part)),
+    /// Ends the level that `)` closes in an expression.
+    fn closed(&mut self, body: &mut Body<'a>, hint: Option<Hint>, purpose: Purpose)
+        ensures { Does (machine.closed hint) self.old self.new body.old body.new }
+    {
+        self.no_hint(hint);
+        match body.levels.pop() {
+            Some(open) => self.close_level(body, open, purpose),
+            None => self.fail(TextFault::Unexpected("`)`")),
         }
     }
 
-    /// Closes or changes the block that was opened last, if the next word is a part of a block, such as `end` or `else`.
-    fn part(&mut self, body: &mut Body<'a>, word: Word) {
-        let Some(part) = part_of_block(word) else {
-            return;
-        };
+    /// Refuses a part of a block, such as `else`, that no open block takes.
+    fn surplus(&mut self, purpose: Purpose, part: Part)
+        ensures { Refuses self.old self.new }
+    {
+        match (purpose, part) {
+            (Purpose::Constant, Part::End) => self.fail(TextFault::IllFormed(5)),
+            _ => self.fail(TextFault::Unexpected(part.name())),
+        }
+    }
+
+    /// Closes or changes the block that was opened last, at one of its parts, such as `end` or `else`.
+    fn part(&mut self, body: &mut Body<'a>, part: Part, purpose: Purpose)
+        ensures { Does (machine.parted (in_rule part)) self.old self.new body.old body.new }
+    {
         let next = match body.level() {
-            Some(level) => after_part(level, word),
+            Some(level) => part.after(level),
             None => None,
         };
         match next {
@@ -459,63 +657,115 @@ impl<'a> Reader<'a> {
             Some(None) => {
                 let _closed = body.levels.pop();
             }
-            None => self.surplus(body, word, part),
+            None => self.surplus(purpose, part),
         }
     }
 
-    /// Reads an instruction without parentheses (text format, plain and block instructions).
-    fn plain(&mut self, body: &mut Body<'a>) {
+    /// Closes or changes the block that was opened last, if the next word is a part of a block.
+    fn part_if_any(&mut self, body: &mut Body<'a>, purpose: Purpose)
+        ensures { Does machine.parted_if_any self.old self.new body.old body.new }
+    {
+        if let Some(part) = self.part_in() {
+            self.part(body, part, purpose);
+        }
+    }
+
+    /// Reads an instruction without parentheses after its hint (text format, plain and block instructions).
+    fn operator_word(&mut self, body: &mut Body<'a>, purpose: Purpose)
+        ensures { Does machine.operator_word self.old self.new body.old body.new }
+    {
         let place = self.place();
-        let hint = body.take_hint();
-        self.put_hint(body, hint);
         match self.word(0) {
             Some(Word::Block(op)) => {
-                self.instruction(&mut body.instrs);
+                self.stand(body);
                 self.enter(body, plain_level(op), place, None);
             }
-            Some(word) => {
-                self.part(body, word);
-                self.instruction(&mut body.instrs);
+            Some(_) => {
+                self.part_if_any(body, purpose);
+                self.stand(body);
             }
             None => self.fail(TextFault::Operator),
         }
     }
 
-    /// The next step of an expression.
-    fn body_step(&mut self, body: &mut Body<'a>) {
-        match self.look(0) {
-            Some(Token::Open) => {
-                self.skip();
-                self.opened(body);
-            }
-            Some(Token::Close) => {
-                self.skip();
-                self.closed(body);
-            }
-            Some(Token::Annotation(Annotation::BranchHint)) => {
-                let place = self.place();
-                self.skip();
-                self.hint(body, place);
-            }
-            _ if body.takes_plain() => self.plain(body),
-            _ => match body.level() {
-                Some(Level::Condition | Level::Try) => self.expected("`(`"),
-                Some(Level::Last | Level::Delegated) => self.expected("`)`"),
-                _ => self.expected("`(` or `)`"),
-            },
+    /// Reads an instruction without parentheses (text format, plain and block instructions).
+    fn plain(&mut self, body: &mut Body<'a>, hint: Option<Hint>, purpose: Purpose)
+        ensures { Does (machine.plain hint) self.old self.new body.old body.new }
+    {
+        self.put_hint(body, hint);
+        self.operator_word(body, purpose);
+    }
+
+    /// Refuses a token where only `(` or `)` may come.
+    fn no_operator(&mut self, body: &Body<'a>)
+        ensures { Refuses self.old self.new }
+    {
+        match body.level() {
+            Some(Level::Condition | Level::Try) => self.expected("`(`"),
+            Some(Level::Last | Level::Delegated) => self.expected("`)`"),
+            _ => self.expected("`(` or `)`"),
         }
     }
 
+    /// The next step of an expression after a branch hint, at another token than a parenthesis.
+    fn other_step(&mut self, body: &mut Body<'a>, hint: Option<Hint>, purpose: Purpose)
+        ensures { Does (machine.other hint) self.old self.new body.old body.new }
+    {
+        if body.takes_plain() {
+            self.plain(body, hint, purpose);
+        } else {
+            self.no_operator(body);
+        }
+    }
+
+    /// The next step of an expression after a branch hint.
+    fn hinted_step(&mut self, body: &mut Body<'a>, hint: Option<Hint>, purpose: Purpose)
+        ensures { Does (machine.hinted_step hint) self.old self.new body.old body.new }
+    {
+        match self.look(0) {
+            Some(Token::Open) => {
+                self.skip();
+                self.opened(body, hint);
+            }
+            Some(Token::Close) => {
+                self.skip();
+                self.closed(body, hint, purpose);
+            }
+            Some(Token::Annotation(Annotation::BranchHint)) => self.second_hint(purpose),
+            None if body.levels.is_empty() => self.no_hint(hint),
+            _ => self.other_step(body, hint, purpose),
+        }
+    }
+
+    /// The next step of an expression.
+    fn body_step(&mut self, body: &mut Body<'a>, purpose: Purpose)
+        ensures { Does (machine.step (machine.may_hint purpose)) self.old self.new body.old body.new }
+    {
+        let hint = self.hint(purpose);
+        self.hinted_step(body, hint, purpose);
+    }
+
+    /// Whether nothing is open, and the form or the text ends.
+    fn is_done(&self, body: &Body<'a>) -> bool
+        ensures { result ≡ machine.is_done (reverse body.now.levels.items) (left self.now) }
+    {
+        body.is_closed() && self.is_end()
+    }
+
     /// Reads instructions up to the end of the form (text format, expressions).
-    fn instructions(&mut self, purpose: Purpose) -> Expression<'a> {
-        let mut body = Body::new(self.alloc, purpose);
+    fn instructions(&mut self, purpose: Purpose) -> Expression<'a>
+        ensures { Reads (expression_rule (machine.may_hint purpose)) self.old self.new (seen_expression result) }
+    {
+        let mut body = Body::new(self.alloc);
         for _ in 0..self.left() {
-            if body.levels.is_empty() && self.is_end() {
+            if self.is_done(&body) {
                 break;
             }
-            self.body_step(&mut body);
+            self.body_step(&mut body, purpose);
         }
-        self.end_body(body)
+        let is_done = self.is_done(&body);
+        self.end_body(&body, is_done, purpose);
+        body.finish(self.alloc)
     }
 
     /// Reads the body of a function up to the end of the form (text format, functions).
@@ -536,21 +786,23 @@ impl<'a> Reader<'a> {
     pub fn folded(&mut self) -> Expression<'a>
         ensures { Reads folded_expression self.old self.new (seen_expression result) }
     {
-        let mut body = Body::new(self.alloc, Purpose::Constant);
+        let mut body = Body::new(self.alloc);
         self.open();
-        self.opened(&mut body);
+        self.folded_operator(&mut body, None);
         for _ in 0..self.left() {
-            if body.levels.is_empty() {
+            if body.is_closed() {
                 break;
             }
-            self.body_step(&mut body);
+            self.body_step(&mut body, Purpose::Constant);
         }
-        self.end_body(body)
+        self.end_body(&body, body.is_closed(), Purpose::Constant);
+        body.finish(self.alloc)
     }
 
-    /// Refuses what is left open, and gives what was read.
-    fn end_body(&mut self, body: Body<'a>) -> Expression<'a> {
-        self.no_hint(&body);
+    /// Refuses what is left open when no token is left.
+    fn unfinished(&mut self, body: &Body<'a>, purpose: Purpose)
+        ensures { Refuses self.old self.new }
+    {
         match body.levels.last() {
             Some(
                 Open {
@@ -560,11 +812,23 @@ impl<'a> Reader<'a> {
                 },
             ) => {
                 let place = *place;
-                self.unclosed(&body, place);
+                self.unclosed(purpose, place);
             }
-            Some(_) => self.expected("`)`"),
-            None => {}
+            _ => self.expected("`)`"),
         }
-        body.finish(self.alloc)
+    }
+
+    /// Refuses what is left open. Each step takes a token, so that more steps than tokens are not needed: where some were, memory
+    /// is said to be wanting, which no text leads to.
+    fn end_body(&mut self, body: &Body<'a>, is_done: bool, purpose: Purpose)
+        ensures { Finishes is_done self.old self.new }
+    {
+        if !is_done {
+            if self.left() == 0 {
+                self.unfinished(body, purpose);
+            } else {
+                self.fail(TextFault::Memory);
+            }
+        }
     }
 }

@@ -1,0 +1,367 @@
+-- The steps of the code that reads expressions, as functions of a state.
+--
+-- The code keeps what is open in a list of levels, so that its calls do not nest as deeply as the text does. A function here is what
+-- a function of src/bodies.rt does to the state, and `None` if it refuses the tokens. That the steps give what the grammar does is
+-- proved in proofs/.
+use Rattle.std.specs.Prelude.{ℕ, ◌≡◌, ◌≢◌, ◌&&◌, Bool, true, false, if◌then◌else◌, List, [], ◌∷◌, ◌++◌, length, map, reverse, Option, None, Some}
+use Rattle.wast_base.specs.declared.ids.Span.{Span}
+use Rattle.wat_grammar.specs.Parts.{◌>>=◌}
+use Rattle.wat_tokens.specs.declared.words.Key.TheVariants as key
+use Rattle.wat_tokens.specs.declared.words.Word.{Word}
+use Rattle.wat_tokens.specs.declared.words.Word.TheVariants as word
+use Rattle.wat_tokens.specs.declared.words.BlockOp.{BlockOp}
+use Rattle.wat_tokens.specs.declared.words.BlockOp.TheVariants as opens
+use Rattle.wat_tokens.specs.declared.tokens.Token.{Token}
+use Rattle.wat_tokens.specs.declared.tokens.Token.TheVariants as token
+use Rattle.wat_syntax.specs.Tree.{Instruction, Expression}
+use Rattle.wat_syntax.specs.Tree.instr
+use Rattle.wat_syntax.specs.Tree.bare
+use Rattle.wat_syntax.specs.Tree.plain as plainly
+use Rattle.wat_syntax.specs.Tokens.{Toks, Parse, one, count, is_end, peek, after, position, word_of, key_of, is_key, keyword, rparen, with_parts}
+use Rattle.wat_syntax.specs.Values.{string, index, annotation_of}
+use Rattle.wat_syntax.specs.Seen.{seen_instr, seen_expression}
+use Rattle.wat_syntax.specs.Instructions.{instruction}
+use Rattle.wat_syntax.specs.Bodies as rule
+use Rattle.wat_syntax.specs.Bodies.{Item, Instr, Part, End, Else, Catch, CatchAll, Delegate, part_of, is_hint}
+use Rattle.wat_text.specs.declared.reader.Reader.{Reader}
+use Rattle.wat_text.specs.declared.bodies.Level.{Level}
+use Rattle.wat_text.specs.declared.bodies.Level.TheVariants as level
+use Rattle.wat_text.specs.declared.bodies.Part as code
+use Rattle.wat_text.specs.declared.bodies.Part.TheVariants as code_part
+use Rattle.wat_text.specs.declared.bodies.Hint.{Hint}
+use Rattle.wat_text.specs.declared.bodies.Open.{Open}
+use Rattle.wat_text.specs.declared.bodies.Purpose.{Purpose}
+use Rattle.wat_text.specs.declared.bodies.Purpose.TheVariants as purpose
+use Rattle.wat_text.specs.declared.bodies.Body.{Body}
+use Rattle.wat_text.specs.Readers.{left, IsClean, IsRefused}
+
+-- What is open, the innermost first; what waits for its operands, the last one last; what is read; and the tokens that are left.
+pub record State : Type 0 where
+  pub levels : List Open
+  pub waiting : List Instruction
+  pub read : Expression
+  pub toks : Toks
+
+abbrev pub state_of : Reader → Body → State
+state_of r b = record {
+  levels = reverse b.levels.items;
+  waiting = map seen_instr b.waiting;
+  read = record { instrs = map seen_instr b.instrs; branch_hints = b.hints };
+  toks = left r;
+}
+
+-- A reader took a step. If nothing is wrong afterwards, then nothing was wrong before, and the step leads from the state before to
+-- that after it. A fault is kept. If the reader refused the tokens and no allocation of the tree failed, then there is no step.
+pub record Does (step : State → Option State) (old new : Reader) (before behind : Body) : Type 0 where
+  pub made : new.make ≡ false → old.make ≡ false
+  pub clean : new.fault ≡ None → old.fault ≡ None
+  pub gives : IsClean new → step (state_of old before) ≡ Some (state_of new behind)
+  pub keeps : old.fault ≢ None → new.fault ≡ old.fault
+  pub refuses : old.fault ≡ None → new.make ≡ false → IsRefused new.fault → step (state_of old before) ≡ None
+
+-- A reader ended an expression that is read whole, or that is not. It then keeps a fault, which refuses the tokens only if none is left.
+pub record Finishes (is_done : Bool) (old new : Reader) : Type 0 where
+  pub make : new.make ≡ old.make
+  pub clean : new.fault ≡ None → old.fault ≡ None
+  pub done : new.fault ≡ None → is_done ≡ true
+  pub stays : new.fault ≡ None → left new ≡ left old
+  pub keeps : old.fault ≢ None → new.fault ≡ old.fault
+  pub undone : old.fault ≡ None → IsRefused new.fault → is_done ≡ false
+  pub nothing : old.fault ≡ None → IsRefused new.fault → count (left old) ≡ 0
+
+-- a part of a block, as the rules have it
+abbrev pub in_rule : code.Part → Part
+in_rule code_part.End = End
+in_rule code_part.Else = Else
+in_rule code_part.Catch = Catch
+in_rule code_part.CatchAll = CatchAll
+in_rule code_part.Delegate = Delegate
+
+abbrev pub may_hint : Purpose → Bool
+may_hint purpose.Body = true
+may_hint purpose.Constant = false
+
+-- the hint among items
+abbrev pub hint_in : Span → List Item → Option Hint
+hint_in place (rule.Hint v ∷ xs) = Some (record { value = v; place = place })
+hint_in place xs = None
+
+abbrev pub hint : Bool → Toks → Parse (Option Hint)
+hint may toks = rule.hint may toks >>= λ h. Some (hint_in (position toks) h.0, h.1)
+
+-- the string of a hint and its ')'
+abbrev pub value_of_hint : Toks → Parse ℕ
+value_of_hint toks = string toks >>= λ b. rule.hint_value b.0.now >>= λ v. rparen b.1 >>= λ rest. Some (v, rest)
+
+abbrev pub without : Option Hint → Toks → Option Toks
+without None toks = Some toks
+without (Some h) toks = None
+
+-- levels
+abbrev pub level_of : List Open → Option Level
+level_of [] = None
+level_of (o ∷ os) = Some o.level
+
+abbrev pub hint_of_level : List Open → Option Hint
+hint_of_level [] = None
+hint_of_level (o ∷ os) = o.hint
+
+abbrev pub takes_plain : Option Level → Bool
+takes_plain None = true
+takes_plain (Some level.Plain) = true
+takes_plain (Some level.PlainIf) = true
+takes_plain (Some level.PlainTry) = true
+takes_plain (Some level.PlainCatch) = true
+takes_plain (Some level.Block) = true
+takes_plain (Some level.Arm) = true
+takes_plain l = false
+
+abbrev pub plain_level : BlockOp → Level
+plain_level opens.if_ = level.PlainIf
+plain_level opens.try_ = level.PlainTry
+plain_level op = level.Plain
+
+-- the block after one of its parts: `Some None` if it is closed
+abbrev pub after_part : Level → Part → Option (Option Level)
+after_part level.Plain End = Some None
+after_part level.PlainIf End = Some None
+after_part level.PlainTry End = Some None
+after_part level.PlainCatch End = Some None
+after_part level.PlainIf Else = Some (Some level.Plain)
+after_part level.PlainTry Catch = Some (Some level.PlainCatch)
+after_part level.PlainCatch Catch = Some (Some level.PlainCatch)
+after_part level.PlainTry CatchAll = Some (Some level.Plain)
+after_part level.PlainCatch CatchAll = Some (Some level.Plain)
+after_part level.PlainTry Delegate = Some None
+after_part l p = None
+
+-- the last of what waits, and those before it
+abbrev pub last_of : {T : Type 0} → List T → Option T
+last_of [] = None
+last_of (w ∷ []) = Some w
+last_of (w ∷ v ∷ ws) = last_of (v ∷ ws)
+
+abbrev pub before_last : {T : Type 0} → List T → List T
+before_last [] = []
+before_last (w ∷ []) = []
+before_last (w ∷ v ∷ ws) = w ∷ before_last (v ∷ ws)
+
+-- a state with other levels, or other tokens
+abbrev pub with_levels : List Open → State → State
+with_levels ls s = record { levels = ls; waiting = s.waiting; read = s.read; toks = s.toks }
+
+abbrev pub with_toks : Toks → State → State
+with_toks t s = record { levels = s.levels; waiting = s.waiting; read = s.read; toks = t }
+
+abbrev pub entered : Level → Span → Option Hint → State → Option State
+entered l place h s = Some (with_levels (record { level = l; place = place; hint = h } ∷ s.levels) s)
+
+abbrev pub arm_entered : State → Option State
+arm_entered s = entered level.Arm s.toks.before None s
+
+abbrev pub turned_levels : Level → List Open → List Open
+turned_levels l [] = []
+turned_levels l (o ∷ os) = record { level = l; place = o.place; hint = None } ∷ os
+
+abbrev pub turned : Level → State → Option State
+turned l s = Some (with_levels (turned_levels l s.levels) s)
+
+abbrev pub outer : List Open → List Open
+outer [] = []
+outer (o ∷ os) = os
+
+abbrev pub left_level : State → Option State
+left_level s = Some (with_levels (outer s.levels) s)
+
+-- what is read
+abbrev pub with_hint : Option Hint → Expression → Expression
+with_hint None e = e
+with_hint (Some h) e = record { instrs = e.instrs; branch_hints = e.branch_hints ++ record { instr_index = length e.instrs; value = h.value } ∷ [] }
+
+abbrev pub with_instr : Instruction → Expression → Expression
+with_instr i e = record { instrs = e.instrs ++ i ∷ []; branch_hints = e.branch_hints }
+
+abbrev pub hint_put : Option Hint → State → Option State
+hint_put h s = Some (record { levels = s.levels; waiting = s.waiting; read = with_hint h s.read; toks = s.toks })
+
+abbrev pub put : Instruction → State → Option State
+put i s = Some (record { levels = s.levels; waiting = s.waiting; read = with_instr i s.read; toks = s.toks })
+
+abbrev pub with_last : Option Instruction → Expression → Expression
+with_last None e = e
+with_last (Some i) e = with_instr i e
+
+abbrev pub last_put : State → Option State
+last_put s = Some (record { levels = s.levels; waiting = before_last s.waiting; read = with_last (last_of s.waiting) s.read; toks = s.toks })
+
+abbrev pub waiting_put : Option Hint → State → Option State
+waiting_put h s = hint_put h s >>= last_put
+
+abbrev pub waited : State → Option State
+waited s = with_parts s.waiting (one instruction s.toks) >>= λ w. Some (record { levels = s.levels; waiting = w.0; read = s.read; toks = w.1 })
+
+abbrev pub stood : State → Option State
+stood s = with_parts s.read.instrs (one instruction s.toks) >>= λ w.
+    Some (record { levels = s.levels; waiting = s.waiting; read = record { instrs = w.0; branch_hints = s.read.branch_hints }; toks = w.1 })
+
+-- what takes tokens and means nothing
+abbrev pub taken : (Toks → Option Toks) → State → Option State
+taken t s = t s.toks >>= λ rest. Some (with_toks rest s)
+
+abbrev pub skipped : State → Option State
+skipped s = Some (with_toks (after s.toks) s)
+
+-- the arms of `if` and `try`
+abbrev pub then_arm : Option Hint → State → Option State
+then_arm h s = taken (without h) s >>= skipped >>= waiting_put (hint_of_level s.levels) >>= turned level.Then >>= arm_entered
+
+abbrev pub else_word : Toks → Option Toks
+else_word toks = elim (rule.same_part Else (rule.part_in toks)) [ true ↦ Some (after toks) | false ↦ None ]
+
+abbrev pub else_arm : Option Hint → State → Option State
+else_arm h s = taken (without h) s >>= taken else_word >>= put (instr.else_ None) >>= turned level.Last >>= arm_entered
+
+abbrev pub do_arm : Option Hint → State → Option State
+do_arm h s = taken (without h) s >>= taken (keyword key.Do) >>= turned level.Do >>= arm_entered
+
+abbrev pub catch_arm : State → Option State
+catch_arm s = index (after s.toks) >>= λ x. put (instr.catch x.0) (with_toks x.1 s) >>= turned level.Catch >>= arm_entered
+
+abbrev pub catch_all_arm : State → Option State
+catch_all_arm s = skipped s >>= put (instr.Plain (plainly.Bare bare.catch_all)) >>= turned level.Last >>= arm_entered
+
+abbrev pub delegate_arm : State → Option State
+delegate_arm s = index (after s.toks) >>= λ x. rparen x.1 >>= λ rest. put (instr.delegate x.0) (with_toks rest s) >>= turned level.Delegated
+
+abbrev pub first_by : Option Part → State → Option State
+first_by (Some Catch) s = catch_arm s
+first_by (Some CatchAll) s = catch_all_arm s
+first_by (Some Delegate) s = delegate_arm s
+first_by p s = None
+
+abbrev pub first_handler : State → Option State
+first_handler s = first_by (rule.part_in s.toks) s
+
+abbrev pub next_by : Option Part → State → Option State
+next_by (Some Catch) s = catch_arm s
+next_by (Some CatchAll) s = catch_all_arm s
+next_by p s = None
+
+abbrev pub next_handler : State → Option State
+next_handler s = next_by (rule.part_in s.toks) s
+
+-- folded instructions
+abbrev pub folded_block : BlockOp → Option Hint → State → Option State
+folded_block opens.if_ h s = waited s >>= entered level.Condition (position s.toks) h
+folded_block opens.try_ h s = hint_put h s >>= stood >>= entered level.Try (position s.toks) None
+folded_block op h s = hint_put h s >>= stood >>= entered level.Block (position s.toks) None
+
+abbrev pub no_part : Toks → Option Toks
+no_part toks = elim (rule.part_in toks) [ Some p ↦ None | None ↦ Some toks ]
+
+abbrev pub with_operands : Option Hint → State → Option State
+with_operands h s = taken no_part s >>= waited >>= entered level.Operands (position s.toks) h
+
+abbrev pub operator_of : Option Word → Option Hint → State → Option State
+operator_of (Some (word.Block op)) h s = folded_block op h s
+operator_of w h s = with_operands h s
+
+abbrev pub folded_operator : Option Hint → State → Option State
+folded_operator h s = operator_of (word_of (peek 0 s.toks)) h s
+
+abbrev pub in_condition : Option Hint → State → Option State
+in_condition h s = elim (is_key key.Then (key_of (peek 0 s.toks))) [ true ↦ then_arm h s | false ↦ folded_operator h s ]
+
+abbrev pub opened_in : Option Level → Option Hint → State → Option State
+opened_in (Some level.Condition) h s = in_condition h s
+opened_in (Some level.Then) h s = else_arm h s
+opened_in (Some level.Try) h s = do_arm h s
+opened_in (Some level.Do) h s = taken (without h) s >>= first_handler
+opened_in (Some level.Catch) h s = taken (without h) s >>= next_handler
+opened_in (Some level.Last) h s = None
+opened_in (Some level.Delegated) h s = None
+opened_in l h s = folded_operator h s
+
+abbrev pub opened : Option Hint → State → Option State
+opened h s = opened_in (level_of s.levels) h s
+
+-- ')'
+abbrev pub closed_by : Level → Option Hint → State → Option State
+closed_by level.Operands h s = waiting_put h s
+closed_by level.Block h s = put (instr.end_ None) s
+closed_by level.Then h s = put (instr.end_ None) s
+closed_by level.Do h s = put (instr.end_ None) s
+closed_by level.Catch h s = put (instr.end_ None) s
+closed_by level.Last h s = put (instr.end_ None) s
+closed_by level.Delegated h s = Some s
+closed_by level.Arm h s = Some s
+closed_by l h s = None
+
+abbrev pub level_closed : Open → State → Option State
+level_closed o s = closed_by o.level o.hint s
+
+abbrev pub closed_in : List Open → State → Option State
+closed_in [] s = None
+closed_in (o ∷ os) s = level_closed o (with_levels os s)
+
+abbrev pub closed : Option Hint → State → Option State
+closed h s = taken (without h) s >>= λ t. closed_in t.levels t
+
+-- instructions without parentheses
+abbrev pub part_at : Option (Option Level) → State → Option State
+part_at (Some (Some l)) s = turned l s
+part_at (Some None) s = left_level s
+part_at None s = None
+
+abbrev pub next_level : Option Level → Part → Option (Option Level)
+next_level (Some l) p = after_part l p
+next_level None p = None
+
+abbrev pub parted : Part → State → Option State
+parted p s = part_at (next_level (level_of s.levels) p) s
+
+abbrev pub parted_by : Option Part → State → Option State
+parted_by (Some p) s = parted p s
+parted_by None s = Some s
+
+abbrev pub parted_if_any : State → Option State
+parted_if_any s = parted_by (rule.part_in s.toks) s
+
+abbrev pub word_by : Option Word → State → Option State
+word_by (Some (word.Block op)) s = stood s >>= entered (plain_level op) (position s.toks) None
+word_by (Some w) s = parted_if_any s >>= stood
+word_by None s = None
+
+abbrev pub operator_word : State → Option State
+operator_word s = word_by (word_of (peek 0 s.toks)) s
+
+abbrev pub plain : Option Hint → State → Option State
+plain h s = hint_put h s >>= operator_word
+
+abbrev pub other : Option Hint → State → Option State
+other h s = elim (takes_plain (level_of s.levels)) [ true ↦ plain h s | false ↦ None ]
+
+-- no token is left
+abbrev pub at_nothing : Option Level → Option Hint → State → Option State
+at_nothing None h s = taken (without h) s
+at_nothing (Some l) h s = other h s
+
+abbrev pub hinted_by : Option Token → Option Hint → State → Option State
+hinted_by (Some token.Open) h s = skipped s >>= opened h
+hinted_by (Some token.Close) h s = skipped s >>= closed h
+hinted_by None h s = at_nothing (level_of s.levels) h s
+hinted_by t h s = elim (is_hint (annotation_of t)) [ true ↦ None | false ↦ other h s ]
+
+abbrev pub hinted_step : Option Hint → State → Option State
+hinted_step h s = hinted_by (peek 0 s.toks) h s
+
+abbrev pub step : Bool → State → Option State
+step may s = hint may s.toks >>= λ h. hinted_step h.0 (with_toks h.1 s)
+
+-- whether nothing is open, and whether an expression is read whole
+abbrev pub is_closed : List Open → Bool
+is_closed [] = true
+is_closed (o ∷ os) = false
+
+abbrev pub is_done : List Open → Toks → Bool
+is_done ls toks = is_closed ls && is_end (peek 0 toks)
