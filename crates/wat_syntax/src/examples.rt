@@ -1,7 +1,7 @@
 //! Tokens, and what the rules make of them.
 
 ghost use Rattle.wat_syntax.specs.Keywords.{AreDistinct};
-ghost use Rattle.wat_syntax.specs.WorkedBodies.{Folds, Blocks, Fields};
+ghost use Rattle.wat_syntax.specs.WorkedBodies.{Folds, Blocks, Hints, Tries, Fields};
 ghost use Rattle.wat_syntax.specs.WorkedTypes.{Values, References, Composites, Externals};
 
 /// Numbers, names, ids and indices.
@@ -25,9 +25,11 @@ pub(crate) fn keywords()
 {}
 
 /// Expressions and fields, each with one that is read and one that is not.
-#[tactic(auto, using(crate::proofs::WorkedBodies::folds, crate::proofs::WorkedBodies::blocks, crate::proofs::WorkedBodies::fields))]
+#[tactic(auto, using(crate::proofs::WorkedBodies::folds, crate::proofs::WorkedBodies::blocks, crate::proofs::WorkedBodies::hints, crate::proofs::WorkedBodies::tries, crate::proofs::WorkedBodies::fields))]
 pub(crate) fn bodies()
     ensures folds { Folds }
     ensures blocks { Blocks }
+    ensures hints { Hints }
+    ensures tries { Tries }
     ensures fields { Fields }
 {}
