@@ -283,11 +283,12 @@ hints_of n (Hint v ∷ xs) = record { instr_index = n; value = v } ∷ hints_of 
 abbrev pub expression_of : List Item → Expression
 expression_of xs = record { instrs = instrs_of xs; branch_hints = hints_of 0 xs }
 
--- expr ::= in*:instr* (text format: expressions): a constant expression, or the body of a function, which may have branch hints. It
--- ends where its form does. Each step takes a token, so there are enough.
+-- the end of the form or of the text
 abbrev pub at_end : Rule
 at_end toks = elim (is_end (peek 0 toks)) [ true ↦ Some ([], toks) | false ↦ None ]
 
+-- expr ::= in*:instr* (text format: expressions): a constant expression, or the body of a function, which may have branch hints. It
+-- ends where its form does. Each step takes a token, so there are enough.
 abbrev pub expression : Bool → Toks → Parse Expression
 expression may_hint toks = (sequences may_hint (suc (count toks)) Anywhere >> at_end) toks >>= λ xs. Some (expression_of xs.0, xs.1)
 

@@ -1,5 +1,5 @@
 -- Each step of the machine where only arms and ')' go on: what the grammar answers before it, it answers from the state after.
-use Rattle.std.proofs.Common.{◌≡◌, ◌∙◌, ℕ, zero, suc, Bool, true, false, if◌then◌else◌, List, [], ◌∷◌, ◌++◌, Option, None, Some, refl, sym, ap}
+use Rattle.std.proofs.Common.{◌≡◌, ◌∙◌, ℕ, zero, suc, Bool, true, false, if◌then◌else◌, List, [], ◌∷◌, Option, None, Some, refl, sym, ap}
 use Rattle.wast_base.specs.declared.ids.Span.{Span}
 use Rattle.wat_grammar.specs.Parts.{◌>>=◌}
 use Rattle.wat_tokens.specs.declared.words.Key.TheVariants as key
@@ -9,7 +9,7 @@ use Rattle.wat_syntax.specs.Tree.{Instruction, Expression, Index}
 use Rattle.wat_syntax.specs.Tree.instr
 use Rattle.wat_syntax.specs.Tree.bare
 use Rattle.wat_syntax.specs.Tree.plain as plainly
-use Rattle.wat_syntax.specs.Tokens.{Toks, Parse, peek, after, is_lparen, is_rparen, is_form, is_key, key_of, rparen, form, keyword}
+use Rattle.wat_syntax.specs.Tokens.{Toks, Parse, peek, after, is_lparen, is_rparen, is_key, key_of, rparen, form}
 use Rattle.wat_syntax.specs.Values.{index}
 use Rattle.wat_syntax.specs.Bodies.{Item, Rule, Place, Anywhere, CatchArms, Next, Ends, CatchingArm, Part, End, Else, Catch, CatchAll, Delegate, part_in, same_part, is_arm, next_of, terminal, arm, ends, else_arm, catch_arm, catch_all_arm, handlers, sequence, sequences}
 use Rattle.wat_syntax.specs.Bodies as rule
@@ -20,10 +20,10 @@ use Rattle.wat_text.specs.declared.bodies.Open.{Open}
 use Rattle.wat_text.specs.Machine.{State, with_instr, opened, closed, first_by, next_by, put, turned, arm_entered, with_toks, hinted_by, hinted_step}
 use Rattle.wat_text.specs.Machine as machine
 use Rattle.wat_text.proofs.Running.{run, add, in_turn}
-use Rattle.wat_text.proofs.Levels.{Base, hint_items, own, behind, todo, mixed}
+use Rattle.wat_text.proofs.Levels.{Base, hint_items, todo}
 use Rattle.wat_text.proofs.Steps.{state, open_of, Same, no_step, one_step, by_both, next_is}
 use Rattle.wat_text.proofs.Places.{arm_not, arm_by, form_by, form_not, closes, no_close, ends_at, no_end, form_at, no_form, else_at, no_else, catch_all_at, no_catch_all, catch_at, no_catch, delegate_at, no_delegate}
-use Rattle.wat_text.proofs.Turns.{First, Bare, Hinted, step_is, neither, not_open, not_close, at_close, first_is}
+use Rattle.wat_text.proofs.Turns.{First, Bare, Hinted, step_is, neither, not_open, not_close, at_close}
 
 module _ (may : Bool) (b : Base) (m : ℕ) (os : List Open) (ws : List Instruction) (place : Span) (h0 : Option code.Hint) (e : Expression) where
   abbrev w : Place → Rule

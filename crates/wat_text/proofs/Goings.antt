@@ -1,5 +1,5 @@
 -- How far an expression is read: what the grammar makes of its tokens, it makes of the state of the machine.
-use Rattle.std.proofs.Common.{◌≡◌, ◌∙◌, ℕ, zero, suc, not, Bool, true, false, List, [], ◌∷◌, ◌++◌, if◌then◌else◌, Option, None, Some, refl, sym, ap, subst}
+use Rattle.std.proofs.Common.{◌≡◌, ◌∙◌, ℕ, suc, Bool, true, false, List, [], ◌∷◌, if◌then◌else◌, Option, None, Some, refl, sym, ap, subst}
 use Rattle.wat_grammar.specs.Parts.{◌>>=◌}
 use Rattle.wat_tokens.specs.declared.words.Word.{Word}
 use Rattle.wat_tokens.specs.declared.words.Word.TheVariants as word
@@ -13,10 +13,9 @@ use Rattle.wat_syntax.specs.Instructions.{instruction}
 use Rattle.wat_syntax.specs.Bodies.{Item, Instr, Place, Anywhere, Next, Ends, Part, part_of, part_in, is_hint, next_of, next_of_token, at_end, sequence, sequences, expression_of, expression, folded_expression, folded_by, next_of_word, ◌>>◌}
 use Rattle.wat_syntax.specs.Bodies as rule
 use Rattle.wat_text.specs.declared.bodies.Level.TheVariants as level
-use Rattle.wat_text.specs.declared.bodies.Open.{Open}
-use Rattle.wat_text.specs.Machine.{State, step, folded_operator, operator_of, with_toks, waited, stood, entered}
-use Rattle.wat_text.proofs.Running.{run, add, in_turn, Below, same, equal, joined, run_below, mix_above, mix_below, made_of}
-use Rattle.wat_text.proofs.Levels.{Base, Whole, One, todo, todo_below, answer, mixed}
+use Rattle.wat_text.specs.Machine.{State, step, folded_operator, operator_of, with_toks, waited, entered}
+use Rattle.wat_text.proofs.Running.{run, add, in_turn, Below, equal, joined, run_below, mix_above, mix_below, made_of}
+use Rattle.wat_text.proofs.Levels.{Base, Whole, One, todo_below, answer, mixed}
 use Rattle.wat_text.proofs.Steps.{state, Same, folds, no_operator, waited_is, stood_is, next_is}
 use Rattle.wat_text.proofs.Machines.{goes_on, unfolds}
 

@@ -1,13 +1,12 @@
 -- What holds in each round of a loop that reads an expression, and what that says at its end.
-use Rattle.std.proofs.Common.{◌≡◌, ◌≢◌, ◌∙◌, ℕ, zero, suc, not, ◌&&◌, Bool, true, false, List, [], ◌∷◌, map, reverse, Option, None, Some, refl, sym, ap, subst}
+use Rattle.std.proofs.Common.{◌≡◌, ◌≢◌, ◌∙◌, ℕ, suc, not, Bool, true, false, List, [], ◌∷◌, map, reverse, Option, None, Some, refl, sym, ap, subst}
 use Rattle.wat_grammar.specs.Parts.{◌>>=◌}
 use Rattle.wat_tokens.specs.declared.faults.TextError.{TextError}
-use Rattle.wat_tokens.specs.declared.tokens.Token.{Token}
 use Rattle.wat_tokens.specs.declared.tokens.Placed.{Placed}
 use Rattle.wat_syntax.specs.Tree.{Expression}
 use Rattle.wat_syntax.specs.Tokens.{Toks, Parse, peek, first, count, is_end, word_of, lparen}
 use Rattle.wat_syntax.specs.Values.{annotation_of}
-use Rattle.wat_syntax.specs.Seen.{seen_instr, seen_expression}
+use Rattle.wat_syntax.specs.Seen.{seen_instr}
 use Rattle.wat_syntax.specs.Bodies.{Item, is_hint, expression, folded_expression}
 use Rattle.wat_syntax.specs.Bodies as rule
 use Rattle.wat_text.specs.declared.reader.Reader.{Reader}

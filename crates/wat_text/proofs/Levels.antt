@@ -1,16 +1,15 @@
 -- What the grammar still has to read while levels are open, the innermost first.
-use Rattle.std.proofs.Common.{◌≡◌, ◌∙◌, ℕ, zero, suc, Bool, true, false, List, [], ◌∷◌, ◌++◌, Option, None, Some, refl, sym, ap}
-use Rattle.wat_grammar.specs.Parts.{◌>>=◌}
+use Rattle.std.proofs.Common.{ℕ, suc, Bool, List, [], ◌∷◌, ◌++◌, Option, None, Some}
 use Rattle.wat_tokens.specs.declared.words.Key.TheVariants as key
 use Rattle.wat_syntax.specs.Tree.{Instruction, Expression}
-use Rattle.wat_syntax.specs.Tokens.{Toks, Parse, peek, rparen, form, is_end}
+use Rattle.wat_syntax.specs.Tokens.{Parse, rparen, form}
 use Rattle.wat_syntax.specs.Bodies.{Item, Instr, Hint, Rule, Within, Place, Anywhere, Folded, Catches, CatchArms, terminal, writes, arm, ends, else_arm, catch_all_arm, handlers, part, End, else_to_end, catch_all_to_end, catches_to_end, sequences, at_end}
 use Rattle.wat_text.specs.declared.bodies.Level.{Level}
 use Rattle.wat_text.specs.declared.bodies.Level.TheVariants as level
 use Rattle.wat_text.specs.declared.bodies.Hint as code
 use Rattle.wat_text.specs.declared.bodies.Open.{Open}
 use Rattle.wat_text.specs.Machine.{State, last_of, before_last}
-use Rattle.wat_text.proofs.Running.{run, mix, Below, BelowRule, BelowRules, same_rule, same_rules, before_both, BelowWithin, sequences_below, arm_below, else_arm_below, catch_all_arm_below, handlers_below, else_to_end_below, catch_all_to_end_below, catches_to_end_below}
+use Rattle.wat_text.proofs.Running.{run, mix, BelowRules, same_rule, same_rules, before_both, sequences_below, arm_below, else_arm_below, catch_all_arm_below, handlers_below, else_to_end_below, catch_all_to_end_below, catches_to_end_below}
 
 -- what is read: an expression up to the end of its form, or one folded instruction
 pub data Base : Type 0 where

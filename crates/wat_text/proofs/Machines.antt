@@ -1,29 +1,26 @@
 -- The machine and the grammar: a step loses nothing and gains nothing.
-use Rattle.std.proofs.Common.{◌≡◌, ◌≢◌, ◌∙◌, ℕ, zero, suc, ◌-◌, ◌+◌, not, Bool, true, false, if◌then◌else◌, List, [], ◌∷◌, ◌++◌, Option, None, Some, refl, sym, ap, subst}
+use Rattle.std.proofs.Common.{◌≡◌, ◌∙◌, ℕ, suc, not, Bool, true, false, if◌then◌else◌, List, [], ◌∷◌, Option, None, Some, refl, sym, ap}
 use Rattle.std.specs.Borrow.{Bor}
 use Rattle.wast_base.specs.declared.ids.Span.{Span}
 use Rattle.wat_grammar.specs.Parts.{◌>>=◌}
 use Rattle.wat_tokens.specs.declared.tokens.Token.{Token}
 use Rattle.wat_tokens.specs.declared.tokens.Token.TheVariants as token
-use Rattle.wat_tokens.specs.declared.tokens.Annotation.{Annotation}
 use Rattle.wat_tokens.specs.declared.tokens.Annotation.TheVariants as annotation
 use Rattle.wat_syntax.specs.Tree.{Instruction, Expression}
-use Rattle.wat_syntax.specs.Tokens.{Toks, Parse, peek, after, count, lparen, is_lparen, is_rparen, is_end, position, word_of, rparen}
+use Rattle.wat_syntax.specs.Tokens.{Toks, Parse, peek, after, is_lparen, is_rparen, is_end, position, rparen}
 use Rattle.wat_syntax.specs.Values.{string, annotation_of}
-use Rattle.wat_syntax.specs.Instructions.{instruction}
 use Rattle.wat_syntax.specs.Bodies.{Item, Instr, Hint, Rule, Place, Anywhere, Folded, Catches, CatchArms, Next, Ends, is_hint, hint_value, next_of, at_end, sequence, sequences, instrs_of, hints_of, expression_of, expression, ◌>>◌, folded_by, next_of_word}
 use Rattle.wat_syntax.specs.Bodies as rule
 use Rattle.wat_text.specs.declared.bodies.Level.{Level}
 use Rattle.wat_text.specs.declared.bodies.Level.TheVariants as level
 use Rattle.wat_text.specs.declared.bodies.Hint as code
 use Rattle.wat_text.specs.declared.bodies.Open.{Open}
-use Rattle.wat_text.specs.Machine.{State, hint_in, hinted_step, hinted_by, closed, at_nothing, without, step, folded_operator}
-use Rattle.wat_text.specs.Machine as machine
-use Rattle.wat_text.proofs.Running.{run, add, in_turn, Below, same, equal, joined, run_below, mix_above, mix_below, made_of}
-use Rattle.wat_text.proofs.Levels.{Base, Whole, One, place_in, place_of, hint_items, behind, placed, todo, todo_below, answer, mixed}
-use Rattle.wat_text.proofs.Steps.{state, open_of, Same, no_step, one_step, by_both}
+use Rattle.wat_text.specs.Machine.{hint_in, hinted_step, closed, at_nothing, step}
+use Rattle.wat_text.proofs.Running.{run, add}
+use Rattle.wat_text.proofs.Levels.{Base, Whole, One, hint_items, behind, todo, answer}
+use Rattle.wat_text.proofs.Steps.{state, open_of, Same, no_step, by_both}
 use Rattle.wat_text.proofs.Unfolds.{anywhere}
-use Rattle.wat_text.proofs.Turns.{First, Bare, Hinted, a_hint, first_is, plain_level, if_level, try_level as plain_try_level, catch_level as plain_catch_level, block_level, arm_level, operands_level, condition_level}
+use Rattle.wat_text.proofs.Turns.{First, Bare, Hinted, a_hint, plain_level, if_level, try_level as plain_try_level, catch_level as plain_catch_level, block_level, arm_level, operands_level, condition_level}
 use Rattle.wat_text.proofs.Arms.{then_level, try_level, last_level, delegated_level, catch_level, do_level, then_fails, try_fails, do_fails_at}
 use Rattle.wat_text.proofs.Places.{no_end, no_close}
 

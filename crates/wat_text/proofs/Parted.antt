@@ -3,26 +3,19 @@
 use Rattle.std.proofs.Common.{◌≡◌, ◌∙◌, ℕ, zero, suc, Bool, true, false, List, [], ◌∷◌, ◌++◌, Option, None, Some, refl, sym, ap}
 use Rattle.wast_base.specs.declared.ids.Span.{Span}
 use Rattle.wat_grammar.specs.Parts.{◌>>=◌}
-use Rattle.wat_tokens.specs.declared.words.Word.{Word}
-use Rattle.wat_tokens.specs.declared.words.Word.TheVariants as word
-use Rattle.wat_tokens.specs.declared.words.BlockOp.{BlockOp}
-use Rattle.wat_tokens.specs.declared.tokens.Token.{Token}
-use Rattle.wat_tokens.specs.declared.tokens.Token.TheVariants as token
-use Rattle.wat_tokens.specs.declared.tokens.Annotation.{Annotation}
 use Rattle.wat_syntax.specs.Tree.{Instruction, Expression}
-use Rattle.wat_syntax.specs.Tokens.{Toks, Parse, peek, after, lparen, is_lparen, is_rparen, is_end, position, word_of}
-use Rattle.wat_syntax.specs.Values.{annotation_of}
-use Rattle.wat_syntax.specs.Instructions.{instruction, instruction_of}
+use Rattle.wat_syntax.specs.Tokens.{Toks, Parse}
+use Rattle.wat_syntax.specs.Instructions.{instruction}
 use Rattle.wat_syntax.specs.Bodies.{Item, Instr, Rule, Place, Anywhere, Folded, Catches, CatchArms, Next, Ends, Folds, Opens, Stands, Catching, Part, End, Else, Catch, CatchAll, Delegate, part_of, part_in, same_part, is_hint, next_of, next_of_word, next_of_token, hinted, part, to_end, else_to_end, catch_all_to_end, catches_to_end, foldedinstr, folded_by, sequence, sequences}
 use Rattle.wat_syntax.specs.Bodies as rule
 use Rattle.wat_text.specs.declared.bodies.Level.{Level}
 use Rattle.wat_text.specs.declared.bodies.Level.TheVariants as level
 use Rattle.wat_text.specs.declared.bodies.Hint as code
 use Rattle.wat_text.specs.declared.bodies.Open.{Open}
-use Rattle.wat_text.specs.Machine.{State, with_instr, with_hint, hint_put, stood, part_at, after_part, next_level, level_of, takes_plain, parted_by, parted_if_any, word_by, operator_word, plain, other, skipped, opened, opened_in, closed, at_nothing, folded_operator, hinted_by, hinted_step}
-use Rattle.wat_text.proofs.Running.{run, add, mix, chain, flat, in_turn, read_by, fails_by}
-use Rattle.wat_text.proofs.Levels.{Base, place_in, hint_items, own, behind, todo, answer, mixed}
-use Rattle.wat_text.proofs.Steps.{state, open_of, with_both, stood_is, Same, no_step, one_step, by_both, mixed_is, next_is, stands, opens_block, folds}
+use Rattle.wat_text.specs.Machine.{with_instr, with_hint, stood, part_at, after_part}
+use Rattle.wat_text.proofs.Running.{run, flat, in_turn, read_by, fails_by}
+use Rattle.wat_text.proofs.Levels.{Base, hint_items, own, todo, mixed}
+use Rattle.wat_text.proofs.Steps.{state, open_of, with_both, stood_is, Same, no_step, one_step, by_both, next_is}
 use Rattle.wat_text.proofs.Places.{part_at as part_there, no_part_at, else_part, no_else_part, catch_all_part, no_catch_all_part, delegate_part, no_delegate_part}
 
 -- whether a level is that of a block without parentheses

@@ -1,9 +1,7 @@
 -- The rules that follow the instructions of a level, at the tokens where they end.
-use Rattle.std.proofs.Common.{◌≡◌, ◌∙◌, ℕ, zero, suc, ◌&&◌, Bool, true, false, List, [], ◌∷◌, ◌++◌, Option, None, Some, refl, sym, ap}
+use Rattle.std.proofs.Common.{◌≡◌, ◌∙◌, ◌&&◌, Bool, true, false, List, [], ◌∷◌, ◌++◌, Option, None, Some, refl, sym, ap}
 use Rattle.wat_grammar.specs.Parts.{◌>>=◌}
 use Rattle.wat_tokens.specs.declared.words.Key.{Key}
-use Rattle.wat_tokens.specs.declared.words.Key.TheVariants as key
-use Rattle.wat_tokens.specs.declared.tokens.Token.{Token}
 use Rattle.wat_tokens.specs.declared.tokens.Token.TheVariants as token
 use Rattle.wat_syntax.specs.Tree.{Instruction, Expression, Index}
 use Rattle.wat_syntax.specs.Tree.instr
@@ -12,9 +10,8 @@ use Rattle.wat_syntax.specs.Values.{index}
 use Rattle.wat_syntax.specs.Bodies.{Item, Instr, Rule, Within, Place, Anywhere, Folded, Catches, CatchArms, Ends, Catching, CatchingArm, Part, End, Else, Catch, CatchAll, Delegate, part_of, part_in, same_part, terminal, writes, choice, hinted, arm, ends, else_arm, catch_arm, catch_all_arm, handlers, part, is_part, to_end, else_to_end, catch_all_to_end, catches_to_end, ◌>>◌, is_arm, arm_word, else_item, catch_all_item, catch_tag, delegate_label, sequence, sequences, next_of}
 use Rattle.wat_syntax.specs.Bodies as rule
 use Rattle.wat_text.specs.Machine.{with_instr, with_hint, with_last}
-use Rattle.wat_text.proofs.Running.{run, add, chain, flat, in_turn, read_by, fails_by, taken_by, chosen, not_chosen}
+use Rattle.wat_text.proofs.Running.{run, add, flat, in_turn, taken_by, chosen, not_chosen}
 use Rattle.wat_text.proofs.Levels.{hint_items, item_of}
-use Rattle.wat_text.proofs.Steps.{next_is}
 
 -- the second token
 pub second : (toks : Toks) → peek 0 (after toks) ≡ peek 1 toks

@@ -1,15 +1,15 @@
 -- What is left to read of an expression, as rules one after another: the laws by which a rule in front is taken apart, and that more
 -- steps in the rules change no answer.
-use Rattle.std.proofs.Common.{◌≡◌, ◌∙◌, ℕ, zero, suc, ◌+◌, Bool, true, false, List, [], ◌∷◌, ◌++◌, length, Option, None, Some, refl, sym, ap, subst, append_assoc}
+use Rattle.std.proofs.Common.{◌≡◌, ◌∙◌, ℕ, zero, suc, Bool, true, false, List, [], ◌∷◌, ◌++◌, length, Option, None, Some, refl, sym, ap, subst, append_assoc}
 use Rattle.std.specs.Prelude.{⊤}
 use Rattle.wat_grammar.specs.Parts.{◌>>=◌}
-use Rattle.wat_syntax.specs.Tree.{Instruction, BranchHint, Expression}
+use Rattle.wat_syntax.specs.Tree.{Instruction, Expression}
 use Rattle.wat_syntax.specs.Tokens.{Toks, Parse, lparen, rparen, form, word_of, peek, with_parts}
 use Rattle.wat_syntax.specs.Instructions.{instruction}
 use Rattle.wat_tokens.specs.declared.words.Key.TheVariants as key
 use Rattle.wat_tokens.specs.declared.words.BlockOp.{BlockOp}
 use Rattle.wat_tokens.specs.declared.words.BlockOp.TheVariants as opens
-use Rattle.wat_syntax.specs.Bodies.{Item, Instr, Hint, Rule, Within, Place, Anywhere, Folded, Catches, CatchArms, Next, Ends, Folds, Opens, Stands, Catching, CatchingArm, ◌>>◌, terminal, writes, choice, hint, hinted, arm, ends, else_arm, folded_if, catch_arm, catch_all_arm, handlers, folded_try, folded_block, operands, folded_by, foldedinstr, part, End, Else, Catch, CatchAll, Delegate, is_part, is_arm, arm_word, else_item, catch_all_item, catch_tag, delegate_label, to_end, else_to_end, catch_all_to_end, catches_to_end, rest_of_block, sequence, sequences, next_of, next_of_word, instrs_of, hints_of, expression_of}
+use Rattle.wat_syntax.specs.Bodies.{Item, Instr, Hint, Rule, Within, Place, Anywhere, Folded, Catches, CatchArms, Next, Ends, Folds, Opens, Stands, Catching, CatchingArm, ◌>>◌, terminal, writes, choice, hint, hinted, arm, ends, else_arm, folded_if, catch_arm, catch_all_arm, handlers, folded_try, folded_block, folded_by, foldedinstr, part, End, Else, Catch, CatchAll, Delegate, is_part, is_arm, arm_word, else_item, catch_all_item, catch_tag, delegate_label, to_end, else_to_end, catch_all_to_end, catches_to_end, rest_of_block, sequence, sequences, next_of, next_of_word, instrs_of, hints_of}
 use Rattle.wat_text.specs.Machine.{with_instr}
 use Rattle.wat_text.proofs.Loops.{no_more}
 

@@ -1,5 +1,5 @@
 -- The steps that read an instruction: what the grammar answers before, it answers from the state after.
-use Rattle.std.proofs.Common.{◌≡◌, ◌∙◌, ℕ, zero, suc, Bool, true, false, List, [], ◌∷◌, ◌++◌, Option, None, Some, refl, sym, ap}
+use Rattle.std.proofs.Common.{◌≡◌, ◌∙◌, ℕ, zero, suc, Bool, List, [], ◌∷◌, ◌++◌, Option, None, Some, refl, sym, ap}
 use Rattle.wast_base.specs.declared.ids.Span.{Span}
 use Rattle.wat_grammar.specs.Parts.{◌>>=◌}
 use Rattle.wat_tokens.specs.declared.words.Key.TheVariants as key
@@ -7,19 +7,17 @@ use Rattle.wat_tokens.specs.declared.words.Word.{Word}
 use Rattle.wat_tokens.specs.declared.words.Word.TheVariants as word
 use Rattle.wat_tokens.specs.declared.words.BlockOp.{BlockOp}
 use Rattle.wat_tokens.specs.declared.words.BlockOp.TheVariants as opens
-use Rattle.wat_tokens.specs.declared.tokens.Token.{Token}
-use Rattle.wat_tokens.specs.declared.tokens.Token.TheVariants as token
 use Rattle.wat_syntax.specs.Tree.{Instruction, Expression}
-use Rattle.wat_syntax.specs.Tokens.{Toks, Parse, peek, after, position, rparen, lparen, form, with_parts, word_of}
+use Rattle.wat_syntax.specs.Tokens.{Toks, Parse, peek, position, rparen, form, with_parts, word_of}
 use Rattle.wat_syntax.specs.Instructions.{instruction}
 use Rattle.wat_syntax.specs.Bodies.{Item, Instr, Rule, Place, Anywhere, Folded, Next, Ends, Folds, Opens, Stands, Part, part_of, part_in, next_of, next_of_word, terminal, writes, hinted, arm, ends, else_arm, handlers, part, End, else_to_end, catches_to_end, rest_of_block, ◌>>◌, folded_by, foldedinstr, sequence, sequences}
 use Rattle.wat_syntax.specs.Bodies as rule
 use Rattle.wat_text.specs.declared.bodies.Level.TheVariants as level
 use Rattle.wat_text.specs.declared.bodies.Hint as code
 use Rattle.wat_text.specs.declared.bodies.Open.{Open}
-use Rattle.wat_text.specs.Machine.{State, last_of, before_last, with_toks, with_instr, with_hint, waited, stood, entered, hint_put, no_part, taken, with_operands, folded_block, folded_operator, operator_of, plain_level}
+use Rattle.wat_text.specs.Machine.{State, last_of, before_last, with_toks, with_instr, with_hint, waited, stood, entered, hint_put, with_operands, folded_operator, operator_of, plain_level}
 use Rattle.wat_text.proofs.Running.{run, add, mix, chain, flat, in_turn, read_by, fails_by}
-use Rattle.wat_text.proofs.Levels.{Base, place_in, hint_items, placed, behind, todo, answer, mixed}
+use Rattle.wat_text.proofs.Levels.{Base, place_in, hint_items, placed, behind, todo, mixed}
 
 abbrev pub state : List Open → List Instruction → Expression → Toks → State
 state ls ws e toks = record { levels = ls; waiting = ws; read = e; toks = toks }

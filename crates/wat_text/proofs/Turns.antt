@@ -1,17 +1,15 @@
 -- Each step of the machine, by what is open: what the grammar answers before it, it answers from the state after.
-use Rattle.std.proofs.Common.{◌≡◌, ◌∙◌, ℕ, zero, suc, not, Bool, true, false, List, [], ◌∷◌, ◌++◌, Option, None, Some, refl, sym, ap}
+use Rattle.std.proofs.Common.{◌≡◌, ◌∙◌, ℕ, zero, suc, Bool, true, false, List, ◌∷◌, Option, None, Some, refl, sym, ap}
 use Rattle.wast_base.specs.declared.ids.Span.{Span}
-use Rattle.wat_grammar.specs.Parts.{◌>>=◌}
-use Rattle.wat_tokens.specs.declared.words.Key.{Key}
 use Rattle.wat_tokens.specs.declared.words.Key.TheVariants as key
 use Rattle.wat_tokens.specs.declared.words.Word.TheVariants as word
 use Rattle.wat_tokens.specs.declared.tokens.Token.{Token}
 use Rattle.wat_tokens.specs.declared.tokens.Token.TheVariants as token
 use Rattle.wat_tokens.specs.declared.tokens.Annotation.TheVariants as annotation
-use Rattle.wat_syntax.specs.Tree.{Instruction, Expression, Index}
+use Rattle.wat_syntax.specs.Tree.{Instruction, Expression}
 use Rattle.wat_syntax.specs.Tree.instr
-use Rattle.wat_syntax.specs.Tokens.{Toks, Parse, peek, after, lparen, is_lparen, is_rparen, is_end, is_form, is_key, key_of, position, word_of, rparen, form, keyword}
-use Rattle.wat_syntax.specs.Values.{index, annotation_of}
+use Rattle.wat_syntax.specs.Tokens.{Toks, Parse, peek, after, is_lparen, is_rparen, is_form, is_key, key_of, word_of, rparen}
+use Rattle.wat_syntax.specs.Values.{annotation_of}
 use Rattle.wat_syntax.specs.Instructions.{instruction, instruction_of}
 use Rattle.wat_syntax.specs.Bodies.{Item, Instr, Hint, Rule, Place, Anywhere, Folded, CatchArms, Next, Ends, Folds, CatchingArm, Part, End, Else, Catch, CatchAll, Delegate, part_of, part_in, same_part, is_hint, is_arm, next_of, terminal, writes, arm, ends, else_arm, catch_arm, catch_all_arm, handlers, sequence, sequences}
 use Rattle.wat_syntax.specs.Bodies as rule
@@ -21,10 +19,10 @@ use Rattle.wat_text.specs.declared.bodies.Hint as code
 use Rattle.wat_text.specs.declared.bodies.Open.{Open}
 use Rattle.wat_text.specs.Machine.{State, last_of, before_last, with_instr, with_hint, with_last, level_of, takes_plain, without, taken, plain, other, skipped, waiting_put, opened, opened_in, closed, at_nothing, folded_operator, first_by, next_by, first_handler, next_handler, turned, arm_entered, put, with_toks, hinted_by, hinted_step}
 use Rattle.wat_text.specs.Machine as machine
-use Rattle.wat_text.proofs.Running.{run, add, in_turn, fails_by}
-use Rattle.wat_text.proofs.Levels.{Base, hint_items, waits, own, behind, todo}
+use Rattle.wat_text.proofs.Running.{run, in_turn}
+use Rattle.wat_text.proofs.Levels.{Base, hint_items, waits, behind, todo}
 use Rattle.wat_text.proofs.Steps.{state, open_of, Same, no_step, one_step, by_both, next_is, no_operator}
-use Rattle.wat_text.proofs.Places.{second, arm_not, arm_by, form_by, form_not, closes, no_close, ends_at, no_end, form_at, no_form, else_at, no_else, catch_all_at, no_catch_all, catch_at, no_catch, delegate_at, no_delegate, waited_put}
+use Rattle.wat_text.proofs.Places.{form_by, form_not, closes, no_close, ends_at, no_end, form_at, no_form, waited_put}
 use Rattle.wat_text.proofs.Parted.{parts, no_parts}
 use Rattle.wat_text.proofs.Unfolds.{one_folded, anywhere, plain_none}
 

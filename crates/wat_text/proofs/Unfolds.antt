@@ -1,25 +1,21 @@
 -- Where instructions are read, by the next token: what the grammar answers before a step, it answers from the state after it.
-use Rattle.std.proofs.Common.{◌≡◌, ◌∙◌, ℕ, zero, suc, Bool, true, false, List, [], ◌∷◌, ◌++◌, Option, None, Some, refl, sym, ap}
+use Rattle.std.proofs.Common.{◌≡◌, ◌∙◌, ℕ, suc, Bool, true, false, List, [], ◌∷◌, ◌++◌, Option, None, Some, refl, sym, ap}
 use Rattle.std.specs.Borrow.{Bor}
-use Rattle.wast_base.specs.declared.ids.Span.{Span}
 use Rattle.wat_grammar.specs.Parts.{◌>>=◌}
-use Rattle.wat_tokens.specs.declared.words.Key.TheVariants as key
 use Rattle.wat_tokens.specs.declared.words.Word.{Word}
 use Rattle.wat_tokens.specs.declared.words.Word.TheVariants as word
 use Rattle.wat_tokens.specs.declared.words.BlockOp.{BlockOp}
 use Rattle.wat_tokens.specs.declared.tokens.Token.{Token}
 use Rattle.wat_tokens.specs.declared.tokens.Token.TheVariants as token
-use Rattle.wat_tokens.specs.declared.tokens.Annotation.{Annotation}
 use Rattle.wat_syntax.specs.Tree.{Instruction, Expression}
-use Rattle.wat_syntax.specs.Tokens.{Toks, Parse, peek, after, lparen, is_lparen, is_rparen, is_end, is_form, position, word_of}
-use Rattle.wat_syntax.specs.Values.{annotation_of}
+use Rattle.wat_syntax.specs.Tokens.{Toks, peek, after, is_lparen, is_rparen, is_end, word_of}
 use Rattle.wat_syntax.specs.Instructions.{instruction, instruction_of}
 use Rattle.wat_syntax.specs.Bodies.{Item, Instr, Rule, Place, Anywhere, Folded, Next, Ends, Folds, Opens, Stands, Part, part_of, part_in, is_hint, next_of, next_of_word, next_of_token, foldedinstr, folded_by, sequence, sequences}
 use Rattle.wat_syntax.specs.Bodies as rule
 use Rattle.wat_text.specs.declared.bodies.Hint as code
 use Rattle.wat_text.specs.declared.bodies.Open.{Open}
-use Rattle.wat_text.specs.Machine.{State, with_hint, hint_put, stood, part_at, next_level, level_of, takes_plain, parted_by, parted_if_any, word_by, operator_word, plain, other, skipped, opened, opened_in, closed, at_nothing, folded_operator, hinted_by, hinted_step}
-use Rattle.wat_text.proofs.Running.{run, add, in_turn, fails_by}
+use Rattle.wat_text.specs.Machine.{State, with_hint, hint_put, stood, part_at, next_level, level_of, takes_plain, parted_by, parted_if_any, word_by, plain, other, opened, closed, at_nothing, folded_operator, hinted_by, hinted_step}
+use Rattle.wat_text.proofs.Running.{run, add, in_turn}
 use Rattle.wat_text.proofs.Levels.{Base, place_in, hint_items, placed, behind}
 use Rattle.wat_text.proofs.Steps.{state, stood_is, Same, no_step, by_both, next_is, stands, opens_block, folds}
 

@@ -3,7 +3,7 @@
 -- The code keeps what is open in a list of levels, so that its calls do not nest as deeply as the text does. A function here is what
 -- a function of src/bodies.rt does to the state, and `None` if it refuses the tokens. That the steps give what the grammar does is
 -- proved in proofs/.
-use Rattle.std.specs.Prelude.{ℕ, ◌≡◌, ◌≢◌, ◌&&◌, Bool, true, false, if◌then◌else◌, List, [], ◌∷◌, ◌++◌, length, map, reverse, Option, None, Some}
+use Rattle.std.specs.Prelude.{ℕ, ◌≡◌, ◌≢◌, ◌&&◌, Bool, true, false, List, [], ◌∷◌, ◌++◌, length, map, reverse, Option, None, Some}
 use Rattle.wast_base.specs.declared.ids.Span.{Span}
 use Rattle.wat_grammar.specs.Parts.{◌>>=◌}
 use Rattle.wat_tokens.specs.declared.words.Key.TheVariants as key
@@ -19,7 +19,7 @@ use Rattle.wat_syntax.specs.Tree.bare
 use Rattle.wat_syntax.specs.Tree.plain as plainly
 use Rattle.wat_syntax.specs.Tokens.{Toks, Parse, one, count, is_end, peek, after, position, word_of, key_of, is_key, keyword, rparen, with_parts}
 use Rattle.wat_syntax.specs.Values.{string, index, annotation_of}
-use Rattle.wat_syntax.specs.Seen.{seen_instr, seen_expression}
+use Rattle.wat_syntax.specs.Seen.{seen_instr}
 use Rattle.wat_syntax.specs.Instructions.{instruction}
 use Rattle.wat_syntax.specs.Bodies as rule
 use Rattle.wat_syntax.specs.Bodies.{Item, Instr, Part, End, Else, Catch, CatchAll, Delegate, part_of, is_hint}

@@ -818,8 +818,8 @@ impl<'a> Reader<'a> {
         }
     }
 
-    /// Refuses what is left open. Each step takes a token, so that more steps than tokens are not needed: where some were, memory
-    /// is said to be wanting, which no text leads to.
+    /// Refuses what is left open at the end of the tokens. Each step takes a token, so there are enough steps, and tokens are never
+    /// left. No contract says so of each call, so if there were some, the fault would be one that promises nothing of the text.
     fn end_body(&mut self, body: &Body<'a>, is_done: bool, purpose: Purpose)
         ensures { Finishes is_done self.old self.new }
     {

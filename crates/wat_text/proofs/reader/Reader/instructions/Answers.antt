@@ -1,4 +1,4 @@
-use Rattle.std.proofs.Common.{rules, ◌≡◌, ◌∙◌, ◌-◌, ◌+◌, suc, reverse, refl, sym, ap, arith}
+use Rattle.std.proofs.Common.{◌∙◌, ◌-◌, ◌+◌, suc, reverse, refl, sym, ap, arith}
 use Rattle.wat_syntax.specs.Bodies.{expression}
 use Rattle.wat_syntax.specs.Seen.{seen_expression}
 use Rattle.wat_text.specs.Readers.{left}
