@@ -1,4 +1,6 @@
 pub mod Arms
+pub mod Falls
+pub mod Fewer
 pub mod Goings
 pub mod Kept
 pub mod Lefts
@@ -13,6 +15,7 @@ pub mod Parted
 pub mod Places
 pub mod References
 pub mod Running
+pub mod Shrinks
 pub mod Steps
 pub mod Turns
 pub mod Unfolds

@@ -25,12 +25,12 @@ use Rattle.wat_text.proofs.Arms.{then_level, try_level, last_level, delegated_le
 use Rattle.wat_text.proofs.Places.{no_end, no_close}
 
 -- what a hint reads as
-data Reading (may : Bool) (toks : Toks) : Type 0 where
+pub data Reading (may : Bool) (toks : Toks) : Type 0 where
   None_there : rule.hint may toks ≡ Some ([], toks) → Reading may toks
   One_there : (v : ℕ) (t : Toks) → peek 0 toks ≡ a_hint → rule.hint may toks ≡ Some (Hint v ∷ [], t) → Reading may toks
   Bad : peek 0 toks ≡ a_hint → rule.hint may toks ≡ None → Reading may toks
 
-reading : (may : Bool) (toks : Toks) → Reading may toks
+pub reading : (may : Bool) (toks : Toks) → Reading may toks
 reading may toks = by (peek 0 toks) refl
   where
     after_it : Parse (Bor (List ℕ)) → Parse (List Item)
@@ -129,7 +129,7 @@ module _ (may : Bool) (b : Base) (m : ℕ) where
       none_left is (Hinted x some at) = ap (λ h. at_nothing None h (state [] ws e t)) some
 
   -- a step
-  step_as : (ls : List Open) (ws : List Instruction) (e : Expression) (toks : Toks) (r : Parse (List Item)) → rule.hint may toks ≡ r
+  pub step_as : (ls : List Open) (ws : List Instruction) (e : Expression) (toks : Toks) (r : Parse (List Item)) → rule.hint may toks ≡ r
       → step may (state ls ws e toks) ≡ ((r >>= λ h. let o : Option code.Hint × Toks = (hint_in (position toks) h.0, h.1) in Some o) >>= λ h. hinted_step h.0 (state ls ws e h.1))
   step_as ls ws e toks r read = ap (λ r. (r >>= λ h. let o : Option code.Hint × Toks = (hint_in (position toks) h.0, h.1) in Some o) >>= λ h. hinted_step h.0 (state ls ws e h.1)) read
 

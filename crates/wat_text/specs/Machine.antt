@@ -17,7 +17,7 @@ use Rattle.wat_syntax.specs.Tree.{Instruction, Expression}
 use Rattle.wat_syntax.specs.Tree.instr
 use Rattle.wat_syntax.specs.Tree.bare
 use Rattle.wat_syntax.specs.Tree.plain as plainly
-use Rattle.wat_syntax.specs.Tokens.{Toks, Parse, one, count, is_end, peek, after, position, word_of, key_of, is_key, keyword, rparen, with_parts}
+use Rattle.wat_syntax.specs.Tokens.{Toks, Parse, one, is_end, peek, after, position, word_of, key_of, is_key, keyword, rparen, with_parts}
 use Rattle.wat_syntax.specs.Values.{string, index, annotation_of}
 use Rattle.wat_syntax.specs.Seen.{seen_instr}
 use Rattle.wat_syntax.specs.Instructions.{instruction}
@@ -59,7 +59,7 @@ pub record Does (step : State → Option State) (old new : Reader) (before behin
   pub keeps : old.fault ≢ None → new.fault ≡ old.fault
   pub refuses : old.fault ≡ None → new.make ≡ false → IsRefused new.fault → step (state_of old before) ≡ None
 
--- A reader ended an expression that is read whole, or that is not. It then keeps a fault, which refuses the tokens only if none is left.
+-- A reader ended an expression that is read whole, or it refused the tokens because it is not.
 pub record Finishes (is_done : Bool) (old new : Reader) : Type 0 where
   pub make : new.make ≡ old.make
   pub clean : new.fault ≡ None → old.fault ≡ None
@@ -67,7 +67,6 @@ pub record Finishes (is_done : Bool) (old new : Reader) : Type 0 where
   pub stays : new.fault ≡ None → left new ≡ left old
   pub keeps : old.fault ≢ None → new.fault ≡ old.fault
   pub undone : old.fault ≡ None → IsRefused new.fault → is_done ≡ false
-  pub nothing : old.fault ≡ None → IsRefused new.fault → count (left old) ≡ 0
 
 -- a part of a block, as the rules have it
 abbrev pub in_rule : code.Part → Part
