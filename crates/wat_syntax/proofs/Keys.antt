@@ -1,9 +1,9 @@
 -- The numbers of keywords say which keyword it is. tools/ops writes this file.
-use Rattle.std.specs.Prelude.{ℕ, ◌≡◌, ◌==◌, true, List, [], ◌∷◌, drop, Option, None, Some}
+use Rattle.std.specs.Prelude.{ℕ, ◌≡◌, List, [], ◌∷◌, drop, Option, None, Some}
 use Rattle.std.proofs.Common.{refl, sym, ap, ◌∙◌, eqb-true}
 use Rattle.wat_tokens.specs.declared.words.Key.{Key}
 use Rattle.wat_tokens.specs.declared.words.Key.TheVariants as key
-use Rattle.wat_syntax.specs.Keywords.{number_of_key, is_same_key, AreDistinct}
+use Rattle.wat_syntax.specs.Keywords.{number_of_key, AreDistinct}
 
 -- all keywords, in the order of their numbers
 keys : List Key

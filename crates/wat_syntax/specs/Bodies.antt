@@ -181,7 +181,8 @@ ends = terminal rparen >> writes end
 abbrev pub else_arm : Within → Rule
 else_arm within = choice (is_arm Else) (terminal (arm_word Else) >> writes else_item >> arm within) (writes [])
 
--- foldedinstr* '(' 'then' instr* ')' ('(' 'else' instr* ')')? ')': after the word, the label and the type
+-- foldedinstr* '(' 'then' instr* ')' ('(' 'else' instr* ')')? ')': after the word of an `if`, its label and its type (text format:
+-- folded instructions)
 abbrev pub folded_if : Within → List Item → Rule
 folded_if within opener = within Folded >> terminal (form key.Then) >> writes opener >> arm within >> else_arm within >> ends
 
@@ -203,13 +204,15 @@ handlers within = choice (is_arm Delegate)
 abbrev pub folded_try : Within → List Item → Rule
 folded_try within opener = writes opener >> terminal (form key.Do) >> arm within >> handlers within
 
--- a block in parentheses: instr* ')' after the word, the label and the type, or the arms of `if` and `try`
+-- '(' 'block' label blocktype instr* ')' ≡ 'block' label blocktype instr* 'end', and so for `loop` and `try_table`: after the word, the
+-- label and the type, or the arms of `if` and `try` (text format: folded instructions)
 abbrev pub folded_block : BlockOp → Within → List Item → Rule
 folded_block opens.if_ within opener = folded_if within opener
 folded_block opens.try_ within opener = folded_try within opener
 folded_block op within opener = writes opener >> within Anywhere >> ends
 
--- a plain instruction in parentheses: foldedinstr* ')' after its immediates; it comes after its operands
+-- foldedinstr ::= '(' plaininstr foldedinstr* ')' ≡ foldedinstr* plaininstr: after its immediates. The instruction comes after its
+-- operands (text format: folded instructions).
 abbrev pub operands : Within → List Item → Rule
 operands within i = within Folded >> terminal rparen >> writes i
 
@@ -231,11 +234,11 @@ module _ (may_hint : Bool) where
   abbrev pub part : Part → Rule
   part p toks = hint may_hint toks >>= λ h. elim (same_part p (part_in h.1)) [ true ↦ hinted h.0 h.1 | false ↦ None ]
 
-  -- instr* 'end' id?
+  -- instr* 'end' id?, of `block`, `loop` and `try_table` (text format: block instructions)
   abbrev pub to_end : Within → Rule
   to_end within = within Anywhere >> part End
 
-  -- ('else' id? instr*)? 'end' id?
+  -- ('else' id? instr*)? 'end' id?, of `if` (text format: block instructions)
   abbrev pub else_to_end : Within → Rule
   else_to_end within = choice (is_part Else) (part Else >> to_end within) (part End)
 

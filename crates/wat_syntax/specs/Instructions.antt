@@ -1,7 +1,7 @@
 -- Plain instructions and their immediates (text format: instructions).
 use Rattle.std.specs.Prelude.{ℕ, zero, suc, ℤ, ◌&&◌, ◌||◌, not, Bool, true, false, if◌then◌else◌, List, [], ◌∷◌, Option, None, Some, option_map, is_some, codes}
 use Rattle.std.specs.Int.{is_power_of_two}
-use Rattle.std.specs.Float.{Format, binary32, binary64}
+use Rattle.std.specs.Float.{binary32, binary64}
 use Rattle.std.specs.Borrow.{Bor}
 use Rattle.wat_syntax.specs.Tree.{Index, Ordering, MemArg, MemArgOrdering, LaneArg, LoadOrStoreLane, StructAccess, CallIndirect, BrOnCast, ResumeTable, Handle, TryTableCatch, BlockType, F32, F64, V128Const, Instruction}
 use Rattle.wat_syntax.specs.Tree.instr
@@ -212,7 +212,9 @@ callindirect toks = index_or_zero toks >>= λ x. typeuse false x.1 >>= λ u. Som
 abbrev pub cast : Toks → Parse BrOnCast
 cast toks = index toks >>= λ l. reftype l.1 >>= λ s. reftype s.1 >>= λ t. Some (record { label = l.0; from_type = s.0; to_type = t.0 }, t.1)
 
--- an instruction with immediates of its own, without its word
+-- An instruction with immediates of its own, without its word. plaininstr ::= 'i32.const' n:i32 ⇒ i32.const n | .. (text format:
+-- numeric instructions). plaininstr ::= 'ref.null' ht:heaptype ⇒ ref.null ht | 'ref.test' t:reftype ⇒ ref.test t | .. (text format:
+-- reference instructions). The label of a block may be repeated: 'else' id? and 'end' id? (text format: labels).
 abbrev pub own_instr : OwnOp → Toks → Parse Instruction
 own_instr own.else_ toks = optional id toks >>= λ x. Some (instr.else_ x.0, x.1)
 own_instr own.end_ toks = optional id toks >>= λ x. Some (instr.end_ x.0, x.1)
@@ -261,7 +263,10 @@ is_plaininstr (word.Key k) = false
 is_plaininstr (word.Block op) = false
 is_plaininstr w = true
 
--- plaininstr, by its word and without it. A word that no table knows keeps its name.
+-- An instruction by its word and without it. A word that no table knows keeps its name. plaininstr ::= 'nop' ⇒ nop | 'drop' ⇒ drop | ..:
+-- `words` of wat_tokens has the instruction of each word (text format: plain instructions). plaininstr ::= 'i32.add' ⇒ i32.add | ..
+-- (text format: numeric instructions). plaininstr ::= 'i32.load' x:memidx m:memarg_4 ⇒ i32.load x m | .. (text format: memory
+-- instructions). plaininstr ::= 'i8x16.extract_lane_s' l:laneidx ⇒ i8x16.extract_lane_s l | .. (text format: vector instructions).
 abbrev pub plaininstr : Word → Bor (List ℕ) → Toks → Parse Instruction
 plaininstr (word.Plain op) name toks = Some (instr.Plain op, toks)
 plaininstr (word.Mem op N) name toks = memarg N toks >>= λ m. Some (instr.Mem op m.0, m.1)
@@ -279,7 +284,8 @@ plaininstr (word.Atomic op) name toks = atomic_instr op toks
 plaininstr word.Beyond name toks = Some (instr.Beyond name, toks)
 plaininstr w name toks = None
 
--- label and blocktype (text format: control instructions)
+-- label ::= v:id ⇒ v | ε, with a name annotation (text format: labels). blocktype ::= t:result? ⇒ t? | x:typeuse ⇒ x, whose parameters
+-- have no ids (text format: control instructions).
 abbrev pub blocktype : Toks → Parse BlockType
 blocktype toks = optional id toks >>= λ l. name_annotation l.1 >>= λ n. typeuse false n.1 >>= λ u.
     Some (record { label = l.0; label_name = n.0; ty = u.0 }, u.1)

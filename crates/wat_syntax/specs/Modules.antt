@@ -1,7 +1,7 @@
 -- Modules (text format: modules), in the order of the specification. Here are the fields without expressions.
-use Rattle.std.specs.Prelude.{ℕ, ◌||◌, Bool, true, false, List, [], ◌∷◌, Option, None, Some, is_some}
+use Rattle.std.specs.Prelude.{ℕ, ◌||◌, true, false, List, [], ◌∷◌, Option, None, Some, is_some}
 use Rattle.std.specs.Borrow.{Bor}
-use Rattle.wat_syntax.specs.Tree.{Span, Id, Index, NameAnnotation, ValType, InlineExport, InlineImport, Local, Tag, TagType, TagKind, ItemKind, ItemSig, ImportItems, Imports, ExportKind, Export, ModuleField}
+use Rattle.wat_syntax.specs.Tree.{Span, Id, NameAnnotation, InlineExport, InlineImport, Local, Tag, TagKind, ItemKind, ItemSig, ImportItems, Imports, ExportKind, Export, ModuleField}
 use Rattle.wat_syntax.specs.Tree.tag
 use Rattle.wat_syntax.specs.Tree.tag_kind
 use Rattle.wat_syntax.specs.Tree.kind
@@ -101,7 +101,8 @@ abbrev pub tag_kind_of : Option InlineImport → TagKind
 tag_kind_of (Some i) = tag_kind.Import i
 tag_kind_of None = tag_kind.Inline
 
--- tag ::= '(' 'tag' id? x:typeuse ')' ⇒ tag x (text format: tags): from the keyword on
+-- tag ::= '(' 'tag' id? x:typeuse ')' ⇒ tag x (text format: tags): from the keyword on. tagtype ::= x:typeuse ⇒ x, whose parameters may
+-- have ids (text format: tag types).
 abbrev pub tagfield : Toks → Parse Tag
 tagfield toks = head toks >>= λ h. inline_import h.1 >>= λ i. typeuse true i.1 >>= λ u.
     Some (record { span = h.0.span; id = h.0.id; name = h.0.name; exports = h.0.exports; ty = tag.Exception u.0; kind = tag_kind_of i.0 }, u.1)

@@ -9,7 +9,12 @@ use Rattle.wat_tokens.specs.declared.words.UncoveredOp.TheVariants as other
 use Rattle.wat_tokens.specs.declared.words.PairOp.{PairOp}
 use Rattle.wat_tokens.specs.declared.words.PairOp.TheVariants as two
 
--- one index
+-- One index. plaininstr ::= 'local.get' x:localidx ⇒ local.get x | 'global.get' x:globalidx ⇒ global.get x | .. (text format: variable
+-- instructions). plaininstr ::= 'table.get' x:tableidx ⇒ table.get x | .. (text format: table instructions).
+-- plaininstr ::= 'memory.size' x:memidx ⇒ memory.size x | .. (text format: memory instructions).
+-- plaininstr ::= 'ref.func' x:funcidx ⇒ ref.func x (text format: reference instructions).
+-- plaininstr ::= 'br' l:labelidx ⇒ br l | 'call' x:funcidx ⇒ call x | .. (text format: control instructions).
+-- plaininstr ::= 'struct.new' x:typeidx ⇒ struct.new x | 'array.get' x:typeidx ⇒ array.get x | .. (text format: aggregate instructions).
 abbrev pub index_instr : IndexOp → Index → Instruction
 index_instr one.Catch x = instr.catch x
 index_instr one.Throw x = instr.throw x
@@ -58,7 +63,11 @@ uncovered_instr other.cont_new x = instr.cont_new x
 uncovered_instr other.suspend x = instr.suspend x
 uncovered_instr other.memory_discard x = instr.memory_discard (record { mem = x })
 
--- two indices, in the order of the text
+-- Two indices, in the order of the text. plaininstr ::= 'table.copy' x:tableidx y:tableidx ⇒ table.copy x y
+-- | 'table.init' x:tableidx y:elemidx ⇒ table.init x y (text format: table instructions).
+-- plaininstr ::= 'memory.copy' x:memidx y:memidx ⇒ memory.copy x y | 'memory.init' x:memidx y:dataidx ⇒ memory.init x y
+-- (text format: memory instructions). plaininstr ::= 'struct.get' x:typeidx i:fieldidx ⇒ struct.get x i | .. (text format: aggregate
+-- instructions).
 abbrev pub pair_instr : PairOp → Index → Index → Instruction
 pair_instr two.struct_get x y = instr.struct_get (record { owner = x; field = y })
 pair_instr two.struct_get_s x y = instr.struct_get_s (record { owner = x; field = y })

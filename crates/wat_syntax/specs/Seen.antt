@@ -4,9 +4,9 @@
 -- well, and the rules hand them on: an id of the tree is that of its token, and so are the bytes of a string. A name is another
 -- case, because a string becomes a `&str` only when its bytes are found to be UTF-8, and no contract says where that is. So the
 -- rules give each name the address 0, and the contracts speak of what is seen of a tree: the tree with each name at address 0.
-use Rattle.std.specs.Prelude.{ℕ, List, [], ◌∷◌, Option, None, Some, option_map, map}
+use Rattle.std.specs.Prelude.{ℕ, List, Option, option_map, map}
 use Rattle.std.specs.Borrow.{Bor}
-use Rattle.wat_syntax.specs.Tree.{BlockType, CallIndirect, TryTable, Instruction, Expression, Span, InlineExport, InlineImport, Local, Tag, TagType, TagKind, ItemKind, ItemSig, ImportItems, Imports, Export, Id, Index, NameAnnotation, ValType, StructField, StructType, FunctionType, TypeUse, InnerTypeKind, TypeDef, Rec}
+use Rattle.wat_syntax.specs.Tree.{BlockType, CallIndirect, TryTable, Instruction, Expression, InlineExport, InlineImport, Local, Tag, TagType, TagKind, ItemKind, ItemSig, ImportItems, Imports, Export, Id, NameAnnotation, ValType, StructField, StructType, FunctionType, TypeUse, InnerTypeKind, TypeDef, Rec}
 use Rattle.wat_syntax.specs.Tree.inner
 use Rattle.wat_syntax.specs.Tree.ty
 use Rattle.wat_syntax.specs.Tree.instr

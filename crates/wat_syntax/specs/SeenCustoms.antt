@@ -1,6 +1,6 @@
 -- Custom sections without the addresses of their names, as Seen has the other parts of the tree. The bytes of `(@custom ..)` are those
 -- of its strings.
-use Rattle.std.specs.Prelude.{ℕ, List, ◌∷◌, map}
+use Rattle.std.specs.Prelude.{ℕ, List, map}
 use Rattle.std.specs.Borrow.{Bor}
 use Rattle.wat_syntax.specs.Tree.{Custom, Dylink0Subsection}
 use Rattle.wat_syntax.specs.Tree.custom

@@ -13,7 +13,7 @@ use Rattle.wast_base.specs.declared.ids.Index.TheVariants as by
 use Rattle.wat_grammar.specs.Parts.{◌>>=◌}
 use Rattle.wat_tokens.specs.declared.words.Key.{Key}
 use Rattle.wat_tokens.specs.declared.words.Key.TheVariants as key
-use Rattle.wat_syntax.specs.Tokens.{Toks, Parse, peek, after, position, count, is_lparen, is_end, key_of, is_key, lparen, rparen, keyword, is_form, form, optional, many, many_lists}
+use Rattle.wat_syntax.specs.Tokens.{Toks, Parse, peek, after, position, count, is_lparen, is_end, key_of, is_key, lparen, rparen, keyword, form, optional, many, many_lists}
 use Rattle.wat_syntax.specs.Values.{is_number, string, is_string, id, name_annotation, index}
 use Rattle.wat_syntax.specs.Types.{reftype, is_reftype, goes_on, related}
 use Rattle.wat_syntax.specs.Instructions.{signed_number, f32, f64}
@@ -26,11 +26,12 @@ expression_in k toks = elim (form k toks) [
   | None ↦ folded_expression toks
 ]
 
--- '(' 'offset' e:expr ')' ⇒ e, and '(' instr ')' ≡ '(' 'offset' instr ')'
+-- '(' 'offset' e:expr ')' ⇒ e, and '(' instr ')' ≡ '(' 'offset' instr ')', of an active segment of data or elements (text format: data
+-- segments)
 abbrev pub offset_expression : Toks → Parse Expression
 offset_expression toks = expression_in key.Offset toks
 
--- elemexpr ::= '(' 'item' e:expr ')' ⇒ e, and '(' instr ')' ≡ '(' 'item' instr ')'
+-- elemexpr ::= '(' 'item' e:expr ')' ⇒ e, and '(' instr ')' ≡ '(' 'item' instr ')' (text format: element segments)
 abbrev pub elemexpr : Toks → Parse Expression
 elemexpr toks = expression_in key.Item toks
 
@@ -102,7 +103,8 @@ abbrev pub table_or_first : Option Index → ElemPayload → Span → Option Ind
 table_or_first (Some x) p span = Some x
 table_or_first None p span = elim (are_typed p) [ true ↦ Some (by.Num 0 span) | false ↦ None ]
 
--- x:tableuse '(' 'offset' e:expr ')' el:elemlist ⇒ active x e, with el: without '(' 'table' ')', 'func' may be left out
+-- x:tableuse '(' 'offset' e:expr ')' el:elemlist ⇒ active x e, with el (text format: element segments): without '(' 'table' ')', 'func'
+-- may be left out
 abbrev pub active_elems : Toks → Parse (ElemKind × ElemPayload)
 active_elems toks = tableuse toks >>= λ x. elim x.0 [
   | Some table ↦ offset_expression x.1 >>= λ e. elemlist e.1 >>= λ el. Some ((elem.Active (Some table) e.0, el.0), el.1)
@@ -114,7 +116,8 @@ active_elems toks = tableuse toks >>= λ x. elim x.0 [
 abbrev pub is_active : Toks → Bool
 is_active toks = is_number (peek 0 toks) || (is_lparen (peek 0 toks) && not (is_reftype toks))
 
--- el:elemlist ⇒ passive | x:tableuse '(' 'offset' e:expr ')' el:elemlist ⇒ active x e | 'declare' el:elemlist ⇒ declare
+-- el:elemlist ⇒ passive | x:tableuse '(' 'offset' e:expr ')' el:elemlist ⇒ active x e | 'declare' el:elemlist ⇒ declare (text format:
+-- element segments)
 abbrev pub elem_of : Toks → Parse (ElemKind × ElemPayload)
 elem_of toks = elim (keyword key.Declare toks) [
   | Some t ↦ elemlist t >>= λ el. Some ((elem.Declared, el.0), el.1)
@@ -133,7 +136,8 @@ elemfield toks = optional id (after toks) >>= λ x. name_annotation x.1 >>= λ n
 abbrev pub integer_bytes : Width → ℤ → List ℕ
 integer_bytes w i = to_le_bytes w (cast_unsigned w i)
 
--- A number of a type, as the bytes of a data segment, the lowest first (numeric values in data segments).
+-- A number of a type, as the bytes of a data segment, the lowest first: 'i8', 'i16', 'i32', 'i64', 'f32' or 'f64' (numeric values in
+-- data segments).
 abbrev pub data_number : Key → Toks → Parse (List ℕ)
 data_number key.I8 toks = signed_number 8 toks >>= λ i. Some (integer_bytes w8 i.0, i.1)
 data_number key.I16 toks = signed_number 16 toks >>= λ i. Some (integer_bytes w16 i.0, i.1)
@@ -194,7 +198,7 @@ memuse toks = elim (form key.Memory toks) [
 abbrev pub is_data : Toks → Bool
 is_data toks = is_end (peek 0 toks) || (is_string (peek 0 toks) || is_numlist toks)
 
--- x:memuse '(' 'offset' e:expr ')' ⇒ active x e, or nothing ⇒ passive
+-- x:memuse '(' 'offset' e:expr ')' ⇒ active x e, or nothing ⇒ passive (text format: data segments)
 abbrev pub data_kind_of : Toks → Parse DataKind
 data_kind_of toks = elim (is_data toks) [
   | true ↦ Some (data_kind.Passive, toks)

@@ -1,5 +1,5 @@
 -- Tokens for examples. The token of number n is at position n.
-use Rattle.std.specs.Prelude.{ℕ, zero, suc, List, [], ◌∷◌, length, codes, Option, None, Some}
+use Rattle.std.specs.Prelude.{ℕ, suc, List, [], ◌∷◌, length, Option, Some}
 use Rattle.wast_base.specs.Ids.{text_start}
 use Rattle.wat_grammar.specs.Parts.{◌>>=◌}
 use Rattle.wat_tokens.specs.declared.words.Key.{Key}

@@ -1,6 +1,5 @@
 -- Expressions and fields, as the rules compute them.
-use Rattle.std.specs.Prelude.{ℕ, ◌≡◌, true, false, pos, [], ◌∷◌, Some, None, codes}
-use Rattle.wast_base.specs.Ids.{source_id, text_start}
+use Rattle.std.specs.Prelude.{◌≡◌, true, false, pos, [], ◌∷◌, Some, None, codes}
 use Rattle.wast_base.specs.declared.ids.Index.TheVariants as by
 use Rattle.wast_base.specs.declared.index_ops.IndexOp.TheVariants as one
 use Rattle.wat_tokens.specs.declared.words.Key.TheVariants as key
@@ -11,17 +10,14 @@ use Rattle.wat_tokens.specs.declared.words.BlockOp.TheVariants as opens
 use Rattle.wat_tokens.specs.declared.tokens.Token.{Token}
 use Rattle.wat_tokens.specs.declared.tokens.Token.TheVariants as token
 use Rattle.wat_tokens.specs.declared.tokens.Annotation.TheVariants as annotation
-use Rattle.wat_syntax.specs.Tree.{Span, BlockType}
+use Rattle.wat_syntax.specs.Tree.{BlockType}
 use Rattle.wat_syntax.specs.Tree.instr
 use Rattle.wat_syntax.specs.Tree.bare
 use Rattle.wat_syntax.specs.Tree.plain
-use Rattle.wat_syntax.specs.Tree.export
-use Rattle.wat_syntax.specs.Tree.tag
-use Rattle.wat_syntax.specs.Tree.tag_kind
 use Rattle.wat_syntax.specs.Seen.{text_of}
 use Rattle.wat_syntax.specs.Bodies.{expression, folded_expression}
 use Rattle.wat_syntax.specs.Modules.{exportfield, externtype, locals}
-use Rattle.wat_syntax.specs.Worked.{the, num, named, quoted, toks, made}
+use Rattle.wat_syntax.specs.Worked.{the, num, quoted, toks, made}
 
 -- the token of a word that is an instruction
 abbrev says : Word → Token

@@ -1,6 +1,6 @@
 -- Fields with expressions, as the rules compute them.
 use Rattle.std.specs.Prelude.{ℕ, ◌≡◌, true, false, pos, List, [], ◌∷◌, Some, None, codes}
-use Rattle.wast_base.specs.Ids.{source_id, text_start}
+use Rattle.wast_base.specs.Ids.{source_id}
 use Rattle.wast_base.specs.declared.ids.Index.TheVariants as by
 use Rattle.wat_tokens.specs.declared.words.Key.TheVariants as key
 use Rattle.wat_tokens.specs.declared.words.Word.TheVariants as word

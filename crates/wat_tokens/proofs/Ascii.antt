@@ -1,12 +1,12 @@
 -- Closes what is asked of a place: a character begins there, and the text goes on so far.
-use Rattle.std.proofs.Common.{◌≡◌, ◌∙◌, ℕ, zero, suc, ◌+◌, ◌-◌, ◌<◌, ◌≤◌, ◌==◌, Bool, true, false, List, [], ◌∷◌, length, drop, get_or, Option, None, Some, refl, sym, ap, subst, arith, drop-cons, eqb-true, ◌⊎◌, inl, inr}
+use Rattle.std.proofs.Common.{◌≡◌, ◌∙◌, ℕ, suc, ◌+◌, ◌-◌, ◌<◌, ◌≤◌, ◌==◌, Bool, true, false, List, [], ◌∷◌, length, drop, get_or, None, Some, refl, sym, ap, subst, arith, drop-cons, eqb-true, ◌⊎◌, inl, inr}
 use Rattle.std.proofs.lemmas.Bool.{cases_lt}
 use Rattle.std.proofs.lemmas.List.{drop-drop}
 use Rattle.std.proofs.lemmas.Str.{IsCharBoundary-after_ascii, IsCharBoundary-before_ascii}
 use Rattle.std.specs.Prelude.{IsUtf8, IsCharBoundary}
 use Rattle.std.specs.Prelude.{◌&&◌}
 use Rattle.wat_grammar.specs.Parts.{front}
-use Rattle.wat_grammar.specs.Tokens.{is_idchar, begins_comment}
+use Rattle.wat_grammar.specs.Tokens.{is_idchar}
 use Rattle.wat_tokens.specs.Scans.{first_of, is_first, begins_of}
 use Rattle.wat_tokens.proofs.Idchars.{is_ascii}
 use Rattle.wat_tokens.proofs.Fronts.{front_more}

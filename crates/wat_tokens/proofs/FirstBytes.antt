@@ -1,10 +1,8 @@
 -- Closes what the kind of a byte says of it.
-use Rattle.std.proofs.Common.{◌≡◌, ◌∙◌, ℕ, ◌==◌, Bool, true, false, refl, sym, ap, eqb-true}
-use Rattle.std.specs.Prelude.{if◌then◌else◌}
+use Rattle.std.proofs.Common.{◌≡◌, ℕ, ◌==◌, Bool, true, false, refl, eqb-true}
 use Rattle.wat_grammar.specs.Space.{is_blank}
 use Rattle.wat_grammar.specs.Tokens.{is_idchar}
 use Rattle.wat_tokens.specs.Scans.{kind_of}
-use Rattle.wat_tokens.specs.declared.scans.Kind.{Kind}
 use Rattle.wat_tokens.specs.declared.scans.Kind.TheVariants as kind
 use Rattle.wat_tokens.proofs.Steps.{kinds}
 

@@ -3,7 +3,7 @@
 //! A decimal number is given to the kit's `fast_float` without its underscores. A hexadecimal number keeps its first digits and whether
 //! another digit is not zero, and is rounded once.
 
-ghost use Rattle.std.specs.Prelude.{◌≡◌, ◌==◌, ◌||◌, ◌&&◌, ◌<◌, ◌≤◌, ◌+◌, ◌*◌, ◌^◌, ◌++◌, ◌∷◌, [], ℕ, length, codes, OnOk, IfOk, IfErr, IfSome, MatchOption};
+ghost use Rattle.std.specs.Prelude.{◌≡◌, ◌==◌, ◌||◌, ◌&&◌, ◌<◌, ◌≤◌, ◌+◌, ◌*◌, ◌^◌, ◌++◌, ◌∷◌, [], ℕ, length, OnOk, IfOk, IfErr, MatchOption};
 ghost use Rattle.std.specs.Prelude.{◌-◌, min, nat_lt, if◌then◌else◌, option_map, ⊤, Some, None, true, false};
 ghost use Rattle.wat_grammar.specs.Integers.{sign};
 ghost use Rattle.std.specs.Float.{binary32, binary64};
@@ -11,8 +11,8 @@ ghost use Rattle.std.specs.Float.Ieee.{prec, low, hid, ones};
 ghost use Rattle.wat_grammar.specs.Floats.{cut, float, inf, nan, hexfloat, magnitude, fN};
 ghost use Rattle.wat_grammar.specs.Characters.{digit, hexdigit};
 ghost use Rattle.fast_float.specs.Rounding.{IsNearestBits};
-ghost use Rattle.wat_tokens.specs.Numbers.{answer, digit_in};
-ghost use Rattle.wat_tokens.specs.Fractions.{is_digits, bare, Form, form, is_fraction, is_exponent, is_number, fraction_text, power_text, plain_text, seen, UnlessMemory, MayLack, bits_in, payload_of, ieee, value_after, count, power_of, Keeps, IsHalved, IsScaled};
+ghost use Rattle.wat_tokens.specs.Numbers.{answer};
+ghost use Rattle.wat_tokens.specs.Fractions.{is_digits, bare, form, is_fraction, is_exponent, is_number, fraction_text, power_text, plain_text, seen, UnlessMemory, MayLack, bits_in, payload_of, ieee, value_after, count, power_of, Keeps, IsHalved, IsScaled};
 ghost use Rattle.wat_tokens.specs.declared.faults.TextFault.TheVariants as fault;
 
 use crate::faults::TextFault;

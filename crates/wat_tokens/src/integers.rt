@@ -1,7 +1,6 @@
 //! Integers of a text.
 
 ghost use Rattle.std.specs.Prelude.{◌≡◌, ◌<◌, ◌≤◌, ◌+◌, ◌*◌, ◌^◌, ℕ, IfSome, IfOk, option_map};
-ghost use Rattle.wat_grammar.specs.Characters.{hexdigit};
 ghost use Rattle.wat_grammar.specs.Integers.{natural, uN, sign, signed, integer, signed_of};
 ghost use Rattle.wat_tokens.specs.Numbers.{answer, digit_in, radix_of, number_in, fits, sized, bits_in, wrapped};
 

@@ -1,4 +1,4 @@
-use Rattle.std.proofs.Common.{◌≡◌, ◌∙◌, ap, sym, Bool, true, ◌+◌, drop}
+use Rattle.std.proofs.Common.{◌≡◌, ◌∙◌, ap, sym, true, ◌+◌, drop}
 use Rattle.std.specs.Prelude.{◌&&◌}
 use Rattle.wat_tokens.specs.Scans.{is_first}
 use Rattle.wat_tokens.proofs.Ascii.{begins}

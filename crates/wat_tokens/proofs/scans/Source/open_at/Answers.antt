@@ -1,4 +1,4 @@
-use Rattle.std.proofs.Common.{◌≡◌, ◌≢◌, ◌∙◌, ap, sym, subst, ◌+◌, suc, drop, true, false}
+use Rattle.std.proofs.Common.{◌∙◌, ap, sym, subst, ◌+◌, suc, drop}
 use Rattle.wat_grammar.specs.Parts.{◌>>=◌}
 use Rattle.wat_grammar.specs.Space.{blockcomment}
 use Rattle.wat_grammar.specs.Tokens.{annotation}

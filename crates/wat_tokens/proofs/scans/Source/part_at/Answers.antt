@@ -1,5 +1,5 @@
 -- Closes each arm by the lemma on what its first byte begins.
-use Rattle.std.proofs.Common.{◌≡◌, ◌≢◌, ◌∙◌, ap, sym, subst, ◌+◌, drop, length, true, false}
+use Rattle.std.proofs.Common.{◌∙◌, ap, sym, subst, ◌+◌, drop, length}
 use Rattle.wat_grammar.specs.Parts.{front}
 use Rattle.wat_grammar.specs.Space.{is_blank}
 use Rattle.wat_grammar.specs.Tokens.{opened, string_token, id_token}

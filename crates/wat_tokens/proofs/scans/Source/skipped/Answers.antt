@@ -1,5 +1,5 @@
 -- Closes each step of the loop by the lemma on the rule.
-use Rattle.std.proofs.Common.{◌≡◌, ◌≢◌, ◌∙◌, ap, sym, ◌+◌, ◌-◌, ◌≤◌, ◌<◌, suc, drop, length, true, false, Some, arith}
+use Rattle.std.proofs.Common.{◌≡◌, ◌∙◌, ap, sym, ◌+◌, ◌-◌, ◌<◌, suc, drop, length, Some, arith}
 use Rattle.wat_grammar.specs.Tokens.{skipped}
 use Rattle.wat_tokens.specs.Scans.{contents_of, opens_of}
 use Rattle.wat_tokens.proofs.Ascii.{first_below}

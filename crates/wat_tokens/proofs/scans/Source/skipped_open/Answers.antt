@@ -1,8 +1,8 @@
-use Rattle.std.proofs.Common.{◌≡◌, ◌≢◌, ◌∙◌, ap, sym, subst, ◌+◌, drop, true, false, Some}
+use Rattle.std.proofs.Common.{◌∙◌, ap, sym, ◌+◌, drop}
 use Rattle.wat_grammar.specs.Parts.{◌>>=◌}
-use Rattle.wat_grammar.specs.Space.{blockcomment, is_linechar}
-use Rattle.wat_grammar.specs.Tokens.{a_string, an_id, skipped_open, is_idchar}
-use Rattle.wat_tokens.specs.Scans.{contents_of, Skips}
+use Rattle.wat_grammar.specs.Space.{blockcomment}
+use Rattle.wat_grammar.specs.Tokens.{an_id}
+use Rattle.wat_tokens.specs.Scans.{contents_of}
 use Rattle.wat_tokens.proofs.Steps.{so_comment, so_annotation, none_opened, one_opened, drop_two}
 use Rattle.wat_tokens.proofs.scans.Source.skipped_open.Goals as goal
 

@@ -1,6 +1,5 @@
-use Rattle.std.proofs.Common.{◌≡◌, ◌≢◌, ◌∙◌, ap, sym, subst, ◌+◌, drop, length, true, false, Some}
+use Rattle.std.proofs.Common.{◌∙◌, ap, sym, subst, ◌+◌, drop, length, Some}
 use Rattle.wat_grammar.specs.Parts.{◌>>=◌, front}
-use Rattle.wat_grammar.specs.Space.{is_linechar}
 use Rattle.wat_grammar.specs.Tokens.{a_string, skipped_open, is_idchar}
 use Rattle.wat_tokens.specs.Scans.{contents_of, Skips}
 use Rattle.wat_tokens.proofs.Steps.{sp_open, sp_string, sp_comment, sp_blank, sp_word, sp_none, after_string, drop_one, skipped_is, line_is, past}
