@@ -1,4 +1,5 @@
--- Each step of the machine where only arms and ')' go on: what the grammar answers before it, it answers from the state after.
+-- A step of the machine at a level that only an arm or ')' continues, such as an `if` after its `then`. The grammar reads the
+-- same from the state before the step and from the state after it.
 use Rattle.std.proofs.Common.{◌≡◌, ◌∙◌, ℕ, zero, suc, Bool, true, false, if◌then◌else◌, List, [], ◌∷◌, Option, None, Some, refl, sym, ap}
 use Rattle.wast_base.specs.declared.ids.Span.{Span}
 use Rattle.wat_grammar.specs.Parts.{◌>>=◌}
@@ -11,13 +12,13 @@ use Rattle.wat_syntax.specs.Tree.bare
 use Rattle.wat_syntax.specs.Tree.plain as plainly
 use Rattle.wat_syntax.specs.Tokens.{Toks, Parse, peek, after, is_lparen, is_rparen, is_key, key_of, rparen, form}
 use Rattle.wat_syntax.specs.Values.{index}
-use Rattle.wat_syntax.specs.Bodies.{Item, Rule, Place, Anywhere, CatchArms, Next, Ends, CatchingArm, Part, End, Else, Catch, CatchAll, Delegate, part_in, same_part, is_arm, next_of, terminal, arm, ends, else_arm, catch_arm, catch_all_arm, handlers, sequence, sequences}
+use Rattle.wat_syntax.specs.Bodies.{Item, Rule, Place, Anywhere, CatchArms, Ends, CatchingArm, Part, Else, Catch, CatchAll, Delegate, part_in, same_part, is_arm, next_of, terminal, arm, ends, else_arm, catch_arm, catch_all_arm, handlers, sequence, sequences}
 use Rattle.wat_syntax.specs.Bodies as rule
 use Rattle.wat_text.specs.declared.bodies.Level.{Level}
 use Rattle.wat_text.specs.declared.bodies.Level.TheVariants as level
 use Rattle.wat_text.specs.declared.bodies.Hint as code
 use Rattle.wat_text.specs.declared.bodies.Open.{Open}
-use Rattle.wat_text.specs.Machine.{State, with_instr, opened, closed, first_by, next_by, put, turned, arm_entered, with_toks, hinted_by, hinted_step}
+use Rattle.wat_text.specs.Machine.{State, with_instr, opened, closed, first_by, next_by, put, turned, arm_entered, with_toks, hinted_step}
 use Rattle.wat_text.specs.Machine as machine
 use Rattle.wat_text.proofs.Running.{run, add, in_turn}
 use Rattle.wat_text.proofs.Levels.{Base, hint_items, todo}
@@ -169,7 +170,7 @@ module _ (may : Bool) (b : Base) (m : ℕ) (os : List Open) (ws : List Instructi
     abbrev at_level : Level → State
     at_level l = state (levels l) ws e t
 
-    -- a level where only arms and ')' go on, of which these rules are left
+    -- a level that only an arm or ')' continues, and that has these rules left
     by_token : (l : Level) (rs : List Rule) → Rattle.wat_text.specs.Machine.takes_plain (Some l) ≡ false
         → (is_lparen (peek 0 toks) ≡ false → is_rparen (peek 0 toks) ≡ false → run rs e toks ≡ None)
         → (peek 0 t ≡ Some token.Open → h ≡ None → toks ≡ t → Same may b m (opened None (state (levels l) ws e (after t))) (run rs e t))

@@ -1,4 +1,4 @@
--- What is read to the end of the tokens, and what an error then says.
+-- A function that reads to the end of the tokens meets its contract (specs/Finishes): what it returns, and what an error states.
 use Rattle.std.proofs.Common.{◌≡◌, ◌≢◌, ◌∙◌, ◌⊎◌, ℕ, Bool, true, false, List, map, Option, None, Some, Result, Ok, Err, refl, sym, ap, subst, inl, inr}
 use Rattle.std.specs.Prelude.{IfSome, IfOk, IfErr, is_some}
 use Rattle.std.specs.Borrow.{Bor}
@@ -19,7 +19,7 @@ use Rattle.wat_text.specs.declared.modules.TextKind.TheVariants as kind
 use Rattle.wat_text.specs.declared.modules.TextModule.{TextModule}
 use Rattle.wat_text.specs.declared.reader.Reader.{Reader}
 
--- a fault that is not of memory
+-- a fault other than a failed allocation
 refusal : (f : TextFault) → f ≢ fault.Memory → IsRefusal f
 refusal fault.Memory h = absurd (h refl)
 refusal f h = tt
@@ -135,7 +135,7 @@ fields_finish rule a c fields None (Err e) r f ok err =
       refuses = λ n. explains_ill (rule ≡ None) e.fault err.1 (record { part = fields; denotes = r.gives clean; ill = err.0 });
     }
 
--- what is refused, as something else that is denoted
+-- an error for one kind of part, as the error for another kind that has the same rules
 pub finish_err : {S T : Type 0} (is_well : S → Bool) (denoted : S → Type 0) (nothing : Type 0) (is_well' : T → Bool) (denoted' : T → Type 0) (nothing' : Type 0)
     (a : Reader) (e : TextError) → Finishes is_well denoted nothing a (Err e) → (nothing → nothing') → (IsIllFormed is_well denoted → IsIllFormed is_well' denoted')
     → Finishes is_well' denoted' nothing' a (Err e)

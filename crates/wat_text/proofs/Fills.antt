@@ -1,5 +1,5 @@
--- A number of parts one after another, as a loop puts them into an array.
-use Rattle.std.proofs.Common.{◌≡◌, ◌∙◌, ◌≢◌, ℕ, zero, suc, ◌+◌, ◌-◌, ◌<◌, ◌≤◌, Bool, List, [], ◌∷◌, ◌++◌, length, take, Option, None, Some, refl, sym, ap, subst, append_assoc, arith}
+-- A fixed number of parts, as a loop reads them into an array: the lanes of `i8x16.shuffle`, for example.
+use Rattle.std.proofs.Common.{◌≡◌, ◌∙◌, ◌≢◌, ℕ, suc, ◌+◌, ◌-◌, ◌<◌, ◌≤◌, List, [], ◌∷◌, ◌++◌, length, take, Option, None, Some, refl, sym, ap, subst, append_assoc, arith}
 use Rattle.std.specs.Prelude.{set}
 use Rattle.std.proofs.lemmas.List.{take_more_set, take_all, length-set}
 use Rattle.wat_grammar.specs.Parts.{◌>>=◌}

@@ -1,5 +1,5 @@
--- Flags, as a loop reads them.
-use Rattle.std.proofs.Common.{◌≡◌, ◌∙◌, ℕ, zero, suc, ◌-◌, ◌+◌, ◌<◌, Bool, true, false, List, [], ◌∷◌, Option, None, Some, refl, sym, ap, arith}
+-- Flags, as a loop reads them: `binding-weak tls` has the bits of both.
+use Rattle.std.proofs.Common.{◌≡◌, ◌∙◌, ℕ, suc, ◌-◌, ◌+◌, ◌<◌, true, false, List, ◌∷◌, None, Some, refl, sym, ap, arith}
 use Rattle.std.specs.Prelude.{bit_or}
 use Rattle.wat_grammar.specs.Parts.{◌>>=◌}
 use Rattle.wat_syntax.specs.Tokens.{Toks, Parse, many}
@@ -10,7 +10,7 @@ use Rattle.wat_text.specs.declared.reader.Reader.{Reader}
 use Rattle.wat_text.proofs.Loops.{stops}
 use Rattle.wat_text.proofs.Steps.{Steps, both_steps}
 
--- the bits of flags that a rule reads, beside others
+-- the bits of flags that a rule reads, with other bits
 abbrev pub with_bits : ℕ → Parse (List ℕ) → Parse ℕ
 with_bits n rest = rest >>= λ fs. Some (bits_with n fs.0, fs.1)
 

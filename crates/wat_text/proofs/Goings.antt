@@ -1,4 +1,4 @@
--- How far an expression is read: what the grammar makes of its tokens, it makes of the state of the machine.
+-- How far an expression is read. What the grammar reads in all tokens, it reads from the state of the machine after some steps.
 use Rattle.std.proofs.Common.{◌≡◌, ◌∙◌, ℕ, suc, Bool, true, false, List, [], ◌∷◌, if◌then◌else◌, Option, None, Some, refl, sym, ap, subst}
 use Rattle.wat_grammar.specs.Parts.{◌>>=◌}
 use Rattle.wat_tokens.specs.declared.words.Word.{Word}
@@ -10,7 +10,7 @@ use Rattle.wat_syntax.specs.Tree.{Instruction, Expression}
 use Rattle.wat_syntax.specs.Tokens.{Toks, Parse, peek, count, lparen, is_end, word_of, position}
 use Rattle.wat_syntax.specs.Values.{annotation_of}
 use Rattle.wat_syntax.specs.Instructions.{instruction}
-use Rattle.wat_syntax.specs.Bodies.{Item, Instr, Place, Anywhere, Next, Ends, Part, part_of, part_in, is_hint, next_of, next_of_token, at_end, sequence, sequences, expression_of, expression, folded_expression, folded_by, next_of_word, ◌>>◌}
+use Rattle.wat_syntax.specs.Bodies.{Item, Instr, Anywhere, Ends, Part, part_of, part_in, is_hint, next_of_token, at_end, sequences, expression_of, expression, folded_expression, folded_by, next_of_word, ◌>>◌}
 use Rattle.wat_syntax.specs.Bodies as rule
 use Rattle.wat_text.specs.declared.bodies.Level.TheVariants as level
 use Rattle.wat_text.specs.Machine.{State, step, folded_operator, operator_of, with_toks, waited, entered}
@@ -19,7 +19,8 @@ use Rattle.wat_text.proofs.Levels.{Base, Whole, One, todo_below, answer, mixed}
 use Rattle.wat_text.proofs.MachineSteps.{state, Same, folds, no_operator, waited_is, stood_is, next_is}
 use Rattle.wat_text.proofs.Machines.{goes_on, unfolds}
 
--- What the state answers with m steps, the rule gives; and what the rule gives, the state answers with n steps and one.
+-- If the state has a result with m steps, it is that of the rule. The result of the rule, if there is one, is also that of the
+-- state with n steps and one.
 pub record Going (may : Bool) (b : Base) (given : Parse Expression) (m n : ℕ) (s : State) : Type 0 where
   pub sound : Below (answer may b m s) given
   pub whole : Below given (answer may b (suc n) s)

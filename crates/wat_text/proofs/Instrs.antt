@@ -1,5 +1,5 @@
--- Instructions that are read, and then built or put into a list.
-use Rattle.std.proofs.Common.{◌≡◌, ◌∙◌, Bool, true, false, ℕ, List, [], ◌∷◌, ◌++◌, map, Option, None, Some, refl, sym, ap, subst}
+-- Instructions that are read, and then built or appended to a list.
+use Rattle.std.proofs.Common.{◌≡◌, ◌∙◌, true, false, ℕ, List, [], ◌∷◌, map, None, Some, sym, ap, subst}
 use Rattle.std.specs.Borrow.{Bor}
 use Rattle.wat_grammar.specs.Parts.{◌>>=◌}
 use Rattle.wat_tokens.specs.declared.words.Word.{Word}
@@ -32,7 +32,7 @@ built {S = S} rule shape old mid new x result i r m is same stays = record {
     back : new.make ≡ false → mid.make ≡ false
     back h = none_failed mid.make new.make m.0 h
 
--- an instruction that is put into a list
+-- an instruction that is appended to a list
 pub put : (rule : Toks → Parse Instruction) (old mid new : Reader) (i : Instruction) (before behind : List Instruction) → Reads rule old mid (seen_instr i) → Builds mid new i before behind
     → ReadsOnto (one rule) old new (map seen_instr before) (map seen_instr behind)
 put rule old mid new i before behind r b = record {

@@ -1,11 +1,13 @@
--- The labels of `br_table`: the last of them is kept apart from those before it.
-use Rattle.std.proofs.Common.{◌≡◌, ◌∙◌, ℕ, ◌-◌, ◌+◌, ◌<◌, Bool, true, List, [], ◌∷◌, ◌++◌, Option, None, Some, refl, sym, ap}
+-- The labels of `br_table`, as a loop reads them: the last label is kept apart from those before it.
+--
+--   br_table 0 1 2      labels 0 and 1, and the default 2
+use Rattle.std.proofs.Common.{◌≡◌, ◌∙◌, ℕ, ◌-◌, ◌+◌, ◌<◌, true, List, [], ◌∷◌, ◌++◌, None, Some, refl, sym, ap}
 use Rattle.wat_grammar.specs.Parts.{◌>>=◌}
 use Rattle.wat_syntax.specs.Tree.{Index, Instruction}
 use Rattle.wat_syntax.specs.Tree.instr
 use Rattle.wat_syntax.specs.Tokens.{Toks, Parse, many, with_parts}
 use Rattle.wat_syntax.specs.Values.{index}
-use Rattle.wat_syntax.specs.Types.{is_index_next, indices}
+use Rattle.wat_syntax.specs.Types.{is_index_next}
 use Rattle.wat_syntax.specs.Instructions.{last, before_last}
 use Rattle.wat_text.specs.declared.reader.Reader.{Reader}
 use Rattle.wat_text.specs.Readers.{left, Reads, Decides, Pushes}

@@ -1,4 +1,4 @@
--- The tokens that are left after one more is read.
+-- The tokens that are left after one more token is read.
 use Rattle.std.proofs.Common.{◌≡◌, ◌∙◌, ℕ, zero, suc, ◌+◌, ◌-◌, ◌<◌, List, [], ◌∷◌, length, drop, refl, sym, ap, arith, add-one}
 use Rattle.wast_base.specs.declared.ids.Span.{Span}
 use Rattle.wat_tokens.specs.declared.tokens.Placed.{Placed}

@@ -1,4 +1,6 @@
--- What the grammar still has to read while levels are open, the innermost first.
+-- The rules that the grammar still has to read while levels are open, those of the innermost level first.
+--
+--   (drop (i32.const 0      two levels are open; each still has to read a ')'
 use Rattle.std.proofs.Common.{ℕ, suc, Bool, List, [], ◌∷◌, ◌++◌, Option, None, Some}
 use Rattle.wat_tokens.specs.declared.words.Key.TheVariants as key
 use Rattle.wat_syntax.specs.Tree.{Instruction, Expression}
@@ -16,7 +18,7 @@ pub data Base : Type 0 where
   Whole : Base
   One : Base
 
--- where instructions are read in a level, if they are
+-- which instructions are read in a level, if any
 abbrev pub place_of : Level → Option Place
 place_of level.Operands = Some Folded
 place_of level.Condition = Some Folded
@@ -76,7 +78,7 @@ module _ (may : Bool) where
   own within level.PlainTry h ws = catches_to_end may within ∷ []
   own within level.PlainCatch h ws = within Catches ∷ catch_all_to_end may within ∷ []
 
-  -- the instructions of a place, and what follows them
+  -- the instructions that are read in a level, and what follows them
   abbrev pub placed : ℕ → Option Place → List Rule → List Rule
   placed m (Some p) ps = sequences may m p ∷ ps
   placed m None ps = ps
@@ -88,11 +90,11 @@ module _ (may : Bool) where
   abbrev pub todo : Base → ℕ → List Open → List Instruction → List Rule
   todo b m ls ws = placed m (place_in b ls) (behind b m ls ws)
 
-  -- what the grammar still answers from a state
+  -- the result of the grammar from a state
   abbrev pub answer : Base → ℕ → State → Parse Expression
   answer b m s = run (todo b m s.levels s.waiting) s.read s.toks
 
-  -- the same where the first rules have a step less
+  -- the same if the first rules have one step fewer
   abbrev pub mixed : Base → ℕ → ℕ → State → Parse Expression
   mixed b k m s = run (mix k (todo b m s.levels s.waiting) (todo b (suc m) s.levels s.waiting)) s.read s.toks
 

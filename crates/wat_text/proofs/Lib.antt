@@ -1,6 +1,7 @@
 pub mod Arms
 pub mod Endings
 pub mod Entries
+pub mod Falls
 pub mod Fills
 pub mod Flags
 pub mod Goings
@@ -31,3 +32,6 @@ pub mod Turns
 pub mod Unfolds
 pub mod Waiting
 pub mod Words
+pub mod WorkedCursors
+pub mod WorkedDenotes
+pub mod WorkedReaders

@@ -1,4 +1,6 @@
--- Parts one after another, as a loop reads them: one more, and the end.
+-- Lists of parts, as a loop reads them: one more part, and the end of the loop.
+--
+--   i32 i64      two parts, each by the rule of value types
 use Rattle.std.proofs.Common.{◌≡◌, ◌∙◌, ℕ, zero, suc, Bool, true, false, List, [], ◌∷◌, ◌++◌, map, None, Some, refl, sym, ap, append_assoc}
 use Rattle.wat_grammar.specs.Parts.{◌>>=◌}
 use Rattle.wat_syntax.specs.Tokens.{Toks, Parse, many, many_lists, with_parts, rparen}

@@ -1,4 +1,5 @@
--- The steps that read an instruction: what the grammar answers before, it answers from the state after.
+-- A step of the machine that reads an instruction. The grammar reads the same from the state before the step and from the state
+-- after it.
 use Rattle.std.proofs.Common.{◌≡◌, ◌∙◌, ℕ, zero, suc, Bool, List, [], ◌∷◌, ◌++◌, Option, None, Some, refl, sym, ap}
 use Rattle.wast_base.specs.declared.ids.Span.{Span}
 use Rattle.wat_grammar.specs.Parts.{◌>>=◌}
@@ -10,7 +11,7 @@ use Rattle.wat_tokens.specs.declared.words.BlockOp.TheVariants as opens
 use Rattle.wat_syntax.specs.Tree.{Instruction, Expression}
 use Rattle.wat_syntax.specs.Tokens.{Toks, Parse, peek, position, rparen, form, with_parts, word_of}
 use Rattle.wat_syntax.specs.Instructions.{instruction}
-use Rattle.wat_syntax.specs.Bodies.{Item, Instr, Rule, Place, Anywhere, Folded, Next, Ends, Folds, Opens, Stands, Part, part_of, part_in, next_of, next_of_word, terminal, writes, hinted, arm, ends, else_arm, handlers, part, End, else_to_end, catches_to_end, rest_of_block, ◌>>◌, folded_by, foldedinstr, sequence, sequences}
+use Rattle.wat_syntax.specs.Bodies.{Item, Instr, Rule, Place, Anywhere, Folded, Next, Ends, Opens, Stands, Part, part_of, part_in, next_of, next_of_word, terminal, writes, hinted, arm, ends, else_arm, handlers, part, End, else_to_end, catches_to_end, ◌>>◌, folded_by, sequence, sequences}
 use Rattle.wat_syntax.specs.Bodies as rule
 use Rattle.wat_text.specs.declared.bodies.Level.TheVariants as level
 use Rattle.wat_text.specs.declared.bodies.Hint as code
@@ -52,7 +53,8 @@ stood_is s None e = ap (λ o. with_parts s.read.instrs (o >>= λ x. Some (x.0 �
 stood_is s (Some i) e = ap (λ o. with_parts s.read.instrs (o >>= λ x. Some (x.0 ∷ [], x.1)) >>= λ w.
     Some (record { levels = s.levels; waiting = s.waiting; read = record { instrs = w.0; branch_hints = s.read.branch_hints }; toks = w.1 })) e
 
--- What the grammar answers, and what it answers from the state after a step, if there is one: some rules in front have a step less.
+-- The result of the grammar from a state, and from the state after a step, if there is one. Some of the first rules have one step
+-- fewer.
 pub record Same (may : Bool) (b : Base) (m : ℕ) (x : Option State) (a : Parse Expression) : Type 0 where
   pub k : ℕ
   pub is : a ≡ x >>= mixed may b k m

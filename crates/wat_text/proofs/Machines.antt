@@ -1,4 +1,4 @@
--- The machine and the grammar: a step loses nothing and gains nothing.
+-- The machine and the grammar read the same: a step loses no result and adds none.
 use Rattle.std.proofs.Common.{◌≡◌, ◌∙◌, ℕ, suc, not, Bool, true, false, if◌then◌else◌, List, [], ◌∷◌, Option, None, Some, refl, sym, ap}
 use Rattle.std.specs.Borrow.{Bor}
 use Rattle.wast_base.specs.declared.ids.Span.{Span}
@@ -9,7 +9,7 @@ use Rattle.wat_tokens.specs.declared.tokens.Annotation.TheVariants as annotation
 use Rattle.wat_syntax.specs.Tree.{Instruction, Expression}
 use Rattle.wat_syntax.specs.Tokens.{Toks, Parse, peek, after, is_lparen, is_rparen, is_end, position, rparen}
 use Rattle.wat_syntax.specs.Values.{string, annotation_of}
-use Rattle.wat_syntax.specs.Bodies.{Item, Instr, Hint, Rule, Place, Anywhere, Folded, Catches, CatchArms, Next, Ends, is_hint, hint_value, next_of, at_end, sequence, sequences, instrs_of, hints_of, expression_of, expression, ◌>>◌, folded_by, next_of_word}
+use Rattle.wat_syntax.specs.Bodies.{Item, Hint, Rule, Place, Anywhere, Folded, CatchArms, is_hint, hint_value, next_of, at_end, sequence, sequences, ◌>>◌}
 use Rattle.wat_syntax.specs.Bodies as rule
 use Rattle.wat_text.specs.declared.bodies.Level.{Level}
 use Rattle.wat_text.specs.declared.bodies.Level.TheVariants as level
@@ -25,12 +25,12 @@ use Rattle.wat_text.proofs.Arms.{then_level, try_level, last_level, delegated_le
 use Rattle.wat_text.proofs.Places.{no_end, no_close}
 
 -- what a hint reads as
-data Reading (may : Bool) (toks : Toks) : Type 0 where
+pub data Reading (may : Bool) (toks : Toks) : Type 0 where
   None_there : rule.hint may toks ≡ Some ([], toks) → Reading may toks
   One_there : (v : ℕ) (t : Toks) → peek 0 toks ≡ a_hint → rule.hint may toks ≡ Some (Hint v ∷ [], t) → Reading may toks
   Bad : peek 0 toks ≡ a_hint → rule.hint may toks ≡ None → Reading may toks
 
-reading : (may : Bool) (toks : Toks) → Reading may toks
+pub reading : (may : Bool) (toks : Toks) → Reading may toks
 reading may toks = by (peek 0 toks) refl
   where
     after_it : Parse (Bor (List ℕ)) → Parse (List Item)
@@ -61,7 +61,7 @@ reading may toks = by (peek 0 toks) refl
     by (Some k) is = None_there (ap read_as is)
     by None is = None_there (ap read_as is)
 
--- where a step is taken: not at the end of what is read
+-- whether the machine takes a step: not at the end of what is read
 abbrev pub goes_on : Base → List Open → Toks → Bool
 goes_on b (o ∷ os) toks = true
 goes_on Whole [] toks = not (is_end (peek 0 toks))
@@ -129,7 +129,7 @@ module _ (may : Bool) (b : Base) (m : ℕ) where
       none_left is (Hinted x some at) = ap (λ h. at_nothing None h (state [] ws e t)) some
 
   -- a step
-  step_as : (ls : List Open) (ws : List Instruction) (e : Expression) (toks : Toks) (r : Parse (List Item)) → rule.hint may toks ≡ r
+  pub step_as : (ls : List Open) (ws : List Instruction) (e : Expression) (toks : Toks) (r : Parse (List Item)) → rule.hint may toks ≡ r
       → step may (state ls ws e toks) ≡ ((r >>= λ h. let o : Option code.Hint × Toks = (hint_in (position toks) h.0, h.1) in Some o) >>= λ h. hinted_step h.0 (state ls ws e h.1))
   step_as ls ws e toks r read = ap (λ r. (r >>= λ h. let o : Option code.Hint × Toks = (hint_in (position toks) h.0, h.1) in Some o) >>= λ h. hinted_step h.0 (state ls ws e h.1)) read
 

@@ -1,4 +1,4 @@
--- If no allocation failed afterwards, none failed before.
+-- If no allocation failed in the end, none failed before.
 use Rattle.std.proofs.Common.{◌≡◌, ◌∙◌, Bool, true, false, refl, sym}
 
 pub none_failed : (old new : Bool) → (old ≡ true → new ≡ true) → new ≡ false → old ≡ false

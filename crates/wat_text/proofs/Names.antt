@@ -1,4 +1,4 @@
--- UTF-8 as a fact and as a test.
+-- UTF-8 as the property that the code has of a name, and as the test in the rule of names.
 use Rattle.std.proofs.Common.{◌≡◌, ℕ, Bool, true, false, List, refl}
 use Rattle.std.specs.Str.{IsUtf8, is_utf8}
 use Rattle.std.proofs.lemmas.Str.{IsUtf8-from_is_utf8, is_utf8-from_IsUtf8}

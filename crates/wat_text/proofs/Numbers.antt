@@ -1,4 +1,4 @@
--- What a number of the code says of the rule.
+-- The value of an unsigned number in the code is that of the rule, and a text that the code rejects has no value by the rule.
 use Rattle.std.proofs.Common.{◌≡◌, ◌∙◌, ℕ, false, List, Option, None, Some, Ok, Err, refl, ap}
 use Rattle.std.specs.Borrow.{Bor}
 use Rattle.wast_base.specs.declared.ids.Id.{Id}

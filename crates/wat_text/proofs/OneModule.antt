@@ -1,22 +1,21 @@
--- A text has one module.
+-- The theorems of specs/OneModule: a text has one module, except for addresses.
 use Rattle.std.specs.Prelude.{nat_lt, is_some}
 use Rattle.std.specs.Option.{option_or}
 use Rattle.std.specs.Str.{is_utf8}
 use Rattle.std.proofs.Common.{◌≡◌, ◌∙◌, ℕ, suc, ◌-◌, Bool, true, false, List, [], ◌∷◌, ◌++◌, length, map, All, Option, None, Some, option_map, refl, sym, ap, arith}
 use Rattle.wat_grammar.specs.Parts.{◌>>=◌}
 use Rattle.wat_grammar.specs.Tokens as grammar
-use Rattle.wat_tokens.specs.Scans.{seen_all, IsNamed}
+use Rattle.wat_tokens.specs.Scans.{IsNamed}
 use Rattle.wat_tokens.specs.Words.{word_named}
 use Rattle.wat_tokens.specs.declared.tokens.Token.{Token}
 use Rattle.wat_tokens.specs.declared.tokens.Token.TheVariants as token
 use Rattle.wat_tokens.specs.declared.tokens.Placed.{Placed}
 use Rattle.wat_tokens.specs.declared.words.Key.TheVariants as key
-use Rattle.wat_syntax.specs.Tree.{Span, ModuleField}
-use Rattle.wat_syntax.specs.Tokens.{Toks, Parse, peek, after, position, position_in, key_of, rparen}
+use Rattle.wat_syntax.specs.Tree.{Span}
+use Rattle.wat_syntax.specs.Tokens.{Toks, peek, after, position, key_of}
 use Rattle.wat_syntax.specs.Seen.{seen_text, seen_name}
 use Rattle.wat_syntax.specs.Values.{id}
 use Rattle.wat_syntax.specs.Types.{goes_on}
-use Rattle.wat_syntax.specs.Customs.{strings}
 use Rattle.wat_laws.specs.Bare.{bare_placed, bare_toks, bare_id, bare_fields}
 use Rattle.wat_laws.specs.AtZero.{all_at_zero, IsOfTable, AreOfTable}
 use Rattle.wat_laws.specs.Unaddressed.{unchanged, bare_both}
@@ -27,7 +26,7 @@ use Rattle.wat_laws.proofs.Types.{of_goes_on}
 use Rattle.wat_laws.proofs.Customs.{of_strings}
 use Rattle.wat_laws.proofs.ModuleFields.{of_modulefields}
 use Rattle.wat_laws.proofs.AtZero.{tokens_at_zero}
-use Rattle.wat_text.specs.Denotes.{module_keyword, opening, taken_in, all_taken, module_end, rest_of_fields, pieces_of, quote, quotes, quotes_of, text_in, position_of, put_in, all_of, all_in, Contents, Fields, Binary, Quotes, contents_of, module_position, fields_module, binary_module, inner_opening, inner_module, AreTokens, AreTokensIf, MeansInQuotes, MeansQuoted, MeansAs, MeansOpened, Means, Denotes, DenotesNothing, untokened, unread}
+use Rattle.wat_text.specs.Denotes.{module_keyword, opening, taken_in, all_taken, module_end, rest_of_fields, pieces_of, quote, quotes, quotes_of, text_in, position_of, put_in, all_of, all_in, Contents, Fields, Binary, Quotes, contents_of, module_position, fields_module, binary_module, inner_opening, inner_module, AreTokens, AreTokensIf, MeansInQuotes, MeansQuoted, MeansAs, MeansOpened, Means, untokened, unread}
 use Rattle.wat_text.specs.OneModule.{bare_module, bare_opening, bare_quote, tokens_if, module_in_quotes, quoted_module, module_as, module_after, module_of_tokens, module_of, DenotesOne, DenotesNone, DenotesAlike, DenotesEither}
 use Rattle.wat_text.specs.declared.modules.ModuleHead.{ModuleHead}
 use Rattle.wat_text.specs.declared.modules.TextModule.{TextModule}

@@ -1,4 +1,4 @@
--- What is read after the opening of a module, and of the text in quotes.
+-- What is read after the opening of a module, and in a text in quotes, is the module that the tokens mean.
 use Rattle.std.proofs.Common.{◌≡◌, ◌≢◌, ◌∙◌, ◌⊎◌, ℕ, true, false, List, length, All, Option, None, Some, Result, Ok, Err, refl, sym, ap, subst, inl, inr}
 use Rattle.std.specs.Prelude.{IfOk, IfErr}
 use Rattle.std.specs.Option.{option_or}
@@ -178,7 +178,7 @@ module _ (h : ModuleHead) where
           refuses = λ n. f.refuses new.0;
         }
 
-  -- an error where the strings are read
+  -- an error in the strings
   pub quotes_err : (r s a b : Reader) (qs : List Quote) (e : TextError) → left s ≡ after (left r) → s.fault ≡ r.fault → s.make ≡ r.make
       → Reads quotes s a qs → Expects (module_end true) a b → (e.fault ≢ fault.Memory → (b.make ≡ false) × (b.fault ≡ Some e))
       → Ends (λ m. MeansAs Quotes (seen_opening h) (left r) m) r (Err e)
@@ -213,7 +213,7 @@ module _ (toks : Toks) (a : Reader) (clean : IsClean a) (same : left a ≡ toks)
   means_err (Ok m) f = tt
   means_err (Err e) f = subst (λ t. Explains (Means t None) (MeansIllFormed t) e.fault) same (f.refuses clean.0)
 
--- what a text denotes, by what its tokens mean
+-- the module of a text, by that of its tokens
 pub text_none : (text : List ℕ) (e : TextError) → (e.fault ≢ fault.Memory → tokens bytes_of text ≡ None) → Explains (DenotesNothing text) (DenotesIllFormed text) e.fault
 text_none text e lexed = explains_nothing (DenotesIllFormed text) e.fault (λ f. go f (memory_or e.fault))
   where

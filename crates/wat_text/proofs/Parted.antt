@@ -1,12 +1,12 @@
--- A part of a block without parentheses, and instructions without parentheses: what the grammar answers before, it answers from the
--- state after.
+-- A step of the machine at `else`, `catch`, `end` and other parts of a block without parentheses, or at an instruction without
+-- parentheses. The grammar reads the same from the state before the step and from the state after it.
 use Rattle.std.proofs.Common.{◌≡◌, ◌∙◌, ℕ, zero, suc, Bool, true, false, List, [], ◌∷◌, ◌++◌, Option, None, Some, refl, sym, ap}
 use Rattle.wast_base.specs.declared.ids.Span.{Span}
 use Rattle.wat_grammar.specs.Parts.{◌>>=◌}
 use Rattle.wat_syntax.specs.Tree.{Instruction, Expression}
 use Rattle.wat_syntax.specs.Tokens.{Toks, Parse}
 use Rattle.wat_syntax.specs.Instructions.{instruction}
-use Rattle.wat_syntax.specs.Bodies.{Item, Instr, Rule, Place, Anywhere, Folded, Catches, CatchArms, Next, Ends, Folds, Opens, Stands, Catching, Part, End, Else, Catch, CatchAll, Delegate, part_of, part_in, same_part, is_hint, next_of, next_of_word, next_of_token, hinted, part, to_end, else_to_end, catch_all_to_end, catches_to_end, foldedinstr, folded_by, sequence, sequences}
+use Rattle.wat_syntax.specs.Bodies.{Item, Instr, Rule, Place, Anywhere, Catches, Ends, Catching, Part, End, Else, Catch, CatchAll, Delegate, part_in, same_part, hinted, part, to_end, else_to_end, catch_all_to_end, catches_to_end, sequences}
 use Rattle.wat_syntax.specs.Bodies as rule
 use Rattle.wat_text.specs.declared.bodies.Level.{Level}
 use Rattle.wat_text.specs.declared.bodies.Level.TheVariants as level
@@ -31,7 +31,7 @@ module _ (may : Bool) (b : Base) (m : ℕ) where
     abbrev items : List Item
     items = hint_items h
 
-    -- an instruction is put, and these rules follow
+    -- an instruction is appended, and these rules follow
     put_part : (k : ℕ) (ls : List Open) (rs : List Rule) → ((f : Expression) (r : Toks) → mixed may b k m (state ls ws f r) ≡ run rs f r)
         → Same may b m (stood (state ls ws (with_hint h e) t)) (run (hinted items ∷ rs) e t)
     put_part k ls rs same = by (instruction t) refl
@@ -110,7 +110,7 @@ module _ (may : Bool) (b : Base) (m : ℕ) where
       parts level.PlainCatch q is there = no_step may b m refl (no_catches (Some q) is refl ∙ not_all (Some q) is refl ∙ end_only (Some q) is refl)
       parts l q is there = absurd cc
 
-      -- where no part is
+      -- no part is next
       pub no_parts : (l : Level) → part_in t ≡ None → takes_parts l ≡ true → run (own may w l h0 ws ++ more) e toks ≡ None
       no_parts level.Plain is there = end_only None is refl
       no_parts level.PlainIf is there = not_else None is refl ∙ end_only None is refl

@@ -1,13 +1,13 @@
--- The rules that follow the instructions of a level, at the tokens where they end.
+-- The rules that follow the instructions of a level, at the token after these instructions.
 use Rattle.std.proofs.Common.{◌≡◌, ◌∙◌, ◌&&◌, Bool, true, false, List, [], ◌∷◌, ◌++◌, Option, None, Some, refl, sym, ap}
 use Rattle.wat_grammar.specs.Parts.{◌>>=◌}
 use Rattle.wat_tokens.specs.declared.words.Key.{Key}
 use Rattle.wat_tokens.specs.declared.tokens.Token.TheVariants as token
 use Rattle.wat_syntax.specs.Tree.{Instruction, Expression, Index}
 use Rattle.wat_syntax.specs.Tree.instr
-use Rattle.wat_syntax.specs.Tokens.{Toks, Parse, peek, after, is_lparen, is_rparen, is_key, key_of, word_of, rparen, form, is_form, keyword}
+use Rattle.wat_syntax.specs.Tokens.{Toks, Parse, peek, after, is_lparen, is_rparen, is_key, key_of, word_of, rparen, form, is_form}
 use Rattle.wat_syntax.specs.Values.{index}
-use Rattle.wat_syntax.specs.Bodies.{Item, Instr, Rule, Within, Place, Anywhere, Folded, Catches, CatchArms, Ends, Catching, CatchingArm, Part, End, Else, Catch, CatchAll, Delegate, part_of, part_in, same_part, terminal, writes, choice, hinted, arm, ends, else_arm, catch_arm, catch_all_arm, handlers, part, is_part, to_end, else_to_end, catch_all_to_end, catches_to_end, ◌>>◌, is_arm, arm_word, else_item, catch_all_item, catch_tag, delegate_label, sequence, sequences, next_of}
+use Rattle.wat_syntax.specs.Bodies.{Item, Instr, Rule, Within, Anywhere, Catches, CatchArms, Part, End, Else, Catch, CatchAll, Delegate, part_of, part_in, same_part, terminal, writes, hinted, arm, ends, else_arm, catch_arm, catch_all_arm, handlers, part, is_part, to_end, else_to_end, catch_all_to_end, catches_to_end, ◌>>◌, is_arm, arm_word, else_item, catch_all_item, catch_tag, delegate_label}
 use Rattle.wat_syntax.specs.Bodies as rule
 use Rattle.wat_text.specs.Machine.{with_instr, with_hint, with_last}
 use Rattle.wat_text.proofs.Running.{run, add, flat, in_turn, taken_by, chosen, not_chosen}
@@ -119,7 +119,7 @@ module _ (w : Within) (toks : Toks) (ps : List Rule) (e : Expression) where
   no_delegate h = not_chosen (is_arm Delegate) (terminal (arm_word Delegate) >> delegate_label >> terminal rparen >> terminal rparen) (w CatchArms >> catch_all_arm w >> ends) ps e toks h
       ∙ flat (w CatchArms) (catch_all_arm w ∷ ends ∷ []) ps e toks
 
--- what waited, with its hint
+-- the instruction that waited, with its hint
 pub waited_put : (h : Option Rattle.wat_text.specs.declared.bodies.Hint.Hint) (w : Option Instruction) (e : Expression) → add e (hint_items h ++ item_of w) ≡ with_last w (with_hint h e)
 waited_put None None e = refl
 waited_put None (Some i) e = refl

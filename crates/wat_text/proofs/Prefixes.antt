@@ -1,5 +1,5 @@
--- What is after a text at the front of another.
-use Rattle.std.proofs.Common.{◌≡◌, ◌∙◌, ◌≢◌, ℕ, ◌==◌, Bool, true, false, List, [], ◌∷◌, ◌++◌, Option, None, Some, eqb-true, refl, sym, ap, subst, arith}
+-- What comes after a prefix of a word, as for `offset=` in `offset=4`.
+use Rattle.std.proofs.Common.{◌≡◌, ◌∙◌, ◌≢◌, ℕ, ◌==◌, Bool, true, false, List, [], ◌∷◌, ◌++◌, Option, None, Some, eqb-true, refl, ap, arith}
 use Rattle.wat_grammar.specs.Parts.{after}
 
 same : (c : ℕ) → (c == c) ≡ true

@@ -1,5 +1,5 @@
--- Values of the fields of `producers`, as a loop reads them.
-use Rattle.std.proofs.Common.{◌≡◌, ◌≢◌, ◌∙◌, ℕ, zero, suc, ◌-◌, ◌+◌, ◌<◌, Bool, true, false, List, [], ◌∷◌, ◌++◌, map, Option, None, Some, refl, sym, ap, subst, append_assoc, arith}
+-- Values of the fields of `producers`, as a loop reads them and appends each to the list of its field.
+use Rattle.std.proofs.Common.{◌≡◌, ◌≢◌, ◌∙◌, ℕ, suc, ◌-◌, ◌+◌, ◌<◌, Bool, true, false, List, [], ◌∷◌, ◌++◌, map, Option, None, Some, refl, sym, ap, subst, append_assoc, arith}
 use Rattle.wat_grammar.specs.Parts.{◌>>=◌}
 use Rattle.wat_tokens.specs.declared.faults.TextError.{TextError}
 use Rattle.wat_syntax.specs.Tokens.{Toks, Parse, many, one, rparen}
@@ -121,7 +121,7 @@ pub gathers_last : (first new : Reader) (before after : Made) (n : ℕ) → n �
     → Gathers first new before after n → ReadsProducers all_producers first new before after
 gathers_last first new before after n none g = gathered first new before after n (ap (λ k. many goes_on producer k (left new)) none) g
 
--- what is put is one value of its field, and none of the others
+-- what is appended is one value of its field, and none of the others
 put_value : (v : Tool × Version) (before after : Made) → IsPut v before after
     → (map seen_version after.languages ≡ map seen_version before.languages ++ versions_of Language (seen_value v ∷ []))
     × (map seen_version after.sdks ≡ map seen_version before.sdks ++ versions_of Sdk (seen_value v ∷ []))

@@ -1,8 +1,8 @@
--- The string of a text in quotes in which an offset is, and tokens that are put there one after another.
-use Rattle.std.proofs.Common.{◌≡◌, ◌∙◌, ◌⊎◌, ℕ, zero, suc, ◌+◌, ◌-◌, ◌^◌, ◌<◌, ◌≤◌, min, Bool, true, false, List, [], ◌∷◌, ◌++◌, length, take, drop, set, map, All, Option, None, Some, refl, sym, ap, subst, arith, append_assoc, add-one, length-append, inl, inr}
+-- The string of a text in quotes in which an offset is, and a loop that sets the position of each token to that of its string.
+use Rattle.std.proofs.Common.{◌≡◌, ◌∙◌, ◌⊎◌, ℕ, zero, suc, ◌+◌, ◌-◌, ◌^◌, ◌<◌, ◌≤◌, min, Bool, true, false, List, [], ◌∷◌, ◌++◌, length, take, drop, set, map, All, None, Some, refl, sym, ap, subst, arith, append_assoc, add-one, length-append, inl, inr}
 use Rattle.std.specs.Prelude.{nat_lt, slice_get}
 use Rattle.std.specs.Str.{IsUtf8, is_utf8}
-use Rattle.std.proofs.lemmas.Bool.{ltb-true, ltb-false, lt-ltb, le-ltb}
+use Rattle.std.proofs.lemmas.Bool.{ltb-false, le-ltb}
 use Rattle.wast_base.specs.declared.ids.Span.{Span}
 use Rattle.wat_grammar.specs.Tokens.{tokens, bytes_of}
 use Rattle.wat_tokens.specs.Scans.{seen_all, IsNamed}
@@ -133,7 +133,7 @@ text_all qs n bytes was all = was ∙ ap text_in (whole qs n all)
     whole (q ∷ qs) zero h = absurd (omega (arith, h))
     whole (q ∷ qs) (suc n) h = ap (λ xs. q ∷ xs) (whole qs n (omega (arith, h)))
 
--- one token more is put where it is
+-- the position of one more token is set
 some_at : {A : Type 0} (xs : List A) (n : ℕ) → n < length xs → (x : A) × (slice_get xs n ≡ Some x)
 some_at [] n h = absurd (omega (arith, h))
 some_at (x ∷ xs) zero h = (x, refl)

@@ -1,4 +1,4 @@
--- Where no reference type is next, there is none.
+-- If no reference type is next, the rule of reference types is `None`.
 use Rattle.std.proofs.Common.{◌≡◌, Bool, true, false, Option, None, Some, refl}
 use Rattle.std.specs.Prelude.{is_some, ◌||◌}
 use Rattle.wat_tokens.specs.declared.tokens.Token.{Token}
@@ -16,7 +16,7 @@ both : (a b : Bool) → (a || b) ≡ false → (a ≡ false) × (b ≡ false)
 both true b h = absurd cc
 both false b h = (refl, h)
 
--- a keyword is no parenthesis
+-- a keyword is not a parenthesis
 no_paren : (t : Option Token) (k : Key) → key_of t ≡ Some k → is_lparen t ≡ false
 no_paren (Some token.Open) k e = absurd cc
 no_paren (Some t) k e = refl

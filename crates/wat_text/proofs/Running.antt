@@ -1,5 +1,5 @@
--- What is left to read of an expression, as rules one after another: the laws by which a rule in front is taken apart, and that more
--- steps in the rules change no answer.
+-- The rules that an expression still has to read, one after another. The theorems here take the first rule apart. They also show
+-- that more steps in the rules change no result.
 use Rattle.std.proofs.Common.{◌≡◌, ◌∙◌, ℕ, zero, suc, Bool, true, false, List, [], ◌∷◌, ◌++◌, length, Option, None, Some, refl, sym, ap, subst, append_assoc}
 use Rattle.std.specs.Prelude.{⊤}
 use Rattle.wat_grammar.specs.Parts.{◌>>=◌}
@@ -73,7 +73,7 @@ read_by p ps e toks rest xs h = rw h refl
 pub fails_by : (p : Rule) (ps : List Rule) (e : Expression) (toks : Toks) → p toks ≡ None → run (p ∷ ps) e toks ≡ None
 fails_by p ps e toks h = rw h refl
 
--- Where one answers, the other answers the same.
+-- If the first has a result, the second has the same result.
 pub record Below {A : Type 0} (a b : Option A) : Type 0 where
   pub gives : (x : A) → a ≡ Some x → b ≡ Some x
 

@@ -1,5 +1,6 @@
--- What numbers of the code with a sign say of the rule.
-use Rattle.std.proofs.Common.{◌≡◌, ◌≢◌, ◌∙◌, ℕ, zero, suc, ◌==◌, Bool, true, false, List, [], ◌∷◌, Option, None, Some, Result, Ok, Err, eqb-true, refl, sym, ap, subst}
+-- The value of a signed integer or a floating-point number in the code is that of the rule, and a text that the code rejects has
+-- none by the rule.
+use Rattle.std.proofs.Common.{◌≡◌, ◌≢◌, ◌∙◌, ℕ, ◌==◌, Bool, true, false, List, [], ◌∷◌, Option, None, Some, Ok, Err, eqb-true, refl, sym, ap, subst}
 use Rattle.std.specs.Prelude.{◌^◌, nat_lt, if◌then◌else◌, ℤ, option_map, codes}
 use Rattle.std.specs.Float.{Format}
 use Rattle.std.specs.Borrow.{Bor}
@@ -14,7 +15,7 @@ use Rattle.wat_tokens.specs.declared.faults.TextFault.TheVariants as fault
 use Rattle.wat_tokens.proofs.Backwards.{none_first}
 use Rattle.wast_base.specs.declared.ids.Span.{Span}
 use Rattle.wat_tokens.specs.declared.faults.TextError.{TextError}
-use Rattle.wat_syntax.specs.Tokens.{Toks, Parse}
+use Rattle.wat_syntax.specs.Tokens.{Parse}
 use Rattle.wat_syntax.specs.Values.{number_text, number}
 use Rattle.wat_text.specs.declared.reader.Reader.{Reader}
 use Rattle.wat_text.specs.Readers.{left, IsRefusal, IsRefused, Decides, Fails}
@@ -26,7 +27,7 @@ no_minus cs = none_first digit 10 0x2d cs refl refl
 no_plus : (cs : List ℕ) → natural (0x2b ∷ cs) ≡ None
 no_plus cs = none_first digit 10 0x2b cs refl refl
 
--- what the three kinds of text give, by their numbers of any size
+-- an unsigned integer, a signed one, and either of them, by their numbers of any size
 abbrev unsigned_in : ℕ → Option ℕ → Option ℕ
 unsigned_in N o = o >>= λ n. if nat_lt n (2 ^ N) then Some n else None
 
@@ -117,7 +118,7 @@ number_read {T = T} meaning old mid new text x d make clean gives stays keeps re
     go None e h r = ap rest (d.gives e) ∙ ap (λ o. o >>= λ n. Some (n, left mid)) (refuses e r)
     go (Some y) e h r = ap rest (d.refuses h (subst IsRefused (keeps (λ n. cc)) r))
 
--- A reader read the text of a number, and kept that it has no value.
+-- A reader read the text of a number, and stored that it has no value.
 pub fault_read : {T : Type 0} (meaning : List ℕ → Option T) (old mid new : Reader) (text : Bor (List ℕ)) (x : T) (e : TextFault) (span : Span) → Decides number_text old mid text → Fails e span mid new
     → (IsRefusal e → meaning text.now ≡ None) → Decides (number meaning) old new x
 fault_read meaning old mid new text x e span d f none = number_read meaning old mid new text x d f.make (λ h. absurd (faulty h)) (λ h. absurd (faulty h)) (λ h. absurd (faulty h)) f.keeps

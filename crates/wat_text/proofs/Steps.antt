@@ -1,4 +1,6 @@
--- What a reader does, as steps of a rule: after a step, the rest of a rule says what its start said before.
+-- Steps of a rule: after a reader has read a part, the rest of the rule has the result that its start had before.
+--
+--   (local i32) (local i64)      after the first form, the rule of locals has `i32` and reads on at the second form
 use Rattle.std.proofs.Common.{◌≡◌, ◌≢◌, ◌∙◌, ℕ, suc, ◌-◌, ◌+◌, ◌<◌, Bool, true, false, List, [], ◌∷◌, ◌++◌, map, Option, None, Some, refl, sym, ap, subst, arith}
 use Rattle.wat_tokens.specs.declared.faults.TextError.{TextError}
 use Rattle.wat_syntax.specs.Tokens.{Toks, Parse, many, many_lists, with_parts}
@@ -6,8 +8,8 @@ use Rattle.wat_text.specs.Readers.{left, IsClean, IsRefused, Reads, Decides, Rea
 use Rattle.wat_text.specs.declared.reader.Reader.{Reader}
 use Rattle.wat_text.proofs.Loops.{part_more, part_none, list_more, list_none, mapped}
 
--- A reader read a part of what a rule reads. If nothing is wrong afterwards, the start of the rule is its rest. If the reader refused
--- the tokens, the start is `None`.
+-- A reader read a part of what a rule reads. If there is no error afterwards, the start of the rule is its rest. If the reader
+-- rejected the tokens, the start is `None`.
 pub record Steps {T : Type 0} (old new : Reader) (start rest : Parse T) : Type 0 where
   pub made : new.make ≡ false → old.make ≡ false
   pub clean : new.fault ≡ None → old.fault ≡ None
@@ -29,7 +31,7 @@ both_steps {T = T} a b c p q r s t = record {
     go None e h m f = s.goes (e, t.made m) ∙ t.refuses e m f
     go (Some x) e h m f = s.refuses h (t.made m) (subst IsRefused (t.keeps (λ n. cc)) f)
 
--- A reader put a part at the end of a list, by either way.
+-- A reader appended a part to a list, of the tree or another.
 pub record Puts {T : Type 0} (old new : Reader) (part : T) (before after : List T) : Type 0 where
   pub made : new.make ≡ false → old.make ≡ false
   pub clean : new.fault ≡ None → old.fault ≡ None
@@ -116,7 +118,7 @@ list_step is_next part old new counter end found after few yet r =
       refuses = λ h m f. list_none is_next part (end - counter) n (left old) found one yet (r.refuses h m f);
     }
 
--- The steps of a loop, by what reads a part and what puts it into the list. First a part that is decided.
+-- The steps of a loop, by how a part is read and how it is appended. First a part that is decided.
 pub one_more : {T : Type 0} (is_next : Toks → Bool) (part : Toks → Parse T) (start : Parse (List T)) (first old a new : Reader) (counter end : ℕ) (x : T) (found after : List T)
     → counter < end → is_next (left old) ≡ true → Decides part old a x → Pushes a new x found after
     → Steps first old start (with_parts found (many is_next part (end - counter) (left old)))
@@ -124,7 +126,7 @@ pub one_more : {T : Type 0} (is_next : Toks → Bool) (part : Toks → Parse T) 
 one_more is_next part start first old a new counter end x found after few yet r p s =
     both_steps first old new start _ _ s (reads_step is_next part old a new counter end x found after few yet (decided part old a x r) (by_pushing a new x found after p))
 
--- the same of a part that the rule sees
+-- the same for a part that the rule has without addresses
 pub one_seen : {S T : Type 0} (seen : S → T) (is_next : Toks → Bool) (part : Toks → Parse T) (start : Parse (List T)) (first old a new : Reader) (counter end : ℕ) (x : S) (found after : List S)
     → counter < end → is_next (left old) ≡ true → Decides part old a (seen x) → Pushes a new x found after
     → Steps first old start (with_parts (map seen found) (many is_next part (end - counter) (left old)))
@@ -133,7 +135,7 @@ one_seen seen is_next part start first old a new counter end x found after few y
     both_steps first old new start _ _ s
     (reads_step is_next part old a new counter end (seen x) (map seen found) (map seen after) few yet (decided part old a (seen x) r) (seen_puts seen a new x found after (by_pushing a new x found after p)))
 
--- a part of which lists of the tree are made
+-- a part that contains lists of the tree
 pub one_read : {S T : Type 0} (seen : S → T) (is_next : Toks → Bool) (part : Toks → Parse T) (start : Parse (List T)) (first old a new : Reader) (counter end : ℕ) (x : S) (found after : List S)
     → counter < end → is_next (left old) ≡ true → Reads part old a (seen x) → Pushes a new x found after
     → Steps first old start (with_parts (map seen found) (many is_next part (end - counter) (left old)))
@@ -142,7 +144,7 @@ one_read seen is_next part start first old a new counter end x found after few y
     both_steps first old new start _ _ s
     (reads_step is_next part old a new counter end (seen x) (map seen found) (map seen after) few yet r (seen_puts seen a new x found after (by_pushing a new x found after p)))
 
--- a part that is put into a list of the tree
+-- a part that is appended to a list of the tree
 pub one_built : {S T : Type 0} (seen : S → T) (is_next : Toks → Bool) (part : Toks → Parse T) (start : Parse (List T)) (first old a new : Reader) (counter end : ℕ) (x : S) (found after : List S)
     → counter < end → is_next (left old) ≡ true → Reads part old a (seen x) → Builds a new x found after
     → Steps first old start (with_parts (map seen found) (many is_next part (end - counter) (left old)))
@@ -151,7 +153,7 @@ one_built seen is_next part start first old a new counter end x found after few 
     both_steps first old new start _ _ s
     (reads_step is_next part old a new counter end (seen x) (map seen found) (map seen after) few yet r (seen_puts seen a new x found after (by_building a new x found after p)))
 
--- the same of a part that the rule makes as it is
+-- the same for a part that the rule has as it is
 pub one_built_plain : {T : Type 0} (is_next : Toks → Bool) (part : Toks → Parse T) (start : Parse (List T)) (first old a new : Reader) (counter end : ℕ) (x : T) (found after : List T)
     → counter < end → is_next (left old) ≡ true → Reads part old a x → Builds a new x found after
     → Steps first old start (with_parts found (many is_next part (end - counter) (left old)))

@@ -1,5 +1,5 @@
--- Whether all tokens are taken, by their number.
-use Rattle.std.proofs.Common.{◌≡◌, ◌∙◌, ℕ, ◌<◌, ◌≤◌, List, [], ◌∷◌, length, Option, None, Some, refl, sym, arith}
+-- Whether all tokens are taken, by how many are left.
+use Rattle.std.proofs.Common.{◌≡◌, ℕ, ◌<◌, ◌≤◌, List, [], ◌∷◌, length, None, Some, refl, arith}
 use Rattle.wat_tokens.specs.declared.tokens.Placed.{Placed}
 use Rattle.wat_syntax.specs.Tokens.{Toks, count}
 use Rattle.wat_text.specs.Denotes.{taken_in, all_taken}

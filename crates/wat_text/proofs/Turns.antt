@@ -1,4 +1,5 @@
--- Each step of the machine, by what is open: what the grammar answers before it, it answers from the state after.
+-- A step of the machine, by the innermost level. The grammar reads the same from the state before the step and from the state
+-- after it.
 use Rattle.std.proofs.Common.{◌≡◌, ◌∙◌, ℕ, zero, suc, Bool, true, false, List, ◌∷◌, Option, None, Some, refl, sym, ap}
 use Rattle.wast_base.specs.declared.ids.Span.{Span}
 use Rattle.wat_tokens.specs.declared.words.Key.TheVariants as key
@@ -11,13 +12,13 @@ use Rattle.wat_syntax.specs.Tree.instr
 use Rattle.wat_syntax.specs.Tokens.{Toks, Parse, peek, after, is_lparen, is_rparen, is_form, is_key, key_of, word_of, rparen}
 use Rattle.wat_syntax.specs.Values.{annotation_of}
 use Rattle.wat_syntax.specs.Instructions.{instruction, instruction_of}
-use Rattle.wat_syntax.specs.Bodies.{Item, Instr, Hint, Rule, Place, Anywhere, Folded, CatchArms, Next, Ends, Folds, CatchingArm, Part, End, Else, Catch, CatchAll, Delegate, part_of, part_in, same_part, is_hint, is_arm, next_of, terminal, writes, arm, ends, else_arm, catch_arm, catch_all_arm, handlers, sequence, sequences}
+use Rattle.wat_syntax.specs.Bodies.{Rule, Place, Anywhere, Folded, Next, Ends, Folds, part_of, part_in, is_hint, next_of, terminal, writes, arm, ends, else_arm, sequence, sequences}
 use Rattle.wat_syntax.specs.Bodies as rule
 use Rattle.wat_text.specs.declared.bodies.Level.{Level}
 use Rattle.wat_text.specs.declared.bodies.Level.TheVariants as level
 use Rattle.wat_text.specs.declared.bodies.Hint as code
 use Rattle.wat_text.specs.declared.bodies.Open.{Open}
-use Rattle.wat_text.specs.Machine.{State, last_of, before_last, with_instr, with_hint, with_last, level_of, takes_plain, without, taken, plain, other, skipped, waiting_put, opened, opened_in, closed, at_nothing, folded_operator, first_by, next_by, first_handler, next_handler, turned, arm_entered, put, with_toks, hinted_by, hinted_step}
+use Rattle.wat_text.specs.Machine.{State, last_of, before_last, with_instr, with_hint, with_last, takes_plain, plain, other, opened, closed, folded_operator, hinted_by, hinted_step}
 use Rattle.wat_text.specs.Machine as machine
 use Rattle.wat_text.proofs.Running.{run, in_turn}
 use Rattle.wat_text.proofs.Levels.{Base, hint_items, waits, behind, todo}
@@ -42,7 +43,7 @@ module _ (may : Bool) (b : Base) (m : ℕ) where
   abbrev w : Place → Rule
   w = sequences may (suc m)
 
-  -- where no instruction without parentheses may be, only parentheses go on
+  -- a level that has only forms in parentheses continues with a parenthesis alone
   none_at : (l : Level) (place : Span) (h0 : Option code.Hint) (os : List Open) (ws : List Instruction) (e : Expression) (t : Toks) (h : Option code.Hint)
       → takes_plain (Some l) ≡ false → (o : Option Token) → is_lparen o ≡ false → is_rparen o ≡ false → hinted_by o h (state (open_of l place h0 ∷ os) ws e t) ≡ None
   none_at l place h0 os ws e t h folded = by
@@ -95,7 +96,7 @@ module _ (may : Bool) (b : Base) (m : ℕ) where
             (step_is l (Some token.Close) at ∙ ap (λ h. closed h (state (open_of l place h0 ∷ os) ws e (after t))) none ∙ closing) (ending is (ap (peek 0) is ∙ at))
         by (Hinted x some is) = no_step may b m (closed_by_hint x some l at) (fails (ap is_rparen is) (ap is_lparen is))
 
-    -- the parts of a block without parentheses, where instructions may be
+    -- the parts of a block without parentheses, at a level that has all instructions
     module _ (read : rule.hint may toks ≡ Some (hint_items h, t)) where
       abbrev follows : Level → List Rule
       follows l = behind may b (suc m) (open_of l place h0 ∷ os) ws
@@ -168,7 +169,7 @@ module _ (may : Bool) (b : Base) (m : ℕ) where
           (λ q is l r n. no_step may b m refl (no_close toks (todo may b (suc m) os ws) e (not_close r)))
           refl
 
-      -- where folded instructions alone may be
+      -- at a level that has only folded instructions
       folded_ends : is_lparen (peek 0 t) ≡ false → next_of Folded t ≡ Ends
       folded_ends p = ap (λ b. elim b [ true ↦ Ends | false ↦ elim (is_lparen (peek 0 t)) [ true ↦ Folds | false ↦ Ends ] ]) (form_not t key.Then p)
           ∙ ap (λ b. elim b [ true ↦ Folds | false ↦ Ends ]) p

@@ -1,4 +1,5 @@
--- Where instructions are read, by the next token: what the grammar answers before a step, it answers from the state after it.
+-- A step of the machine at a level that has instructions, by the next token. The grammar reads the same from the state before the
+-- step and from the state after it.
 use Rattle.std.proofs.Common.{◌≡◌, ◌∙◌, ℕ, suc, Bool, true, false, List, [], ◌∷◌, ◌++◌, Option, None, Some, refl, sym, ap}
 use Rattle.std.specs.Borrow.{Bor}
 use Rattle.wat_grammar.specs.Parts.{◌>>=◌}
@@ -10,7 +11,7 @@ use Rattle.wat_tokens.specs.declared.tokens.Token.TheVariants as token
 use Rattle.wat_syntax.specs.Tree.{Instruction, Expression}
 use Rattle.wat_syntax.specs.Tokens.{Toks, peek, after, is_lparen, is_rparen, is_end, word_of}
 use Rattle.wat_syntax.specs.Instructions.{instruction, instruction_of}
-use Rattle.wat_syntax.specs.Bodies.{Item, Instr, Rule, Place, Anywhere, Folded, Next, Ends, Folds, Opens, Stands, Part, part_of, part_in, is_hint, next_of, next_of_word, next_of_token, foldedinstr, folded_by, sequence, sequences}
+use Rattle.wat_syntax.specs.Bodies.{Instr, Rule, Place, Anywhere, Next, Ends, Folds, Opens, Stands, Part, part_of, part_in, is_hint, next_of, next_of_word, next_of_token, foldedinstr, folded_by, sequence, sequences}
 use Rattle.wat_syntax.specs.Bodies as rule
 use Rattle.wat_text.specs.declared.bodies.Hint as code
 use Rattle.wat_text.specs.declared.bodies.Open.{Open}
@@ -36,7 +37,7 @@ module _ (may : Bool) (b : Base) (m : ℕ) (ls : List Open) (ws : List Instructi
     abbrev s : State
     s = state ls ws e t
 
-    -- the answer after a hint
+    -- the result after a hint
     next : (p : Place) (n : Next) → next_of p t ≡ n → run (sequences may (suc m) p ∷ follows) e toks ≡ run (sequence may (sequences may m) n p toks (hint_items h) ∷ follows) e t
     next p n is = next_is may b m p follows e toks t (hint_items h) n read is
 
@@ -122,6 +123,6 @@ module _ (may : Bool) (b : Base) (m : ℕ) (ls : List Open) (ws : List Instructi
         by_token (Some (token.String x)) is = no_word (Some (token.String x)) is refl refl (λ r. refl) (plain_none (Some (token.String x)) is refl)
         by_token (Some (token.Other x)) is = no_word (Some (token.Other x)) is refl refl (λ r. refl) (plain_none (Some (token.Other x)) is refl)
 
-        -- a place where all instructions may be
+        -- a level that has all instructions
         pub anywhere : Same may b m (hinted_step h s) (run (sequences may (suc m) Anywhere ∷ follows) e toks)
         anywhere = by_token (peek 0 t) refl

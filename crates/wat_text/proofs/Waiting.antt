@@ -1,4 +1,4 @@
--- The last instruction that waits, as a list of trees and as what is seen of it.
+-- The last of the instructions that wait for their operands, as an instruction of the tree and without addresses.
 use Rattle.std.proofs.Common.{◌≡◌, ◌∙◌, ◌<◌, List, [], ◌∷◌, ◌++◌, map, length, Option, None, Some, option_map, refl, sym, ap, arith}
 use Rattle.std.specs.Prelude.{option_to_list}
 use Rattle.wat_text.specs.Machine.{last_of, before_last}

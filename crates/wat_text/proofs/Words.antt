@@ -1,5 +1,5 @@
--- An instruction whose word opens no block is a plain one.
-use Rattle.std.proofs.Common.{◌≡◌, Bool, true, List, ℕ, Some, refl}
+-- An instruction whose keyword opens no block is a plain instruction by the rule.
+use Rattle.std.proofs.Common.{◌≡◌, true, List, ℕ, Some, refl}
 use Rattle.std.specs.Borrow.{Bor}
 use Rattle.wat_tokens.specs.declared.words.Word.{Word}
 use Rattle.wat_tokens.specs.declared.words.Word.TheVariants as word

@@ -1,4 +1,9 @@
--- Where the tokens of a text in quotes are, as the code finds them: by the string at a cursor.
+-- Positions of the tokens in `(module quote ..)`, as the code finds them: by a cursor at one of the strings.
+--
+-- Denotes has the same positions by recursion over all strings. The code moves a cursor instead, because most tokens are in the
+-- string of the token before them or in the next one.
+--
+--   "(a" "b)"      offset 1 is in string 0, and offset 2 in string 1, which begins at 2
 use Rattle.std.specs.Prelude.{◌≡◌, ℕ, ◌-◌, ◌≤◌, List, [], length, map, take, set, Option, None, Some, slice_get}
 use Rattle.std.specs.Str.{is_utf8}
 use Rattle.wast_base.specs.declared.ids.Span.{Span}
@@ -7,16 +12,16 @@ use Rattle.wat_text.specs.declared.quotes.Quote.{Quote}
 use Rattle.wat_text.specs.declared.quotes.Cursor.{Cursor}
 use Rattle.wat_text.specs.Denotes.{text_in, position_of, put_in, AreTokensIf}
 
--- the first string
+-- the cursor at the first string
 abbrev pub start : Cursor
 start = record { number = 0; begin = 0 }
 
--- A cursor is at a string, with the number of bytes before it. Without strings it is at number 0.
+-- A cursor is at a string, and has the number of bytes before it. If there are no strings, it is at number 0.
 pub record IsAt (quotes : List Quote) (c : Cursor) : Type 0 where
   pub number : c.number ≤ length quotes - 1
   pub begin : c.begin ≡ length (text_in (take c.number quotes))
 
--- the position of a string, or that given if there is none of this number
+-- the position of a string; `none` if there is no string of this number
 abbrev pub span_of : Option Quote → Span → Span
 span_of (Some q) none = q.span
 span_of None none = none
@@ -24,11 +29,11 @@ span_of None none = none
 abbrev pub position_at : Span → List Quote → ℕ → Span
 position_at none quotes number = span_of (slice_get quotes number) none
 
--- the offset is in the string at the cursor
+-- The offset is in the string at the cursor.
 pub record IsIn (quotes : List Quote) (c : Cursor) (offset : ℕ) : Type 0 where
   pub same : (none : Span) → position_of none quotes offset ≡ position_at none quotes c.number
 
--- the bytes of a string, and none if there is none of this number
+-- the bytes of a string; no bytes if there is no string of this number
 abbrev pub bytes_of : Option Quote → List ℕ
 bytes_of (Some q) = q.bytes.now
 bytes_of None = []
@@ -52,7 +57,7 @@ put_from None tokens at span = tokens
 abbrev pub put_at : List Placed → ℕ → Span → List Placed
 put_at tokens at span = put_from (slice_get tokens at) tokens at span
 
--- tokens of the text that strings make, each at the position of the string in which it begins
+-- These are the tokens of the text that the strings make, each at the position of the string in which it begins.
 pub record ArePlaced (none : Span) (quotes : List Quote) (placed : List Placed) : Type 0 where
   pub found : List Placed
   pub lexed : AreTokensIf (is_utf8 (text_in quotes)) (text_in quotes) (Some found)

@@ -1,17 +1,17 @@
--- What a text denotes (text format: modules).
+-- Which module a text is, if it is one (text format: modules; test scripts: modules).
 --
--- A text is cut into tokens by the rules of wat_grammar, and the rules of wat_syntax make the fields of a module of the tokens. Here
--- are the rules of a module, of which all tokens must be taken.
+-- The rules of wat_grammar cut a text into tokens, and those of wat_syntax read the fields of a module from tokens. This file has
+-- the rules of a whole module, which must take all tokens.
 --
---   (module $m (start 0))                   the module m, with one field
+--   (module $m (start 0))                   a module with the id $m and one field
 --   (start 0)                               a module without an id, with one field
---   (module binary "\00asm" "\01\00\00\00") two pieces
+--   (module binary "\00asm" "\01\00\00\00") a binary module of two pieces
 --   (module quote "(start" " 0)")           the module of the text `(start 0)`
---   (start 0) x                             no module: a token is left
+--   (start 0) x                             no module, because a token is left
 --
--- The tokens of a text have references to their texts, and so have the ids and the strings of a module. No definition says at which
--- addresses those are. So a text denotes a module if some tokens of the text, at whatever addresses, are a module by the rules.
-use Rattle.std.specs.Prelude.{◌≡◌, ◌⊎◌, ⊤, ℕ, ◌-◌, nat_lt, Bool, true, false, if◌then◌else◌, List, [], ◌∷◌, ◌++◌, length, map, All, Option, None, Some, is_some}
+-- The tokens of a text refer to parts of it, and so do the ids and the strings of a module. No definition fixes the addresses of
+-- these parts. So a text is a module (Denotes) if some tokens of the text, at any addresses, are the module by the rules.
+use Rattle.std.specs.Prelude.{◌≡◌, ◌⊎◌, ⊤, ℕ, ◌-◌, nat_lt, Bool, true, false, List, [], ◌∷◌, ◌++◌, length, map, All, Option, None, Some, is_some}
 use Rattle.std.specs.Option.{option_or, unwrap_or}
 use Rattle.std.specs.Str.{is_utf8}
 use Rattle.std.specs.Borrow.{Bor}
@@ -25,7 +25,7 @@ use Rattle.wat_tokens.specs.declared.faults.TextFault.TheVariants as fault
 use Rattle.wat_tokens.specs.declared.tokens.Placed.{Placed}
 use Rattle.wat_tokens.specs.declared.words.Key.{Key}
 use Rattle.wat_tokens.specs.declared.words.Key.TheVariants as key
-use Rattle.wat_syntax.specs.Tree.{Span, Id, NameAnnotation, ModuleField}
+use Rattle.wat_syntax.specs.Tree.{Span, ModuleField}
 use Rattle.wat_syntax.specs.Tokens.{Toks, Parse, peek, after, position, position_in, count, key_of, rparen, form, optional, many}
 use Rattle.wat_syntax.specs.Values.{id, name_annotation, string}
 use Rattle.wat_syntax.specs.Types.{goes_on}
@@ -40,7 +40,7 @@ use Rattle.wat_text.specs.declared.modules.TextKind.TheVariants as kind
 use Rattle.wat_text.specs.declared.modules.TextModule.{TextModule}
 use Rattle.wat_text.specs.declared.quotes.Quote.{Quote}
 
--- modules without the addresses of their names, as in wat_syntax; the bytes of pieces are those of their tokens
+-- Modules without the addresses of their names, as in wat_syntax. The pieces of a binary module are those of its tokens.
 abbrev pub seen_kind : TextKind → TextKind
 seen_kind (kind.Fields fields) = kind.Fields (map seen_field fields)
 seen_kind (kind.Binary pieces) = kind.Binary pieces
@@ -51,11 +51,12 @@ seen_module m = record { span = m.span; id = m.id; name = seen_name_option m.nam
 abbrev pub seen_opening : ModuleHead → ModuleHead
 seen_opening h = record { keyword = h.keyword; id = h.id; name = seen_name_option h.name }
 
--- '(' 'module': the position of the keyword
+-- '(' 'module': its value is the position of the keyword
 abbrev pub module_keyword : Toks → Parse Span
 module_keyword toks = form key.Module toks >>= λ t. Some (position (after toks), t)
 
--- '(' 'module' id?, or nothing (text format: modules): the position of the keyword if it is there, the id and the name annotation
+-- '(' 'module' id?, or nothing (text format: modules): its value is the position of the keyword if it is there, the id and the
+-- name annotation
 abbrev pub opening : Toks → Parse ModuleHead
 opening toks = elim (module_keyword toks) [
   | Some k ↦ optional id k.1 >>= λ x. name_annotation x.1 >>= λ n. Some (record { keyword = Some k.0; id = x.0; name = n.0 }, n.1)
@@ -78,11 +79,11 @@ module_end is_written toks = elim is_written [ true ↦ rparen toks >>= λ rest.
 abbrev pub rest_of_fields : Bool → Toks → Option (List ModuleField)
 rest_of_fields is_written toks = modulefields toks >>= λ fs. module_end is_written fs.1 >>= λ rest. Some fs.0
 
--- m ::= '(' 'module' id? modulefield* ')', or modulefield* alone (text format: modules): the fields
+-- m ::= '(' 'module' id? modulefield* ')', or modulefield* alone (text format: modules): its value is the fields
 abbrev pub fields_of_module : Toks → Option (List ModuleField)
 fields_of_module toks = opening toks >>= λ o. rest_of_fields (is_some o.0.keyword) o.1
 
--- 'binary' string*: the bytes of a module in the binary format, in pieces
+-- 'binary' string*: its value is the bytes of a binary module, in pieces
 abbrev pub pieces_of : Toks → Option (List (Bor (List ℕ)))
 pieces_of toks = strings (after toks) >>= λ ps. module_end true ps.1 >>= λ rest. Some ps.0
 
@@ -93,7 +94,7 @@ quote toks = string toks >>= λ b. Some (record { span = position toks; bytes = 
 abbrev pub quotes : Toks → Parse (List Quote)
 quotes toks = many goes_on quote (count toks) toks
 
--- 'quote' string*: the strings that make the text of a module
+-- 'quote' string*: its value is the strings that make the text of a module
 abbrev pub quotes_of : Toks → Option (List Quote)
 quotes_of toks = quotes (after toks) >>= λ qs. module_end true qs.1 >>= λ rest. Some qs.0
 
@@ -102,9 +103,9 @@ abbrev pub text_in : List Quote → List ℕ
 text_in [] = []
 text_in (q ∷ qs) = q.bytes.now ++ text_in qs
 
--- The position of the string in which a byte of this text is, by the number of bytes before it: of the strings "(a" and "b)", the
--- bytes 0 and 1 are in the first, and 2 and 3 in the second. After the last byte it is that of the last string, and that given if
--- there are no strings.
+-- The position of the string in which a byte of this text is, by the number of bytes before the byte. Of the strings "(a" and
+-- "b)", bytes 0 and 1 are in the first, and bytes 2 and 3 in the second. After the last byte it is the position of the last
+-- string. If there are no strings, it is the position given.
 abbrev pub position_of : Span → List Quote → ℕ → Span
 position_of last [] offset = last
 position_of last (q ∷ qs) offset = elim (nat_lt offset (length q.bytes.now)) [
@@ -116,11 +117,11 @@ position_of last (q ∷ qs) offset = elim (nat_lt offset (length q.bytes.now)) [
 abbrev pub put_in : Span → List Quote → Placed → Placed
 put_in first qs p = record { token = p.token; span = position_of first qs p.span.offset }
 
--- tokens of which none is taken; `end` is the position after the last one
+-- Tokens of which none is taken. `end` is the position after the last one.
 abbrev pub all_of : List Placed → Span → Toks
 all_of found end = record { before = position_in found end; left = found; end = end }
 
--- what a module contains, by the word after its opening
+-- what a module contains, by the keyword after its opening
 pub data Contents : Type 0 where
   Fields : Contents
   Binary : Contents
@@ -150,12 +151,12 @@ inner_opening h o = record { keyword = o.keyword; id = option_or h.id o.id; name
 abbrev pub inner_module : ModuleHead → Toks → Option TextModule
 inner_module h toks = opening toks >>= λ o. fields_module (module_position h) (inner_opening h o.0) o.1
 
--- The tokens of a text, at whatever addresses their texts are. The word of each is that of its text.
+-- The tokens of a text, at any addresses. Each token has the word that its text is.
 pub record AreTokens (text : List ℕ) (found : List Placed) : Type 0 where
   pub lexed : tokens bytes_of text ≡ Some (seen_all found)
   pub named : All (λ p. IsNamed p.token) found
 
--- the tokens of bytes, if they are a text (in UTF-8) and have tokens
+-- the tokens of bytes, if the bytes are a text (in UTF-8) and the text has tokens
 abbrev pub AreTokensIf : Bool → List ℕ → Option (List Placed) → Type 0
 AreTokensIf true text (Some found) = AreTokens text found
 AreTokensIf true text None = tokens bytes_of text ≡ None
@@ -193,26 +194,29 @@ Means toks meaning = MeansOpened (opening toks) meaning
 abbrev pub all_in : List ℕ → List Placed → Toks
 all_in text found = all_of found (record { offset = length text })
 
--- A text denotes a module. The names of the module are at address 0.
+-- The rules read a text as this module, whose names are at address 0.
 pub record Denotes (text : List ℕ) (m : TextModule) : Type 0 where
   pub found : List Placed
   pub tokens : AreTokens text found
   pub means : Means (all_in text found) (Some m)
 
--- A text denotes no module: it has no tokens, or its tokens are no module.
+-- The rules read a text as no module: it has no tokens, or its tokens are no module.
 pub data DenotesNothing (text : List ℕ) : Type 0 where
   untokened : tokens bytes_of text ≡ None → DenotesNothing text
   unread : (found : List Placed) → AreTokens text found → Means (all_in text found) None → DenotesNothing text
 
--- What an error says, by its fault. If no allocation failed, either the rules produce nothing, or what they produce is not well
--- formed, which one fault alone says. That fault is also one of the rules of expressions, for example of a branch hint without an
--- instruction.
+-- What an error states about a text, by its fault. `Memory` states nothing, because an allocation failed. `IllFormed` states that
+-- the rules produce nothing, or produce something that is not well formed. Each other fault states that the rules produce
+-- nothing.
+--
+-- `IllFormed` is also a fault of the rules of expressions, for example if a branch hint has no instruction. Then the rules
+-- produce nothing.
 abbrev pub Explains : Type 0 → Type 0 → TextFault → Type 0
 Explains nothing ill_formed fault.Memory = ⊤
 Explains nothing ill_formed (fault.IllFormed clause) = nothing ⊎ ill_formed
 Explains nothing ill_formed f = nothing
 
--- a part that is denoted and is not well formed
+-- There is a part that the rules produce and that is not well formed.
 pub record IsIllFormed {T : Type 0} (is_well : T → Bool) (denoted : T → Type 0) : Type 0 where
   pub part : T
   pub denotes : denoted part
@@ -221,7 +225,8 @@ pub record IsIllFormed {T : Type 0} (is_well : T → Bool) (denoted : T → Type
 abbrev pub is_well_formed_module : TextModule → Bool
 is_well_formed_module m = is_well_formed_text m.kind
 
--- fields, by a rule; a module, by its tokens and by its text
+-- The fields that a rule produces, and whether they are not well formed. Then a module that is not well formed, by its tokens and
+-- by its text.
 abbrev pub AreFields : Option (List ModuleField) → List ModuleField → Type 0
 AreFields rule fields = rule ≡ Some (map seen_field fields)
 

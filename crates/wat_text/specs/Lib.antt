@@ -7,3 +7,6 @@ pub mod MadeProducers
 pub mod OneModule
 pub mod Readers
 pub mod Texts
+pub mod WorkedCursors
+pub mod WorkedDenotes
+pub mod WorkedReaders

@@ -1,8 +1,10 @@
--- The steps of the code that reads expressions, as functions of a state.
+-- The machine that reads expressions, as steps from state to state (text format: instructions, folded instructions).
 --
--- The code keeps what is open in a list of levels, so that its calls do not nest as deeply as the text does. A function here is what
--- a function of src/bodies.rt does to the state, and `None` if it refuses the tokens. That the steps give what the grammar does is
--- proved in proofs/.
+-- The code keeps the blocks and forms that are not closed in a list of levels, so that its calls do not nest as deeply as the
+-- text does. A function here is what a function of src/bodies.rt does to the state. It is `None` if the code rejects the tokens.
+-- proofs/ shows that the steps read exactly what the grammar reads.
+--
+--   (drop (i32.const 0))      `drop` waits in a level of its own until the last ')', and is appended after `i32.const 0`
 use Rattle.std.specs.Prelude.{ℕ, ◌≡◌, ◌≢◌, ◌&&◌, Bool, true, false, List, [], ◌∷◌, ◌++◌, length, map, reverse, Option, None, Some}
 use Rattle.wast_base.specs.declared.ids.Span.{Span}
 use Rattle.wat_grammar.specs.Parts.{◌>>=◌}
@@ -17,7 +19,7 @@ use Rattle.wat_syntax.specs.Tree.{Instruction, Expression}
 use Rattle.wat_syntax.specs.Tree.instr
 use Rattle.wat_syntax.specs.Tree.bare
 use Rattle.wat_syntax.specs.Tree.plain as plainly
-use Rattle.wat_syntax.specs.Tokens.{Toks, Parse, one, count, is_end, peek, after, position, word_of, key_of, is_key, keyword, rparen, with_parts}
+use Rattle.wat_syntax.specs.Tokens.{Toks, Parse, one, is_end, peek, after, position, word_of, key_of, is_key, keyword, rparen, with_parts}
 use Rattle.wat_syntax.specs.Values.{string, index, annotation_of}
 use Rattle.wat_syntax.specs.Seen.{seen_instr}
 use Rattle.wat_syntax.specs.Instructions.{instruction}
@@ -35,7 +37,8 @@ use Rattle.wat_text.specs.declared.bodies.Purpose.TheVariants as purpose
 use Rattle.wat_text.specs.declared.bodies.Body.{Body}
 use Rattle.wat_text.specs.Readers.{left, IsClean, IsRefused}
 
--- What is open, the innermost first; what waits for its operands, the last one last; what is read; and the tokens that are left.
+-- The open levels, the innermost first; the instructions that wait for their operands, the last one last; the instructions that
+-- are read; and the tokens that are left.
 pub record State : Type 0 where
   pub levels : List Open
   pub waiting : List Instruction
@@ -50,8 +53,9 @@ state_of r b = record {
   toks = left r;
 }
 
--- A reader took a step. If nothing is wrong afterwards, then nothing was wrong before, and the step leads from the state before to
--- that after it. A fault is kept. If the reader refused the tokens and no allocation of the tree failed, then there is no step.
+-- A reader took a step. If there is no error afterwards, there was none before, and the step leads from the state before to the
+-- state after. An error that there was before is kept. If the reader rejected the tokens and no allocation of the tree failed,
+-- the step is `None`.
 pub record Does (step : State → Option State) (old new : Reader) (before behind : Body) : Type 0 where
   pub made : new.make ≡ false → old.make ≡ false
   pub clean : new.fault ≡ None → old.fault ≡ None
@@ -59,7 +63,7 @@ pub record Does (step : State → Option State) (old new : Reader) (before behin
   pub keeps : old.fault ≢ None → new.fault ≡ old.fault
   pub refuses : old.fault ≡ None → new.make ≡ false → IsRefused new.fault → step (state_of old before) ≡ None
 
--- A reader ended an expression that is read whole, or that is not. It then keeps a fault, which refuses the tokens only if none is left.
+-- A reader ended an expression that is read whole, or it refused the tokens because it is not.
 pub record Finishes (is_done : Bool) (old new : Reader) : Type 0 where
   pub make : new.make ≡ old.make
   pub clean : new.fault ≡ None → old.fault ≡ None
@@ -67,9 +71,8 @@ pub record Finishes (is_done : Bool) (old new : Reader) : Type 0 where
   pub stays : new.fault ≡ None → left new ≡ left old
   pub keeps : old.fault ≢ None → new.fault ≡ old.fault
   pub undone : old.fault ≡ None → IsRefused new.fault → is_done ≡ false
-  pub nothing : old.fault ≡ None → IsRefused new.fault → count (left old) ≡ 0
 
--- a part of a block, as the rules have it
+-- the part of a block that the rules have for one of the code
 abbrev pub in_rule : code.Part → Part
 in_rule code_part.End = End
 in_rule code_part.Else = Else
@@ -81,7 +84,7 @@ abbrev pub may_hint : Purpose → Bool
 may_hint purpose.Body = true
 may_hint purpose.Constant = false
 
--- the hint among items
+-- the hint among items, with its position
 abbrev pub hint_in : Span → List Item → Option Hint
 hint_in place (rule.Hint v ∷ xs) = Some (record { value = v; place = place })
 hint_in place xs = None
@@ -97,7 +100,7 @@ abbrev pub without : Option Hint → Toks → Option Toks
 without None toks = Some toks
 without (Some h) toks = None
 
--- levels
+-- the innermost level, and what it may contain
 abbrev pub level_of : List Open → Option Level
 level_of [] = None
 level_of (o ∷ os) = Some o.level
@@ -121,7 +124,7 @@ plain_level opens.if_ = level.PlainIf
 plain_level opens.try_ = level.PlainTry
 plain_level op = level.Plain
 
--- the block after one of its parts: `Some None` if it is closed
+-- The level of a block after one of its parts. It is `Some None` if the part closes the block.
 abbrev pub after_part : Level → Part → Option (Option Level)
 after_part level.Plain End = Some None
 after_part level.PlainIf End = Some None
@@ -135,7 +138,7 @@ after_part level.PlainCatch CatchAll = Some (Some level.Plain)
 after_part level.PlainTry Delegate = Some None
 after_part l p = None
 
--- the last of what waits, and those before it
+-- the last instruction that waits, and those before it
 abbrev pub last_of : {T : Type 0} → List T → Option T
 last_of [] = None
 last_of (w ∷ []) = Some w
@@ -146,7 +149,7 @@ before_last [] = []
 before_last (w ∷ []) = []
 before_last (w ∷ v ∷ ws) = w ∷ before_last (v ∷ ws)
 
--- a state with other levels, or other tokens
+-- a state with other levels, or with other tokens
 abbrev pub with_levels : List Open → State → State
 with_levels ls s = record { levels = ls; waiting = s.waiting; read = s.read; toks = s.toks }
 
@@ -173,7 +176,7 @@ outer (o ∷ os) = os
 abbrev pub left_level : State → Option State
 left_level s = Some (with_levels (outer s.levels) s)
 
--- what is read
+-- instructions and hints that are appended
 abbrev pub with_hint : Option Hint → Expression → Expression
 with_hint None e = e
 with_hint (Some h) e = record { instrs = e.instrs; branch_hints = e.branch_hints ++ record { instr_index = length e.instrs; value = h.value } ∷ [] }
@@ -204,7 +207,7 @@ abbrev pub stood : State → Option State
 stood s = with_parts s.read.instrs (one instruction s.toks) >>= λ w.
     Some (record { levels = s.levels; waiting = s.waiting; read = record { instrs = w.0; branch_hints = s.read.branch_hints }; toks = w.1 })
 
--- what takes tokens and means nothing
+-- tokens that are taken without a value
 abbrev pub taken : (Toks → Option Toks) → State → Option State
 taken t s = t s.toks >>= λ rest. Some (with_toks rest s)
 
@@ -341,7 +344,7 @@ plain h s = hint_put h s >>= operator_word
 abbrev pub other : Option Hint → State → Option State
 other h s = elim (takes_plain (level_of s.levels)) [ true ↦ plain h s | false ↦ None ]
 
--- no token is left
+-- a step if no token is left
 abbrev pub at_nothing : Option Level → Option Hint → State → Option State
 at_nothing None h s = taken (without h) s
 at_nothing (Some l) h s = other h s
@@ -358,7 +361,7 @@ hinted_step h s = hinted_by (peek 0 s.toks) h s
 abbrev pub step : Bool → State → Option State
 step may s = hint may s.toks >>= λ h. hinted_step h.0 (with_toks h.1 s)
 
--- whether nothing is open, and whether an expression is read whole
+-- Whether no level is open, and whether an expression is read to its end.
 abbrev pub is_closed : List Open → Bool
 is_closed [] = true
 is_closed (o ∷ os) = false

@@ -1,5 +1,9 @@
--- The values of the fields of `producers`, as the code keeps them while it reads.
-use Rattle.std.specs.Prelude.{◌≡◌, ◌≢◌, List, [], ◌∷◌, ◌++◌, false, map, Option, None, Some}
+-- The values of the fields of `producers`, as the code keeps them while it reads (tool conventions: producers section).
+--
+-- The rules have one list of values, each with its field, in the order of the text. The code has a list for each field.
+--
+--   (sdk "a" "1") (language "C" "17") (sdk "b" "2")      languages: C 17; sdks: a 1, b 2
+use Rattle.std.specs.Prelude.{◌≡◌, ◌≢◌, List, [], ◌∷◌, ◌++◌, false, map, None, Some}
 use Rattle.wat_grammar.specs.Parts.{◌>>=◌}
 use Rattle.wat_syntax.specs.Tokens.{Toks, Parse}
 use Rattle.wat_syntax.specs.Customs.{ProducersField, Language, Sdk, ProcessedBy, Version, versions_of}
@@ -19,13 +23,13 @@ seen_tool tool.ProcessedBy = ProcessedBy
 abbrev pub seen_value : Tool × Version → ProducersField × Version
 seen_value v = (seen_tool v.0, seen_version v.1)
 
--- a value more
+-- one more value, after the others of its field
 abbrev pub IsPut : Tool × Version → Made → Made → Type 0
 IsPut (tool.Language, v) before after = (after.languages ≡ before.languages ++ v ∷ []) × (after.sdks ≡ before.sdks) × (after.processors ≡ before.processors)
 IsPut (tool.Sdk, v) before after = (after.languages ≡ before.languages) × (after.sdks ≡ before.sdks ++ v ∷ []) × (after.processors ≡ before.processors)
 IsPut (tool.ProcessedBy, v) before after = (after.languages ≡ before.languages) × (after.sdks ≡ before.sdks) × (after.processors ≡ before.processors ++ v ∷ [])
 
--- A reader put a value at the end of those of its field, or kept that the allocation failed.
+-- A reader appended a value to those of its field, or stored that an allocation failed.
 pub record PushesValue (old new : Reader) (value : Tool × Version) (before after : Made) : Type 0 where
   pub make : new.make ≡ old.make
   pub clean : new.fault ≡ None → old.fault ≡ None
@@ -34,11 +38,11 @@ pub record PushesValue (old new : Reader) (value : Tool × Version) (before afte
   pub keeps : old.fault ≢ None → new.fault ≡ old.fault
   pub memory : old.fault ≡ None → IsRefused new.fault → ⊥
 
--- the values of a field behind others
+-- the values of a field after those that it had before
 abbrev pub versions_with : List Version → ProducersField → Parse (List (ProducersField × Version)) → Parse (List Version)
 versions_with versions f rest = rest >>= λ ps. Some (versions ++ versions_of f ps.0, ps.1)
 
--- A reader read values by a rule, and put each behind the others of its field.
+-- A reader read values by a rule, and appended each to those of its field.
 pub record ReadsProducers (rule : Toks → Parse (List (ProducersField × Version))) (old new : Reader) (before after : Made) : Type 0 where
   pub made : new.make ≡ false → old.make ≡ false
   pub clean : new.fault ≡ None → old.fault ≡ None

@@ -1,17 +1,15 @@
--- A text has one module.
+-- The module of a text as a function of the text, and that a text has no other module (text format: modules).
 --
--- A text denotes a module if some tokens of the text, at whatever addresses, are that module by the rules (Denotes). Here is the module
--- of a text as a function of the text: the tokens are those of the rules, each at address 0, with the word that its text is. A module
--- that the text denotes is that one, but for addresses, and a text that denotes nothing has none.
+-- The rules in Denotes hold for tokens at any addresses. Here all tokens are at address 0, and each has the word that its text
+-- is. So there is one list of tokens for a text, and one module at most.
 --
 --   (start 0)      a module without an id, with one field
 --   (start         None
-use Rattle.std.specs.Prelude.{◌≡◌, ℕ, Bool, true, false, List, map, Option, None, Some, is_some}
+use Rattle.std.specs.Prelude.{◌≡◌, ℕ, Bool, true, false, List, map, Option, None, Some}
 use Rattle.std.specs.Str.{is_utf8}
 use Rattle.wat_grammar.specs.Parts.{◌>>=◌}
 use Rattle.wat_grammar.specs.Tokens as grammar
 use Rattle.wat_tokens.specs.Words.{word_named}
-use Rattle.wat_tokens.specs.declared.tokens.Placed.{Placed}
 use Rattle.wat_syntax.specs.Tree.{Span}
 use Rattle.wat_syntax.specs.Tokens.{Toks, peek, after, position, key_of}
 use Rattle.wat_syntax.specs.Seen.{seen_text, seen_name_option}
@@ -38,7 +36,7 @@ bare_opening h = record { keyword = h.keyword; id = bare_id_option h.id; name = 
 abbrev pub bare_quote : Quote → Quote
 bare_quote q = record { span = q.span; bytes = seen_text q.bytes }
 
--- the tokens of bytes that are a text
+-- the tokens of bytes, if the bytes are a text
 abbrev pub tokens_if : Bool → List ℕ → Option (List grammar.Placed)
 tokens_if true text = grammar.tokens grammar.bytes_of text
 tokens_if false text = None
@@ -72,18 +70,18 @@ module_by table text = grammar.tokens grammar.bytes_of text >>= λ ts. all_at_ze
 abbrev pub module_of : List ℕ → Option TextModule
 module_of text = module_by word_named text
 
--- What a text denotes is its module, but for addresses.
+-- If the rules read a text as a module, it is the module of the text, except for addresses.
 abbrev pub DenotesOne : Type 0
 DenotesOne = (text : List ℕ) (m : TextModule) → Denotes text m → module_of text ≡ Some (bare_module m)
 
--- A text that denotes nothing has no module.
+-- If the rules read a text as no module, the text has no module.
 abbrev pub DenotesNone : Type 0
 DenotesNone = (text : List ℕ) → DenotesNothing text → module_of text ≡ None
 
--- So what a text denotes, at one time and another, is the same but for addresses.
+-- So if the rules read a text as two modules, these are the same, except for addresses.
 abbrev pub DenotesAlike : Type 0
 DenotesAlike = (text : List ℕ) (m n : TextModule) → Denotes text m → Denotes text n → bare_module m ≡ bare_module n
 
--- And no text denotes a module and nothing.
+-- The rules do not read a text both as a module and as no module.
 abbrev pub DenotesEither : Type 0
 DenotesEither = (text : List ℕ) (m : TextModule) → Denotes text m → DenotesNothing text → ⊥

@@ -1,4 +1,9 @@
--- What a reader has left, and what it means that it read a part of the text.
+-- The contracts of functions that read a part of a text, by a rule of the grammar.
+--
+-- A rule takes tokens, and returns a value and the tokens that are left, or `None`. A contract states both directions. If the
+-- function succeeds, its result is the value of the rule. If it rejects the tokens, the rule is `None`.
+--
+--   (result i32) drop      the rule of results returns `i32`, and leaves `drop`
 use Rattle.std.specs.Prelude.{◌≡◌, ◌≢◌, ⊤, ◌-◌, Bool, true, false, List, [], ◌∷◌, ◌++◌, drop, Option, None, Some}
 use Rattle.wast_base.specs.declared.ids.Span.{Span}
 use Rattle.wat_tokens.specs.declared.faults.TextFault.{TextFault}
@@ -7,15 +12,15 @@ use Rattle.wat_tokens.specs.declared.faults.TextError.{TextError}
 use Rattle.wat_syntax.specs.Tokens.{Toks, Parse, position_in, optional, is_there, with_parts}
 use Rattle.wat_text.specs.declared.reader.Reader.{Reader}
 
--- the tokens that are left, with the position of the one before
+-- the tokens that are left, with the position of the token before them
 unfoldable pub left : Reader → Toks
 left r = record { before = position_in (drop (r.at - 1) r.tokens.items) r.end; left = drop r.at r.tokens.items; end = r.end }
 
--- nothing is wrong, and no allocation of the tree failed
+-- There is no error, and no allocation of the tree failed.
 abbrev pub IsClean : Reader → Type 0
 IsClean r = (r.fault ≡ None) × (r.make ≡ false)
 
--- a fault that is no failed allocation
+-- a fault other than a failed allocation
 abbrev pub IsRefusal : TextFault → Type 0
 IsRefusal fault.Memory = ⊥
 IsRefusal f = ⊤
@@ -24,9 +29,9 @@ abbrev pub IsRefused : Option TextError → Type 0
 IsRefused None = ⊥
 IsRefused (Some e) = IsRefusal e.fault
 
--- A reader read a part by a rule. If nothing is wrong afterwards, then nothing was wrong before, and of the tokens that were left,
--- the rule makes this part and the tokens that are left now. A fault is kept. If the reader refused the tokens and no allocation of
--- the tree failed, then the rule does not produce them.
+-- A reader read a part by a rule. If there is no error afterwards, there was none before. Then the rule reads this part from the
+-- tokens that were left before, and leaves the tokens that are left now. An error that there was before is kept. If the reader
+-- rejected the tokens and no allocation of the tree failed, the rule does not produce them.
 pub record Reads {T : Type 0} (rule : Toks → Parse T) (old new : Reader) (part : T) : Type 0 where
   pub made : new.make ≡ false → old.make ≡ false
   pub clean : new.fault ≡ None → old.fault ≡ None
@@ -34,8 +39,8 @@ pub record Reads {T : Type 0} (rule : Toks → Parse T) (old new : Reader) (part
   pub keeps : old.fault ≢ None → new.fault ≡ old.fault
   pub refuses : old.fault ≡ None → new.make ≡ false → IsRefused new.fault → rule (left old) ≡ None
 
--- The same of a rule that no list of the tree is made for: the fault alone says whether something went wrong. A fault is kept, and
--- if the reader refused the tokens, then the rule does not produce them.
+-- The same for a part that needs no list of the tree, so that the fault alone shows whether something failed. If the reader
+-- rejected the tokens, the rule does not produce them.
 pub record Decides {T : Type 0} (rule : Toks → Parse T) (old new : Reader) (part : T) : Type 0 where
   pub make : new.make ≡ old.make
   pub clean : new.fault ≡ None → old.fault ≡ None
@@ -43,7 +48,7 @@ pub record Decides {T : Type 0} (rule : Toks → Parse T) (old new : Reader) (pa
   pub keeps : old.fault ≢ None → new.fault ≡ old.fault
   pub refuses : old.fault ≡ None → IsRefused new.fault → rule (left old) ≡ None
 
--- the same of a terminal, which means nothing by itself
+-- The same for a terminal such as ')', which has no value.
 pub record Expects (rule : Toks → Option Toks) (old new : Reader) : Type 0 where
   pub make : new.make ≡ old.make
   pub clean : new.fault ≡ None → old.fault ≡ None
@@ -51,7 +56,7 @@ pub record Expects (rule : Toks → Option Toks) (old new : Reader) : Type 0 whe
   pub keeps : old.fault ≢ None → new.fault ≡ old.fault
   pub refuses : old.fault ≡ None → IsRefused new.fault → rule (left old) ≡ None
 
--- A reader read a terminal that may be left out, and returned whether it was there.
+-- A reader read a terminal that can be left out, and returned whether it was there.
 pub record Accepts (rule : Toks → Option Toks) (old new : Reader) (found : Bool) : Type 0 where
   pub there : found ≡ true → rule (left old) ≡ Some (left new)
   pub absent : found ≡ false → rule (left old) ≡ None
@@ -69,19 +74,19 @@ pub record Finds {T : Type 0} (rule : Toks → Parse T) (old new : Reader) (part
   pub fault : new.fault ≡ old.fault
   pub make : new.make ≡ old.make
 
--- A reader kept a fault at a position, unless it had one.
+-- A reader stored a fault at a position, unless it had one.
 pub record Fails (fault : TextFault) (span : Span) (old new : Reader) : Type 0 where
   pub make : new.make ≡ old.make
   pub first : old.fault ≡ None → new.fault ≡ Some (record { fault = fault; span = span })
   pub keeps : old.fault ≢ None → new.fault ≡ old.fault
 
--- A reader kept a fault, whichever it is.
+-- A reader stored some fault, unless it had one.
 pub record Refuses (old new : Reader) : Type 0 where
   pub make : new.make ≡ old.make
   pub faulty : new.fault ≢ None
   pub keeps : old.fault ≢ None → new.fault ≡ old.fault
 
--- A reader read a list of parts by a rule, and put them behind those that a list had before.
+-- A reader read a list of parts by a rule, and appended them to those that a list had before.
 pub record ReadsOnto {T : Type 0} (rule : Toks → Parse (List T)) (old new : Reader) (before after : List T) : Type 0 where
   pub made : new.make ≡ false → old.make ≡ false
   pub clean : new.fault ≡ None → old.fault ≡ None
@@ -89,7 +94,7 @@ pub record ReadsOnto {T : Type 0} (rule : Toks → Parse (List T)) (old new : Re
   pub keeps : old.fault ≢ None → new.fault ≡ old.fault
   pub refuses : old.fault ≡ None → new.make ≡ false → IsRefused new.fault → rule (left old) ≡ None
 
--- A reader put a part at the end of a list, or kept that the allocation failed.
+-- A reader appended a part to a list, or stored that the allocation failed.
 pub record Pushes {T : Type 0} (old new : Reader) (part : T) (before after : List T) : Type 0 where
   pub make : new.make ≡ old.make
   pub clean : new.fault ≡ None → old.fault ≡ None
@@ -98,7 +103,7 @@ pub record Pushes {T : Type 0} (old new : Reader) (part : T) (before after : Lis
   pub keeps : old.fault ≢ None → new.fault ≡ old.fault
   pub memory : old.fault ≡ None → IsRefused new.fault → ⊥
 
--- The same of what builds the tree: if the allocation failed, `make` keeps that, and no fault is added.
+-- The same for a part of the tree. If the allocation failed, `make` stores that, and no fault is added.
 pub record Builds {T : Type 0} (old new : Reader) (part : T) (before after : List T) : Type 0 where
   pub made : new.make ≡ false → old.make ≡ false
   pub fault : new.fault ≡ old.fault

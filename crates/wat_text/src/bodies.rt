@@ -818,17 +818,12 @@ impl<'a> Reader<'a> {
         }
     }
 
-    /// Refuses what is left open at the end of the tokens. Each step takes a token, so there are enough steps, and tokens are never
-    /// left. No contract says so of each call, so if there were some, the fault would be one that promises nothing of the text.
+    /// Refuses what is left open. Each step takes a token, so no token is left then.
     fn end_body(&mut self, body: &Body<'a>, is_done: bool, purpose: Purpose)
         ensures { Finishes is_done self.old self.new }
     {
         if !is_done {
-            if self.left() == 0 {
-                self.unfinished(body, purpose);
-            } else {
-                self.fail(TextFault::Memory);
-            }
+            self.unfinished(body, purpose);
         }
     }
 }

@@ -1,4 +1,5 @@
-//! Custom sections.
+//! Reads the custom sections `@custom`, `@producers` and `@dylink.0` (text format: custom
+//! annotations; tool conventions).
 
 ghost use Rattle.std.specs.Prelude.{◌≡◌, true, false, None, Some, ◌++◌, map};
 ghost use Rattle.wat_syntax.specs.Seen.{seen_text};
@@ -16,7 +17,8 @@ use wast_tree::{
 };
 use wat_tokens::{Key, Token};
 
-/// A section beside which a custom section can stand (text format, custom annotations).
+/// Returns the section that a keyword is, before or after which a custom section can be (text
+/// format: custom annotations). For example, `code`.
 fn anchor(key: Key) -> Option<CustomPlaceAnchor>
     ensures { result ≡ section_of key }
 {
@@ -37,7 +39,8 @@ fn anchor(key: Key) -> Option<CustomPlaceAnchor>
     }
 }
 
-/// The flag of a word (tool conventions, dynamic linking).
+/// Returns the flag that a keyword is (tool conventions: dynamic linking). For example,
+/// `binding-weak` is 1.
 fn flag(key: Key) -> Option<u32>
     ensures { result ≡ flag_of key }
 {
@@ -55,7 +58,7 @@ fn flag(key: Key) -> Option<u32>
     }
 }
 
-/// A field of `producers`.
+/// A field of a `producers` section.
 #[derive(Clone, Copy)]
 enum Tool {
     /// `language`
@@ -66,7 +69,7 @@ enum Tool {
     ProcessedBy,
 }
 
-/// Values of a field of `producers`, by the fields.
+/// The values of each field of a `producers` section.
 struct Made<'a> {
     languages: Seq<(&'a str, &'a str)>,
     sdks: Seq<(&'a str, &'a str)>,
@@ -74,7 +77,7 @@ struct Made<'a> {
 }
 
 impl<'a> Reader<'a> {
-    /// A section beside which a custom section stands.
+    /// Reads the section before or after which a custom section is.
     fn anchor(&mut self) -> CustomPlaceAnchor
         ensures { Decides section self.old self.new result }
     {
@@ -94,7 +97,8 @@ impl<'a> Reader<'a> {
         }
     }
 
-    /// Where a custom section stands in the module, behind `(` (text format, custom annotations).
+    /// Reads the position of a custom section in the module, after its `(` (text format: custom
+    /// annotations). For example, `before code` or `after last`.
     fn custom_place(&mut self) -> CustomPlace
         ensures { Decides place_of self.old self.new result }
     {
@@ -113,7 +117,8 @@ impl<'a> Reader<'a> {
         CustomPlace::After(self.anchor())
     }
 
-    /// `(@custom ..)` (text format, custom annotations).
+    /// Reads the annotation `(@custom ..)`, without its `)` (text format: custom annotations).
+    /// Without a position, the custom section is after all other sections.
     pub fn custom_field(&mut self) -> Custom<'a>
         ensures { Reads customfield self.old self.new (seen_custom result) }
     {
@@ -138,14 +143,14 @@ impl<'a> Reader<'a> {
         })
     }
 
-    /// Reads a name and a version.
+    /// Reads a name and a version, such as `"clang" "19"`.
     fn version(&mut self) -> (&'a str, &'a str)
         ensures { Decides version_rule self.old self.new (seen_version result) }
     {
         (self.text(), self.text())
     }
 
-    /// Puts a value behind the others of a field of `producers`.
+    /// Appends a value to a field of `producers`.
     fn push_version(&mut self, versions: &mut Seq<(&'a str, &'a str)>, version: (&'a str, &'a str))
         ensures { Pushes self.old self.new version.entry versions.old versions.new }
     {
@@ -153,7 +158,7 @@ impl<'a> Reader<'a> {
         self.took(pushed);
     }
 
-    /// Where no field of `producers` stands.
+    /// Fails because no field of `producers` is next. The field that it returns means nothing.
     fn no_tool(&mut self) -> Tool
         ensures { Refuses self.old self.new }
     {
@@ -161,7 +166,7 @@ impl<'a> Reader<'a> {
         Tool::Language
     }
 
-    /// The field of `producers` that a key is.
+    /// Returns the field of `producers` that a keyword is, or fails.
     fn tool(&mut self, key: Option<Key>) -> Tool
         ensures { Decides (known_field key) self.old self.new (seen_tool result) }
     {
@@ -173,7 +178,7 @@ impl<'a> Reader<'a> {
         }
     }
 
-    /// Reads one value of a field of `producers` before its `)`.
+    /// Reads one value of a field of `producers`, without its `)`. For example, `(sdk "a" "1"`.
     fn producer_open(&mut self) -> (Tool, (&'a str, &'a str))
         ensures { Decides producer_open self.old self.new (seen_value result) }
     {
@@ -184,7 +189,7 @@ impl<'a> Reader<'a> {
         (self.tool(key), version)
     }
 
-    /// Puts a value behind the others of its field.
+    /// Appends a value to its field of `producers`.
     fn push_tool(&mut self, made: &mut Made<'a>, tool: Tool, version: (&'a str, &'a str))
         ensures { PushesValue self.old self.new (tool, version.entry) made.old made.new }
     {
@@ -195,7 +200,7 @@ impl<'a> Reader<'a> {
         }
     }
 
-    /// One value of a field of `producers`, in its parentheses.
+    /// Reads one value of a field of `producers`, such as `(sdk "a" "1")`, and appends it.
     fn producer(&mut self, made: &mut Made<'a>)
         ensures { ReadsProducers (one producer) self.old self.new made.old made.new }
     {
@@ -204,7 +209,7 @@ impl<'a> Reader<'a> {
         self.close();
     }
 
-    /// Puts a field of `producers`, where it has values.
+    /// Appends a field of `producers` to the section, if the field has values.
     #[tactic(auto, using(crate::proofs::Makes::none_failed), unfolding(crate::specs::Readers::left))]
     fn put_producers(
         &mut self,
@@ -222,7 +227,8 @@ impl<'a> Reader<'a> {
         }
     }
 
-    /// Reads values of the fields of `producers`, up to the end of the form.
+    /// Reads values of the fields of `producers`, up to the closing `)`, and appends each to its
+    /// field.
     #[tactic(auto, using(crate::proofs::Producing::gathers_more, crate::proofs::Producing::gathers_end, crate::proofs::Producing::gathers_last))]
     fn all_producers(&mut self, made: &mut Made<'a>)
         ensures { ReadsProducers all_producers self.old self.new made.old made.new }
@@ -235,7 +241,8 @@ impl<'a> Reader<'a> {
         }
     }
 
-    /// The fields of `producers` that have values.
+    /// Returns the fields of `producers` that have values: `language`, `sdk` and `processed-by`, in
+    /// this order.
     fn made_producers(&mut self, made: Made<'a>) -> Seq<(&'a str, Seq<(&'a str, &'a str)>)>
         ensures made { self.new.make ≡ false → self.old.make ≡ false }
         ensures fault { self.new.fault ≡ self.old.fault }
@@ -254,7 +261,8 @@ impl<'a> Reader<'a> {
         fields
     }
 
-    /// `(@producers ..)` (tool conventions, producers section).
+    /// Reads the annotation `(@producers ..)`, without its `)` (tool conventions: producers
+    /// section).
     pub fn producers_field(&mut self) -> Custom<'a>
         ensures { Reads producersfield self.old self.new (seen_custom result) }
     {
@@ -269,7 +277,8 @@ impl<'a> Reader<'a> {
         Custom::Producers(Producers { fields })
     }
 
-    /// Reads a flag, or a number that has the bits of flags (tool conventions, dynamic linking).
+    /// Reads a flag by its keyword, or a number that has the bits of flags (tool conventions:
+    /// dynamic linking).
     fn one_flag(&mut self) -> u32
         ensures { Decides flag_rule self.old self.new result }
     {
@@ -286,7 +295,8 @@ impl<'a> Reader<'a> {
         }
     }
 
-    /// Flags up to the end of the form (tool conventions, dynamic linking).
+    /// Reads flags up to the closing `)`, and returns the bits of all of them (tool conventions:
+    /// dynamic linking).
     #[tactic(auto, using(crate::proofs::Flags::flag_more, crate::proofs::Flags::flag_end, crate::proofs::Flags::flag_last))]
     fn flags(&mut self) -> u32
         ensures { Reads flags_rule self.old self.new result }
@@ -302,7 +312,8 @@ impl<'a> Reader<'a> {
         flags
     }
 
-    /// A size and an alignment, in their parentheses, where they stand there.
+    /// Reads a size and an alignment after this keyword, such as `(memory 1 2)`, if they are there.
+    /// Otherwise both are 0.
     fn size_and_align(&mut self, key: Key) -> (u32, u32)
         ensures { Decides (size_rule key) self.old self.new result }
     {
@@ -315,7 +326,7 @@ impl<'a> Reader<'a> {
         (size, align)
     }
 
-    /// Reads names up to the end of the form.
+    /// Reads names up to the closing `)`, and appends them.
     #[tactic(auto, using(crate::proofs::Steps::one_seen, crate::proofs::Loops::part_end, crate::proofs::Loops::part_last, crate::proofs::Loops::none_after))]
     fn all_names(&mut self, names: &mut Seq<&'a str>)
         ensures { ReadsOnto names_rule self.old self.new (map seen_text names.old) (map seen_text names.new) }
@@ -329,7 +340,7 @@ impl<'a> Reader<'a> {
         }
     }
 
-    /// Names up to the end of the form.
+    /// Reads names up to the closing `)`.
     #[tactic(auto, using(crate::proofs::Loops::from_nothing))]
     fn names(&mut self) -> Seq<&'a str>
         ensures { Reads names_rule self.old self.new (map seen_text result) }
@@ -339,7 +350,8 @@ impl<'a> Reader<'a> {
         names
     }
 
-    /// Goes on to the next form of the same key, if it comes next: the entries of neighbouring forms are one subsection.
+    /// Reads `)`, `(` and this keyword, if they are next. The entries of neighbouring forms are one
+    /// subsection, so the entry in the next form follows.
     fn accept_next(&mut self, key: Key) -> bool
         ensures { Accepts (again key) self.old self.new result }
     {
@@ -354,21 +366,22 @@ impl<'a> Reader<'a> {
         is_next
     }
 
-    /// Reads the name of an export and its flags (tool conventions, dynamic linking).
+    /// Reads the name of an export and its flags (tool conventions: dynamic linking).
     fn exported(&mut self) -> (&'a str, u32)
         ensures { Reads exported self.old self.new (seen_exported result) }
     {
         (self.text(), self.flags())
     }
 
-    /// Reads the module and the name of an import and its flags (tool conventions, dynamic linking).
+    /// Reads the module and the name of an import and its flags (tool conventions: dynamic
+    /// linking).
     fn imported(&mut self) -> (&'a str, &'a str, u32)
         ensures { Reads imported self.old self.new (seen_imported result) }
     {
         (self.text(), self.text(), self.flags())
     }
 
-    /// Puts an export behind the others.
+    /// Appends an export to a list.
     fn push_exported(&mut self, items: &mut Seq<(&'a str, u32)>, item: (&'a str, u32))
         ensures { Pushes self.old self.new item.entry items.old items.new }
     {
@@ -376,7 +389,7 @@ impl<'a> Reader<'a> {
         self.took(pushed);
     }
 
-    /// Puts an import behind the others.
+    /// Appends an import to a list.
     fn push_imported(
         &mut self,
         items: &mut Seq<(&'a str, &'a str, u32)>,
@@ -388,7 +401,8 @@ impl<'a> Reader<'a> {
         self.took(pushed);
     }
 
-    /// Reads exports from the name of the first on: neighbouring forms of the same key (tool conventions, dynamic linking).
+    /// Reads exports from the name of the first on, and appends them. Neighbouring forms
+    /// `(export-info ..)` are read as one.
     #[tactic(auto, using(crate::proofs::Entries::entry_last, crate::proofs::Loops::none_after))]
     fn all_exported(&mut self, items: &mut Seq<(&'a str, u32)>)
         ensures { ReadsOnto exports_info self.old self.new (map seen_exported items.old) (map seen_exported items.new) }
@@ -402,7 +416,8 @@ impl<'a> Reader<'a> {
         }
     }
 
-    /// Reads imports from the names of the first on: neighbouring forms of the same key (tool conventions, dynamic linking).
+    /// Reads imports from the names of the first on, and appends them. Neighbouring forms
+    /// `(import-info ..)` are read as one.
     #[tactic(auto, using(crate::proofs::Entries::entry_last, crate::proofs::Loops::none_after))]
     fn all_imported(&mut self, items: &mut Seq<(&'a str, &'a str, u32)>)
         ensures { ReadsOnto imports_info self.old self.new (map seen_imported items.old) (map seen_imported items.new) }
@@ -416,8 +431,8 @@ impl<'a> Reader<'a> {
         }
     }
 
-    /// Reads `(export-info "a" 1)` from its name on, and the forms of the same key that follow (tool conventions, dynamic
-    /// linking).
+    /// Reads `(export-info "a" 1)` from its name on, and the forms `(export-info ..)` that follow
+    /// (tool conventions: dynamic linking).
     #[tactic(auto, using(crate::proofs::Loops::from_nothing))]
     fn export_info(&mut self) -> Seq<(&'a str, u32)>
         ensures { Reads exports_info self.old self.new (map seen_exported result) }
@@ -427,8 +442,8 @@ impl<'a> Reader<'a> {
         items
     }
 
-    /// Reads `(import-info "a" "b" 1)` from its names on, and the forms of the same key that follow (tool conventions, dynamic
-    /// linking).
+    /// Reads `(import-info "a" "b" 1)` from its names on, and the forms `(import-info ..)` that
+    /// follow (tool conventions: dynamic linking).
     #[tactic(auto, using(crate::proofs::Loops::from_nothing))]
     fn import_info(&mut self) -> Seq<(&'a str, &'a str, u32)>
         ensures { Reads imports_info self.old self.new (map seen_imported result) }
@@ -438,7 +453,8 @@ impl<'a> Reader<'a> {
         items
     }
 
-    /// Reads the sizes of `mem-info` (tool conventions, dynamic linking).
+    /// Reads the sizes and alignments of `mem-info`, such as `(memory 1 2) (table 3 4)` (tool
+    /// conventions: dynamic linking).
     fn memory_info(&mut self) -> Dylink0Subsection<'a>
         ensures { Decides memory_info self.old self.new (seen_subsection result) }
     {
@@ -452,7 +468,7 @@ impl<'a> Reader<'a> {
         }
     }
 
-    /// Where no subsection stands.
+    /// Fails because no subsection is next. The subsection that it returns means nothing.
     fn no_subsection(&mut self) -> Dylink0Subsection<'a>
         ensures { Refuses self.old self.new }
     {
@@ -460,7 +476,7 @@ impl<'a> Reader<'a> {
         Dylink0Subsection::TargetArch("")
     }
 
-    /// Reads a subsection of `dylink.0` after its `(` (tool conventions, dynamic linking).
+    /// Reads a subsection of `dylink.0` after its `(` (tool conventions: dynamic linking).
     fn subsection(&mut self) -> Dylink0Subsection<'a>
         ensures { Reads subsection_rule self.old self.new (seen_subsection result) }
     {
@@ -477,7 +493,7 @@ impl<'a> Reader<'a> {
         }
     }
 
-    /// `(@dylink.0 ..)` (tool conventions, dynamic linking).
+    /// Reads the annotation `(@dylink.0 ..)`, without its `)` (tool conventions: dynamic linking).
     pub fn dylink_field(&mut self) -> Custom<'a>
         ensures { Reads dylinkfield self.old self.new (seen_custom result) }
     {
@@ -486,7 +502,7 @@ impl<'a> Reader<'a> {
         Custom::Dylink0(Dylink0 { subsections })
     }
 
-    /// Reads a subsection of `dylink.0` in its parentheses.
+    /// Reads a subsection of `dylink.0`, in its parentheses.
     fn subsection_form(&mut self) -> Dylink0Subsection<'a>
         ensures { Reads subsection_form self.old self.new (seen_subsection result) }
     {
@@ -496,7 +512,7 @@ impl<'a> Reader<'a> {
         subsection
     }
 
-    /// Puts a subsection behind the others.
+    /// Appends a subsection to a list.
     #[tactic(auto, using(crate::proofs::Makes::none_failed), unfolding(crate::specs::Readers::left))]
     fn push_subsection(
         &mut self,
@@ -508,7 +524,7 @@ impl<'a> Reader<'a> {
         self.make.push_subsection(subsections, subsection);
     }
 
-    /// Reads subsections of `dylink.0`, up to the end of the form.
+    /// Reads subsections of `dylink.0` up to the closing `)`, and appends them.
     #[tactic(auto, using(crate::proofs::Steps::one_built, crate::proofs::Loops::part_end, crate::proofs::Loops::part_last, crate::proofs::Loops::none_after))]
     fn all_subsections(&mut self, found: &mut Seq<Dylink0Subsection<'a>>)
         ensures { ReadsOnto subsections self.old self.new (map seen_subsection found.old) (map seen_subsection found.new) }
@@ -522,7 +538,7 @@ impl<'a> Reader<'a> {
         }
     }
 
-    /// Reads subsections of `dylink.0`, up to the end of the form.
+    /// Reads subsections of `dylink.0` up to the closing `)`.
     #[tactic(auto, using(crate::proofs::Loops::from_nothing))]
     fn subsections(&mut self) -> Seq<Dylink0Subsection<'a>>
         ensures { Reads subsections self.old self.new (map seen_subsection result) }

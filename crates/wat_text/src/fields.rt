@@ -1,9 +1,9 @@
-//! The fields of a module.
+//! Reads functions, tables, memories, globals, tags, imports and exports (text format: modules).
 
-ghost use Rattle.std.specs.Prelude.{◌≡◌, true, false, None, Some, [], ◌∷◌, ◌++◌, map, option_map};
+ghost use Rattle.std.specs.Prelude.{◌≡◌, true, false, None, Some, map, option_map};
 ghost use Rattle.wat_tokens.specs.declared.words.Key.TheVariants as key;
 ghost use Rattle.wat_syntax.specs.Tokens.{is_form, form};
-ghost use Rattle.wat_syntax.specs.Seen.{seen_type_use, seen_expression, seen_text, seen_exports, seen_import, seen_local, seen_tag_kind, seen_tag, seen_item_kind, seen_item_sig, seen_item, seen_items, seen_imports, seen_export};
+ghost use Rattle.wat_syntax.specs.Seen.{seen_expression, seen_text, seen_exports, seen_import, seen_local, seen_tag_kind, seen_tag, seen_item_kind, seen_item_sig, seen_item, seen_items, seen_imports, seen_export};
 ghost use Rattle.wat_syntax.specs.Modules.{head, inline_export, export_names, inline_exports, inline_import, unnamed_local, unnamed_locals, locals_of, local, locals as locals_rule, tag_kind_of, tagfield, functype_of, externtype_of, externtype, importfield, import_items_from, import_name, import_names, import_item, import_items_of, import_group, export_kind, externidx_keyword, exportfield};
 ghost use Rattle.wat_syntax.specs.SeenFields.{seen_func_kind, seen_func_of, seen_func, seen_payload, seen_table_kind, seen_table, seen_memory_kind, seen_memory, seen_global_kind, seen_global};
 ghost use Rattle.wat_syntax.specs.Segments.{is_funcref};
@@ -20,7 +20,8 @@ use wast_tree::{
 };
 use wat_tokens::Key;
 
-/// What fields begin with: the place of the keyword, the id, the name annotation, and the exports in place.
+/// The start of a field: the position of its keyword, its id, its name annotation and its inline
+/// exports. For example, `func $f (export "a")`.
 pub(crate) struct Head<'a> {
     pub span: Span,
     pub id: Option<Id<'a>>,
@@ -28,7 +29,7 @@ pub(crate) struct Head<'a> {
     pub exports: InlineExport<'a>,
 }
 
-/// Whether it is `funcref`.
+/// Returns whether a reference type is `funcref`, which is `(ref null func)`.
 pub(crate) fn is_funcref(ty: RefType<'_>) -> bool
     ensures { result ≡ is_funcref ty.entry }
 {
@@ -42,7 +43,7 @@ pub(crate) fn is_funcref(ty: RefType<'_>) -> bool
     ty.nullable && is_func
 }
 
-/// Whether a tag is imported.
+/// Returns the kind of a tag, which is imported if it has an inline import.
 fn tag_kind<'a>(import: Option<InlineImport<'a>>) -> TagKind<'a>
     ensures { seen_tag_kind result ≡ tag_kind_of (option_map seen_import import.entry) }
 {
@@ -52,7 +53,7 @@ fn tag_kind<'a>(import: Option<InlineImport<'a>>) -> TagKind<'a>
     }
 }
 
-/// What is exported, by its keyword.
+/// Returns what a keyword exports. For example, `func` exports a function.
 fn export_kind(key: Option<Key>) -> Option<ExportKind>
     ensures { result ≡ export_kind key }
 {
@@ -67,7 +68,8 @@ fn export_kind(key: Option<Key>) -> Option<ExportKind>
 }
 
 impl<'a> Reader<'a> {
-    /// What fields begin with, from their keyword on.
+    /// Reads the keyword, the id, the name annotation and the inline exports of a field. The
+    /// keyword is skipped without a check, because the caller has checked it.
     fn head(&mut self) -> Head<'a>
         ensures { Reads head self.old self.new (seen_head result) }
     {
@@ -83,7 +85,7 @@ impl<'a> Reader<'a> {
         }
     }
 
-    /// `(export "a")` in a field, which is next.
+    /// Reads `(export "a")` in a field. Requires that `(export` is next.
     fn inline_export(&mut self) -> &'a str
         requires { is_form key.Export (left self.old) ≡ true }
         ensures { Decides inline_export self.old self.new (seen_text result) }
@@ -95,7 +97,7 @@ impl<'a> Reader<'a> {
         name
     }
 
-    /// Puts a name behind the others.
+    /// Appends a name to a list.
     pub(crate) fn push_name(&mut self, names: &mut Seq<&'a str>, name: &'a str)
         ensures { Pushes self.old self.new name.entry names.old names.new }
     {
@@ -103,7 +105,7 @@ impl<'a> Reader<'a> {
         self.took(pushed);
     }
 
-    /// The names under which a field is exported in place, as many as there are.
+    /// Reads inline exports as long as one is next, and appends their names.
     #[tactic(auto, using(crate::proofs::Steps::one_seen, crate::proofs::Loops::part_end, crate::proofs::Loops::part_last, crate::proofs::Loops::none_after))]
     fn export_names(&mut self, names: &mut Seq<&'a str>)
         ensures { ReadsOnto export_names self.old self.new (map seen_text names.old) (map seen_text names.new) }
@@ -117,7 +119,8 @@ impl<'a> Reader<'a> {
         }
     }
 
-    /// The names under which a field is exported in place (text format, exports).
+    /// Reads the inline exports of a field, and returns their names (text format: exports). For
+    /// example, `(export "a") (export "b")` has the names `a` and `b`.
     #[tactic(auto, using(crate::proofs::Loops::from_nothing))]
     fn exports(&mut self) -> InlineExport<'a>
         ensures { Reads inline_exports self.old self.new (seen_exports result) }
@@ -127,7 +130,8 @@ impl<'a> Reader<'a> {
         InlineExport { names }
     }
 
-    /// `(import "a" "b")`, where it stands there (text format, imports: abbreviations).
+    /// Reads an inline import such as `(import "a" "b")`, if one is next (text format: imports,
+    /// abbreviations).
     fn import(&mut self) -> Option<InlineImport<'a>>
         ensures { Decides inline_import self.old self.new (option_map seen_import result) }
     {
@@ -140,7 +144,7 @@ impl<'a> Reader<'a> {
         Some(InlineImport { module, field })
     }
 
-    /// Puts a local behind the others.
+    /// Appends a local to a list.
     fn push_local(&mut self, locals: &mut Seq<Local<'a>>, local: Local<'a>)
         ensures { Pushes self.old self.new local.entry locals.old locals.new }
     {
@@ -148,7 +152,7 @@ impl<'a> Reader<'a> {
         self.took(pushed);
     }
 
-    /// A local without an id.
+    /// Reads the type of a local without an id.
     fn unnamed_local(&mut self) -> Local<'a>
         ensures { Decides unnamed_local self.old self.new (seen_local result) }
     {
@@ -156,7 +160,7 @@ impl<'a> Reader<'a> {
         Local::new(None, ty)
     }
 
-    /// Locals without ids, up to the end of the form.
+    /// Reads the types of locals without ids, up to the closing `)`, and appends the locals.
     #[tactic(auto, using(crate::proofs::Steps::one_seen, crate::proofs::Loops::part_end, crate::proofs::Loops::part_last, crate::proofs::Loops::none_after))]
     fn unnamed_locals(&mut self, locals: &mut Seq<Local<'a>>)
         ensures { ReadsOnto unnamed_locals self.old self.new (map seen_local locals.old) (map seen_local locals.new) }
@@ -170,7 +174,8 @@ impl<'a> Reader<'a> {
         }
     }
 
-    /// Locals behind `(local`.
+    /// Reads what comes after `(local`, and appends the locals. They are one local with an id or a
+    /// name annotation, as in `(local $x i32)`, or any number without, as in `(local i32 i64)`.
     fn locals_of(&mut self, locals: &mut Seq<Local<'a>>)
         ensures { ReadsOnto locals_of self.old self.new (map seen_local locals.old) (map seen_local locals.new) }
     {
@@ -183,7 +188,7 @@ impl<'a> Reader<'a> {
         self.unnamed_locals(locals);
     }
 
-    /// `(local ..)`, which is next.
+    /// Reads `(local ..)`, and appends its locals. Requires that `(local` is next.
     #[tactic(auto, using(crate::proofs::Loops::closes))]
     fn local(&mut self, locals: &mut Seq<Local<'a>>)
         requires { is_form key.Local (left self.old) ≡ true }
@@ -195,7 +200,7 @@ impl<'a> Reader<'a> {
         self.close();
     }
 
-    /// The locals of a function, each form in its parentheses.
+    /// Reads forms `(local ..)` as long as one is next, and appends their locals.
     #[tactic(auto, using(crate::proofs::Steps::one_list, crate::proofs::Loops::list_end, crate::proofs::Loops::list_last, crate::proofs::Loops::none_after))]
     fn all_locals(&mut self, locals: &mut Seq<Local<'a>>)
         ensures { ReadsOnto locals_rule self.old self.new (map seen_local locals.old) (map seen_local locals.new) }
@@ -208,7 +213,7 @@ impl<'a> Reader<'a> {
         }
     }
 
-    /// The locals of a function (text format, functions).
+    /// Reads the locals of a function (text format: functions).
     #[tactic(auto, using(crate::proofs::Loops::from_nothing))]
     fn locals(&mut self) -> Seq<Local<'a>>
         ensures { Reads locals_rule self.old self.new (map seen_local result) }
@@ -218,7 +223,8 @@ impl<'a> Reader<'a> {
         locals
     }
 
-    /// Reads the type of an imported function, in `(exact ..)` if it is exact (custom descriptors).
+    /// Reads the type use of a function with an inline import. It is in `(exact ..)` if the import
+    /// is exact (custom descriptors proposal).
     fn imported_func(
         &mut self,
         import: InlineImport<'a>,
@@ -242,7 +248,7 @@ impl<'a> Reader<'a> {
         FuncKind::Inline { locals, expression }
     }
 
-    /// Reads what a function is, after its inline import if it has one.
+    /// Reads a function from its type use on. An imported function has no locals and no body.
     fn func_of(
         &mut self,
         import: Option<InlineImport<'a>>,
@@ -258,7 +264,7 @@ impl<'a> Reader<'a> {
         }
     }
 
-    /// Reads `(func ..)` (text format, functions).
+    /// Reads the field `(func ..)`, without its parentheses (text format: functions).
     pub fn func_field(&mut self) -> Func<'a>
         ensures { Reads funcfield self.old self.new (seen_func result) }
     {
@@ -280,10 +286,12 @@ impl<'a> Reader<'a> {
         }
     }
 
-    /// Reads the elements inline in a table, after `(elem` (text format, tables: abbreviations).
+    /// Reads the elements inline in a table, after `(elem` (text format: tables, abbreviations).
     ///
-    /// Functions by index are expressions of the type of the table if that is not `funcref`, because the bytes of a segment of
-    /// functions have no place for another type: `(table (ref $t) (elem $f))` has the element `ref.func $f`.
+    /// They are expressions, as in `(elem (ref.func $f))`, or functions by index, as in
+    /// `(elem $f)`. In a table whose type is not `funcref`, functions by index become expressions,
+    /// because a segment of function indices has no bytes for another type. For example,
+    /// `(table (ref $t) (elem $f))` has the element `ref.func $f`.
     fn inline_elements(&mut self, ty: RefType<'a>) -> ElemPayload<'a>
         ensures { Reads (inline_elements ty.entry) self.old self.new (seen_payload result) }
     {
@@ -296,7 +304,8 @@ impl<'a> Reader<'a> {
         }
     }
 
-    /// Reads the initial value of the elements of a table, if it is there.
+    /// Reads the initial value of the elements of a table. Returns `None` if the closing `)` is
+    /// next.
     fn init_expression(&mut self) -> Option<Expression<'a>>
         ensures { Reads init_expression self.old self.new (option_map seen_expression result) }
     {
@@ -306,7 +315,8 @@ impl<'a> Reader<'a> {
         }
     }
 
-    /// Reads a table by its limits and the type of its elements, after its address type.
+    /// Reads the limits, the element type and the initial value of a table, after its address type.
+    /// For example, `1 funcref` of `(table i64 1 funcref)`.
     fn table_of_type(&mut self, shared: bool, is64: bool) -> TableKind<'a>
         ensures { Reads (table_of_type shared is64) self.old self.new (seen_table_kind result) }
     {
@@ -321,7 +331,7 @@ impl<'a> Reader<'a> {
         TableKind::Normal { ty, init_expr }
     }
 
-    /// Reads `(elem`.
+    /// Reads `(elem`, or fails.
     fn elem_form(&mut self)
         ensures { Expects (form key.Elem) self.old self.new }
     {
@@ -330,7 +340,8 @@ impl<'a> Reader<'a> {
         }
     }
 
-    /// Reads a table by its elements, after its address type (text format, tables: abbreviations).
+    /// Reads the element type and the inline elements of a table, after its address type (text
+    /// format: tables, abbreviations). For example, `funcref (elem $f)`.
     fn table_of_elements(&mut self, shared: bool, is64: bool) -> TableKind<'a>
         ensures { Reads (table_of_elements shared is64) self.old self.new (seen_table_kind result) }
     {
@@ -346,7 +357,8 @@ impl<'a> Reader<'a> {
         }
     }
 
-    /// Reads what a table is that has no inline import (text format, tables).
+    /// Reads a table without an inline import, from `shared` or its address type on (text format:
+    /// tables). If a number is next, the table has limits. Otherwise it has inline elements.
     fn table_kind(&mut self) -> TableKind<'a>
         ensures { Reads defined_table self.old self.new (seen_table_kind result) }
     {
@@ -358,7 +370,8 @@ impl<'a> Reader<'a> {
         }
     }
 
-    /// Reads what a table is, after its inline import if it has one.
+    /// Reads a table after its inline import, if it has one. An imported table has only a table
+    /// type.
     fn table_of(&mut self, import: Option<InlineImport<'a>>) -> TableKind<'a>
         ensures { Reads (table_of (option_map seen_import import.entry)) self.old self.new (seen_table_kind result) }
     {
@@ -371,7 +384,7 @@ impl<'a> Reader<'a> {
         }
     }
 
-    /// Reads `(table ..)` (text format, tables).
+    /// Reads the field `(table ..)`, without its parentheses (text format: tables).
     pub fn table_field(&mut self) -> Table<'a>
         ensures { Reads tablefield self.old self.new (seen_table result) }
     {
@@ -392,7 +405,8 @@ impl<'a> Reader<'a> {
         }
     }
 
-    /// Returns whether a memory has inline data: a `(` is next, after the address type if there is one.
+    /// Returns whether a memory has inline data. It has if `(` is next, or is next after `i32` or
+    /// `i64`.
     fn has_inline_data(&self) -> bool
         ensures { result ≡ has_inline_data (left self.now) }
     {
@@ -402,7 +416,7 @@ impl<'a> Reader<'a> {
         }
     }
 
-    /// Reads `(data`.
+    /// Reads `(data`, or fails.
     fn data_form(&mut self)
         ensures { Expects (form key.Data) self.old self.new }
     {
@@ -411,7 +425,8 @@ impl<'a> Reader<'a> {
         }
     }
 
-    /// Reads the data inline in a memory (text format, memories: abbreviations).
+    /// Reads a memory with inline data, from its address type on (text format: memories,
+    /// abbreviations). For example, `i64 (pagesize 1) (data "a")`.
     fn inline_data(&mut self) -> MemoryKind<'a>
         ensures { Reads inline_data self.old self.new (seen_memory_kind result) }
     {
@@ -427,7 +442,7 @@ impl<'a> Reader<'a> {
         }
     }
 
-    /// Reads what a memory is that has no inline import (text format, memories).
+    /// Reads a memory without an inline import, from its address type on (text format: memories).
     fn memory_kind(&mut self) -> MemoryKind<'a>
         ensures { Reads defined_memory self.old self.new (seen_memory_kind result) }
     {
@@ -437,7 +452,8 @@ impl<'a> Reader<'a> {
         }
     }
 
-    /// Reads what a memory is, after its inline import if it has one.
+    /// Reads a memory after its inline import, if it has one. An imported memory has only a memory
+    /// type.
     fn memory_of(&mut self, import: Option<InlineImport<'a>>) -> MemoryKind<'a>
         ensures { Reads (memory_of (option_map seen_import import.entry)) self.old self.new (seen_memory_kind result) }
     {
@@ -450,7 +466,7 @@ impl<'a> Reader<'a> {
         }
     }
 
-    /// Reads `(memory ..)` (text format, memories).
+    /// Reads the field `(memory ..)`, without its parentheses (text format: memories).
     pub fn memory_field(&mut self) -> Memory<'a>
         ensures { Reads memoryfield self.old self.new (seen_memory result) }
     {
@@ -471,7 +487,7 @@ impl<'a> Reader<'a> {
         }
     }
 
-    /// Reads the value of a global that has no inline import.
+    /// Reads the initial value of a global, unless it has an inline import.
     fn global_of(&mut self, import: Option<InlineImport<'a>>) -> GlobalKind<'a>
         ensures { Reads (global_of (option_map seen_import import.entry)) self.old self.new (seen_global_kind result) }
     {
@@ -481,7 +497,7 @@ impl<'a> Reader<'a> {
         }
     }
 
-    /// Reads `(global ..)` (text format, globals).
+    /// Reads the field `(global ..)`, without its parentheses (text format: globals).
     pub fn global_field(&mut self) -> Global<'a>
         ensures { Reads globalfield self.old self.new (seen_global result) }
     {
@@ -504,7 +520,7 @@ impl<'a> Reader<'a> {
         }
     }
 
-    /// `(tag ..)` (text format, tags).
+    /// Reads the field `(tag ..)`, without its parentheses (text format: tags).
     pub fn tag_field(&mut self) -> Tag<'a>
         ensures { Reads tagfield self.old self.new (seen_tag result) }
     {
@@ -526,7 +542,8 @@ impl<'a> Reader<'a> {
         }
     }
 
-    /// The kind of a function that is imported.
+    /// Reads the type use of an imported function. It is in `(exact ..)` if the import is exact
+    /// (custom descriptors proposal).
     fn func_kind(&mut self) -> ItemKind<'a>
         ensures { Reads functype_of self.old self.new (seen_item_kind result) }
     {
@@ -538,7 +555,8 @@ impl<'a> Reader<'a> {
         ItemKind::FuncExact(ty)
     }
 
-    /// The kind of an item that is imported, behind its keyword, its id and its name annotation (text format, imports).
+    /// Reads the type of an imported item, after its keyword, id and name annotation (text format:
+    /// imports). `key` is the keyword. For example, a memory type comes after `memory`.
     fn item_kind(&mut self, key: Option<Key>) -> ItemKind<'a>
         ensures { Reads (externtype_of key) self.old self.new (seen_item_kind result) }
     {
@@ -555,7 +573,8 @@ impl<'a> Reader<'a> {
         }
     }
 
-    /// What an imported item is, in its parentheses (text format, imports).
+    /// Reads what is imported, in its parentheses (text format: imports). For example,
+    /// `(func $f (type 0))`.
     fn item_sig(&mut self) -> ItemSig<'a>
         ensures { Reads externtype self.old self.new (seen_item_sig result) }
     {
@@ -574,7 +593,7 @@ impl<'a> Reader<'a> {
         }
     }
 
-    /// `(import ..)` (text format, imports).
+    /// Reads the field `(import ..)`, without its parentheses (text format: imports).
     pub fn import_field(&mut self) -> Imports<'a>
         ensures { Reads importfield self.old self.new (seen_imports result) }
     {
@@ -585,7 +604,7 @@ impl<'a> Reader<'a> {
         Imports { span, items }
     }
 
-    /// `(item`
+    /// Reads `(item`, or fails.
     fn item_form(&mut self)
         ensures { Expects (form key.Item) self.old self.new }
     {
@@ -594,7 +613,8 @@ impl<'a> Reader<'a> {
         }
     }
 
-    /// What is imported from a module.
+    /// Reads the items that are imported from a module, after the name of the module. They are one
+    /// item, as in `"a" (func)`, or a group of forms `(item ..)` (compact import section proposal).
     fn import_items(&mut self, module: &'a str) -> ImportItems<'a>
         ensures { Reads (import_items_from (seen_text «module».entry)) self.old self.new (seen_items result) }
     {
@@ -608,7 +628,7 @@ impl<'a> Reader<'a> {
         self.import_group(module, first)
     }
 
-    /// The name of one more item, which is next.
+    /// Reads `(item "a")`, and returns the name. Requires that `(item` is next.
     fn import_name(&mut self) -> &'a str
         requires { is_form key.Item (left self.old) ≡ true }
         ensures { Decides import_name self.old self.new (seen_text result) }
@@ -620,7 +640,7 @@ impl<'a> Reader<'a> {
         name
     }
 
-    /// Names of items, as many as there are.
+    /// Reads forms `(item "a")` as long as one is next, and appends their names.
     #[tactic(auto, using(crate::proofs::Steps::one_seen, crate::proofs::Loops::part_end, crate::proofs::Loops::part_last, crate::proofs::Loops::none_after))]
     fn import_names(&mut self, names: &mut Seq<&'a str>)
         ensures { ReadsOnto import_names self.old self.new (map seen_text names.old) (map seen_text names.new) }
@@ -634,7 +654,7 @@ impl<'a> Reader<'a> {
         }
     }
 
-    /// One more item, which is next.
+    /// Reads `(item "a" (func))`. Requires that `(item` is next.
     fn import_item(&mut self) -> (&'a str, ItemSig<'a>)
         requires { is_form key.Item (left self.old) ≡ true }
         ensures { Reads import_item self.old self.new (seen_item result) }
@@ -647,7 +667,7 @@ impl<'a> Reader<'a> {
         (name, sig)
     }
 
-    /// Puts an item behind the others.
+    /// Appends an item to a list.
     fn push_item(&mut self, items: &mut Seq<(&'a str, ItemSig<'a>)>, item: (&'a str, ItemSig<'a>))
         ensures { Pushes self.old self.new item.entry items.old items.new }
     {
@@ -655,7 +675,7 @@ impl<'a> Reader<'a> {
         self.took(pushed);
     }
 
-    /// Items with their types, as many as there are.
+    /// Reads forms `(item "a" (func))` as long as one is next, and appends the items.
     #[tactic(auto, using(crate::proofs::Steps::one_read, crate::proofs::Loops::part_end, crate::proofs::Loops::part_last, crate::proofs::Loops::none_after))]
     fn typed_items(&mut self, items: &mut Seq<(&'a str, ItemSig<'a>)>)
         ensures { ReadsOnto import_items_of self.old self.new (map seen_item items.old) (map seen_item items.new) }
@@ -669,7 +689,9 @@ impl<'a> Reader<'a> {
         }
     }
 
-    /// Items of one module, behind the name of the first (compact import section).
+    /// Reads a group of items of one module, after the name of the first (compact import section
+    /// proposal). They have one type together, as in `(item "a") (item "b") (func)`, or a type
+    /// each, as in `(item "a" (func)) (item "b" (memory 1))`.
     fn import_group(&mut self, module: &'a str, first: &'a str) -> ImportItems<'a>
         ensures { Reads (import_group (seen_text «module».entry) (seen_text first.entry)) self.old self.new (seen_items result) }
     {
@@ -689,7 +711,7 @@ impl<'a> Reader<'a> {
         ImportItems::Group1 { module, items }
     }
 
-    /// The keyword of what is exported.
+    /// Reads the keyword of an exported item, such as `func`.
     fn export_kind(&mut self) -> ExportKind
         ensures { Decides externidx_keyword self.old self.new result }
     {
@@ -705,7 +727,7 @@ impl<'a> Reader<'a> {
         }
     }
 
-    /// `(export ..)` (text format, exports).
+    /// Reads the field `(export ..)`, without its parentheses (text format: exports).
     pub fn export_field(&mut self) -> Export<'a>
         ensures { Decides exportfield self.old self.new (seen_export result) }
     {

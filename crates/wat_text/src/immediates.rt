@@ -1,4 +1,5 @@
-//! Instructions with immediates of their own.
+//! Reads the immediates of instructions that need more than an index: memory arguments, labels,
+//! casts and handlers (text format: instructions).
 
 ghost use Rattle.std.specs.Prelude.{◌≡◌, true, List, [], ◌∷◌, ◌++◌, ℕ, option_map};
 ghost use Rattle.std.specs.Borrow.{Bor};
@@ -21,7 +22,8 @@ use wast_tree::{
 use wat_tokens::{AtomicOp, Key, OwnOp, PairOp, TextFault, Token, Word, unsigned64};
 
 impl<'a> Reader<'a> {
-    /// What stands behind `=` in a word that begins so, where one does.
+    /// Reads a word that begins with `name`, if one is next, and returns what comes after it. For
+    /// example, with the name `offset=` the word `offset=4` has `4`.
     #[tactic(auto, using(crate::proofs::Prefixes::after_is, crate::proofs::Prefixes::after_not))]
     fn assigned(&mut self, name: &'static str) -> Option<&'a str>
         ensures { Finds (assignment name.now) self.old self.new (option_map (λ (text : Bor (List ℕ)). text.now) result) }
@@ -36,7 +38,7 @@ impl<'a> Reader<'a> {
         }
     }
 
-    /// `offset=4`, where it stands there, or else 0.
+    /// Reads `offset=4`, if it is next. Otherwise the offset is 0.
     #[tactic(auto, using(crate::proofs::Numbers::unsigned_is, crate::proofs::Numbers::unsigned_not))]
     fn offset(&mut self) -> u64
         ensures { Decides offset self.old self.new result }
@@ -48,7 +50,8 @@ impl<'a> Reader<'a> {
         }
     }
 
-    /// `align=4`, where it stands there.
+    /// Reads `align=4`, if it is next. Otherwise it is the natural alignment. It is an error if the
+    /// alignment is not a power of two.
     #[tactic(auto, using(crate::proofs::Numbers::unsigned_is, crate::proofs::Numbers::unsigned_not))]
     fn align(&mut self, natural: u64) -> u64
         ensures { Decides (align natural) self.old self.new result }
@@ -64,7 +67,7 @@ impl<'a> Reader<'a> {
         align
     }
 
-    /// An ordering, where one stands there (threads).
+    /// Reads `seq_cst` or `acq_rel`, if one of them is next (shared-everything threads proposal).
     fn ordering(&mut self) -> Option<Ordering>
         ensures { Decides memory_ordering self.old self.new result }
     {
@@ -77,7 +80,8 @@ impl<'a> Reader<'a> {
         None
     }
 
-    /// A memory argument (text format, memory instructions).
+    /// Reads a memory argument such as `$m offset=4 align=4` (text format: memory instructions).
+    /// `natural` is the alignment if none is written.
     pub fn mem_arg(&mut self, natural: u64) -> MemArg<'a>
         ensures { Decides (memarg natural) self.old self.new result }
     {
@@ -86,7 +90,7 @@ impl<'a> Reader<'a> {
         self.mem_arg_of(natural, memory, ordering)
     }
 
-    /// What stands of a memory argument behind its memory.
+    /// Reads the offset and the alignment of a memory argument, after its memory.
     fn mem_arg_of(
         &mut self,
         natural: u64,
@@ -105,7 +109,7 @@ impl<'a> Reader<'a> {
         }
     }
 
-    /// Whether `offset=4` or `align=4` stands so far ahead.
+    /// Returns whether the token after `ahead` others begins with `offset=` or `align=`.
     #[tactic(auto, using(crate::proofs::Prefixes::after_is, crate::proofs::Prefixes::after_not))]
     fn is_assigned(&self, ahead: usize) -> bool
         ensures { result ≡ is_assigned (peek ahead (left self.now)) }
@@ -116,14 +120,17 @@ impl<'a> Reader<'a> {
         }
     }
 
-    /// Whether the number that comes next is that of a lane, and not that of a memory.
+    /// Returns whether the number that is next is that of a lane, and not that of a memory. In
+    /// `v128.load8_lane 1` it is that of a lane.
     fn is_lane_alone(&self) -> bool
         ensures { result ≡ is_lane_alone (left self.now) }
     {
         self.is_number(0) && !self.is_number(1) && !self.is_assigned(1)
     }
 
-    /// A memory argument and the number of a lane (text format, vector instructions).
+    /// Reads a memory argument and the number of a lane (text format: vector instructions). A
+    /// number alone is that of the lane. For example, `v128.load8_lane 0 1` has memory 0 and lane
+    /// 1.
     pub fn load_or_store_lane(&mut self, natural: u64) -> LoadOrStoreLane<'a>
         ensures { Decides (lane_memarg natural) self.old self.new result }
     {
@@ -137,7 +144,8 @@ impl<'a> Reader<'a> {
         LoadOrStoreLane { memarg, lane }
     }
 
-    /// A type and a field of a struct (text format, aggregate instructions).
+    /// Reads the type and the field of an access to a struct, such as `$t $f` (text format:
+    /// aggregate instructions).
     pub fn struct_access(&mut self) -> StructAccess<'a>
         ensures { Decides struct_access self.old self.new result }
     {
@@ -146,7 +154,7 @@ impl<'a> Reader<'a> {
         StructAccess { owner, field }
     }
 
-    /// An atomic access of what is no memory, behind its ordering.
+    /// Reads an atomic access to a global, a table, a struct or an array, after its ordering.
     fn atomic_of(&mut self, op: AtomicOp, ordering: Ordering) -> Instruction<'a>
         ensures { Decides (atomic_of op ordering) self.old self.new (seen_instr result) }
     {
@@ -171,7 +179,8 @@ impl<'a> Reader<'a> {
         }
     }
 
-    /// An atomic access of what is no memory (shared-everything threads).
+    /// Reads an atomic access to a global, a table, a struct or an array (shared-everything threads
+    /// proposal). The ordering is `seq_cst` if none is written.
     pub fn atomic(&mut self, op: AtomicOp) -> Instruction<'a>
         ensures { Decides (atomic_instr op) self.old self.new (seen_instr result) }
     {
@@ -181,7 +190,8 @@ impl<'a> Reader<'a> {
         }
     }
 
-    /// Labels behind the first, as many as there are: the last of all is the result, and those before it are put into a list.
+    /// Reads labels after the first as long as one is next. Returns the last label of all, and
+    /// appends the labels before it to the list.
     #[tactic(auto, using(crate::proofs::Labels::one_label, crate::proofs::Loops::part_end, crate::proofs::Loops::part_last, crate::proofs::Loops::none_after))]
     fn labels(&mut self, labels: &mut Seq<Index<'a>>, first: Index<'a>) -> Index<'a>
         ensures { ReadsOnto indices self.old self.new (labels.old ++ first.entry ∷ []) (labels.new ++ result ∷ []) }
@@ -198,7 +208,8 @@ impl<'a> Reader<'a> {
         last
     }
 
-    /// `br_table` and its labels (text format, control instructions).
+    /// Reads the labels of `br_table`, of which the last is the default (text format: control
+    /// instructions).
     #[tactic(auto, using(crate::proofs::Labels::table_is))]
     fn br_table(&mut self) -> Instruction<'a>
         ensures { Reads br_table self.old self.new (seen_instr result) }
@@ -209,7 +220,8 @@ impl<'a> Reader<'a> {
         Instruction::br_table(BrTableIndices { labels, default })
     }
 
-    /// Reads the table and the type of an indirect call (text format, control instructions).
+    /// Reads the table and the type use of an indirect call, such as `$t (type 0)` (text format:
+    /// control instructions). Without an index it is table 0.
     fn call_indirect(&mut self) -> CallIndirect<'a>
         ensures { Reads callindirect self.old self.new (seen_call result) }
     {
@@ -218,7 +230,8 @@ impl<'a> Reader<'a> {
         CallIndirect { table, ty }
     }
 
-    /// `select` and the types of what it gives (text format, parametric instructions).
+    /// Reads the result types of `select`, if it has any, such as `(result i32)` (text format:
+    /// parametric instructions).
     #[tactic(auto, using(crate::proofs::Loops::from_nothing))]
     fn select(&mut self) -> Instruction<'a>
         ensures { Reads select self.old self.new (seen_instr result) }
@@ -231,7 +244,8 @@ impl<'a> Reader<'a> {
         Instruction::select(SelectTypes { tys: Some(values) })
     }
 
-    /// One index or two: where one stands there, the first is 0, at the place of the token before.
+    /// Reads two indices, of which the first can be left out. It is 0 then, at the position of the
+    /// token before. For example, `memory.init $d` is `memory.init 0 $d`.
     pub fn one_or_two(&mut self) -> (Index<'a>, Index<'a>)
         ensures { Decides one_or_two self.old self.new result }
     {
@@ -243,7 +257,8 @@ impl<'a> Reader<'a> {
         }
     }
 
-    /// No index or two: where none stands there, both are 0, at the place of the token before.
+    /// Reads two indices, or none. If there is none, both are 0, at the position of the token
+    /// before. For example, `memory.copy` is `memory.copy 0 0`.
     pub fn none_or_two(&mut self) -> (Index<'a>, Index<'a>)
         ensures { Decides none_or_two self.old self.new result }
     {
@@ -254,7 +269,7 @@ impl<'a> Reader<'a> {
         }
     }
 
-    /// A tag and what its handler does (stack switching).
+    /// Reads the tag of a handler, and its label or `switch` (stack switching proposal).
     fn handle(&mut self) -> Handle<'a>
         ensures { Decides handle self.old self.new result }
     {
@@ -267,7 +282,7 @@ impl<'a> Reader<'a> {
         Handle::OnLabel { tag, label }
     }
 
-    /// `(on ..)`, which is next.
+    /// Reads `(on $tag $label)` or `(on $tag switch)`. Requires that `(on` is next.
     fn on_clause(&mut self) -> Handle<'a>
         requires { is_form key.On (left self.old) ≡ true }
         ensures { Decides on self.old self.new result }
@@ -279,7 +294,7 @@ impl<'a> Reader<'a> {
         handle
     }
 
-    /// Puts a handler behind the others.
+    /// Appends a handler to a list.
     fn push_handle(&mut self, handlers: &mut Seq<Handle<'a>>, handle: Handle<'a>)
         ensures { Pushes self.old self.new handle.entry handlers.old handlers.new }
     {
@@ -287,7 +302,7 @@ impl<'a> Reader<'a> {
         self.took(pushed);
     }
 
-    /// The handlers of a resumption, as many as there are.
+    /// Reads forms `(on ..)` as long as one is next, and appends the handlers.
     #[tactic(auto, using(crate::proofs::Steps::one_more, crate::proofs::Loops::part_end, crate::proofs::Loops::part_last, crate::proofs::Loops::none_after))]
     fn on_clauses(&mut self, handlers: &mut Seq<Handle<'a>>)
         ensures { ReadsOnto handlers_rule self.old self.new handlers.old handlers.new }
@@ -301,7 +316,7 @@ impl<'a> Reader<'a> {
         }
     }
 
-    /// The handlers of a resumption (stack switching).
+    /// Reads the handlers of a `resume` instruction (stack switching proposal).
     #[tactic(auto, using(crate::proofs::Loops::from_nothing))]
     fn resume_table(&mut self) -> ResumeTable<'a>
         ensures { Reads resumetable self.old self.new result }
@@ -311,7 +326,7 @@ impl<'a> Reader<'a> {
         ResumeTable { handlers }
     }
 
-    /// `array.new_fixed` (text format, aggregate instructions).
+    /// Reads the type and the length of `array.new_fixed` (text format: aggregate instructions).
     fn array_new_fixed(&mut self) -> Instruction<'a>
         ensures { Decides array_new_fixed self.old self.new (seen_instr result) }
     {
@@ -320,7 +335,8 @@ impl<'a> Reader<'a> {
         Instruction::array_new_fixed(ArrayNewFixed { array, length })
     }
 
-    /// The label and the types of a branch by a cast (text format, control instructions).
+    /// Reads the label and the two types of a branch by a cast, such as `$l anyref eqref` (text
+    /// format: control instructions).
     fn cast(&mut self) -> BrOnCast<'a>
         ensures { Decides cast self.old self.new result }
     {
@@ -334,7 +350,7 @@ impl<'a> Reader<'a> {
         }
     }
 
-    /// `br_on_cast`.
+    /// Reads the immediates of `br_on_cast`.
     #[tactic(auto, using(crate::proofs::Makes::none_failed), unfolding(crate::specs::Readers::left))]
     fn br_on_cast(&mut self) -> Instruction<'a>
         ensures { Reads (own_instr own.br_on_cast) self.old self.new (seen_instr result) }
@@ -343,7 +359,7 @@ impl<'a> Reader<'a> {
         self.make.br_on_cast(cast)
     }
 
-    /// `br_on_cast_fail`.
+    /// Reads the immediates of `br_on_cast_fail`.
     #[tactic(auto, using(crate::proofs::Makes::none_failed), unfolding(crate::specs::Readers::left))]
     fn br_on_cast_fail(&mut self) -> Instruction<'a>
         ensures { Reads (own_instr own.br_on_cast_fail) self.old self.new (seen_instr result) }
@@ -360,7 +376,7 @@ impl<'a> Reader<'a> {
         })
     }
 
-    /// `br_on_cast_desc_eq`.
+    /// Reads the immediates of `br_on_cast_desc_eq` (custom descriptors proposal).
     #[tactic(auto, using(crate::proofs::Makes::none_failed), unfolding(crate::specs::Readers::left))]
     fn br_on_cast_desc_eq(&mut self) -> Instruction<'a>
         ensures { Reads (own_instr own.br_on_cast_desc_eq) self.old self.new (seen_instr result) }
@@ -377,7 +393,7 @@ impl<'a> Reader<'a> {
         })
     }
 
-    /// `br_on_cast_desc_eq_fail`.
+    /// Reads the immediates of `br_on_cast_desc_eq_fail` (custom descriptors proposal).
     #[tactic(auto, using(crate::proofs::Makes::none_failed), unfolding(crate::specs::Readers::left))]
     fn br_on_cast_desc_eq_fail(&mut self) -> Instruction<'a>
         ensures { Reads (own_instr own.br_on_cast_desc_eq_fail) self.old self.new (seen_instr result) }
@@ -394,7 +410,7 @@ impl<'a> Reader<'a> {
         })
     }
 
-    /// `resume` (stack switching).
+    /// Reads the immediates of `resume` (stack switching proposal).
     fn resume(&mut self) -> Instruction<'a>
         ensures { Reads (own_instr own.resume) self.old self.new (seen_instr result) }
     {
@@ -403,7 +419,7 @@ impl<'a> Reader<'a> {
         Instruction::resume(Resume { type_index, table })
     }
 
-    /// `resume_throw` (stack switching).
+    /// Reads the immediates of `resume_throw` (stack switching proposal).
     #[tactic(auto, using(crate::proofs::Makes::none_failed), unfolding(crate::specs::Readers::left))]
     fn resume_throw(&mut self) -> Instruction<'a>
         ensures { Reads (own_instr own.resume_throw) self.old self.new (seen_instr result) }
@@ -418,7 +434,7 @@ impl<'a> Reader<'a> {
         })
     }
 
-    /// `resume_throw_ref` (stack switching).
+    /// Reads the immediates of `resume_throw_ref` (stack switching proposal).
     fn resume_throw_ref(&mut self) -> Instruction<'a>
         ensures { Reads (own_instr own.resume_throw_ref) self.old self.new (seen_instr result) }
     {
@@ -427,7 +443,7 @@ impl<'a> Reader<'a> {
         Instruction::resume_throw_ref(ResumeThrowRef { type_index, table })
     }
 
-    /// `call_indirect`.
+    /// Reads the immediates of `call_indirect`.
     #[tactic(auto, using(crate::proofs::Makes::none_failed), unfolding(crate::specs::Readers::left))]
     fn indirect_call(&mut self) -> Instruction<'a>
         ensures { Reads (own_instr own.call_indirect) self.old self.new (seen_instr result) }
@@ -436,7 +452,7 @@ impl<'a> Reader<'a> {
         self.make.call_indirect(call)
     }
 
-    /// `return_call_indirect`.
+    /// Reads the immediates of `return_call_indirect`.
     #[tactic(auto, using(crate::proofs::Makes::none_failed), unfolding(crate::specs::Readers::left))]
     fn return_indirect_call(&mut self) -> Instruction<'a>
         ensures { Reads (own_instr own.return_call_indirect) self.old self.new (seen_instr result) }
@@ -445,7 +461,8 @@ impl<'a> Reader<'a> {
         self.make.return_call_indirect(call)
     }
 
-    /// An instruction with immediates of its own (text format, instructions).
+    /// Reads the immediates of an instruction that has its own kind of them, such as `br_table` or
+    /// `ref.null`, and returns the instruction (text format: instructions).
     pub fn own(&mut self, op: OwnOp) -> Instruction<'a>
         ensures { Reads (own_instr op) self.old self.new (seen_instr result) }
     {

@@ -1,4 +1,4 @@
-//! Instructions: the word of each, with its immediates (text format, instructions).
+//! Reads one instruction: its keyword and its immediates (text format: instructions).
 
 ghost use Rattle.std.specs.Prelude.{◌≡◌, true, Some, map};
 ghost use Rattle.wat_syntax.specs.Tokens.{one, peek, word_of};
@@ -17,7 +17,8 @@ use wast_tree::{
 use wat_tokens::{BlockOp, Key, TextFault, Token, Word};
 
 impl<'a> Reader<'a> {
-    /// The label and the type of a block (text format, control instructions).
+    /// Reads the label and the type of a block (text format: control instructions). For example,
+    /// `$l (result i32)` of `block $l (result i32)`.
     fn block_type(&mut self) -> BlockType<'a>
         ensures { Reads blocktype self.old self.new (seen_block result) }
     {
@@ -30,7 +31,8 @@ impl<'a> Reader<'a> {
         }
     }
 
-    /// A clause of `try_table` behind its `(` (text format, control instructions).
+    /// Reads a clause of `try_table` after its `(`, such as `catch $e $l` (text format: control
+    /// instructions).
     fn catch(&mut self) -> TryTableCatch<'a>
         ensures { Decides catch_clause self.old self.new result }
     {
@@ -58,7 +60,7 @@ impl<'a> Reader<'a> {
         }
     }
 
-    /// Whether the word of a clause of `try_table` stands behind the next token.
+    /// Returns whether the second token is the keyword of a clause of `try_table`, such as `catch`.
     fn is_catch_word(&self) -> bool
         ensures { result ≡ is_catch_word (word_of (peek 1 (left self.now))) }
     {
@@ -70,14 +72,14 @@ impl<'a> Reader<'a> {
         }
     }
 
-    /// Whether a clause of `try_table` stands there.
+    /// Returns whether a clause of `try_table` is next.
     fn is_catch(&self) -> bool
         ensures { result ≡ is_catch (left self.now) }
     {
         self.is_open(0) && self.is_catch_word()
     }
 
-    /// A clause of `try_table`, which is next.
+    /// Reads a clause of `try_table`, in its parentheses. Requires that one is next.
     fn catch_form(&mut self) -> TryTableCatch<'a>
         requires { is_catch (left self.old) ≡ true }
         ensures { Decides catch_rule self.old self.new result }
@@ -88,7 +90,7 @@ impl<'a> Reader<'a> {
         catch
     }
 
-    /// Puts a clause of `try_table` behind the others.
+    /// Appends a clause of `try_table` to a list.
     fn push_catch(&mut self, catches: &mut Seq<TryTableCatch<'a>>, catch: TryTableCatch<'a>)
         ensures { Pushes self.old self.new catch.entry catches.old catches.new }
     {
@@ -96,7 +98,8 @@ impl<'a> Reader<'a> {
         self.took(pushed);
     }
 
-    /// The clauses of `try_table` (text format, control instructions).
+    /// Reads clauses of `try_table` as long as one is next, and appends them (text format: control
+    /// instructions).
     #[tactic(auto, using(crate::proofs::Steps::one_more, crate::proofs::Loops::part_end, crate::proofs::Loops::part_last, crate::proofs::Loops::none_after))]
     fn catches(&mut self, catches: &mut Seq<TryTableCatch<'a>>)
         ensures { ReadsOnto catches_rule self.old self.new catches.old catches.new }
@@ -110,7 +113,7 @@ impl<'a> Reader<'a> {
         }
     }
 
-    /// Puts an instruction behind the others.
+    /// Appends an instruction to a list.
     #[tactic(auto, using(crate::proofs::Makes::none_failed), unfolding(crate::specs::Readers::left))]
     fn push_instruction(&mut self, instrs: &mut Seq<Instruction<'a>>, instruction: Instruction<'a>)
         ensures { Builds self.old self.new instruction.entry instrs.old instrs.new }
@@ -118,7 +121,7 @@ impl<'a> Reader<'a> {
         self.make.push_instruction(instrs, instruction);
     }
 
-    /// Puts `block` behind the others.
+    /// Appends `block` to a list of instructions.
     #[tactic(auto, using(crate::proofs::Makes::none_failed), unfolding(crate::specs::Readers::left))]
     fn push_block(&mut self, instrs: &mut Seq<Instruction<'a>>, block: BlockType<'a>)
         ensures { Builds self.old self.new (instr.block block.entry) instrs.old instrs.new }
@@ -126,7 +129,7 @@ impl<'a> Reader<'a> {
         self.make.push_block(instrs, BlockKind::Block, block);
     }
 
-    /// Puts `loop` behind the others.
+    /// Appends `loop` to a list of instructions.
     #[tactic(auto, using(crate::proofs::Makes::none_failed), unfolding(crate::specs::Readers::left))]
     fn push_loop(&mut self, instrs: &mut Seq<Instruction<'a>>, block: BlockType<'a>)
         ensures { Builds self.old self.new (instr.loop_ block.entry) instrs.old instrs.new }
@@ -134,7 +137,7 @@ impl<'a> Reader<'a> {
         self.make.push_block(instrs, BlockKind::Loop, block);
     }
 
-    /// Puts `if` behind the others.
+    /// Appends `if` to a list of instructions.
     #[tactic(auto, using(crate::proofs::Makes::none_failed), unfolding(crate::specs::Readers::left))]
     fn push_if(&mut self, instrs: &mut Seq<Instruction<'a>>, block: BlockType<'a>)
         ensures { Builds self.old self.new (instr.if_ block.entry) instrs.old instrs.new }
@@ -142,7 +145,7 @@ impl<'a> Reader<'a> {
         self.make.push_block(instrs, BlockKind::If, block);
     }
 
-    /// Puts `try` behind the others.
+    /// Appends `try` to a list of instructions.
     #[tactic(auto, using(crate::proofs::Makes::none_failed), unfolding(crate::specs::Readers::left))]
     fn push_try(&mut self, instrs: &mut Seq<Instruction<'a>>, block: BlockType<'a>)
         ensures { Builds self.old self.new (instr.try_ block.entry) instrs.old instrs.new }
@@ -150,7 +153,7 @@ impl<'a> Reader<'a> {
         self.make.push_block(instrs, BlockKind::Try, block);
     }
 
-    /// Puts `try_table` behind the others.
+    /// Appends `try_table` to a list of instructions.
     #[tactic(auto, using(crate::proofs::Makes::none_failed), unfolding(crate::specs::Readers::left))]
     fn push_try_table(
         &mut self,
@@ -163,7 +166,7 @@ impl<'a> Reader<'a> {
         self.make.push_try_table(instrs, block, catches);
     }
 
-    /// `try_table` with its clauses, which are next, is put into a list.
+    /// Reads the clauses of `try_table`, after its block type, and appends the instruction.
     #[tactic(auto, using(crate::proofs::Loops::from_nothing, crate::proofs::Loops::mapped))]
     fn try_table(&mut self, block: BlockType<'a>, instrs: &mut Seq<Instruction<'a>>)
         ensures { ReadsOnto (one (try_table_of (seen_block block.entry))) self.old self.new (map seen_instr instrs.old) (map seen_instr instrs.new) }
@@ -173,7 +176,8 @@ impl<'a> Reader<'a> {
         self.push_try_table(instrs, block, catches);
     }
 
-    /// The opener of a block, behind its word, is put into a list.
+    /// Reads the block type of a block instruction, after its keyword, and appends the instruction.
+    /// The instructions in the block are not read.
     #[tactic(auto, using(crate::proofs::Loops::mapped))]
     fn block(&mut self, op: BlockOp, instrs: &mut Seq<Instruction<'a>>)
         ensures { ReadsOnto (one (opener op)) self.old self.new (map seen_instr instrs.old) (map seen_instr instrs.new) }
@@ -188,7 +192,10 @@ impl<'a> Reader<'a> {
         }
     }
 
-    /// An instruction that opens no block, behind its word (text format, instructions).
+    /// Reads the immediates of an instruction that begins no block, after its keyword, and returns
+    /// the instruction (text format: instructions). If the tree has no variant for it, the result
+    /// has only its name, as for `i64.add128`. Requires that the keyword is that of an instruction
+    /// and begins no block.
     fn operator(&mut self, word: Word, name: &'a str) -> Instruction<'a>
         requires { is_plaininstr word ≡ true }
         ensures { Reads (plaininstr word name.entry) self.old self.new (seen_instr result) }
@@ -223,7 +230,7 @@ impl<'a> Reader<'a> {
         }
     }
 
-    /// An instruction that begins with this word is put into a list.
+    /// Reads an instruction by its keyword, and appends it. Requires that the keyword is next.
     #[tactic(auto, using(crate::proofs::Words::not_opener, crate::proofs::Loops::mapped))]
     fn worded(&mut self, word: Word, name: &'a str, instrs: &mut Seq<Instruction<'a>>)
         requires { peek 0 (left self.old) ≡ Some (token.Word word name) }
@@ -243,7 +250,8 @@ impl<'a> Reader<'a> {
         }
     }
 
-    /// An instruction is put into a list (text format, instructions).
+    /// Reads the keyword and the immediates of an instruction, and appends it (text format:
+    /// instructions). Folded instructions are read in `bodies`.
     pub(crate) fn instruction(&mut self, instrs: &mut Seq<Instruction<'a>>)
         ensures { ReadsOnto (one instruction_rule) self.old self.new (map seen_instr instrs.old) (map seen_instr instrs.new) }
     {

@@ -1,10 +1,39 @@
-//! Reads modules in the text format of WebAssembly into the tree.
+//! Reads a module in the text format into the tree of `wast_tree`.
 //!
-//! A call takes memory only where its text says so. A call that can fail says when, and with what.
+//! The crate `wat_bytes` encodes what is read, and `wast_script` reads the modules of a test
+//! script.
+//!
+//! # Example
+//!
+//!     let module = read(rt.alloc(), text, &strings).expect(&rt, "a module");
+//!
+//! For the text `(module (func) (func $f))` the module has two fields.
+//!
+//! # Modules
+//!
+//! - `modules` has [`read`], and [`read_tokens`] and [`read_module_tokens`] for tokens.
+//! - `fields`, `types`, `segments` and `customs` read the fields of a module.
+//! - `bodies` reads expressions, and `instructions`, `immediates`, `operators` and `vectors` read
+//!   one instruction.
+//! - `quotes` joins the strings of `(module quote ..)`.
+//! - `reader` has the tokens that are left, and the first error.
+//! - `meanings` has the theorems.
+//!
+//! The rules of the text format are in `wat_grammar` and `wat_syntax`. In `specs/`, `Denotes` has
+//! the rules of a whole module, and `Readers` the contracts of functions that read a part of it.
+//!
+//! # Guarantees
+//!
+//! - [`read`], `denotes`: the rules of the text format read the text as the module that is
+//!   returned.
+//! - [`read`], `refuses`: if the error is not [`TextFault::Memory`], the rules read the text as no
+//!   module, or as one that is not well formed.
+//! - [`module_laws`]: the rules read no text as two modules, except for addresses in memory.
 #![tactic(auto)]
 
 mod bodies;
 mod customs;
+mod examples;
 mod fields;
 mod immediates;
 mod instructions;

@@ -1,4 +1,4 @@
-//! Modules.
+//! Reads a whole module, and its fields one after another (text format: modules).
 
 ghost use Rattle.std.specs.Prelude.{◌≡◌, ◌≤◌, true, false, None, Some, length, map, is_none, IsTrue, IfOk, IfErr, IfSome};
 ghost use Rattle.std.specs.Option.{unwrap_or};
@@ -22,27 +22,44 @@ use wast_tree::{
 };
 use wat_tokens::{Annotation, Key, Placed, Strings, TextError, TextFault, Token, tokens_of};
 
-/// What a module of a text holds (text format, modules).
+/// What a module contains (text format: modules).
+///
+/// # Example
+///
+///     match kind {
+///         TextKind::Fields(fields) => discard_fields(fields),
+///         TextKind::Binary(_pieces) => (),
+///     }
 pub enum TextKind<'a> {
-    /// Its fields, in the order of the text.
+    /// The fields, in the order of the text.
     Fields(Seq<ModuleField<'a>>),
-    /// The bytes of a binary module, in pieces: `(module binary "\00asm" "\01\00\00\00")`.
+    /// The bytes of a binary module, in pieces, as in `(module binary "\00asm" "\01\00\00\00")`.
     Binary(Seq<&'a [u8]>),
 }
 
-/// A module of a text: its place, its id, its name annotation and what it holds (text format, modules).
+/// A module with its position, id and name annotation (text format: modules).
+///
+/// # Example
+///
+///     let TextModule {
+///         span: _span,
+///         id: _id,
+///         name: _name,
+///         kind,
+///     } = module;
 pub struct TextModule<'a> {
-    /// The place of its keyword, or the start of the text if there is none.
+    /// The position of the keyword `module`, or the start of the text if there is none.
     pub span: Span,
-    /// Its id.
+    /// The id.
     pub id: Option<Id<'a>>,
-    /// Its name annotation.
+    /// The name annotation.
     pub name: Option<NameAnnotation<'a>>,
-    /// What it holds.
+    /// The fields, or the bytes of a binary module.
     pub kind: TextKind<'a>,
 }
 
-/// What a module begins with: the place of its keyword, if it is in parentheses, its id and its name annotation.
+/// The start of a module: the position of its keyword if it is in parentheses, its id and its name
+/// annotation.
 #[derive(Clone, Copy)]
 struct ModuleHead<'a> {
     keyword: Option<Span>,
@@ -51,7 +68,7 @@ struct ModuleHead<'a> {
 }
 
 impl<'a> Reader<'a> {
-    /// A field behind `(` (text format, modules).
+    /// Reads a field after its `(`, without its `)` (text format: modules).
     fn form(&mut self) -> ModuleField<'a>
         ensures { Reads fieldform self.old self.new (seen_field result) }
     {
@@ -72,7 +89,7 @@ impl<'a> Reader<'a> {
         }
     }
 
-    /// `(start ..)` (text format, start function).
+    /// Reads the field `(start $f)`, without its parentheses (text format: start function).
     fn start_field(&mut self) -> ModuleField<'a>
         ensures { Decides startfield self.old self.new result }
     {
@@ -80,7 +97,7 @@ impl<'a> Reader<'a> {
         ModuleField::Start(self.index())
     }
 
-    /// Where no field stands.
+    /// Fails because no field is next. The field that it returns means nothing.
     fn no_field(&mut self) -> ModuleField<'a>
         ensures { Refuses self.old self.new }
     {
@@ -88,7 +105,7 @@ impl<'a> Reader<'a> {
         ModuleField::Start(Index::from(0))
     }
 
-    /// A field from its parenthesis on (text format, modules).
+    /// Reads a field from its `(` or its annotation on, without its `)` (text format: modules).
     fn field(&mut self) -> ModuleField<'a>
         ensures { Reads open_field self.old self.new (seen_field result) }
     {
@@ -108,7 +125,7 @@ impl<'a> Reader<'a> {
         }
     }
 
-    /// A field with its `)` (text format, modules).
+    /// Reads a field in its parentheses (text format: modules).
     fn module_field(&mut self) -> ModuleField<'a>
         ensures { Reads modulefield self.old self.new (seen_field result) }
     {
@@ -117,7 +134,7 @@ impl<'a> Reader<'a> {
         field
     }
 
-    /// Puts a field behind the others.
+    /// Appends a field to a list.
     #[tactic(auto, using(crate::proofs::Makes::none_failed), unfolding(crate::specs::Readers::left))]
     fn push_field(&mut self, fields: &mut Seq<ModuleField<'a>>, field: ModuleField<'a>)
         ensures { Builds self.old self.new field.entry fields.old fields.new }
@@ -125,7 +142,7 @@ impl<'a> Reader<'a> {
         self.make.push_field(fields, field);
     }
 
-    /// Reads fields up to the end of the form or the text.
+    /// Reads fields up to the closing `)` or the end of the text, and appends them.
     #[tactic(auto, using(crate::proofs::Steps::one_built, crate::proofs::Loops::part_end, crate::proofs::Loops::part_last, crate::proofs::Loops::none_after))]
     fn all_fields_of(&mut self, fields: &mut Seq<ModuleField<'a>>)
         ensures { ReadsOnto modulefields self.old self.new (map seen_field fields.old) (map seen_field fields.new) }
@@ -139,7 +156,7 @@ impl<'a> Reader<'a> {
         }
     }
 
-    /// The fields up to the end of the form or the text.
+    /// Reads fields up to the closing `)` or the end of the text.
     #[tactic(auto, using(crate::proofs::Loops::from_nothing))]
     fn fields(&mut self) -> Seq<ModuleField<'a>>
         ensures { Reads modulefields self.old self.new (map seen_field result) }
@@ -149,7 +166,7 @@ impl<'a> Reader<'a> {
         fields
     }
 
-    /// `(module`, where it stands there: the place of its keyword.
+    /// Reads `(module`, if it is next, and returns the position of the keyword.
     fn module_keyword(&mut self) -> Option<Span>
         ensures { Finds keyword_rule self.old self.new result }
     {
@@ -162,7 +179,8 @@ impl<'a> Reader<'a> {
         Some(span)
     }
 
-    /// Reads what a module begins with: `(module`, its id and its name annotation, if it is in parentheses.
+    /// Reads `(module`, an id and a name annotation, if the module is in parentheses. Otherwise it
+    /// reads nothing, because a module of fields alone has no id.
     fn module_head(&mut self) -> ModuleHead<'a>
         ensures { Decides opening self.old self.new (seen_opening result) }
     {
@@ -174,7 +192,7 @@ impl<'a> Reader<'a> {
         ModuleHead { keyword, id, name }
     }
 
-    /// Puts a piece behind the others.
+    /// Appends a piece to a list.
     fn push_piece(&mut self, pieces: &mut Seq<&'a [u8]>, piece: &'a [u8])
         ensures { Pushes self.old self.new piece.entry pieces.old pieces.new }
     {
@@ -182,7 +200,7 @@ impl<'a> Reader<'a> {
         self.took(pushed);
     }
 
-    /// Reads strings up to the end of the form.
+    /// Reads strings up to the closing `)`, and appends them.
     #[tactic(auto, using(crate::proofs::Steps::one_more, crate::proofs::Loops::part_end, crate::proofs::Loops::part_last, crate::proofs::Loops::none_after))]
     fn all_pieces(&mut self, pieces: &mut Seq<&'a [u8]>)
         ensures { ReadsOnto strings_rule self.old self.new pieces.old pieces.new }
@@ -196,7 +214,8 @@ impl<'a> Reader<'a> {
         }
     }
 
-    /// Reads strings up to the end of the form: the pieces of a binary module or of a custom section.
+    /// Reads strings up to the closing `)`. They are the pieces of a binary module or of a custom
+    /// section.
     #[tactic(auto, using(crate::proofs::Loops::from_nothing))]
     pub(crate) fn pieces(&mut self) -> Seq<&'a [u8]>
         ensures { Reads strings_rule self.old self.new result }
@@ -206,7 +225,7 @@ impl<'a> Reader<'a> {
         pieces
     }
 
-    /// Reads a string of a text in quotes, with its place.
+    /// Reads a string of a text in quotes, with its position.
     fn quote(&mut self) -> Quote<'a>
         ensures { Decides quote_rule self.old self.new result }
     {
@@ -215,7 +234,7 @@ impl<'a> Reader<'a> {
         Quote { span, bytes }
     }
 
-    /// Puts a string of a text in quotes behind the others.
+    /// Appends a string of a text in quotes to a list.
     fn push_quote(&mut self, quotes: &mut Vec<Quote<'a>>, quote: Quote<'a>)
         ensures { Pushes self.old self.new quote.entry quotes.old.items quotes.new.items }
     {
@@ -225,7 +244,7 @@ impl<'a> Reader<'a> {
         }
     }
 
-    /// Reads strings up to the end of the form, each with its place.
+    /// Reads strings up to the closing `)`, and appends each with its position.
     #[tactic(auto, using(crate::proofs::Steps::one_more, crate::proofs::Loops::part_end, crate::proofs::Loops::part_last, crate::proofs::Loops::none_after))]
     fn all_quotes(&mut self, quotes: &mut Vec<Quote<'a>>)
         ensures { ReadsOnto quotes_rule self.old self.new quotes.old.items quotes.new.items }
@@ -239,7 +258,8 @@ impl<'a> Reader<'a> {
         }
     }
 
-    /// Reads strings up to the end of the form, each with its place: the pieces of a text in quotes.
+    /// Reads strings up to the closing `)`, each with its position. They are the text of
+    /// `(module quote ..)`.
     #[tactic(auto, using(crate::proofs::Loops::from_nothing))]
     fn quotes(&mut self) -> Vec<Quote<'a>>
         ensures { Reads quotes_rule self.old self.new result.items }
@@ -249,7 +269,7 @@ impl<'a> Reader<'a> {
         quotes
     }
 
-    /// The end of the text.
+    /// Checks that all tokens are read, or fails.
     #[tactic(auto, using(crate::proofs::Taken::none_left, crate::proofs::Taken::some_left))]
     fn text_end(&mut self)
         ensures { Expects all_taken self.old self.new }
@@ -259,7 +279,8 @@ impl<'a> Reader<'a> {
         }
     }
 
-    /// The end of a module and of the text.
+    /// Reads the end of a module and of the text. If the module is in parentheses, its `)` comes
+    /// first.
     fn module_end(&mut self, is_written: bool)
         ensures { Expects (end_rule is_written) self.old self.new }
     {
@@ -272,8 +293,9 @@ impl<'a> Reader<'a> {
     }
 }
 
-/// The fault of fields that are not well formed. It is lent the fields to change, and leaves them: where they were lent to be
-/// read, the prover would compare the type of the whole tree with itself.
+/// Returns the error of fields that are not well formed. The fields are borrowed mutably and not
+/// changed, because the prover would compare the type of the whole tree with itself for a shared
+/// borrow.
 fn ill_formed<'a>(fields: &mut Seq<ModuleField<'a>>) -> Option<TextError>
     ensures none { is_none result ≡ is_well_formed fields.old }
     ensures fault { IfSome result (λ e. IsClauseFault e.fault) }
@@ -288,7 +310,7 @@ fn ill_formed<'a>(fields: &mut Seq<ModuleField<'a>>) -> Option<TextError>
     }
 }
 
-/// The fields if they are well formed; they are dropped otherwise.
+/// Returns the fields if they are well formed. Otherwise drops them and returns the error.
 fn unless_ill_formed<'a>(fields: Seq<ModuleField<'a>>) -> Result<Seq<ModuleField<'a>>, TextError>
     ensures ok { IfOk result (λ same. (same ≡ fields.entry) × (is_well_formed same ≡ true)) }
     ensures err { IfErr result (λ e. (is_well_formed fields.entry ≡ false) × IsClauseFault e.fault) }
@@ -303,7 +325,8 @@ fn unless_ill_formed<'a>(fields: Seq<ModuleField<'a>>) -> Result<Seq<ModuleField
     }
 }
 
-/// The fields if there is no fault and they are well formed; they are dropped otherwise.
+/// Returns the fields if there is no error and they are well formed. Otherwise drops them and
+/// returns the error.
 fn unless<'a>(
     fault: Option<TextError>,
     fields: Seq<ModuleField<'a>>,
@@ -320,7 +343,8 @@ fn unless<'a>(
     }
 }
 
-/// Reads the fields up to the end of the text, and before it `)` if the module is in parentheses.
+/// Reads the fields up to the end of the text. If the module is in parentheses, its `)` comes
+/// before the end.
 fn rest_of_fields<'a>(
     reader: Reader<'a>,
     is_written: bool,
@@ -333,7 +357,7 @@ fn rest_of_fields<'a>(
     unless(reader.finish(), fields)
 }
 
-/// The module at a place, of fields that are read up to the end of the text.
+/// Returns the module at this position whose fields are read up to the end of the text.
 fn module_of_fields<'a>(
     reader: Reader<'a>,
     span: Span,
@@ -352,7 +376,7 @@ fn module_of_fields<'a>(
     }
 }
 
-/// The position of the keyword of a module, or the start of the text if there is none.
+/// Returns the position of the keyword of a module, or the start of the text if there is none.
 fn module_place(keyword: Option<Span>) -> Span
     ensures { result ≡ unwrap_or keyword text_start }
 {
@@ -362,7 +386,7 @@ fn module_place(keyword: Option<Span>) -> Span
     }
 }
 
-/// The module of the pieces of a binary module, which are read from `binary` on.
+/// Reads a binary module from `binary` on, and returns its pieces.
 fn binary_module<'a>(reader: Reader<'a>, head: ModuleHead<'a>) -> Result<TextModule<'a>, TextError>
     ensures { Finishes is_well_formed_module (λ m. binary_rule (seen_opening head.entry) (left reader.entry) ≡ Some (seen_module m)) (binary_rule (seen_opening head.entry) (left reader.entry) ≡ None) reader.entry result }
 {
@@ -382,8 +406,9 @@ fn binary_module<'a>(reader: Reader<'a>, head: ModuleHead<'a>) -> Result<TextMod
     }
 }
 
-/// The module of the text in quotes, which is read from `quote` on. It has the place of the outer module, and its id and name
-/// annotation if it has any.
+/// Reads a module in quotes from `quote` on, and returns the module of the text in quotes. It has
+/// the position of the outer module. It also has the id and the name annotation of the outer
+/// module, if there are any.
 fn quoted_module<'a>(
     reader: Reader<'a>,
     head: ModuleHead<'a>,
@@ -407,7 +432,8 @@ fn quoted_module<'a>(
     module_of_fields(inner, span, ModuleHead { keyword, id, name })
 }
 
-/// The module of a text, wherever its faults are.
+/// Reads the module of a text, as [`read`] does. The contract does not bound the position of an
+/// error.
 #[tactic(auto, using(crate::proofs::Opened::text_none, crate::proofs::Opened::text_ok))]
 fn read_module<'a>(
     alloc: Global,
@@ -423,24 +449,44 @@ fn read_module<'a>(
     read_module_tokens(alloc, tokens, end, strings)
 }
 
-/// Reads a module in the text format (text format, modules): its fields, with its id and its name annotation.
+/// Reads a module in the text format (text format: modules).
 ///
-/// The text has one module, in parentheses or as its fields alone. `(module binary "..")` gives the bytes of a binary module,
-/// which are not looked at, and `(module quote "..")` gives the module of the text in its strings, which are read as one text.
-/// Strings with escapes, and the text in quotes, are kept in `strings` for as long as the tree lives. Positions are offsets in
-/// the text: of a field that of its keyword, of an id and a number that of the first character, and of all that is in quotes
-/// that of the string it is in.
+/// The text has one module, in parentheses or as its fields alone. `(module binary "..")` has the
+/// bytes of a binary module, which are not checked. `(module quote "..")` has the module of the
+/// text in its strings, which are joined to one text.
 ///
-/// It allocates memory for the tokens and for the tree. However deep a text is nested, calls do not nest as deeply.
+/// The position of a field is that of its keyword. The position of an id or a number is that of its
+/// first character. In `(module quote ..)` all positions are those of the strings. The tree refers
+/// to `strings`, which stores strings with escapes and the text in quotes. However deeply a text is
+/// nested, calls do not nest as deeply.
+///
+/// # Example
+///
+///     let module = read(rt.alloc(), text, &strings).expect(&rt, "a module");
+///
+/// For the text `(module (func) (func $f))` the module has two fields.
 ///
 /// # Errors
-/// A [`TextFault`] with its position, which is one of the text or its end: the text is not a module, or its fields are not well
-/// formed, as [`ill_formed`](wast_tree::ill_formed) lists it, or allocation failed ([`TextFault::Memory`]).
+///
+/// A [`TextFault`] with a position in the text or at its end:
+///
+/// - [`TextFault::Memory`]: allocation failed.
+/// - [`TextFault::IllFormed`]: the fields break the rule of well-formedness of this number, as in
+///   [`ill_formed`](wast_tree::ill_formed). A branch hint without an instruction also has this
+///   fault.
+/// - Each other fault: the text is not a module.
 ///
 /// # Guarantees
-/// `well_formed`: the fields are well formed. `denotes`: the text denotes the module, by the rules of the text format. `refuses`: if
-/// no allocation failed, the text denotes no module, or the fault is [`TextFault::IllFormed`] and it denotes one that is not well
-/// formed. `place`: the position of an error is in the text or at its end.
+///
+/// - `well_formed`: the fields are well formed. The bytes of a binary module are not checked.
+/// - `denotes`: the rules of the text format read the text as the module (`Denotes`).
+/// - `refuses`: unless the error is [`TextFault::Memory`], the rules read the text as no module. If
+///   it is [`TextFault::IllFormed`], they may also read it as a module that is not well formed.
+/// - `place`: the position of an error is in the text or at its end.
+///
+/// # Memory
+///
+/// Allocates for the tokens, the tree and `strings`.
 pub fn read<'a>(
     alloc: Global,
     text: &'a str,
@@ -463,20 +509,38 @@ pub fn read<'a>(
     }
 }
 
-/// Reads the fields of a module from its tokens, as [`read`] does from its text. The tokens are those of a text that the caller
-/// has changed, for example to give ids other names or other positions. `end` is the position after the last one. Modules
-/// `(module binary ..)` and `(module quote ..)` are not read.
+/// Reads the fields of a module from its tokens, as [`read`] does from a text (text format:
+/// modules).
 ///
-/// It allocates memory for the tree. The id and the name annotation of the module are left out.
+/// It is for tokens that the caller has changed. For example, the caller replaces ids or positions.
+/// `end` is the position after the last token. The id and the name annotation of the module are not
+/// returned. It is an error if the module is `(module binary ..)` or `(module quote ..)`.
+///
+/// # Example
+///
+///     let mut tokens = written_tokens_of(alloc, text)?;
+///     write_in(&mut tokens, way);
+///
+/// After this change of the tokens, with the length of the text as `end`:
+///
+///     read_tokens(alloc, tokens, end)
 ///
 /// # Errors
-/// A [`TextFault`] with its position, which is that of a token or `end`: the tokens are not a module, or its fields are not well
-/// formed, or allocation failed ([`TextFault::Memory`]).
+///
+/// A [`TextFault`] with the position of a token, or `end`: the tokens are not a module of fields,
+/// or the fields are not well formed, or allocation failed.
 ///
 /// # Guarantees
-/// `well_formed`: the fields are well formed. `denotes`: the tokens are those of a module with these fields, by the rules of the text
-/// format. `refuses`: if no allocation failed, the tokens are those of no module of fields, or the fault is
-/// [`TextFault::IllFormed`] and the fields are not well formed.
+///
+/// - `well_formed`: the fields are well formed.
+/// - `denotes`: the rules of the text format read the tokens as a module with these fields.
+/// - `refuses`: unless the error is [`TextFault::Memory`], the rules read the tokens as no module
+///   of fields. If it is [`TextFault::IllFormed`], they may also read fields that are not well
+///   formed.
+///
+/// # Memory
+///
+/// Allocates for the tree.
 pub fn read_tokens<'a>(
     alloc: Global,
     tokens: Vec<Placed<'a>>,
@@ -491,18 +555,27 @@ pub fn read_tokens<'a>(
     rest_of_fields(reader, head.keyword.is_some())
 }
 
-/// Reads a module from its tokens, as [`read`] does from its text: its fields, or its pieces if it is binary, with its id and its
-/// name annotation. For example, the tokens are those of one module of a script. `end` is the position after the last one.
+/// Reads a module from its tokens, as [`read`] does from a text (text format: modules).
 ///
-/// It allocates memory for the tree. The text in quotes of `(module quote ..)` is kept in `strings`.
+/// For example, `wast_script` calls it with the tokens of one module of a script. `end` is the
+/// position after the last token. The text of `(module quote ..)` is stored in `strings`.
 ///
 /// # Errors
-/// A [`TextFault`] with its position, which is that of a token or `end`: the tokens are not a module, or its fields are not well
-/// formed, or allocation failed ([`TextFault::Memory`]).
+///
+/// A [`TextFault`] with the position of a token, or `end`: the tokens are not a module, or its
+/// fields are not well formed, or allocation failed.
 ///
 /// # Guarantees
-/// `well_formed`: the fields are well formed. `denotes`: the tokens mean the module, by the rules of the text format. `refuses`: if no
-/// allocation failed, the tokens mean no module, or the fault is [`TextFault::IllFormed`] and they mean one that is not well formed.
+///
+/// - `well_formed`: the fields are well formed. The bytes of a binary module are not checked.
+/// - `denotes`: the rules of the text format read the tokens as the module (`Means`).
+/// - `refuses`: unless the error is [`TextFault::Memory`], the rules read the tokens as no module.
+///   If it is [`TextFault::IllFormed`], they may also read them as a module that is not well
+///   formed.
+///
+/// # Memory
+///
+/// Allocates for the tree and `strings`.
 pub fn read_module_tokens<'a>(
     alloc: Global,
     tokens: Vec<Placed<'a>>,

@@ -1,4 +1,4 @@
-//! Instructions with indices, by their words. `tools/ops` writes this file.
+//! Makes instructions with indices from their keywords. `tools/ops` writes this file.
 
 ghost use Rattle.std.specs.Prelude.{◌≡◌};
 ghost use Rattle.wat_syntax.specs.Operators.{index_instr, uncovered_instr, pair_instr};
@@ -11,7 +11,7 @@ use wast_tree::{
 };
 use wat_tokens::{PairOp, UncoveredOp};
 
-/// An instruction with an index (text format, instructions).
+/// Returns the instruction with an index that a keyword is (text format: instructions).
 pub(crate) fn with_index<'a>(op: IndexOp, index: Index<'a>) -> Instruction<'a>
     ensures instruction { result ≡ index_instr op index.entry }
     ensures seen { seen_instr result ≡ index_instr op index.entry }
@@ -57,7 +57,7 @@ pub(crate) fn with_index<'a>(op: IndexOp, index: Index<'a>) -> Instruction<'a>
     }
 }
 
-/// An instruction with an index, of a form that no encoder covers.
+/// Returns the instruction with an index that a keyword is. The encoder does not support these.
 pub(crate) fn with_uncovered<'a>(op: UncoveredOp, index: Index<'a>) -> Instruction<'a>
     ensures instruction { result ≡ uncovered_instr op index.entry }
     ensures seen { seen_instr result ≡ uncovered_instr op index.entry }
@@ -72,7 +72,8 @@ pub(crate) fn with_uncovered<'a>(op: UncoveredOp, index: Index<'a>) -> Instructi
     }
 }
 
-/// An instruction with two indices, in the order of the text (text format, instructions).
+/// Returns the instruction with two indices that a keyword is. The indices are in the order of the
+/// text (text format: instructions).
 pub(crate) fn with_pair<'a>(op: PairOp, first: Index<'a>, second: Index<'a>) -> Instruction<'a>
     ensures instruction { result ≡ pair_instr op first.entry second.entry }
     ensures seen { seen_instr result ≡ pair_instr op first.entry second.entry }

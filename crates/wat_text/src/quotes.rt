@@ -1,9 +1,13 @@
-//! Texts in quotes: `(module quote "(func" ")")`.
+//! Cuts the text in quotes of a module such as `(module quote "(func" ")")` into tokens (test
+//! scripts: modules).
+//!
+//! The strings are joined to one text, so a token can begin in one string and end in the next. Each
+//! token has the position of the string in which it begins.
 
 ghost use Rattle.std.specs.Prelude.{◌≡◌, ◌≢◌, ◌+◌, ◌<◌, ◌≤◌, ◌^◌, ◌++◌, List, length, map, None, IfSome, IfOk, MatchResult, slice_get};
 ghost use Rattle.std.specs.Str.{is_utf8};
 ghost use Rattle.wat_tokens.specs.declared.faults.TextFault.TheVariants as fault;
-ghost use Rattle.wat_text.specs.Denotes.{text_in, position_of, put_in, AreTokensIf};
+ghost use Rattle.wat_text.specs.Denotes.{text_in, put_in, AreTokensIf};
 ghost use Rattle.wat_text.specs.declared.quotes.Quote.{Quote};
 ghost use Rattle.wat_text.specs.Cursors.{IsAt, IsIn, ArePlaced, bytes_at, offset_at, position_at, put_at};
 
@@ -12,21 +16,22 @@ use std::str;
 use wast_tree::Span;
 use wat_tokens::{Placed, Strings, TextError, TextFault, tokens_of};
 
-/// A string of a text in quotes, at its place.
+/// A string of a text in quotes, with its position.
 #[derive(Clone, Copy)]
 pub(crate) struct Quote<'a> {
     pub span: Span,
     pub bytes: &'a [u8],
 }
 
-/// A string of a text in quotes, by its number, and the offset in the text that they make at which it begins.
+/// A string of a text in quotes, by its number, and the offset at which it begins in the joined
+/// text.
 #[derive(Clone, Copy)]
 struct Cursor {
     number: usize,
     begin: usize,
 }
 
-/// The string of a number.
+/// Returns the string of this number.
 fn quote_at<'a>(quotes: &[Quote<'a>], number: usize) -> Option<Quote<'a>>
     ensures { result ≡ slice_get quotes.now number }
 {
@@ -36,7 +41,8 @@ fn quote_at<'a>(quotes: &[Quote<'a>], number: usize) -> Option<Quote<'a>>
     }
 }
 
-/// The next string, if the one at the cursor ends at or before an offset and is not the last.
+/// Returns the next string, if the one at the cursor ends at or before the offset and is not the
+/// last.
 #[tactic(auto, using(crate::proofs::Quoting::is_next, crate::proofs::Quoting::is_before, crate::proofs::Quoting::is_last, crate::proofs::Quoting::is_none))]
 fn next(quotes: &[Quote<'_>], cursor: Cursor, offset: usize) -> Option<Cursor>
     requires fits { length (text_in quotes.now) < 2 ^ 64 }
@@ -60,7 +66,7 @@ fn next(quotes: &[Quote<'_>], cursor: Cursor, offset: usize) -> Option<Cursor>
     Some(Cursor { number, begin })
 }
 
-/// The string in which an offset is, which is the one at the cursor or comes after it.
+/// Returns the string in which an offset is. It is the one at the cursor or comes after it.
 fn advance(quotes: &[Quote<'_>], cursor: Cursor, offset: usize) -> Cursor
     requires fits { length (text_in quotes.now) < 2 ^ 64 }
     requires at { IsAt quotes.now cursor }
@@ -78,7 +84,7 @@ fn advance(quotes: &[Quote<'_>], cursor: Cursor, offset: usize) -> Cursor
     cursor
 }
 
-/// The place of the string at the cursor.
+/// Returns the position of the string at the cursor, or `none` if there is no string.
 fn place_at(quotes: &[Quote<'_>], cursor: Cursor, none: Span) -> Span
     ensures { result ≡ position_at none quotes.now cursor.number }
 {
@@ -88,7 +94,7 @@ fn place_at(quotes: &[Quote<'_>], cursor: Cursor, none: Span) -> Span
     }
 }
 
-/// The offset of a token.
+/// Returns the offset of the token of this number, or 0 if there is none.
 fn offset_of(tokens: &[Placed<'_>], at: usize) -> usize
     ensures { result ≡ offset_at tokens.now at }
 {
@@ -98,7 +104,7 @@ fn offset_of(tokens: &[Placed<'_>], at: usize) -> usize
     }
 }
 
-/// Gives a token another place.
+/// Changes the position of the token of this number.
 fn set_place(tokens: &mut Vec<Placed<'_>>, at: usize, span: Span)
     ensures { tokens.new.items ≡ put_at tokens.old.items at span }
 {
@@ -107,7 +113,7 @@ fn set_place(tokens: &mut Vec<Placed<'_>>, at: usize, span: Span)
     }
 }
 
-/// The cursor, or the one at the first string if an offset is before the string at the cursor.
+/// Returns the cursor, or one at the first string if the offset is before the string at the cursor.
 fn not_after(cursor: Cursor, offset: usize) -> Cursor
     ensures at { (quotes : List Quote) → IsAt quotes cursor → IsAt quotes result }
     ensures before { result.begin ≤ offset }
@@ -121,7 +127,7 @@ fn not_after(cursor: Cursor, offset: usize) -> Cursor
     }
 }
 
-/// Gives each token of a text in quotes the place of the string in which it begins.
+/// Changes the position of each token to that of the string in which the token begins.
 #[tactic(auto, using(crate::proofs::Quoting::placed_more))]
 fn place_tokens(tokens: &mut Vec<Placed<'_>>, quotes: &[Quote<'_>], none: Span)
     requires fits { length (text_in quotes.now) < 2 ^ 64 }
@@ -138,7 +144,7 @@ fn place_tokens(tokens: &mut Vec<Placed<'_>>, quotes: &[Quote<'_>], none: Span)
     }
 }
 
-/// Puts the bytes of a string, if there is one of the number, behind others.
+/// Appends the bytes of the string of this number, if there is one.
 fn push_string(bytes: &mut Vec<u8>, quotes: &[Quote<'_>], number: usize) -> Result<(), AllocError>
     ensures { IfOk result (λ u. bytes.new.items ≡ bytes.old.items ++ bytes_at quotes.now number) }
 {
@@ -148,7 +154,7 @@ fn push_string(bytes: &mut Vec<u8>, quotes: &[Quote<'_>], number: usize) -> Resu
     }
 }
 
-/// The text that strings make, one directly after another, kept in `strings`.
+/// Joins the strings to one text, and stores it in `strings`.
 #[tactic(auto, using(crate::proofs::Quoting::text_next, crate::proofs::Quoting::text_all))]
 fn joined<'a>(
     alloc: Global,
@@ -166,8 +172,8 @@ fn joined<'a>(
     strings.keep(bytes.as_slice())
 }
 
-/// The tokens of a text in quotes, each at the place of the string in which it begins. A text without strings has none, and its
-/// place is the one given.
+/// Returns the tokens of a text in quotes, each with the position of the string in which it begins.
+/// A text without strings has no tokens, and an error in it has the position `none`.
 #[tactic(auto, using(crate::proofs::Quoting::cut_ok, crate::proofs::Quoting::cut_none, crate::proofs::Quoting::cut_not))]
 pub(crate) fn quoted_tokens<'a>(
     alloc: Global,

@@ -1,36 +1,39 @@
-//! What is read of the tokens of a text: one after another, up to the first fault.
+//! Reads the tokens of a text one after another, up to the first error.
 //!
-//! A reader keeps the first fault, and from then on has no tokens left: so what reads a part of the tree always gives one, has
-//! no error to pass on and nothing to drop, and each loop over the tokens that are left ends.
+//! A reader keeps the first error, and has no tokens left from then on. So each function that reads
+//! a part of the tree returns a part, and has no error to pass on and nothing to drop. Each loop
+//! over the tokens that are left also ends.
+//!
+//! The next token is the first one that is left. A form is `(`, a keyword, and all up to the
+//! closing `)`, such as `(result i32 i64)`.
 
 ghost use Rattle.std.specs.Prelude.{◌≡◌, ◌≢◌, true, false, None, Some, Ok, Err, option_map, IfSome};
-ghost use Rattle.wat_grammar.specs.Integers.{uN};
 ghost use Rattle.wat_syntax.specs.Tokens.{peek, after, position, position_in, count, is_lparen, is_end, word_of, key_of, is_key, is_form, lparen, rparen, keyword, form};
 ghost use Rattle.wat_tokens.specs.declared.faults.TextFault.TheVariants as fault;
 ghost use Rattle.wat_syntax.specs.Keywords.{number_of_key};
 ghost use Rattle.wat_syntax.specs.Values.{number_text, u32, is_number, is_string, is_index, string, name, id, name_annotation, index, optional_index, index_or_zero};
 ghost use Rattle.wat_syntax.specs.Seen.{seen_text, seen_name};
-ghost use Rattle.wat_text.specs.Readers.{left, IsClean, IsRefused, Reads, Decides, Expects, Accepts, Finds, Fails, Pushes};
+ghost use Rattle.wat_text.specs.Readers.{left, IsClean, IsRefused, Decides, Expects, Accepts, Finds, Fails, Pushes};
 
 use std::alloc::{AllocError, Global};
 use wast_tree::{Id, Index, NameAnnotation, Seq, Span, TreeBuilder};
 use wat_tokens::{Annotation, Key, Placed, TextError, TextFault, Token, Word, unsigned32};
 
-/// The tokens of a text, and how far they are read.
+/// The tokens of a text, how many of them are read, and the first error.
 #[derive(Drop)]
 pub(crate) struct Reader<'a> {
     pub alloc: Global,
-    /// What puts parts of the tree into lists.
+    /// Appends parts of the tree to lists, and stores whether an allocation failed.
     pub make: TreeBuilder,
     tokens: Vec<Placed<'a>>,
-    /// How many tokens are read.
+    /// How many tokens are read. After an error, no token is left.
     at: usize,
-    /// The place behind the last token.
+    /// The position after the last token.
     end: Span,
     fault: Option<TextError>,
 }
 
-/// The number of a keyword.
+/// Returns the number of a keyword, by which keywords are compared.
 fn number_of(key: Key) -> u8
     ensures { result ≡ number_of_key key }
 {
@@ -38,7 +41,7 @@ fn number_of(key: Key) -> u8
 }
 
 impl<'a> Reader<'a> {
-    /// Nothing is read yet.
+    /// Makes a reader that has read no token. `end` is the position after the last token.
     #[tactic(auto, unfolding(crate::specs::Readers::left))]
     pub(crate) fn new(alloc: Global, tokens: Vec<Placed<'a>>, end: Span) -> Reader<'a>
         ensures left { left result ≡ record { before = position_in tokens.entry.items end; left = tokens.entry.items; end = end } }
@@ -54,8 +57,8 @@ impl<'a> Reader<'a> {
         }
     }
 
-    /// Returns the first fault, if there is one. If an allocation of the tree failed, the fault is `Memory`, whatever else is wrong,
-    /// so that any other fault is one of the text.
+    /// Returns the first error, if there is one. If an allocation of the tree failed, the error is
+    /// `Memory`, whatever else is wrong. So any other error is one of the text.
     pub(crate) fn finish(self) -> Option<TextError>
         ensures clean { result ≡ None → IsClean self.entry }
         ensures refused { IfSome result (λ e. e.fault ≢ fault.Memory → (self.entry.make ≡ false) × (self.entry.fault ≡ Some e)) }
@@ -66,7 +69,7 @@ impl<'a> Reader<'a> {
         self.fault
     }
 
-    /// How many tokens are left.
+    /// Returns how many tokens are left.
     #[tactic(auto, unfolding(crate::specs::Readers::left, wat_syntax::specs::Tokens::count))]
     pub(crate) fn left(&self) -> usize
         ensures { result ≡ count (left self.now) }
@@ -74,7 +77,7 @@ impl<'a> Reader<'a> {
         self.tokens.len().saturating_sub(self.at)
     }
 
-    /// The token behind so many others; `None` at the end, and behind a fault.
+    /// Returns the token after `ahead` others. Returns `None` at the end, and after an error.
     #[tactic(auto, unfolding(crate::specs::Readers::left, wat_syntax::specs::Tokens::peek))]
     pub(crate) fn look(&self, ahead: usize) -> Option<Token<'a>>
         ensures { result ≡ peek ahead (left self.now) }
@@ -85,7 +88,7 @@ impl<'a> Reader<'a> {
         }
     }
 
-    /// The place of the next token.
+    /// Returns the position of the next token, or the end if no token is left.
     #[tactic(auto, unfolding(crate::specs::Readers::left, wat_syntax::specs::Tokens::position))]
     pub(crate) fn place(&self) -> Span
         ensures { result ≡ position (left self.now) }
@@ -96,7 +99,7 @@ impl<'a> Reader<'a> {
         }
     }
 
-    /// The place of the token that was read last.
+    /// Returns the position of the token that was read last.
     #[tactic(auto, unfolding(crate::specs::Readers::left))]
     pub(crate) fn place_before(&self) -> Span
         ensures { result ≡ (left self.now).before }
@@ -119,7 +122,7 @@ impl<'a> Reader<'a> {
         }
     }
 
-    /// Keeps a fault at a place, unless there is one.
+    /// Stores an error at a position, unless there already is one.
     pub(crate) fn fail_at(&mut self, span: Span, fault: TextFault)
         ensures { Fails fault span self.old self.new }
     {
@@ -129,7 +132,7 @@ impl<'a> Reader<'a> {
         }
     }
 
-    /// Keeps a fault at the next token, unless there is one.
+    /// Stores an error at the next token, unless there already is one.
     pub(crate) fn fail(&mut self, fault: TextFault)
         ensures { Fails fault (position (left self.old)) self.old self.new }
     {
@@ -137,14 +140,15 @@ impl<'a> Reader<'a> {
         self.fail_at(place, fault);
     }
 
-    /// Keeps that something else was expected.
+    /// Stores that something else was expected at the next token, unless there already is an error.
     pub(crate) fn expected(&mut self, what: &'static str)
         ensures { Fails (fault.Expected what.entry) (position (left self.old)) self.old self.new }
     {
         self.fail(TextFault::Expected(what));
     }
 
-    /// The next word, where a word of its own stands there.
+    /// Returns the word that the token after `ahead` others is, if it is a keyword or the name of
+    /// an instruction.
     pub(crate) fn word(&self, ahead: usize) -> Option<Word>
         ensures { result ≡ word_of (peek ahead (left self.now)) }
     {
@@ -154,7 +158,7 @@ impl<'a> Reader<'a> {
         }
     }
 
-    /// The next key, where one stands there.
+    /// Returns the keyword that the token after `ahead` others is, if it is one.
     pub(crate) fn key(&self, ahead: usize) -> Option<Key>
         ensures { result ≡ key_of (peek ahead (left self.now)) }
     {
@@ -164,7 +168,7 @@ impl<'a> Reader<'a> {
         }
     }
 
-    /// Whether this key stands there.
+    /// Returns whether the token after `ahead` others is this keyword.
     pub(crate) fn is_key(&self, ahead: usize, key: Key) -> bool
         ensures { result ≡ is_key key (key_of (peek ahead (left self.now))) }
     {
@@ -174,28 +178,28 @@ impl<'a> Reader<'a> {
         }
     }
 
-    /// Whether `(` stands there.
+    /// Returns whether the token after `ahead` others is `(`.
     pub(crate) fn is_open(&self, ahead: usize) -> bool
         ensures { result ≡ is_lparen (peek ahead (left self.now)) }
     {
         matches!(self.look(ahead), Some(Token::Open))
     }
 
-    /// Whether the form or the text ends there.
+    /// Returns whether `)` is next, or no token is left.
     pub(crate) fn is_end(&self) -> bool
         ensures { result ≡ is_end (peek 0 (left self.now)) }
     {
         matches!(self.look(0), None | Some(Token::Close))
     }
 
-    /// Whether `(` and this key stand there.
+    /// Returns whether `(` and this keyword are next.
     pub(crate) fn is_form(&self, key: Key) -> bool
         ensures { result ≡ is_form key (left self.now) }
     {
         self.is_open(0) && self.is_key(1, key)
     }
 
-    /// Reads this key, where it stands there.
+    /// Reads this keyword, if it is next, and returns whether it is.
     pub(crate) fn accept(&mut self, key: Key) -> bool
         ensures { Accepts (keyword key) self.old self.new result }
     {
@@ -206,7 +210,7 @@ impl<'a> Reader<'a> {
         is_there
     }
 
-    /// Reads `(` and this key, where they stand there.
+    /// Reads `(` and this keyword, if they are next, and returns whether they are.
     pub(crate) fn accept_form(&mut self, key: Key) -> bool
         ensures { Accepts (form key) self.old self.new result }
     {
@@ -218,7 +222,7 @@ impl<'a> Reader<'a> {
         is_there
     }
 
-    /// Reads `(`.
+    /// Reads `(`, or fails.
     pub(crate) fn open(&mut self)
         ensures { Expects lparen self.old self.new }
     {
@@ -228,7 +232,7 @@ impl<'a> Reader<'a> {
         }
     }
 
-    /// Reads `)`.
+    /// Reads `)`, or fails.
     pub(crate) fn close(&mut self)
         ensures { Expects rparen self.old self.new }
     {
@@ -238,7 +242,7 @@ impl<'a> Reader<'a> {
         }
     }
 
-    /// An id, where one stands there (text format, identifiers).
+    /// Reads an id such as `$f`, if one is next (text format: identifiers).
     pub(crate) fn id(&mut self) -> Option<Id<'a>>
         ensures { Finds id self.old self.new result }
     {
@@ -252,7 +256,8 @@ impl<'a> Reader<'a> {
         }
     }
 
-    /// `(@name "a")`, where it stands there (text format, custom annotations).
+    /// Reads a name annotation such as `(@name "a")`, if one is next (text format: custom
+    /// annotations).
     pub(crate) fn name(&mut self) -> Option<NameAnnotation<'a>>
         ensures { Decides name_annotation self.old self.new (option_map seen_name result) }
     {
@@ -267,7 +272,7 @@ impl<'a> Reader<'a> {
         }
     }
 
-    /// The bytes of a string.
+    /// Reads a string, and returns its bytes (text format: strings).
     pub(crate) fn bytes(&mut self) -> &'a [u8]
         ensures { Decides string self.old self.new result }
     {
@@ -283,14 +288,14 @@ impl<'a> Reader<'a> {
         }
     }
 
-    /// Whether a string stands there.
+    /// Returns whether a string is next.
     pub(crate) fn is_string(&self) -> bool
         ensures { result ≡ is_string (peek 0 (left self.now)) }
     {
         matches!(self.look(0), Some(Token::String(_)))
     }
 
-    /// A name, which is a string in UTF-8 (text format, names).
+    /// Reads a name, which is a string in UTF-8 (text format: names).
     #[tactic(auto, using(crate::proofs::Names::utf8_is, crate::proofs::Names::utf8_not))]
     pub(crate) fn text(&mut self) -> &'a str
         ensures { Decides name self.old self.new (seen_text result) }
@@ -306,7 +311,7 @@ impl<'a> Reader<'a> {
         }
     }
 
-    /// Whether a number stands so far ahead.
+    /// Returns whether the token after `ahead` others begins as a number does.
     pub(crate) fn is_number(&self, ahead: usize) -> bool
         ensures { result ≡ is_number (peek ahead (left self.now)) }
     {
@@ -318,7 +323,7 @@ impl<'a> Reader<'a> {
         }
     }
 
-    /// Whether an index stands so far ahead.
+    /// Returns whether the token after `ahead` others is an id, or begins as a number does.
     pub(crate) fn is_index(&self, ahead: usize) -> bool
         ensures { result ≡ is_index (peek ahead (left self.now)) }
     {
@@ -328,7 +333,7 @@ impl<'a> Reader<'a> {
         }
     }
 
-    /// The text of a number.
+    /// Reads a number, and returns its text.
     pub(crate) fn number(&mut self) -> &'a str
         ensures { Decides number_text self.old self.new result }
     {
@@ -344,7 +349,8 @@ impl<'a> Reader<'a> {
         }
     }
 
-    /// What a text says, or a fault at its place.
+    /// Returns the value of a token. If the token has none, stores the error at its position, and
+    /// returns `none`.
     pub(crate) fn value<T: Drop>(&mut self, span: Span, value: Result<T, TextFault>, none: T) -> T
         ensures make { self.new.make ≡ self.old.make }
         ensures clean { self.new.fault ≡ None → self.old.fault ≡ None }
@@ -362,7 +368,7 @@ impl<'a> Reader<'a> {
         }
     }
 
-    /// A number of 32 bits without a sign.
+    /// Reads an unsigned integer of 32 bits.
     #[tactic(auto, using(crate::proofs::Numbers::unsigned_is, crate::proofs::Numbers::unsigned_not))]
     pub(crate) fn number32(&mut self) -> u32
         ensures { Decides u32 self.old self.new result }
@@ -372,7 +378,7 @@ impl<'a> Reader<'a> {
         self.value(place, unsigned32(text), 0)
     }
 
-    /// An index (text format, indices).
+    /// Reads an index: an id or a number (text format: indices).
     #[tactic(auto, using(crate::proofs::Numbers::no_u32))]
     pub(crate) fn index(&mut self) -> Index<'a>
         ensures { Decides index self.old self.new result }
@@ -387,7 +393,7 @@ impl<'a> Reader<'a> {
         Index::Num(self.number32(), place)
     }
 
-    /// An index, where one stands there.
+    /// Reads an index, if one is next.
     pub(crate) fn optional_index(&mut self) -> Option<Index<'a>>
         ensures { Decides optional_index self.old self.new result }
     {
@@ -397,7 +403,7 @@ impl<'a> Reader<'a> {
         None
     }
 
-    /// An index; where none stands there, 0, at the place of the token before.
+    /// Reads an index, if one is next. Otherwise returns 0, at the position of the token before.
     pub(crate) fn index_or_zero(&mut self) -> Index<'a>
         ensures { Decides index_or_zero self.old self.new result }
     {
@@ -408,7 +414,7 @@ impl<'a> Reader<'a> {
         }
     }
 
-    /// Keeps that memory was refused, where it was.
+    /// Stores the error `Memory`, if an allocation failed.
     pub(crate) fn took(&mut self, pushed: Result<(), AllocError>)
         ensures make { self.new.make ≡ self.old.make }
         ensures clean { self.new.fault ≡ None → self.old.fault ≡ None }
@@ -422,7 +428,7 @@ impl<'a> Reader<'a> {
         }
     }
 
-    /// Puts an index at the end of a list.
+    /// Appends an index to a list.
     pub(crate) fn push_index(&mut self, indices: &mut Seq<Index<'a>>, index: Index<'a>)
         ensures { Pushes self.old self.new index.entry indices.old indices.new }
     {

@@ -1,10 +1,10 @@
-//! Segments of elements and of data.
+//! Reads element segments and data segments (text format: element segments, data segments).
 
 ghost use Rattle.std.specs.Prelude.{◌≡◌, ◌≢◌, ◌++◌, None, map, OnOk};
 ghost use Rattle.wat_syntax.specs.Types.{reftype};
 ghost use Rattle.wat_syntax.specs.Seen.{seen_expression};
-ghost use Rattle.wat_syntax.specs.SeenFields.{seen_payload, seen_elem_kind, seen_elem_of, seen_elem, seen_data_kind, seen_data};
-ghost use Rattle.wat_syntax.specs.Segments.{expression_in, elemexpr, elemexprs, funcindices, funcref_of, funcrefs, exprs_payload, funcs_payload, funcrefs_payload, elemlist, short_elemlist, tableuse, optional_number_index, table_or_first, active_elems, is_active, elem_of, elemfield, data_number, numtype, numtype_keyword, data_numbers, numlist, datavalue, datastring, is_numlist, memuse, is_data, data_kind_of, datafield};
+ghost use Rattle.wat_syntax.specs.SeenFields.{seen_payload, seen_elem_of, seen_elem, seen_data_kind, seen_data};
+ghost use Rattle.wat_syntax.specs.Segments.{expression_in, elemexprs, funcindices, funcref_of, funcrefs, exprs_payload, funcrefs_payload, elemlist, short_elemlist, tableuse, optional_number_index, table_or_first, active_elems, is_active, elem_of, elemfield, data_number, numtype, numtype_keyword, data_numbers, numlist, datavalue, datastring, is_numlist, memuse, is_data, data_kind_of, datafield};
 ghost use Rattle.wat_text.specs.Readers.{left, IsRefused, Reads, Decides, ReadsOnto, Builds};
 
 use crate::fields::is_funcref;
@@ -17,14 +17,15 @@ use wast_tree::{
 };
 use wat_tokens::Key;
 
-/// Appends bytes, the lowest first.
+/// Appends bytes in little-endian order.
 fn put<const N: usize>(out: &mut Vec<u8>, bytes: [u8; N]) -> Result<(), AllocError>
     ensures { OnOk result (out.new.items ≡ out.old.items ++ bytes.entry) }
 {
     out.extend_from_slice(&bytes)
 }
 
-/// Returns the type of the numbers of a data segment that a keyword is, if it is one.
+/// Returns the type of the numbers of a data segment that a keyword is, if it is one. For example,
+/// `i16`.
 fn number_type(key: Option<Key>) -> Option<Key>
     ensures { result ≡ numtype key }
 {
@@ -34,8 +35,9 @@ fn number_type(key: Option<Key>) -> Option<Key>
     }
 }
 
-/// Returns the table of an active element segment: the one that is written, or the first if its elements are not of type `funcref`,
-/// because the bytes of a segment without a table have no place for another type. The first table is at the place given.
+/// Returns the table of an active element segment, which is the one that is written. If none is
+/// written and the elements are not of type `funcref`, it is table 0, at the position `place`. The
+/// reason is that a segment without a table has no bytes for another type.
 fn number_or_first<'a>(
     number: Option<Index<'a>>,
     payload: &ElemPayload<'a>,
@@ -50,7 +52,8 @@ fn number_or_first<'a>(
 }
 
 impl<'a> Reader<'a> {
-    /// Reads an expression after `(` and this keyword, or one folded instruction: an offset or an element.
+    /// Reads an expression in `(`, this keyword and `)`, or else one folded instruction. It is an
+    /// offset or an element, as in `(offset i32.const 0)` or `(i32.const 0)`.
     fn expression_in(&mut self, key: Key) -> Expression<'a>
         ensures { Reads (expression_in key) self.old self.new (seen_expression result) }
     {
@@ -62,7 +65,7 @@ impl<'a> Reader<'a> {
         self.folded()
     }
 
-    /// Reads functions up to the end of the form, and appends them.
+    /// Reads function indices up to the closing `)`, and appends them.
     #[tactic(auto, using(crate::proofs::Steps::one_more, crate::proofs::Loops::part_end, crate::proofs::Loops::part_last, crate::proofs::Loops::none_after))]
     fn all_functions(&mut self, indices: &mut Seq<Index<'a>>)
         ensures { ReadsOnto funcindices self.old self.new indices.old indices.new }
@@ -76,7 +79,7 @@ impl<'a> Reader<'a> {
         }
     }
 
-    /// Reads functions up to the end of the form (text format, element segments).
+    /// Reads function indices up to the closing `)` (text format: element segments).
     #[tactic(auto, using(crate::proofs::Loops::from_nothing))]
     pub(crate) fn functions(&mut self) -> Seq<Index<'a>>
         ensures { Reads funcindices self.old self.new result }
@@ -94,7 +97,7 @@ impl<'a> Reader<'a> {
         self.make.push_expression(exprs, expression);
     }
 
-    /// Reads elements up to the end of the form, and appends them.
+    /// Reads elements up to the closing `)`, and appends them.
     #[tactic(auto, using(crate::proofs::Steps::one_built, crate::proofs::Loops::part_end, crate::proofs::Loops::part_last, crate::proofs::Loops::none_after))]
     fn all_expressions(&mut self, exprs: &mut Seq<Expression<'a>>)
         ensures { ReadsOnto elemexprs self.old self.new (map seen_expression exprs.old) (map seen_expression exprs.new) }
@@ -108,7 +111,7 @@ impl<'a> Reader<'a> {
         }
     }
 
-    /// Reads elements of a type, up to the end of the form (text format, element segments).
+    /// Reads elements of this type up to the closing `)` (text format: element segments).
     #[tactic(auto, using(crate::proofs::Loops::from_nothing))]
     pub(crate) fn expressions(&mut self, ty: RefType<'a>) -> ElemPayload<'a>
         ensures { Reads (exprs_payload ty.entry) self.old self.new (seen_payload result) }
@@ -118,7 +121,7 @@ impl<'a> Reader<'a> {
         ElemPayload::Exprs { ty, exprs }
     }
 
-    /// Reads a function, as the expression `ref.func $f`.
+    /// Reads a function index, as the expression `ref.func $f`.
     #[tactic(auto, using(crate::proofs::Makes::none_failed), unfolding(crate::specs::Readers::left))]
     fn function_expression(&mut self) -> Expression<'a>
         ensures { Reads funcref_of self.old self.new (seen_expression result) }
@@ -127,7 +130,7 @@ impl<'a> Reader<'a> {
         self.make.one_instruction(reference)
     }
 
-    /// Reads functions up to the end of the form, and appends them as expressions.
+    /// Reads function indices up to the closing `)`, and appends them as expressions.
     #[tactic(auto, using(crate::proofs::Steps::one_built, crate::proofs::Loops::part_end, crate::proofs::Loops::part_last, crate::proofs::Loops::none_after))]
     fn all_function_expressions(&mut self, exprs: &mut Seq<Expression<'a>>)
         ensures { ReadsOnto funcrefs self.old self.new (map seen_expression exprs.old) (map seen_expression exprs.new) }
@@ -141,7 +144,8 @@ impl<'a> Reader<'a> {
         }
     }
 
-    /// Reads functions up to the end of the form, as expressions of a type: `ref.func $f` for `$f`.
+    /// Reads function indices up to the closing `)`, as expressions of this type. For example, `$f`
+    /// is `ref.func $f`.
     #[tactic(auto, using(crate::proofs::Loops::from_nothing))]
     pub(crate) fn function_expressions(&mut self, ty: RefType<'a>) -> ElemPayload<'a>
         ensures { Reads (funcrefs_payload ty.entry) self.old self.new (seen_payload result) }
@@ -151,7 +155,7 @@ impl<'a> Reader<'a> {
         ElemPayload::Exprs { ty, exprs }
     }
 
-    /// Reads the type of elements.
+    /// Reads the type of the elements.
     #[tactic(auto, using(crate::proofs::References::no_reftype))]
     fn element_type(&mut self) -> RefType<'a>
         ensures { Decides reftype self.old self.new result }
@@ -162,7 +166,8 @@ impl<'a> Reader<'a> {
         self.ref_type()
     }
 
-    /// Reads a list of elements with its `func` or its type (text format, element segments).
+    /// Reads a list of elements: `func $f $g`, or a reference type and expressions (text format:
+    /// element segments).
     fn element_list(&mut self) -> ElemPayload<'a>
         ensures { Reads elemlist self.old self.new (seen_payload result) }
     {
@@ -173,8 +178,8 @@ impl<'a> Reader<'a> {
         self.expressions(ty)
     }
 
-    /// Reads the list of elements of an active segment whose table is not written as `(table ..)`, which may leave out its `func`
-    /// (text format, element segments: abbreviations).
+    /// Reads the list of elements of an active segment without `(table ..)`. It may leave out its
+    /// `func` (text format: element segments, abbreviations).
     fn short_element_list(&mut self) -> ElemPayload<'a>
         ensures { Reads short_elemlist self.old self.new (seen_payload result) }
     {
@@ -184,7 +189,7 @@ impl<'a> Reader<'a> {
         ElemPayload::Indices(self.functions())
     }
 
-    /// Reads `(table $t)`, if it is there.
+    /// Reads `(table $t)`, if it is next.
     fn table_use(&mut self) -> Option<Index<'a>>
         ensures { Decides tableuse self.old self.new result }
     {
@@ -196,7 +201,7 @@ impl<'a> Reader<'a> {
         Some(index)
     }
 
-    /// Reads the number of a table, if it is there.
+    /// Reads the number of a table, if one is next.
     fn table_number(&mut self) -> Option<Index<'a>>
         ensures { Decides optional_number_index self.old self.new result }
     {
@@ -206,7 +211,7 @@ impl<'a> Reader<'a> {
         }
     }
 
-    /// Reads an active element segment from its table on (text format, element segments).
+    /// Reads an active element segment from its table on (text format: element segments).
     fn active_elements(&mut self) -> (ElemKind<'a>, ElemPayload<'a>)
         ensures { Reads active_elems self.old self.new (seen_elem_of result) }
     {
@@ -223,14 +228,14 @@ impl<'a> Reader<'a> {
         (ElemKind::Active { table, offset }, payload)
     }
 
-    /// Returns whether an element segment is active: a table or an offset is next.
+    /// Returns whether an element segment is active, because a table or an offset is next.
     fn is_active(&self) -> bool
         ensures { result ≡ is_active (left self.now) }
     {
         self.is_number(0) || self.is_open(0) && !self.is_ref_type()
     }
 
-    /// Reads what an element segment is for, and its elements (text format, element segments).
+    /// Reads the mode of an element segment, and its elements (text format: element segments).
     fn elem_kind(&mut self) -> (ElemKind<'a>, ElemPayload<'a>)
         ensures { Reads elem_of self.old self.new (seen_elem_of result) }
     {
@@ -243,7 +248,7 @@ impl<'a> Reader<'a> {
         }
     }
 
-    /// Reads `(elem ..)` (text format, element segments).
+    /// Reads the field `(elem ..)`, without its parentheses (text format: element segments).
     pub(crate) fn elem_field(&mut self) -> Elem<'a>
         ensures { Reads elemfield self.old self.new (seen_elem result) }
     {
@@ -306,7 +311,7 @@ impl<'a> Reader<'a> {
         }
     }
 
-    /// Reads the type of numbers.
+    /// Reads the type of the numbers of a data segment, such as `i16`.
     fn data_number_type(&mut self) -> Key
         ensures { Decides numtype_keyword self.old self.new result }
     {
@@ -322,7 +327,7 @@ impl<'a> Reader<'a> {
         }
     }
 
-    /// Reads numbers up to the end of the form, and appends their bytes.
+    /// Reads numbers up to the closing `)`, and appends their bytes.
     #[tactic(auto, using(crate::proofs::Steps::one_list, crate::proofs::Loops::list_end, crate::proofs::Loops::list_last, crate::proofs::Loops::none_after))]
     fn all_numbers(&mut self, key: Key, out: &mut Vec<u8>)
         ensures { ReadsOnto (data_numbers key) self.old self.new out.old.items out.new.items }
@@ -335,7 +340,7 @@ impl<'a> Reader<'a> {
         }
     }
 
-    /// Reads the bytes of numbers: `(i16 1 2)`.
+    /// Reads numbers such as `(i16 1 2)`, and returns their bytes.
     #[tactic(auto, using(crate::proofs::Loops::from_nothing))]
     fn data_numbers(&mut self) -> DataVal<'a>
         ensures { Reads numlist self.old self.new result }
@@ -366,7 +371,7 @@ impl<'a> Reader<'a> {
         self.make.push_data(pieces, piece);
     }
 
-    /// Reads the bytes of a data segment up to the end of the form, and appends them.
+    /// Reads strings and numbers up to the closing `)`, and appends them.
     #[tactic(auto, using(crate::proofs::Steps::one_built_plain, crate::proofs::Loops::part_end, crate::proofs::Loops::part_last, crate::proofs::Loops::none_after))]
     fn all_data(&mut self, pieces: &mut Seq<DataVal<'a>>)
         ensures { ReadsOnto datastring self.old self.new pieces.old pieces.new }
@@ -380,7 +385,7 @@ impl<'a> Reader<'a> {
         }
     }
 
-    /// Reads the bytes of a data segment, up to the end of the form (text format, data segments).
+    /// Reads the bytes of a data segment up to the closing `)` (text format: data segments).
     #[tactic(auto, using(crate::proofs::Loops::from_nothing))]
     pub(crate) fn data_bytes(&mut self) -> Seq<DataVal<'a>>
         ensures { Reads datastring self.old self.new result }
@@ -390,7 +395,7 @@ impl<'a> Reader<'a> {
         pieces
     }
 
-    /// Returns whether numbers are next: `(i16 1 2)`.
+    /// Returns whether numbers are next, such as `(i16 1 2)`.
     fn is_numbers(&self) -> bool
         ensures { result ≡ is_numlist (left self.now) }
     {
@@ -401,7 +406,8 @@ impl<'a> Reader<'a> {
         self.is_open(0) && is_type
     }
 
-    /// Reads the memory of a data segment, `(memory $m)` or its number alone; the first memory if none is written.
+    /// Reads the memory of a data segment: `(memory $m)`, or its number alone. If none is written,
+    /// it is memory 0.
     fn data_memory(&mut self) -> Index<'a>
         ensures { Decides memuse self.old self.new result }
     {
@@ -417,14 +423,14 @@ impl<'a> Reader<'a> {
         }
     }
 
-    /// Returns whether the bytes of a data segment are next.
+    /// Returns whether the bytes of a data segment are next, so that the segment is passive.
     fn is_data(&self) -> bool
         ensures { result ≡ is_data (left self.now) }
     {
         self.is_end() || self.is_string() || self.is_numbers()
     }
 
-    /// Reads what becomes of a data segment (text format, data segments).
+    /// Reads the mode of a data segment (text format: data segments).
     fn data_kind(&mut self) -> DataKind<'a>
         ensures { Reads data_kind_of self.old self.new (seen_data_kind result) }
     {
@@ -436,7 +442,7 @@ impl<'a> Reader<'a> {
         DataKind::Active { memory, offset }
     }
 
-    /// Reads `(data ..)` (text format, data segments).
+    /// Reads the field `(data ..)`, without its parentheses (text format: data segments).
     pub(crate) fn data_field(&mut self) -> Data<'a>
         ensures { Reads datafield self.old self.new (seen_data result) }
     {

@@ -1,4 +1,4 @@
-//! Types.
+//! Reads types and type uses (text format: types, type uses).
 
 ghost use Rattle.std.specs.Prelude.{◌≡◌, true, false, None, Some, map};
 ghost use Rattle.wat_tokens.specs.declared.words.Key.TheVariants as key;
@@ -17,7 +17,7 @@ use wast_tree::{
 };
 use wat_tokens::{Key, TextFault, unsigned64};
 
-/// The heap type that is one word (text format, heap types).
+/// Returns the abstract heap type that a keyword is, such as `func` (text format: heap types).
 fn abstract_heap(key: Key) -> Option<AbstractHeapType>
     ensures { result ≡ absheaptype key }
 {
@@ -40,7 +40,8 @@ fn abstract_heap(key: Key) -> Option<AbstractHeapType>
     }
 }
 
-/// The heap type that the word of a reference type stands for (text format, reference types: abbreviations).
+/// Returns the heap type of a keyword that abbreviates a reference type (text format: reference
+/// types, abbreviations). For example, `any` for `anyref`.
 fn referred(key: Key) -> Option<AbstractHeapType>
     ensures { result ≡ refword key }
 {
@@ -63,7 +64,7 @@ fn referred(key: Key) -> Option<AbstractHeapType>
     }
 }
 
-/// A value type that is a word and no reference.
+/// Returns the number type or vector type that a keyword is, such as `i32`.
 fn plain_value<'a>(key: Key) -> Option<ValType<'a>>
     ensures { result ≡ numtype_or_vectype key }
 {
@@ -78,7 +79,7 @@ fn plain_value<'a>(key: Key) -> Option<ValType<'a>>
 }
 
 impl<'a> Reader<'a> {
-    /// The word of a heap type, where one stands there.
+    /// Reads an abstract heap type, if one is next.
     fn abstract_heap(&mut self) -> Option<AbstractHeapType>
         ensures { Finds (keyword_in absheaptype) self.old self.new result }
     {
@@ -87,7 +88,8 @@ impl<'a> Reader<'a> {
         Some(ty)
     }
 
-    /// A heap type in parentheses: `(shared any)`, `(exact $t)`.
+    /// Reads a heap type in parentheses: `(shared any)` (shared-everything threads proposal) or
+    /// `(exact $t)` (custom descriptors proposal).
     fn heap_form(&mut self) -> HeapType<'a>
         ensures { Decides heaptype_form self.old self.new result }
     {
@@ -105,7 +107,7 @@ impl<'a> Reader<'a> {
         heap
     }
 
-    /// Where no heap type stands.
+    /// Fails because no heap type is next. The type that it returns means nothing.
     fn no_heap_type(&mut self) -> HeapType<'a>
         ensures { Refuses self.old self.new }
     {
@@ -113,7 +115,7 @@ impl<'a> Reader<'a> {
         HeapType::of(AbstractHeapType::Any)
     }
 
-    /// A heap type (text format, heap types).
+    /// Reads a heap type: a keyword, an index, or a form in parentheses (text format: heap types).
     #[tactic(auto, using(crate::proofs::Numbers::no_index))]
     pub(crate) fn heap_type(&mut self) -> HeapType<'a>
         ensures { Decides heaptype self.old self.new result }
@@ -130,7 +132,8 @@ impl<'a> Reader<'a> {
         self.no_heap_type()
     }
 
-    /// Whether a reference type stands there.
+    /// Returns whether a reference type is next: a keyword such as `funcref`, or `(ref` or
+    /// `(shared`.
     pub(crate) fn is_ref_type(&self) -> bool
         ensures { result ≡ is_reftype (left self.now) }
     {
@@ -140,7 +143,8 @@ impl<'a> Reader<'a> {
         self.is_form(Key::Ref) || self.is_form(Key::Shared)
     }
 
-    /// The word of a reference type, where one stands there.
+    /// Reads a keyword that abbreviates a reference type, if one is next, and returns its heap
+    /// type.
     fn ref_word(&mut self) -> Option<AbstractHeapType>
         ensures { Finds (keyword_in refword) self.old self.new result }
     {
@@ -149,7 +153,8 @@ impl<'a> Reader<'a> {
         Some(ty)
     }
 
-    /// `(shared funcref)`, behind `(shared`.
+    /// Reads `funcref)` of `(shared funcref)`, after `(shared` (shared-everything threads
+    /// proposal).
     fn shared_ref(&mut self) -> RefType<'a>
         ensures { Decides shared_reftype self.old self.new result }
     {
@@ -164,7 +169,8 @@ impl<'a> Reader<'a> {
         RefType::new(true, HeapType::Abstract { shared: true, ty })
     }
 
-    /// A reference type (text format, reference types).
+    /// Reads a reference type: `funcref`, `(ref null $t)` or `(shared funcref)` (text format:
+    /// reference types).
     pub(crate) fn ref_type(&mut self) -> RefType<'a>
         ensures { Decides reftype self.old self.new result }
     {
@@ -183,7 +189,7 @@ impl<'a> Reader<'a> {
         RefType::new(nullable, heap)
     }
 
-    /// The word of a value type that is no reference, where one stands there.
+    /// Reads a number type or a vector type, if one is next.
     fn value_word(&mut self) -> Option<ValType<'a>>
         ensures { Finds (keyword_in numtype_or_vectype) self.old self.new result }
     {
@@ -192,7 +198,7 @@ impl<'a> Reader<'a> {
         Some(ty)
     }
 
-    /// A value type (text format, value types).
+    /// Reads a value type (text format: value types).
     #[tactic(auto, using(crate::proofs::References::no_reftype))]
     pub(crate) fn value_type(&mut self) -> ValType<'a>
         ensures { Decides valtype self.old self.new result }
@@ -206,7 +212,8 @@ impl<'a> Reader<'a> {
         ValType::Ref(self.ref_type())
     }
 
-    /// What a field of a struct or an array holds (text format, composite types).
+    /// Reads the type that a field of a struct or an element of an array has: `i8`, `i16` or a
+    /// value type (text format: composite types).
     fn storage_type(&mut self) -> StorageType<'a>
         ensures { Decides storagetype self.old self.new result }
     {
@@ -219,7 +226,8 @@ impl<'a> Reader<'a> {
         StorageType::Val(self.value_type())
     }
 
-    /// What a field holds, and whether it can be changed.
+    /// Reads a field type, and whether the field is mutable. For example, `(mut i8)` is a mutable
+    /// `i8`.
     fn field_type(&mut self) -> (bool, StorageType<'a>)
         ensures { Decides fieldtype self.old self.new result }
     {
@@ -231,7 +239,7 @@ impl<'a> Reader<'a> {
         (false, self.storage_type())
     }
 
-    /// Puts a value type behind the others.
+    /// Appends a value type to a list.
     fn push_value(&mut self, values: &mut Seq<ValType<'a>>, ty: ValType<'a>)
         ensures { Pushes self.old self.new ty.entry values.old values.new }
     {
@@ -239,7 +247,7 @@ impl<'a> Reader<'a> {
         self.took(pushed);
     }
 
-    /// Value types up to the end of the form.
+    /// Reads value types up to the closing `)`, and appends them.
     #[tactic(auto, using(crate::proofs::Steps::one_more, crate::proofs::Loops::part_end, crate::proofs::Loops::part_last, crate::proofs::Loops::none_after))]
     pub(crate) fn values(&mut self, values: &mut Seq<ValType<'a>>)
         ensures { ReadsOnto valtypes self.old self.new values.old values.new }
@@ -253,7 +261,7 @@ impl<'a> Reader<'a> {
         }
     }
 
-    /// Puts a parameter behind the others.
+    /// Appends a parameter to a list.
     fn push_param(
         &mut self,
         params: &mut Seq<(Option<Id<'a>>, Option<NameAnnotation<'a>>, ValType<'a>)>,
@@ -265,14 +273,15 @@ impl<'a> Reader<'a> {
         self.took(pushed);
     }
 
-    /// A parameter without an id.
+    /// Reads the type of a parameter without an id.
     fn unnamed_param(&mut self) -> (Option<Id<'a>>, Option<NameAnnotation<'a>>, ValType<'a>)
         ensures { Decides unnamed_param self.old self.new (seen_param result) }
     {
         (None, None, self.value_type())
     }
 
-    /// Parameters without ids, up to the end of the form.
+    /// Reads the types of parameters without ids, up to the closing `)`, and appends the
+    /// parameters.
     #[tactic(auto, using(crate::proofs::Steps::one_seen, crate::proofs::Loops::part_end, crate::proofs::Loops::part_last, crate::proofs::Loops::none_after))]
     fn unnamed_params(
         &mut self,
@@ -289,7 +298,9 @@ impl<'a> Reader<'a> {
         }
     }
 
-    /// Parameters behind `(param`, with a name where they may have one.
+    /// Reads what comes after `(param`, and appends the parameters. They are one parameter with an
+    /// id or a name annotation, as in `(param $x i32)`, or any number without, as in
+    /// `(param i32 i64)`. If `are_named` is false, no parameter has an id or a name annotation.
     fn params(
         &mut self,
         params: &mut Seq<(Option<Id<'a>>, Option<NameAnnotation<'a>>, ValType<'a>)>,
@@ -310,7 +321,7 @@ impl<'a> Reader<'a> {
         self.unnamed_params(params);
     }
 
-    /// `(param ..)`, which is next.
+    /// Reads `(param ..)`, and appends its parameters. Requires that `(param` is next.
     #[tactic(auto, using(crate::proofs::Loops::closes))]
     fn param(
         &mut self,
@@ -326,7 +337,7 @@ impl<'a> Reader<'a> {
         self.close();
     }
 
-    /// The parameters of a function.
+    /// Reads forms `(param ..)` as long as one is next, and appends their parameters.
     #[tactic(auto, using(crate::proofs::Steps::one_list, crate::proofs::Loops::list_end, crate::proofs::Loops::list_last, crate::proofs::Loops::none_after))]
     fn all_params(
         &mut self,
@@ -343,7 +354,7 @@ impl<'a> Reader<'a> {
         }
     }
 
-    /// `(result ..)`, which is next.
+    /// Reads `(result ..)`, and appends its types. Requires that `(result` is next.
     #[tactic(auto, using(crate::proofs::Loops::closes))]
     fn result(&mut self, results: &mut Seq<ValType<'a>>)
         requires { is_form key.Result (left self.old) ≡ true }
@@ -355,7 +366,7 @@ impl<'a> Reader<'a> {
         self.close();
     }
 
-    /// The results of a function.
+    /// Reads forms `(result i32 i64)` as long as one is next, and appends their types.
     #[tactic(auto, using(crate::proofs::Steps::one_list, crate::proofs::Loops::list_end, crate::proofs::Loops::list_last, crate::proofs::Loops::none_after))]
     pub(crate) fn all_results(&mut self, results: &mut Seq<ValType<'a>>)
         ensures { ReadsOnto all_results self.old self.new results.old results.new }
@@ -368,7 +379,8 @@ impl<'a> Reader<'a> {
         }
     }
 
-    /// The parameters and results of a function (text format, composite types).
+    /// Reads the parameters and results of a function (text format: composite types). For example,
+    /// `(param i32) (result i32 i64)`. It is an error if `(param` comes after a result.
     #[tactic(auto, using(crate::proofs::Loops::from_nothing))]
     pub(crate) fn function_type(&mut self, are_named: bool) -> FunctionType<'a>
         ensures { Reads (functype are_named) self.old self.new (seen_function_type result) }
@@ -384,7 +396,7 @@ impl<'a> Reader<'a> {
         FunctionType::new(params, results)
     }
 
-    /// `(type $t)`, where it stands there.
+    /// Reads `(type $t)`, if it is next.
     fn type_index(&mut self) -> Option<Index<'a>>
         ensures { Decides type_index self.old self.new result }
     {
@@ -396,7 +408,9 @@ impl<'a> Reader<'a> {
         None
     }
 
-    /// A type use (text format, type uses), with names of parameters where they may have some.
+    /// Reads a type use (text format: type uses): `(type $t)`, or parameters and results, or both,
+    /// or nothing. Parameters have ids only if `are_named` is true, which it is not for blocks and
+    /// indirect calls.
     pub(crate) fn type_use(&mut self, are_named: bool) -> TypeUse<'a, FunctionType<'a>>
         ensures { Reads (typeuse are_named) self.old self.new (seen_type_use result) }
     {
@@ -410,7 +424,7 @@ impl<'a> Reader<'a> {
         }
     }
 
-    /// Puts a field of a struct behind the others.
+    /// Appends a field of a struct to a list.
     fn push_struct_field(&mut self, fields: &mut Seq<StructField<'a>>, field: StructField<'a>)
         ensures { Pushes self.old self.new field.entry fields.old fields.new }
     {
@@ -418,7 +432,7 @@ impl<'a> Reader<'a> {
         self.took(pushed);
     }
 
-    /// A field without an id.
+    /// Reads the type of a field without an id.
     fn unnamed_field(&mut self) -> StructField<'a>
         ensures { Decides unnamed_field self.old self.new (seen_struct_field result) }
     {
@@ -426,7 +440,7 @@ impl<'a> Reader<'a> {
         StructField::new(None, mutable, ty)
     }
 
-    /// Fields without ids, up to the end of the form.
+    /// Reads the types of fields without ids, up to the closing `)`, and appends the fields.
     #[tactic(auto, using(crate::proofs::Steps::one_seen, crate::proofs::Loops::part_end, crate::proofs::Loops::part_last, crate::proofs::Loops::none_after))]
     fn unnamed_fields(&mut self, fields: &mut Seq<StructField<'a>>)
         ensures { ReadsOnto unnamed_fields self.old self.new (map seen_struct_field fields.old) (map seen_struct_field fields.new) }
@@ -440,7 +454,8 @@ impl<'a> Reader<'a> {
         }
     }
 
-    /// Fields behind `(field`.
+    /// Reads what comes after `(field`, and appends the fields. They are one field with an id or a
+    /// name annotation, as in `(field $x i8)`, or any number without, as in `(field i8 (mut i32))`.
     fn struct_fields(&mut self, fields: &mut Seq<StructField<'a>>)
         ensures { ReadsOnto struct_fields self.old self.new (map seen_struct_field fields.old) (map seen_struct_field fields.new) }
     {
@@ -459,7 +474,7 @@ impl<'a> Reader<'a> {
         self.unnamed_fields(fields);
     }
 
-    /// `(field ..)`, which is next.
+    /// Reads `(field ..)`, and appends its fields. Requires that `(field` is next.
     #[tactic(auto, using(crate::proofs::Loops::closes))]
     fn struct_field(&mut self, fields: &mut Seq<StructField<'a>>)
         requires { is_form key.Field (left self.old) ≡ true }
@@ -471,7 +486,7 @@ impl<'a> Reader<'a> {
         self.close();
     }
 
-    /// The fields of a struct, each in its parentheses.
+    /// Reads forms `(field ..)` as long as one is next, and appends their fields.
     #[tactic(auto, using(crate::proofs::Steps::one_list, crate::proofs::Loops::list_end, crate::proofs::Loops::list_last, crate::proofs::Loops::none_after))]
     fn all_fields(&mut self, fields: &mut Seq<StructField<'a>>)
         ensures { ReadsOnto all_fields self.old self.new (map seen_struct_field fields.old) (map seen_struct_field fields.new) }
@@ -484,7 +499,7 @@ impl<'a> Reader<'a> {
         }
     }
 
-    /// The fields of a struct, behind `(struct`.
+    /// Reads the fields of a struct, after `(struct`.
     #[tactic(auto, using(crate::proofs::Loops::from_nothing))]
     fn struct_type(&mut self) -> StructType<'a>
         ensures { Reads structtype self.old self.new (seen_struct_type result) }
@@ -494,7 +509,7 @@ impl<'a> Reader<'a> {
         StructType { fields }
     }
 
-    /// A composite type behind its `(`, up to its `)`.
+    /// Reads a composite type from its `(` on, without its `)`.
     fn composite_form(&mut self) -> InnerTypeKind<'a>
         ensures { Reads comptype_form self.old self.new (seen_composite result) }
     {
@@ -517,7 +532,8 @@ impl<'a> Reader<'a> {
         })
     }
 
-    /// A composite type in its parentheses (text format, composite types).
+    /// Reads a composite type: `(func ..)`, `(struct ..)`, `(array ..)` or `(cont $t)` (text
+    /// format: composite types; stack switching proposal).
     fn composite(&mut self) -> InnerTypeKind<'a>
         ensures { Reads comptype self.old self.new (seen_composite result) }
     {
@@ -526,7 +542,8 @@ impl<'a> Reader<'a> {
         kind
     }
 
-    /// `(describes $t)` or `(descriptor $t)`, where it stands there.
+    /// Reads `(describes $t)` or `(descriptor $t)`, by its keyword, if it is next (custom
+    /// descriptors proposal).
     fn related(&mut self, key: Key) -> Option<Index<'a>>
         ensures { Decides (related key) self.old self.new result }
     {
@@ -538,7 +555,8 @@ impl<'a> Reader<'a> {
         None
     }
 
-    /// A composite type with what it describes, and what describes it.
+    /// Reads a composite type with the forms `(describes $t)` and `(descriptor $t)` before it, if
+    /// they are there (custom descriptors proposal).
     fn described(
         &mut self,
         shared: bool,
@@ -560,7 +578,8 @@ impl<'a> Reader<'a> {
         }
     }
 
-    /// A composite type and what stands before it, without what it is a subtype of.
+    /// Reads a type definition without `sub`, which is in `(shared ..)` if it is shared
+    /// (shared-everything threads proposal).
     fn plain_def(&mut self, final_type: Option<bool>, parents: Seq<Index<'a>>) -> TypeDef<'a>
         ensures { Reads (maybe_shared final_type parents.entry) self.old self.new (seen_type_def result) }
     {
@@ -572,7 +591,7 @@ impl<'a> Reader<'a> {
         self.described(false, final_type, parents)
     }
 
-    /// Indices, as many as there are.
+    /// Reads indices as long as one is next, and appends them.
     #[tactic(auto, using(crate::proofs::Steps::one_more, crate::proofs::Loops::part_end, crate::proofs::Loops::part_last, crate::proofs::Loops::none_after))]
     fn indices(&mut self, indices: &mut Seq<Index<'a>>)
         ensures { ReadsOnto all_indices self.old self.new indices.old indices.new }
@@ -586,7 +605,8 @@ impl<'a> Reader<'a> {
         }
     }
 
-    /// What a type is defined as (text format, recursive types).
+    /// Reads what a type is defined as: `(sub final $t (func))`, or a composite type alone (text
+    /// format: recursive types).
     #[tactic(auto, using(crate::proofs::Loops::from_nothing))]
     fn type_def(&mut self) -> TypeDef<'a>
         ensures { Reads subtype self.old self.new (seen_type_def result) }
@@ -602,7 +622,7 @@ impl<'a> Reader<'a> {
         def
     }
 
-    /// `type`
+    /// Reads `type`, or fails.
     fn type_keyword(&mut self)
         ensures { Expects (keyword key.Ty) self.old self.new }
     {
@@ -611,7 +631,8 @@ impl<'a> Reader<'a> {
         }
     }
 
-    /// A type definition, behind its `(` (text format, types).
+    /// Reads a type definition such as `type $t (func)`, without its parentheses (text format:
+    /// types).
     pub(crate) fn type_field(&mut self) -> Type<'a>
         ensures { Reads typedef self.old self.new (seen_type result) }
     {
@@ -627,7 +648,7 @@ impl<'a> Reader<'a> {
         }
     }
 
-    /// `(type ..)` in a group.
+    /// Reads `(type ..)` in a `rec` group.
     fn rec_type(&mut self) -> Type<'a>
         ensures { Reads typedef_form self.old self.new (seen_type result) }
     {
@@ -637,7 +658,7 @@ impl<'a> Reader<'a> {
         ty
     }
 
-    /// Puts a type of a group behind the others.
+    /// Appends a type to a `rec` group.
     #[tactic(auto, using(crate::proofs::Makes::none_failed), unfolding(crate::specs::Readers::left))]
     fn push_type(&mut self, types: &mut Seq<Type<'a>>, ty: Type<'a>)
         ensures { Builds self.old self.new ty.entry types.old types.new }
@@ -645,7 +666,7 @@ impl<'a> Reader<'a> {
         self.make.push_type(types, ty);
     }
 
-    /// The types of a group, up to the end of the form.
+    /// Reads the types of a `rec` group, up to the closing `)`, and appends them.
     #[tactic(auto, using(crate::proofs::Steps::one_built, crate::proofs::Loops::part_end, crate::proofs::Loops::part_last, crate::proofs::Loops::none_after))]
     fn rec_types(&mut self, types: &mut Seq<Type<'a>>)
         ensures { ReadsOnto typedefs self.old self.new (map seen_type types.old) (map seen_type types.new) }
@@ -659,7 +680,8 @@ impl<'a> Reader<'a> {
         }
     }
 
-    /// Types that may refer to each other, behind their `(` (text format, recursive types).
+    /// Reads the field `(rec ..)`, without its parentheses (text format: recursive types). Its
+    /// types may refer to each other. Requires that `rec` is next.
     #[tactic(auto, using(crate::proofs::Loops::from_nothing))]
     pub(crate) fn rec_field(&mut self) -> Rec<'a>
         requires { is_key key.Rec (key_of (peek 0 (left self.old))) ≡ true }
@@ -672,7 +694,7 @@ impl<'a> Reader<'a> {
         Rec::new(span, types)
     }
 
-    /// A number of 64 bits without a sign.
+    /// Reads an unsigned integer of 64 bits.
     #[tactic(auto, using(crate::proofs::Numbers::unsigned_is, crate::proofs::Numbers::unsigned_not))]
     pub(crate) fn number64(&mut self) -> u64
         ensures { Decides u64 self.old self.new result }
@@ -682,14 +704,15 @@ impl<'a> Reader<'a> {
         self.value(place, unsigned64(text), 0)
     }
 
-    /// Reads `i32` or `i64`, if one of them is there: whether indices have 64 bits (text format, address types).
+    /// Reads an address type, if one is next, and returns whether it is `i64` (text format: address
+    /// types).
     pub(crate) fn is64(&mut self) -> bool
         ensures { Decides addrtype self.old self.new result }
     {
         !self.accept(Key::I32) && self.accept(Key::I64)
     }
 
-    /// Limits, with indices of 64 bits or of 32 (text format, limits).
+    /// Reads limits such as `1 2` (text format: limits). `is64` is whether indices have 64 bits.
     pub(crate) fn limits(&mut self, is64: bool) -> Limits
         ensures { Decides (limits is64) self.old self.new result }
     {
@@ -701,7 +724,7 @@ impl<'a> Reader<'a> {
         Limits { is64, min, max }
     }
 
-    /// A table type (text format, table types).
+    /// Reads a table type such as `1 2 funcref` (text format: table types).
     pub(crate) fn table_type(&mut self) -> TableType<'a>
         ensures { Decides tabletype self.old self.new result }
     {
@@ -715,7 +738,8 @@ impl<'a> Reader<'a> {
         }
     }
 
-    /// `(pagesize 1)`, where it stands there: the power of two.
+    /// Reads `(pagesize 65536)`, if it is next, and returns the exponent of 2, which is 16 here
+    /// (custom page sizes proposal). It is an error if the page size is not a power of two.
     pub(crate) fn page_size(&mut self) -> Option<u32>
         ensures { Decides pagesize self.old self.new result }
     {
@@ -732,7 +756,7 @@ impl<'a> Reader<'a> {
         Some(size.trailing_zeros())
     }
 
-    /// A memory type (text format, memory types).
+    /// Reads a memory type such as `i64 1 2 shared` (text format: memory types).
     pub(crate) fn memory_type(&mut self) -> MemoryType
         ensures { Decides memtype self.old self.new result }
     {
@@ -747,7 +771,8 @@ impl<'a> Reader<'a> {
         }
     }
 
-    /// A global type (text format, global types).
+    /// Reads a global type such as `i32`, `(mut i32)` or `(shared mut i32)` (text format: global
+    /// types).
     pub(crate) fn global_type(&mut self) -> GlobalType<'a>
         ensures { Decides globaltype self.old self.new result }
     {
@@ -779,7 +804,8 @@ impl<'a> Reader<'a> {
         }
     }
 
-    /// Whether `(shared` and the word of a reference type stand there.
+    /// Returns whether the third token abbreviates a reference type. Then `(shared` begins a
+    /// reference type, as in `(shared funcref)`, and not a shared global type.
     fn is_shared_ref(&self) -> bool
         ensures { result ≡ is_shared_ref (left self.now) }
     {

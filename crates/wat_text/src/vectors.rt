@@ -1,4 +1,5 @@
-//! The lanes of vectors.
+//! Reads the numbers of instructions and the lanes of vectors (text format: numbers, vector
+//! instructions).
 
 ghost use Rattle.std.specs.Prelude.{◌≡◌, IfOk, IfErr, None, Some};
 ghost use Rattle.std.specs.Float.{binary32, binary64};
@@ -16,7 +17,7 @@ use wat_tokens::{
     Key, TextFault, float32, float64, integer8, integer16, integer32, integer64, unsigned8,
 };
 
-/// The bits of a number of 32 bits.
+/// Returns the bits of a floating-point number of 32 bits, by its text.
 #[tactic(auto, using(crate::proofs::Signs::float_is, crate::proofs::Signs::float_not))]
 pub(crate) fn single(alloc: Global, text: &str) -> Result<F32, TextFault>
     ensures gives { IfOk result (λ x. fN binary32 text.now ≡ Some x.bits) }
@@ -26,7 +27,7 @@ pub(crate) fn single(alloc: Global, text: &str) -> Result<F32, TextFault>
     Ok(F32 { bits })
 }
 
-/// The bits of a number of 64 bits.
+/// Returns the bits of a floating-point number of 64 bits, by its text.
 #[tactic(auto, using(crate::proofs::Signs::float_is, crate::proofs::Signs::float_not))]
 pub(crate) fn double(alloc: Global, text: &str) -> Result<F64, TextFault>
     ensures gives { IfOk result (λ x. fN binary64 text.now ≡ Some x.bits) }
@@ -37,7 +38,7 @@ pub(crate) fn double(alloc: Global, text: &str) -> Result<F64, TextFault>
 }
 
 impl<'a> Reader<'a> {
-    /// A number of 8 bits.
+    /// Reads an integer of 8 bits, with or without a sign.
     #[tactic(auto, using(crate::proofs::Signs::signed_is, crate::proofs::Signs::signed_not))]
     pub fn integer8(&mut self) -> i8
         ensures { Decides (signed_number 8) self.old self.new result }
@@ -47,7 +48,7 @@ impl<'a> Reader<'a> {
         self.value(place, integer8(text), 0)
     }
 
-    /// A number of 16 bits.
+    /// Reads an integer of 16 bits, with or without a sign.
     #[tactic(auto, using(crate::proofs::Signs::signed_is, crate::proofs::Signs::signed_not))]
     pub fn integer16(&mut self) -> i16
         ensures { Decides (signed_number 16) self.old self.new result }
@@ -57,7 +58,7 @@ impl<'a> Reader<'a> {
         self.value(place, integer16(text), 0)
     }
 
-    /// A number of 32 bits.
+    /// Reads an integer of 32 bits, with or without a sign.
     #[tactic(auto, using(crate::proofs::Signs::signed_is, crate::proofs::Signs::signed_not))]
     pub fn integer32(&mut self) -> i32
         ensures { Decides (signed_number 32) self.old self.new result }
@@ -67,7 +68,7 @@ impl<'a> Reader<'a> {
         self.value(place, integer32(text), 0)
     }
 
-    /// A number of 64 bits.
+    /// Reads an integer of 64 bits, with or without a sign.
     #[tactic(auto, using(crate::proofs::Signs::signed_is, crate::proofs::Signs::signed_not))]
     pub fn integer64(&mut self) -> i64
         ensures { Decides (signed_number 64) self.old self.new result }
@@ -77,7 +78,7 @@ impl<'a> Reader<'a> {
         self.value(place, integer64(text), 0)
     }
 
-    /// A number of 32 bits with a fraction.
+    /// Reads a floating-point number of 32 bits.
     pub fn single(&mut self) -> F32
         ensures { Decides f32_rule self.old self.new result }
     {
@@ -92,7 +93,7 @@ impl<'a> Reader<'a> {
         }
     }
 
-    /// A number of 64 bits with a fraction.
+    /// Reads a floating-point number of 64 bits.
     pub fn double(&mut self) -> F64
         ensures { Decides f64_rule self.old self.new result }
     {
@@ -107,7 +108,7 @@ impl<'a> Reader<'a> {
         }
     }
 
-    /// The number of a lane (text format, vector instructions).
+    /// Reads the number of a lane (text format: vector instructions).
     #[tactic(auto, using(crate::proofs::Numbers::unsigned_is, crate::proofs::Numbers::unsigned_not))]
     pub fn lane(&mut self) -> u8
         ensures { Decides u8_rule self.old self.new result }
@@ -117,14 +118,14 @@ impl<'a> Reader<'a> {
         self.value(place, unsigned8(text), 0)
     }
 
-    /// The number of a lane, as an immediate.
+    /// Reads the number of a lane, as an immediate.
     pub fn lane_arg(&mut self) -> LaneArg
         ensures { Decides laneidx self.old self.new result }
     {
         LaneArg { lane: self.lane() }
     }
 
-    /// `i8x16.shuffle` and its lanes (text format, vector instructions).
+    /// Reads the 16 lanes of `i8x16.shuffle` (text format: vector instructions).
     #[tactic(auto, using(crate::proofs::Fills::filled_begun, crate::proofs::Fills::filled_more, crate::proofs::Fills::filled_all))]
     pub fn shuffle(&mut self) -> Instruction<'a>
         ensures { Decides shuffle_rule self.old self.new (seen_instr result) }
@@ -136,7 +137,7 @@ impl<'a> Reader<'a> {
         Instruction::i8x16_shuffle(I8x16Shuffle { lanes })
     }
 
-    /// 16 lanes.
+    /// Reads 16 lanes of 8 bits.
     #[tactic(auto, using(crate::proofs::Fills::filled_begun, crate::proofs::Fills::filled_more, crate::proofs::Fills::filled_all))]
     fn lanes16(&mut self) -> V128Const
         ensures { Decides (lanes v128.I8x16 16 (signed_number 8)) self.old self.new result }
@@ -148,7 +149,7 @@ impl<'a> Reader<'a> {
         V128Const::I8x16(lanes)
     }
 
-    /// Eight lanes.
+    /// Reads eight lanes of 16 bits.
     #[tactic(auto, using(crate::proofs::Fills::filled_begun, crate::proofs::Fills::filled_more, crate::proofs::Fills::filled_all))]
     fn lanes8(&mut self) -> V128Const
         ensures { Decides (lanes v128.I16x8 8 (signed_number 16)) self.old self.new result }
@@ -160,7 +161,7 @@ impl<'a> Reader<'a> {
         V128Const::I16x8(lanes)
     }
 
-    /// Four lanes.
+    /// Reads four lanes of 32 bits.
     fn lanes4(&mut self) -> V128Const
         ensures { Decides (lanes v128.I32x4 4 (signed_number 32)) self.old self.new result }
     {
@@ -169,7 +170,7 @@ impl<'a> Reader<'a> {
         V128Const::I32x4([a, b, c, d])
     }
 
-    /// Four lanes of numbers with a fraction.
+    /// Reads four lanes of floating-point numbers of 32 bits.
     fn singles4(&mut self) -> V128Const
         ensures { Decides (lanes v128.F32x4 4 f32_rule) self.old self.new result }
     {
@@ -178,21 +179,22 @@ impl<'a> Reader<'a> {
         V128Const::F32x4([a, b, c, d])
     }
 
-    /// Two lanes.
+    /// Reads two lanes of 64 bits.
     fn lanes2(&mut self) -> V128Const
         ensures { Decides (lanes v128.I64x2 2 (signed_number 64)) self.old self.new result }
     {
         V128Const::I64x2([self.integer64(), self.integer64()])
     }
 
-    /// Two lanes of numbers with a fraction.
+    /// Reads two lanes of floating-point numbers of 64 bits.
     fn doubles2(&mut self) -> V128Const
         ensures { Decides (lanes v128.F64x2 2 f64_rule) self.old self.new result }
     {
         V128Const::F64x2([self.double(), self.double()])
     }
 
-    /// The lanes of a vector (text format, vector instructions).
+    /// Reads a shape and the lanes of a vector, such as `i32x4 1 2 3 4` (text format: vector
+    /// instructions).
     pub fn vector(&mut self) -> V128Const
         ensures { Decides v128const self.old self.new result }
     {

@@ -1,7 +1,8 @@
+-- The goals of `module_laws` that tactics leave open, closed by lemmas of OneModule.
 use Rattle.wat_text.proofs.OneModule.{denotes_one, denotes_none, denotes_alike, denotes_either}
 use Rattle.wat_text.proofs.meanings.module_laws.Goals as goal
 
--- The clauses are lemmas, which `search` does not apply without arguments.
+-- The clauses are lemmas with arguments, which `search` does not apply.
 pub returns-clause-one : goal.returns-clause-one
 returns-clause-one c = denotes_one
 

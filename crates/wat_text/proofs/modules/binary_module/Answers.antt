@@ -1,3 +1,4 @@
+-- The goals of `binary_module` that tactics leave open, closed by lemmas of Endings.
 use Rattle.wat_text.proofs.Endings.{binary_err, binary_ok}
 use Rattle.wat_text.proofs.modules.binary_module.Goals as goal
 

@@ -1,3 +1,4 @@
+-- The goal of `module_of_fields` that tactics leave open, closed by lemmas of Endings.
 use Rattle.wat_text.specs.Readers.{left}
 use Rattle.wat_text.proofs.Endings.{module_err}
 use Rattle.wat_text.proofs.modules.module_of_fields.Goals as goal

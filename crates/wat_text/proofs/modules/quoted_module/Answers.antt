@@ -1,3 +1,4 @@
+-- The goal of `quoted_module` that tactics leave open, closed by lemmas of Opened.
 use Rattle.std.proofs.Common.{rules, refl}
 use Rattle.wat_text.proofs.Opened.{quotes_ok}
 use Rattle.wat_text.proofs.modules.quoted_module.Goals as goal

@@ -1,3 +1,4 @@
+-- The goal of `read_module` that tactics leave open, closed by lemmas of Opened.
 use Rattle.std.proofs.Common.{length, refl}
 use Rattle.wat_text.proofs.Opened.{text_err}
 use Rattle.wat_text.proofs.modules.read_module.Goals as goal

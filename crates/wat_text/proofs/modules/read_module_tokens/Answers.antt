@@ -1,3 +1,4 @@
+-- The goal of `read_module_tokens` that tactics leave open, closed by lemmas of Opened.
 use Rattle.std.proofs.Common.{rules}
 use Rattle.wat_text.specs.Denotes.{Fields, seen_opening, all_of}
 use Rattle.wat_text.proofs.Opened.{means_opened, means_as, means_err, fields_as}

@@ -1,3 +1,4 @@
+-- The goal of `rest_of_fields` that tactics leave open, closed by lemmas of Endings.
 use Rattle.std.proofs.Common.{map}
 use Rattle.wat_syntax.specs.ModuleFields.{modulefields}
 use Rattle.wat_syntax.specs.SeenModuleFields.{seen_field}

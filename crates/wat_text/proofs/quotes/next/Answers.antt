@@ -1,3 +1,4 @@
+-- The goals of `next` that tactics leave open, closed by lemmas of Quoting.
 use Rattle.std.proofs.Common.{◌∙◌, sym}
 use Rattle.wat_text.proofs.Quoting.{is_before, is_last}
 use Rattle.wat_text.proofs.quotes.next.Goals as goal

@@ -1,3 +1,4 @@
+-- The goal of `place_tokens` that tactics leave open, closed by lemmas of Quoting.
 use Rattle.std.proofs.Common.{rules, ◌∙◌, ap}
 use Rattle.wat_text.specs.Cursors.{offset_at}
 use Rattle.wat_text.proofs.Quoting.{placed_more}

@@ -1,3 +1,4 @@
+-- The loop of `place_tokens`: the tokens so far have the positions of their strings, and the others are unchanged.
 use Rattle.std.proofs.Common.{◌≡◌, ◌++◌, map, take, drop}
 use Rattle.wat_text.specs.Denotes.{put_in}
 use Rattle.wat_text.specs.Cursors.{IsAt}

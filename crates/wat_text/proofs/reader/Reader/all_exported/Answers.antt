@@ -1,3 +1,4 @@
+-- The goals of `all_exported` that tactics leave open, closed by lemmas of Entries.
 use Rattle.std.proofs.Common.{rules}
 use Rattle.wat_tokens.specs.declared.words.Key.TheVariants as key
 use Rattle.wat_syntax.specs.Customs.{exported, exports_info}

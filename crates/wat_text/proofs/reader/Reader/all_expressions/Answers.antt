@@ -1,3 +1,4 @@
+-- The goal of `all_expressions` that tactics leave open, closed by lemmas of Steps.
 use Rattle.std.proofs.Common.{◌∙◌, sym, ap}
 use Rattle.std.specs.Prelude.{not}
 use Rattle.wat_syntax.specs.Seen.{seen_expression}

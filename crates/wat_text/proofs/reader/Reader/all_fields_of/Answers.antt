@@ -1,3 +1,4 @@
+-- The goal of `all_fields_of` that tactics leave open, closed by lemmas of Steps.
 use Rattle.std.proofs.Common.{rules}
 use Rattle.wat_syntax.specs.Types.{goes_on}
 use Rattle.wat_syntax.specs.ModuleFields.{modulefield}

@@ -1,3 +1,4 @@
+-- The loop of `all_numbers`: the rule has the same result from all tokens as from the tokens that are left, with the parts so far.
 use Rattle.std.proofs.Common.{◌-◌}
 use Rattle.wat_syntax.specs.Tokens.{many_lists, with_parts}
 use Rattle.wat_syntax.specs.Types.{goes_on}

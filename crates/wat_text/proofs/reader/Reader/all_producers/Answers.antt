@@ -1,3 +1,4 @@
+-- The goal of `all_producers` that tactics leave open, closed by lemmas of Producing.
 use Rattle.std.proofs.Common.{rules}
 use Rattle.wat_text.proofs.Producing.{gathers_more}
 use Rattle.wat_text.proofs.reader.Reader.all_producers.Goals as goal

@@ -1,3 +1,4 @@
+-- The loop of `all_results`: the rule has the same result from all tokens as from the tokens that are left, with the parts so far.
 use Rattle.std.proofs.Common.{◌-◌}
 use Rattle.wat_syntax.specs.Tokens.{many_lists, with_parts, is_form}
 use Rattle.wat_tokens.specs.declared.words.Key.TheVariants as key

@@ -1,3 +1,4 @@
+-- The goal of `all_subsections` that tactics leave open, closed by lemmas of Steps.
 use Rattle.std.proofs.Common.{rules}
 use Rattle.wat_syntax.specs.Types.{goes_on}
 use Rattle.wat_syntax.specs.Customs.{subsection_form}

@@ -1,3 +1,4 @@
+-- The goal of `double` that tactics leave open, closed by lemmas of Signs and Fills.
 use Rattle.std.proofs.Common.{ℕ}
 use Rattle.std.specs.Float.{binary64}
 use Rattle.wat_grammar.specs.Floats.{fN}

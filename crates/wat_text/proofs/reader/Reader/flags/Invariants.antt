@@ -1,3 +1,4 @@
+-- The loop of `flags`: the rule has the same result from all tokens as from the tokens that are left, with the bits so far.
 use Rattle.std.proofs.Common.{◌-◌}
 use Rattle.wat_syntax.specs.Tokens.{many}
 use Rattle.wat_syntax.specs.Types.{goes_on}

@@ -1,3 +1,4 @@
+-- The loop of `import_names`: the rule has the same result from all tokens as from the tokens that are left, with the parts so far.
 use Rattle.std.proofs.Common.{◌-◌, map}
 use Rattle.wat_syntax.specs.Tokens.{many, with_parts, is_form}
 use Rattle.wat_tokens.specs.declared.words.Key.TheVariants as key

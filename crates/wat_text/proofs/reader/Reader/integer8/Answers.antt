@@ -1,4 +1,5 @@
-use Rattle.std.proofs.Common.{rules, ◌≡◌, ◌∙◌, ℤ, Ok, Err, sym, subst}
+-- The goal of `integer8` that tactics leave open, closed by lemmas of Signs.
+use Rattle.std.proofs.Common.{rules, ◌∙◌, sym, subst}
 use Rattle.std.specs.Prelude.{option_map}
 use Rattle.std.specs.Int.{w8}
 use Rattle.std.proofs.Math.Facts.{to_z-of_z}

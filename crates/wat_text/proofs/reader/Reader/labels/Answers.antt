@@ -1,4 +1,5 @@
-use Rattle.std.proofs.Common.{rules, ◌≡◌, Bool, true}
+-- The goal of `labels` that tactics leave open, closed by lemmas of Labels.
+use Rattle.std.proofs.Common.{rules, ◌≡◌, true}
 use Rattle.wat_syntax.specs.Types.{is_index_next}
 use Rattle.wat_text.specs.Readers.{left}
 use Rattle.wat_text.proofs.Labels.{one_label}

@@ -1,3 +1,4 @@
+-- The goal of `lanes16` that tactics leave open, closed by lemmas of Fills.
 use Rattle.std.proofs.Common.{rules, sym, subst}
 use Rattle.std.specs.Int.{w8}
 use Rattle.std.proofs.Math.Facts.{to_z-of_z}

@@ -1,3 +1,4 @@
+-- The loop of `lanes16`: the lanes so far are those that the rule reads from the first tokens.
 use Rattle.wat_syntax.specs.Instructions.{signed_number}
 use Rattle.wat_text.proofs.Fills.{Filled}
 use Rattle.wat_text.proofs.reader.Reader.lanes16.Given as goal

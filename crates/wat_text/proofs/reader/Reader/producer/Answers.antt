@@ -1,3 +1,4 @@
+-- The goal of `producer` that tactics leave open, closed by lemmas of Producing.
 use Rattle.wat_text.proofs.Producing.{producer_reads}
 use Rattle.wat_text.proofs.reader.Reader.producer.Goals as goal
 

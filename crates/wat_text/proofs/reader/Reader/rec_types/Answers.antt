@@ -1,3 +1,4 @@
+-- The goal of `rec_types` that tactics leave open, closed by lemmas of Steps.
 use Rattle.std.proofs.Common.{rules}
 use Rattle.wat_syntax.specs.Seen.{seen_type}
 use Rattle.wat_syntax.specs.Types.{goes_on, typedef_form}

@@ -1,3 +1,4 @@
+-- The goal of `return_indirect_call` that tactics leave open, closed by lemmas of Instrs.
 use Rattle.std.proofs.Common.{refl}
 use Rattle.wat_syntax.specs.Tree.instr
 use Rattle.wat_syntax.specs.Seen.{seen_call}

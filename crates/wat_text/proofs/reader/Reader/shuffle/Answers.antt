@@ -1,3 +1,4 @@
+-- The goals of `shuffle` that tactics leave open, closed by lemmas of Fills.
 use Rattle.std.proofs.Common.{rules}
 use Rattle.wat_syntax.specs.Tree.instr
 use Rattle.wat_syntax.specs.Instructions.{u8, times}

@@ -1,3 +1,4 @@
+-- The goal of `skip` that tactics leave open, closed by lemmas of Lefts.
 use Rattle.wat_syntax.specs.Tokens.{after}
 use Rattle.wat_text.specs.Readers.{left}
 use Rattle.wat_text.proofs.Lefts.{skipped}

@@ -1,3 +1,4 @@
+-- The goal of `typed_items` that tactics leave open, closed by lemmas of Steps.
 use Rattle.std.proofs.Common.{rules}
 use Rattle.wat_tokens.specs.declared.words.Key.TheVariants as key
 use Rattle.wat_syntax.specs.Tokens.{is_form}

@@ -1,3 +1,5 @@
+-- The loop of `unnamed_locals`: the rule has the same result from all tokens as from the tokens that are left, with the parts so
+-- far.
 use Rattle.std.proofs.Common.{◌-◌, map}
 use Rattle.wat_syntax.specs.Tokens.{many, with_parts}
 use Rattle.wat_syntax.specs.Seen.{seen_local}

@@ -1,4 +1,5 @@
-use Rattle.std.proofs.Common.{◌≡◌, Bool, true, arith}
+-- The goal of `worded` that tactics leave open, closed by lemmas of Instrs.
+use Rattle.std.proofs.Common.{◌≡◌, true, arith}
 use Rattle.wat_syntax.specs.Instructions.{is_plaininstr, instruction}
 use Rattle.wat_text.proofs.Instrs.{put, by_word}
 use Rattle.wat_text.proofs.reader.Reader.worded.Goals as goal

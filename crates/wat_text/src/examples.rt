@@ -1,0 +1,29 @@
+//! Texts, and what the definitions make of them.
+
+ghost use Rattle.wat_text.specs.WorkedCursors.{Cursors};
+ghost use Rattle.wat_text.specs.WorkedDenotes.{Modules, Binaries, InQuotes, Positions, Openings, Denoted};
+ghost use Rattle.wat_text.specs.WorkedReaders.{Refusals, Producers};
+
+/// The modules of texts: fields alone, fields in parentheses, binary modules, and texts in quotes.
+#[tactic(auto, using(crate::proofs::WorkedDenotes::modules, crate::proofs::WorkedDenotes::binaries, crate::proofs::WorkedDenotes::in_quotes, crate::proofs::WorkedDenotes::openings, crate::proofs::WorkedDenotes::denoted))]
+pub(crate) fn modules()
+    ensures modules { Modules }
+    ensures binaries { Binaries }
+    ensures quotes { InQuotes }
+    ensures openings { Openings }
+    ensures denoted { Denoted }
+{}
+
+/// Positions in a text of two strings.
+#[tactic(auto, using(crate::proofs::WorkedDenotes::positions, crate::proofs::WorkedCursors::cursors))]
+pub(crate) fn positions()
+    ensures positions { Positions }
+    ensures cursors { Cursors }
+{}
+
+/// What a reader returned, and the values of `producers`.
+#[tactic(auto, using(crate::proofs::WorkedReaders::refusals, crate::proofs::WorkedReaders::producers))]
+pub(crate) fn readers()
+    ensures refusals { Refusals }
+    ensures producers { Producers }
+{}
