@@ -1,0 +1,159 @@
+-- The items of a module, and what a field defines, do not depend on the addresses of names and strings.
+--
+--   (func $f (export "a"))      one item, the function $f, wherever "a" is
+use Rattle.std.specs.Borrow.{Bor}
+use Rattle.std.specs.List.{flat_map}
+use Rattle.std.proofs.Common.{◌≡◌, ℕ, List, [], ◌∷◌, ◌++◌, map, refl}
+use Rattle.wast_base.specs.Ids.{mark_of_option}
+use Rattle.wast_tree_nodes.specs.Imports.{defined_space}
+use Rattle.wast_tree_nodes.specs.Items.{space_of_kind, item_of_sig, items_of_type, items_of_import, items_in, items}
+use Rattle.wast_tree_nodes.specs.Profiles.{is_imported_func, is_imported_table, is_imported_memory, is_imported_global, is_imported_tag, custom_span}
+use Rattle.wast_tree_nodes.specs.Kinds.{kind_in}
+use Rattle.wast_tree_nodes.specs.Profiles.{profile_of}
+use Rattle.wat_syntax.specs.Seen.{seen_text, seen_type, seen_item_kind, seen_item_sig, seen_item, seen_items, seen_tag_kind}
+use Rattle.wat_syntax.specs.Tree.{FuncKind, TableKind, MemoryKind, GlobalKind, TagKind, ItemKind, ItemSig, ImportItems, Custom, ModuleField}
+use Rattle.wat_syntax.specs.Tree.space
+use Rattle.wat_syntax.specs.Tree.ty
+use Rattle.wat_syntax.specs.Tree.func
+use Rattle.wat_syntax.specs.Tree.table
+use Rattle.wat_syntax.specs.Tree.memory
+use Rattle.wat_syntax.specs.Tree.global
+use Rattle.wat_syntax.specs.Tree.tag_kind
+use Rattle.wat_syntax.specs.Tree.kind
+use Rattle.wat_syntax.specs.Tree.import_items
+use Rattle.wat_syntax.specs.Tree.custom
+use Rattle.wat_syntax.specs.Tree.field
+use Rattle.wat_meaning.specs.Shown.{shown_func_kind, shown_table_kind, shown_memory_kind, shown_global_kind, shown_custom, shown_field, shown_fields}
+use Rattle.wat_meaning.proofs.ShownLists.{flat_same}
+use Rattle.wat_meaning.proofs.ShownTypeParts.{fields_shown}
+
+-- the item of a type
+pub type_items : (t : ty.«Type») → items_of_type (seen_type t) ≡ items_of_type t
+type_items t = λ i. record { space = space.Ty; id = mark_of_option t.id; fields = fields_shown t.def.kind i } ∷ []
+
+-- imported items
+pub kind_space : (k : ItemKind) → space_of_kind (seen_item_kind k) ≡ space_of_kind k
+kind_space (kind.Func u) = refl
+kind_space (kind.FuncExact u) = refl
+kind_space (kind.Table t) = refl
+kind_space (kind.Memory t) = refl
+kind_space (kind.Global t) = refl
+kind_space (kind.Tag t) = refl
+
+sig_item : (s : ItemSig) → item_of_sig (seen_item_sig s) ≡ item_of_sig s
+sig_item s = λ i. record { space = kind_space s.kind i; id = mark_of_option s.id; fields = [] }
+
+-- a signature that names share
+shared_items : (s : ItemSig) (names : List (Bor (List ℕ)))
+    → flat_map (λ (name : Bor (List ℕ)). item_of_sig (seen_item_sig s) ∷ []) (map seen_text names)
+    ≡ flat_map (λ (name : Bor (List ℕ)). item_of_sig s ∷ []) names
+shared_items s [] = refl
+shared_items s (name ∷ names) = λ i. sig_item s i ∷ shared_items s names i
+
+import_items_same : (m : ImportItems) → items_of_import (seen_items m) ≡ items_of_import m
+import_items_same (import_items.Single source name sig) = λ i. sig_item sig i ∷ []
+import_items_same (import_items.Group1 source items) =
+    flat_same seen_item (λ (p : Bor (List ℕ) × ItemSig). item_of_sig p.1 ∷ []) (λ p i. sig_item p.1 i ∷ []) items
+import_items_same (import_items.Group2 source sig names) = shared_items sig names
+
+-- the items of a field, and of all fields
+pub items_of_shown : (x : ModuleField) → items_in (shown_field x) ≡ items_in x
+items_of_shown (field.Ty t) = type_lone t
+  where
+    type_lone : (t : ty.«Type») → flat_map items_of_type (seen_type t ∷ []) ≡ flat_map items_of_type (t ∷ [])
+    type_lone t = λ i. type_items t i ++ []
+items_of_shown (field.Rec r) = flat_same seen_type items_of_type type_items r.types
+items_of_shown (field.Import m) = import_items_same m.items
+items_of_shown (field.Func f) = refl
+items_of_shown (field.Table t) = refl
+items_of_shown (field.Memory m) = refl
+items_of_shown (field.Global g) = refl
+items_of_shown (field.Export e) = refl
+items_of_shown (field.Start i) = refl
+items_of_shown (field.Elem e) = refl
+items_of_shown (field.Data d) = refl
+items_of_shown (field.Tag t) = refl
+items_of_shown (field.Custom c) = refl
+
+pub items_shown : (xs : List ModuleField) → items (shown_fields xs) ≡ items xs
+items_shown xs = flat_same shown_field items_in items_of_shown xs
+
+-- the index space in which a field defines an item that could be imported
+pub defined_shown : (x : ModuleField) → defined_space (shown_field x) ≡ defined_space x
+defined_shown (field.Ty t) = refl
+defined_shown (field.Rec r) = refl
+defined_shown (field.Import m) = refl
+defined_shown (field.Func f) = refl
+defined_shown (field.Table t) = refl
+defined_shown (field.Memory m) = refl
+defined_shown (field.Global g) = refl
+defined_shown (field.Export e) = refl
+defined_shown (field.Start i) = refl
+defined_shown (field.Elem e) = refl
+defined_shown (field.Data d) = refl
+defined_shown (field.Tag t) = refl
+defined_shown (field.Custom c) = refl
+
+-- whether a field has an inline import
+pub func_imported : (k : FuncKind) → is_imported_func (shown_func_kind k) ≡ is_imported_func k
+func_imported (func.Import source exact) = refl
+func_imported (func.Inline locals e) = refl
+
+pub table_imported : (k : TableKind) → is_imported_table (shown_table_kind k) ≡ is_imported_table k
+table_imported (table.Import source ty) = refl
+table_imported (table.Normal ty init) = refl
+table_imported (table.Inline ty is64 shared elements) = refl
+
+pub memory_imported : (k : MemoryKind) → is_imported_memory (shown_memory_kind k) ≡ is_imported_memory k
+memory_imported (memory.Import source ty) = refl
+memory_imported (memory.Normal ty) = refl
+memory_imported (memory.Inline is64 pieces exponent) = refl
+
+pub global_imported : (k : GlobalKind) → is_imported_global (shown_global_kind k) ≡ is_imported_global k
+global_imported (global.Import source) = refl
+global_imported (global.Inline e) = refl
+
+pub tag_imported : (k : TagKind) → is_imported_tag (seen_tag_kind k) ≡ is_imported_tag k
+tag_imported (tag_kind.Import source) = refl
+tag_imported tag_kind.Inline = refl
+
+-- the kind of a field, and its position
+custom_kind : (c : Custom) → kind_in (field.Custom (shown_custom c)) ≡ kind_in (field.Custom c)
+custom_kind (custom.Raw section) = refl
+custom_kind (custom.Producers producers) = refl
+custom_kind (custom.Dylink0 info) = refl
+
+pub kind_shown : (x : ModuleField) → kind_in (shown_field x) ≡ kind_in x
+kind_shown (field.Ty t) = refl
+kind_shown (field.Rec r) = refl
+kind_shown (field.Import m) = refl
+kind_shown (field.Func f) = refl
+kind_shown (field.Table t) = refl
+kind_shown (field.Memory m) = refl
+kind_shown (field.Global g) = refl
+kind_shown (field.Export e) = refl
+kind_shown (field.Start i) = refl
+kind_shown (field.Elem e) = refl
+kind_shown (field.Data d) = refl
+kind_shown (field.Tag t) = refl
+kind_shown (field.Custom c) = custom_kind c
+
+custom_span_shown : (c : Custom) → custom_span (shown_custom c) ≡ custom_span c
+custom_span_shown (custom.Raw section) = refl
+custom_span_shown (custom.Producers producers) = refl
+custom_span_shown (custom.Dylink0 info) = refl
+
+pub span_shown : (x : ModuleField) → (profile_of (shown_field x)).span ≡ (profile_of x).span
+span_shown (field.Ty t) = refl
+span_shown (field.Rec r) = refl
+span_shown (field.Import m) = refl
+span_shown (field.Func f) = refl
+span_shown (field.Table t) = refl
+span_shown (field.Memory m) = refl
+span_shown (field.Global g) = refl
+span_shown (field.Export e) = refl
+span_shown (field.Start i) = refl
+span_shown (field.Elem e) = refl
+span_shown (field.Data d) = refl
+span_shown (field.Tag t) = refl
+span_shown (field.Custom c) = custom_span_shown c

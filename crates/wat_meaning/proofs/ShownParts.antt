@@ -1,0 +1,24 @@
+-- The parts of a module do not depend on the addresses of names and strings.
+--
+-- For example, `(data "ab")` has the bytes 97 98, wherever the text "ab" is.
+use Rattle.std.proofs.Common.{◌≡◌, ℕ, List, Option}
+use Rattle.wast_core.specs.Meaning.{parts}
+use Rattle.wast_core.specs.Tree.{ModuleField}
+use Rattle.wat_meaning.specs.Shown.{shown_field, shown_fields}
+use Rattle.wat_meaning.proofs.SameParts.{KeepsParts, parts_stay}
+use Rattle.wat_meaning.proofs.ShownCustoms.{customs_same, own_same}
+use Rattle.wat_meaning.proofs.ShownEntries.{contributed_same, hinted_same, count_same}
+use Rattle.wat_meaning.proofs.ShownNames.{keeps_names}
+
+showing_keeps : KeepsParts shown_field
+showing_keeps = record {
+  contribution = contributed_same;
+  customs = customs_same;
+  hinted = hinted_same;
+  needed = count_same;
+  called = own_same;
+  names = keeps_names;
+}
+
+pub shown_parts : (name : Option (List ℕ)) (xs : List ModuleField) → parts name (shown_fields xs) ≡ parts name xs
+shown_parts name xs = parts_stay shown_field showing_keeps name xs
