@@ -15,19 +15,24 @@
 //! - `names` has [`names_of_text`] and [`number_in_text`], and the same for a parsed module.
 //! - `refusals` has the errors, and `uncovered` finds the token of an unsupported construct.
 //! - `modules` makes a module of `wast_core` from a parsed one.
+//! - `laws` states that a text has one result.
 //!
-//! The rules are in `specs/`: `Texts` for the bytes of a text, and `Names` for its ids.
+//! The rules are in `specs/`: `Texts` for the bytes of a text, `Names` for its ids, and `OneText`
+//! for the theorems.
 //!
 //! # Guarantees
 //!
 //! - [`encode_text`], `answer`: the result is that of `encode_module` for the module that the text
 //!   denotes. Otherwise it is an error of the text, which denotes no module then, or one that is not
 //!   well formed.
+//! - [`one_result`]: two calls for one text return the same bytes. If one succeeds, another fails
+//!   only for want of memory or because the module is too large.
 //! - `place`: an error of the text has a position in the text or at its end.
 //! - A call without an allocator among its parameters does not allocate.
 #![tactic(auto)]
 
 mod encodes;
+mod laws;
 mod modules;
 mod names;
 mod refusals;
@@ -36,5 +41,6 @@ mod tests;
 mod uncovered;
 
 pub use encodes::{encode_text, encoded_text};
+pub use laws::one_result;
 pub use names::{Denoted, names_of, names_of_text, number_in, number_in_text};
 pub use refusals::{Refused, UncoveredForm};
