@@ -1,20 +1,30 @@
 //! Converts one text.
+//!
+//! The contract of [`convert_bytes`] says what standard output gets for a text. It speaks of any writer whose bytes are known,
+//! because the contracts of the library do not say what bytes a stream of the system has. That files get the same bytes is tested.
+
+ghost use Rattle.std.specs.Prelude.{◌≡◌, false, Ok, IfOk, OnOk, OnErr};
+ghost use Rattle.std.specs.Io.KnownBytes.{Appends, Keeps};
+ghost use Rattle.wat.specs.Outputs.{HasNames, IsOutput, OutputBy, Writes, Gets, Converts, Stops, hex_line as hex_line_of};
 
 use crate::names::name_lines;
 use crate::options::{Options, Output};
 use crate::outputs::output_path;
 use crate::sections::without_names;
 use std::alloc::{AllocError, Global};
+use std::io::Write;
 use std::str;
 use wat_bytes::{encode_text, names_of_text};
 use wat_command::{
-    Escaped, Failure, STANDARD, print_bytes, read_input, report, report_malformed, shown,
-    text_before, warn, write_file,
+    Escaped, Failure, read_input, report, report_malformed, shown, text_before, warn, write_bytes,
+    write_file,
 };
 use wat_text::Strings;
 
 /// Removes the name section, if the options have `--no-names`.
-fn selected(alloc: Global, options: &Options, bytes: Vec<u8>) -> Result<Vec<u8>, AllocError> {
+fn selected(alloc: Global, options: &Options, bytes: Vec<u8>) -> Result<Vec<u8>, AllocError>
+    ensures { options.now.omits_names ≡ false → result ≡ Ok bytes }
+{
     if options.omits_names {
         return without_names(alloc, bytes.as_slice());
     }
@@ -22,18 +32,18 @@ fn selected(alloc: Global, options: &Options, bytes: Vec<u8>) -> Result<Vec<u8>,
 }
 
 /// Returns bytes as one line of hexadecimal digits.
-fn hex_line(alloc: Global, bytes: &[u8]) -> Result<Vec<u8>, AllocError> {
+fn hex_line(alloc: Global, bytes: &[u8]) -> Result<Vec<u8>, AllocError>
+    ensures { IfOk result (λ line. line.items ≡ hex_line_of bytes.now) }
+{
     let mut line = hex::encode(alloc, bytes)?;
     line.push('\n')?;
     Ok(line.into_bytes())
 }
 
 /// Returns the output for the bytes of a module.
-fn output_of_bytes(
-    alloc: Global,
-    options: &Options,
-    bytes: Vec<u8>,
-) -> Result<Vec<u8>, AllocError> {
+fn output_of_bytes(alloc: Global, options: &Options, bytes: Vec<u8>) -> Result<Vec<u8>, AllocError>
+    ensures { IfOk result (λ out. OutputBy options.now bytes.items out.items) }
+{
     let bytes = selected(alloc, options, bytes)?;
     if let Output::Hex = options.output {
         return hex_line(alloc, bytes.as_slice());
@@ -42,7 +52,9 @@ fn output_of_bytes(
 }
 
 /// Returns an output, or reports that allocation failed.
-fn allocated(rt: &HostRuntime, output: Result<Vec<u8>, AllocError>) -> Result<Vec<u8>, Failure> {
+fn allocated(rt: &HostRuntime, output: Result<Vec<u8>, AllocError>) -> Result<Vec<u8>, Failure>
+    ensures { IfOk result (λ bytes. output ≡ Ok bytes) }
+{
     match output {
         Ok(bytes) => Ok(bytes),
         Err(_) => Err(Failure::memory(rt)),
@@ -56,7 +68,9 @@ fn module_output<'a>(
     file: Escaped<'_>,
     text: &'a str,
     strings: &'a Strings,
-) -> Result<Vec<u8>, Failure> {
+) -> Result<Vec<u8>, Failure>
+    ensures { IfOk result (λ out. IsOutput options.now text.now out.items) }
+{
     match encode_text(rt.alloc(), text, strings) {
         Ok(bytes) => allocated(rt, output_of_bytes(rt.alloc(), options, bytes)),
         Err(refused) => Err(report(rt, rt.alloc(), file, text, &refused)),
@@ -69,7 +83,9 @@ fn names_output<'a>(
     file: Escaped<'_>,
     text: &'a str,
     strings: &'a Strings,
-) -> Result<Vec<u8>, Failure> {
+) -> Result<Vec<u8>, Failure>
+    ensures { IfOk result (λ out. HasNames text.now) }
+{
     match names_of_text(rt.alloc(), text, strings) {
         Ok(names) => allocated(rt, name_lines(rt.alloc(), names.as_slice())),
         Err(refused) => Err(report(rt, rt.alloc(), file, text, &refused)),
@@ -82,7 +98,9 @@ fn output_of_text(
     options: &Options,
     file: Escaped<'_>,
     text: &str,
-) -> Result<Vec<u8>, Failure> {
+) -> Result<Vec<u8>, Failure>
+    ensures { IfOk result (λ out. Writes options.now text.now out.items) }
+{
     warn(rt, file, text);
     let strings = Strings::new(rt.alloc());
     match options.output {
@@ -97,7 +115,9 @@ fn output_of(
     options: &Options,
     file: Escaped<'_>,
     bytes: &[u8],
-) -> Result<Vec<u8>, Failure> {
+) -> Result<Vec<u8>, Failure>
+    ensures { IfOk result (λ out. Writes options.now bytes.now out.items) }
+{
     match str::from_utf8(bytes) {
         Ok(text) => output_of_text(rt, options, file, text),
         Err(error) => {
@@ -108,8 +128,10 @@ fn output_of(
 }
 
 /// Writes to standard output, or reports why that failed.
-fn print_output(rt: &HostRuntime, output: &[u8]) -> Result<(), Failure> {
-    match print_bytes(rt, output) {
+fn print_output<W: Write>(rt: &HostRuntime, output: &[u8], stdout: &mut W) -> Result<(), Failure>
+    ensures { OnOk result (Appends (W.contents stdout.old) (W.contents stdout.new) output.now) }
+{
+    match write_bytes(stdout, output) {
         Ok(()) => Ok(()),
         Err(error) => Err(Failure::of_write(rt, error)),
     }
@@ -123,31 +145,59 @@ fn write_output_to(rt: &HostRuntime, path: &str, output: &[u8]) -> Result<(), Fa
     }
 }
 
-/// Writes to the file that `--output` names.
-fn write_target(rt: &HostRuntime, target: &str, output: &[u8]) -> Result<(), Failure> {
-    if target == STANDARD {
-        return print_output(rt, output);
-    }
-    write_output_to(rt, target, output)
-}
-
-/// Writes the output of a file to standard output or to a file, by the options.
-fn write_output(
+/// Writes the output of a file to the file that `--output` names, or to one with a name of its own.
+fn store_output(
     rt: &HostRuntime,
     options: &Options,
     file: &str,
     output: &[u8],
 ) -> Result<(), Failure> {
     if let Some(target) = &options.target {
-        return write_target(rt, target.as_str(), output);
-    }
-    if !options.names_outputs() {
-        return print_output(rt, output);
+        return write_output_to(rt, target.as_str(), output);
     }
     match output_path(rt.alloc(), options, file) {
         Ok(path) => write_output_to(rt, path.as_str(), output),
         Err(_) => Err(Failure::memory(rt)),
     }
+}
+
+/// Writes the output of a file to standard output or to a file.
+fn write_output<W: Write>(
+    rt: &HostRuntime,
+    options: &Options,
+    file: &str,
+    output: &[u8],
+    is_printed: bool,
+    stdout: &mut W,
+) -> Result<(), Failure>
+    ensures whole { OnOk result (Gets is_printed (W.contents stdout.old) (W.contents stdout.new) output.now) }
+    ensures stored { is_printed ≡ false → Keeps (W.contents stdout.old) (W.contents stdout.new) }
+{
+    if is_printed {
+        return print_output(rt, output, stdout);
+    }
+    store_output(rt, options, file, output)
+}
+
+/// Converts the bytes of a file, and writes the output to standard output or to a file.
+///
+/// # Guarantees
+///
+/// - `whole`: after success, standard output has the output for the text, whole, if it goes there.
+/// - `nothing`: after a failure, nothing was written to standard output; or the text has an output, and writing it failed.
+fn convert_bytes<W: Write>(
+    rt: &HostRuntime,
+    options: &Options,
+    file: &str,
+    bytes: &[u8],
+    is_printed: bool,
+    stdout: &mut W,
+) -> Result<(), Failure>
+    ensures whole { OnOk result (Converts options.now bytes.now is_printed (W.contents stdout.old) (W.contents stdout.new)) }
+    ensures nothing { OnErr result (Stops options.now bytes.now is_printed (W.contents stdout.old) (W.contents stdout.new)) }
+{
+    let output = output_of(rt, options, shown(file), bytes)?;
+    write_output(rt, options, file, output.as_slice(), is_printed, stdout)
 }
 
 /// Reads a file, and writes its output.
@@ -156,6 +206,13 @@ pub(crate) fn convert_file(rt: &HostRuntime, options: &Options, file: &str) -> R
         Ok(bytes) => bytes,
         Err(error) => return Err(Failure::of_read(rt, shown(file), error)),
     };
-    let output = output_of(rt, options, shown(file), bytes.as_slice())?;
-    write_output(rt, options, file, output.as_slice())
+    let mut stdout = rt.stdout();
+    convert_bytes(
+        rt,
+        options,
+        file,
+        bytes.as_slice(),
+        options.prints(),
+        &mut stdout,
+    )
 }

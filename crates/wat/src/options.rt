@@ -417,6 +417,14 @@ impl Options {
         self.folder.is_some() || self.files.len() > 1
     }
 
+    /// Returns whether the output goes to standard output.
+    pub fn prints(&self) -> bool {
+        match &self.target {
+            Some(target) => target.as_str() == STANDARD,
+            None => !self.names_outputs(),
+        }
+    }
+
     /// Returns whether bytes go to standard output by default, so without `-o -`.
     pub fn prints_bytes(&self) -> bool {
         matches!(self.output, Output::Bytes) && self.target.is_none() && !self.names_outputs()

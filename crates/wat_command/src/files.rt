@@ -1,5 +1,8 @@
 //! Reads files, and writes files whole or not at all.
 
+ghost use Rattle.std.specs.Prelude.{OnOk};
+ghost use Rattle.std.specs.Io.KnownBytes.{Appends};
+
 use crate::escapes::Escaped;
 use std::fs::{self, File, OpenOptions, Permissions};
 use std::io::{self, ErrorKind, Read, Write};
@@ -57,9 +60,14 @@ pub fn text_before(bytes: &[u8], offset: usize) -> &str {
     }
 }
 
-/// Writes to standard output.
-pub fn print_bytes(rt: &HostRuntime, bytes: &[u8]) -> io::Result<()> {
-    let mut writer = rt.stdout();
+/// Writes all bytes to a writer, for example to standard output.
+///
+/// # Guarantees
+///
+/// - `whole`: after success the writer has the bytes, whole.
+pub fn write_bytes<W: Write>(writer: &mut W, bytes: &[u8]) -> io::Result<()>
+    ensures whole { OnOk result (Appends (W.contents writer.old) (W.contents writer.new) bytes.now) }
+{
     writer.write_all(bytes)?;
     writer.flush()
 }
