@@ -1,7 +1,8 @@
 //! Converts one text.
 //!
-//! The contract of [`convert_bytes`] says what standard output gets for a text. It speaks of any writer whose bytes are known,
-//! because the contracts of the library do not say what bytes a stream of the system has. That files get the same bytes is tested.
+//! The contract of [`convert_bytes`] says what standard output gets for a text. It speaks of any
+//! writer whose bytes are known, because the contracts of the library do not say what bytes a
+//! stream of the system has. That files get the same bytes is tested.
 
 ghost use Rattle.std.specs.Prelude.{◌≡◌, false, Ok, IfOk, OnOk, OnErr};
 ghost use Rattle.std.specs.Io.KnownBytes.{Appends, Keeps};
@@ -184,7 +185,8 @@ fn write_output<W: Write>(
 /// # Guarantees
 ///
 /// - `whole`: after success, standard output has the output for the text, whole, if it goes there.
-/// - `nothing`: after a failure, nothing was written to standard output; or the text has an output, and writing it failed.
+/// - `nothing`: after a failure, nothing was written to standard output; or the text has an
+///   output, and writing it failed.
 fn convert_bytes<W: Write>(
     rt: &HostRuntime,
     options: &Options,

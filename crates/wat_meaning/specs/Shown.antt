@@ -3,7 +3,7 @@
 -- A tree has texts of two kinds: ids, which resolving compares, and names and strings, which it hands on. `shown` sets each text of the
 -- second kind to address 0. With the ids at address 0 as well it is a bare tree (wat_laws, Bare).
 --
---   shown_export of (export "a" (func $f)), at any address      "a" at address 0, and $f as before
+--   shown_field of (export "a" (func $f)), at any address      "a" at address 0, and $f as before
 use Rattle.std.specs.Prelude.{List, map, option_map}
 use Rattle.wat_syntax.specs.Seen.{seen_text, seen_name_option, seen_type_use, seen_type, seen_rec, seen_block, seen_call, seen_try_table, seen_import, seen_exports, seen_local, seen_tag, seen_imports, seen_export}
 use Rattle.wat_syntax.specs.SeenCustoms.{seen_producers_field, seen_subsection}
