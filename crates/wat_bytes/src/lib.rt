@@ -25,8 +25,8 @@
 //! - [`encode_text`], `answer`: the result is that of `encode_module` for the module that the text
 //!   denotes. Otherwise it is an error of the text, which denotes no module then, or one that is not
 //!   well formed.
-//! - [`one_result`]: two calls for one text return the same bytes. If one succeeds, another fails
-//!   only for want of memory or because the module is too large.
+//! - [`one_result`]: two calls that succeed for one text return the same bytes. If one succeeds,
+//!   another fails only for want of memory or because the module is too large.
 //! - `place`: an error of the text has a position in the text or at its end.
 //! - A call without an allocator among its parameters does not allocate.
 #![tactic(auto)]
