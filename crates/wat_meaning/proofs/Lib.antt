@@ -4,6 +4,7 @@ pub mod ErasedNames
 pub mod ErasedParts
 pub mod ErasedRules
 pub mod OneMeaning
+pub mod SameNumbers
 pub mod SameParts
 pub mod SeenBare
 pub mod ShownAnswers

@@ -39,7 +39,7 @@ module _ {A : Type 0} (f : List ModuleField → A) (shown : (xs : List ModuleFie
       → f xs ≡ f ys
   alike_by xs ys left right alike = sym (of_bare xs left) ∙ (ap f alike ∙ of_bare ys right)
 
-  alike_all : ((xs : List ModuleField) → f (renamed_fields erasing xs) ≡ f xs) → (xs ys : List ModuleField) → AreAlike xs ys → f xs ≡ f ys
+  pub alike_all : ((xs : List ModuleField) → f (renamed_fields erasing xs) ≡ f xs) → (xs ys : List ModuleField) → AreAlike xs ys → f xs ≡ f ys
   alike_all erased xs ys alike = alike_by xs ys (erased xs) (erased ys) alike
 
 pub same_answer : RenamedAnswer → SameAnswer

@@ -2,17 +2,20 @@
 --
 -- A tree has addresses beside bytes: those of the text that it was read from. Two trees of one text differ in addresses alone, and
 -- their bare trees are equal. Such trees meet the same demands, or the same first demand is unmet at the same position; they mean
--- the same parts, and have the same unsupported constructs.
+-- the same parts, and have the same unsupported constructs. A source id denotes the same index in both.
 --
 --   (module (func $f) (export "a" (func $f))), read twice      the same bytes, whatever the addresses
 use Rattle.std.specs.Prelude.{◌≡◌, ℕ, ◌<◌, List, Option}
+use Rattle.wast_base.specs.Ids.{Written}
 use Rattle.wast_tree_nodes.specs.Generations.{greatest_generation}
+use Rattle.wast_tree_nodes.specs.Items.{items}
+use Rattle.wast_tree_nodes.specs.Known.{id_context}
 use Rattle.wast_tree_nodes.specs.WellFormed.{is_well_formed}
-use Rattle.wast_resolve_rules.specs.Explicit.{explicit_fields, generated_id_count}
+use Rattle.wast_resolve_rules.specs.Explicit.{explicit_fields, explicit_fields_from, generated_id_count}
 use Rattle.wast_resolve_rules.specs.Demands.{demands, first_unmet, IsTooLarge}
 use Rattle.wast_resolve_rules.specs.Finished.{resolved_fields_from}
 use Rattle.wast_core.specs.Headline.{IsMet}
-use Rattle.wast_core.specs.Tree.{ModuleField}
+use Rattle.wast_core.specs.Tree.{Space, ModuleField}
 use Rattle.wast_core.specs.Uncovered.{uncovered_forms}
 use Rattle.wast_core.specs.Meaning.{meaning}
 use Rattle.wat_laws.specs.Bare.{bare_fields}
@@ -34,6 +37,12 @@ SameMeaning = (name : Option (List ℕ)) (xs ys : List ModuleField) → AreAlike
 abbrev pub SameForms : Type 0
 SameForms = (n : ℕ) (xs ys : List ModuleField) → AreAlike xs ys → greatest_generation xs < n → IsMet xs
     → uncovered_forms (resolved_fields_from n xs) ≡ uncovered_forms (resolved_fields_from n ys)
+
+-- A source id denotes the same index in both, or none, if they are resolved from a counter past their ids. For example, `$g` is 1 in each
+-- tree of `(module (func $f) (func $g))`.
+abbrev pub SameNumbers : Type 0
+SameNumbers = (n : ℕ) (xs ys : List ModuleField) → AreAlike xs ys → greatest_generation xs < n → (s : Space) (text : List ℕ)
+    → (id_context (items (explicit_fields_from n xs))).number s (Written text) ≡ (id_context (items (explicit_fields_from n ys))).number s (Written text)
 
 -- They have the same number of generated ids.
 abbrev pub SameCount : Type 0

@@ -16,7 +16,7 @@
 //! # Guarantees
 //!
 //! - [`meaning_laws`]: such trees pass the same checks, or fail the same check first. They mean the
-//!   same parts, and have the same unsupported constructs.
+//!   same parts, and have the same unsupported constructs. An id denotes the same index in both.
 #![tactic(auto)]
 
 mod examples;

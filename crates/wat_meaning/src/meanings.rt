@@ -1,6 +1,6 @@
 //! Theorems about trees that differ in addresses alone.
 
-ghost use Rattle.wat_meaning.specs.Laws.{SameAnswer, SameCount, SameForms, SameGeneration, SameMeaning, SameRules, SameTooLarge};
+ghost use Rattle.wat_meaning.specs.Laws.{SameAnswer, SameCount, SameForms, SameGeneration, SameMeaning, SameNumbers, SameRules, SameTooLarge};
 
 use wast_core::laws::renaming;
 use wast_resolve::naming_laws;
@@ -24,6 +24,7 @@ use wast_resolve::naming_laws;
 /// - `meaning`: both mean the same parts of a binary module. So they have the same bytes.
 /// - `forms`: if the checks pass, both have the same unsupported constructs in the same order. So
 ///   E11 comes for both or for neither, and names the same construct.
+/// - `numbers`: each source id denotes the same index in both, or none.
 /// - `count`: both have the same number of generated ids. So an id counter ends at the same value.
 /// - `rules`: both are well formed, or neither is.
 /// - `generation`: the greatest generation of an id is the same. So both may be resolved from the
@@ -33,6 +34,7 @@ pub fn meaning_laws()
     ensures answer { SameAnswer }
     ensures meaning { SameMeaning }
     ensures forms { SameForms }
+    ensures numbers { SameNumbers }
     ensures count { SameCount }
     ensures rules { SameRules }
     ensures generation { SameGeneration }

@@ -1,4 +1,5 @@
 use Rattle.wat_meaning.proofs.OneMeaning.{same_answer, same_meaning, same_forms, same_count, same_rules, same_generation, same_too_large}
+use Rattle.wat_meaning.proofs.SameNumbers.{same_numbers}
 use Rattle.wat_meaning.proofs.meanings.meaning_laws.Goals as goal
 
 pub returns-clause-answer : goal.returns-clause-answer
@@ -9,6 +10,9 @@ returns-clause-meaning c = same_meaning c.naming_laws.ensures.positions
 
 pub returns-clause-forms : goal.returns-clause-forms
 returns-clause-forms c = same_forms c.naming_laws.ensures.answer c.renaming.ensures.uncovered
+
+pub returns-clause-numbers : goal.returns-clause-numbers
+returns-clause-numbers c = same_numbers
 
 pub returns-clause-count : goal.returns-clause-count
 returns-clause-count c = same_count c.naming_laws.ensures.filled
