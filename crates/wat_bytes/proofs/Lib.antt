@@ -1,3 +1,7 @@
 pub mod Listing
+pub mod OneError
+pub mod OneList
 pub mod OneText
+pub mod Ordered
+pub mod Stored
 pub mod Texts

@@ -6,22 +6,21 @@ use Rattle.std.specs.Prelude.{⊤}
 use Rattle.std.specs.Borrow.{Bor}
 use Rattle.std.specs.Global.{Vec}
 use Rattle.std.specs.List.{flat_map}
-use Rattle.std.proofs.Common.{◌≡◌, ◌⊎◌, inl, inr, ℕ, max, ◌<◌, Bool, true, false, List, [], ◌∷◌, ◌++◌, map, Option, None, Some, option_map, Result, Ok, Err, IsTrue, refl, sym, ap, subst, ◌∙◌, arith}
+use Rattle.std.proofs.Common.{◌≡◌, ◌⊎◌, inl, inr, ℕ, max, ◌<◌, Bool, true, false, List, [], ◌∷◌, ◌++◌, map, Option, None, Some, Result, Ok, Err, IsTrue, refl, sym, ap, subst, ◌∙◌, arith}
 use Rattle.wast_base.specs.declared.faults.Error.{Error}
 use Rattle.wast_base.specs.declared.faults.Fault.TheVariants as fault
 use Rattle.wast_base.specs.declared.faults.Form.{Form}
 use Rattle.wast_base.specs.declared.ids.Span.{Span}
-use Rattle.wast_base.specs.Faults.{Cause, Diagnostic, At, Nowhere, Memory, TooLarge, diagnostic_of, error_without_place, too_large, out_of_memory}
+use Rattle.wast_base.specs.Faults.{Cause, Diagnostic, At, Nowhere, Memory, TooLarge, diagnostic_of, error_without_place}
 use Rattle.wast_base.specs.FirstUnmet.{Answers}
 use Rattle.wast_base.specs.declared.ids.Name as code
 use Rattle.wast_base.specs.declared.ids.Name.TheVariants as id_name
 use Rattle.wast_base.specs.Ids.{named_by, mark_of_option, generation_of}
 use Rattle.wast_tree_nodes.specs.Generations.{generation_or_zero, greatest_generation}
-use Rattle.wast_tree_nodes.specs.WellFormed as fields
-use Rattle.wast_resolve_rules.specs.Demands.{first_unmet, demands, IsTooLarge, IsUnresolved}
+use Rattle.wast_resolve_rules.specs.Demands.{first_unmet, demands, IsTooLarge}
 use Rattle.wast_resolve_rules.specs.Explicit.{explicit_fields}
 use Rattle.wast_resolve_rules.specs.Finished.{resolved_fields_from}
-use Rattle.wasm_out.specs.Parts.{Part, part}
+use Rattle.wasm_out.specs.Parts.{part}
 use Rattle.wasm_out.specs.Reads.{header, Reads}
 use Rattle.wast_core_name_section.specs.GivenNames.{written_text, given_name}
 use Rattle.wast_core.specs.Tree.{Id, NameAnnotation, ModuleField}
@@ -29,7 +28,7 @@ use Rattle.wast_core.specs.Bounded.{IsBounded}
 use Rattle.wast_core.specs.Uncovered.{head_of, uncovered_forms, IsCovered}
 use Rattle.wast_core.specs.Headline.{IsMet, EncodesKind, IsUnencoded, IsUnwritten, joined_pieces, name_of_module}
 use Rattle.wast_core.specs.Meaning.{meaning}
-use Rattle.wast_core.specs.Modules.{IsReady, is_well_formed, is_well_formed_kind, bound_of_kind, generation_bound}
+use Rattle.wast_core.specs.Modules.{IsReady, is_well_formed_kind, bound_of_kind}
 use Rattle.wast_core.specs.declared.module.ModuleKind.{ModuleKind}
 use Rattle.wat_tokens.specs.declared.faults.TextError.{TextError}
 use Rattle.wat_tokens.specs.declared.faults.TextFault.{TextFault}
@@ -47,7 +46,7 @@ use Rattle.wat_meaning.specs.Laws.{AreAlike, SameAnswer, SameMeaning, SameForms,
 use Rattle.wat_meaning.proofs.SeenBare.{seen_bare}
 use Rattle.wat_bytes.specs.declared.refusals.Refused.{Refused}
 use Rattle.wat_bytes.specs.declared.refusals.Refused.TheVariants as answer
-use Rattle.wat_bytes.specs.Texts.{OfText, AfterReading, EncodesText, EncodesModule, EncodesReady, IsRead, IsUnready, kind_of, module_of}
+use Rattle.wat_bytes.specs.Texts.{OfText, AfterReading, EncodesText, EncodesModule, EncodesReady, IsRead, kind_of, module_of}
 use Rattle.wat_bytes.specs.OneText.{SameBytes, SameSuccess, IsOfLimits}
 
 -- What a successful call says: the text denotes a well-formed module, of which the bytes are.
@@ -78,7 +77,7 @@ seen_twice : (m : TextModule) → bare_module (seen_module m) ≡ bare_module m
 seen_twice m = λ i. record { span = m.span; id = bare_id_option m.id; name = names_twice m.name i; kind = kind_twice m.kind i }
 
 -- So two modules that a text denotes are the same without addresses.
-one_module : (bytes : List ℕ) (t u : TextModule) → Denotes bytes (seen_module t) → Denotes bytes (seen_module u) → bare_module t ≡ bare_module u
+pub one_module : (bytes : List ℕ) (t u : TextModule) → Denotes bytes (seen_module t) → Denotes bytes (seen_module u) → bare_module t ≡ bare_module u
 one_module bytes t u d e = sym (seen_twice t) ∙ denotes_alike bytes (seen_module t) (seen_module u) d e ∙ seen_twice u
 
 -- Their names are the same bytes.
@@ -103,7 +102,7 @@ pieces_in : TextKind → List (Bor (List ℕ))
 pieces_in (held.Fields fs) = []
 pieces_in (held.Binary ps) = ps
 
-alike : (xs ys : List ModuleField) → held.Fields (bare_fields xs) ≡ held.Fields (bare_fields ys) → AreAlike xs ys
+pub alike : (xs ys : List ModuleField) → held.Fields (bare_fields xs) ≡ held.Fields (bare_fields ys) → AreAlike xs ys
 unfolding fields_in
 alike xs ys e = ap fields_in e
 
@@ -164,21 +163,21 @@ id_bare : (o : Option Id) → generation_or_zero (mark_of_option (bare_id_option
 id_bare None = refl
 id_bare (Some id) = mark_bare id.name
 
-same_ready : SameRules → SameGeneration → (t u : TextModule) → bare_module t ≡ bare_module u → IsReady (module_of t) 1 → IsReady (module_of u) 1
+pub same_ready : SameRules → SameGeneration → (t u : TextModule) → bare_module t ≡ bare_module u → IsReady (module_of t) 1 → IsReady (module_of u) 1
 same_ready rules generations t u e ready = record {
   well_formed = subst IsTrue (kinds_of rules t.kind u.kind (λ i. (e i).kind)) ready.well_formed;
   above = subst (λ n. n < 1) (λ i. max ((sym (id_bare t.id) ∙ (λ j. generation_or_zero (mark_of_option (e j).id)) ∙ id_bare u.id) i) (bounds_of generations t.kind u.kind (λ j. (e j).kind) i)) ready.above;
 }
 
 -- An error of a module whose demands are met is one of limits.
-of_limits : (large : Type 0) (d : Diagnostic) (unmet : Option (Cause × Span)) → unmet ≡ None → Answers ⊤ large d unmet → (d ≡ Nowhere Memory) ⊎ (d ≡ Nowhere TooLarge)
+pub of_limits : (large : Type 0) (d : Diagnostic) (unmet : Option (Cause × Span)) → unmet ≡ None → Answers ⊤ large d unmet → (d ≡ Nowhere Memory) ⊎ (d ≡ Nowhere TooLarge)
 of_limits large (At cause place) unmet e is = absurd cc
 of_limits large (Nowhere Memory) unmet e is = inl refl
 of_limits large (Nowhere TooLarge) unmet e is = inr refl
 of_limits large (Nowhere cause) unmet e is = absurd is
 
 -- So is one of a module without unsupported constructs.
-of_covered : (o : Option Form) (is_bounded : Type 0) (d : Error) → o ≡ None → IsUnwritten o is_bounded d → (diagnostic_of d ≡ Nowhere Memory) ⊎ (diagnostic_of d ≡ Nowhere TooLarge)
+pub of_covered : (o : Option Form) (is_bounded : Type 0) (d : Error) → o ≡ None → IsUnwritten o is_bounded d → (diagnostic_of d ≡ Nowhere Memory) ⊎ (diagnostic_of d ≡ Nowhere TooLarge)
 of_covered (Some form) is_bounded d e is = absurd cc
 of_covered None is_bounded d e (inl is) = inl (ap diagnostic_of is)
 of_covered None is_bounded d e (inr is) = inr (ap diagnostic_of is.0)
@@ -199,7 +198,7 @@ kinds_limited answers forms n m (held.Binary ps) (held.Fields ys) left rest b d 
 kinds_limited answers forms n m (held.Binary ps) (held.Binary qs) left rest b d e above x y = inl (ap diagnostic_of y.0)
 
 -- the greatest generation of the fields is below that of the module
-below : (a b : ℕ) → max a b < 1 → b < 1
+pub below : (a b : ℕ) → max a b < 1 → b < 1
 below a b is = omega (arith, is)
 
 limited : SameAnswer → SameForms → (t u : TextModule) (b : Vec ℕ) (d : Error) → bare_module t ≡ bare_module u → EncodesReady (module_of t) (Ok b) → EncodesReady (module_of u) (Err d)
@@ -208,7 +207,7 @@ limited answers forms t u b d e x y =
     kinds_limited answers forms (name_of_module (module_of t)) (name_of_module (module_of u)) t.kind u.kind x.left y.left b d (λ i. (e i).kind)
     (below (generation_or_zero (mark_of_option t.id)) (bound_of_kind (kind_of t.kind)) x.ready.above) x.encodes y.encodes
 
-not_uncovered : (f : Form) → (diagnostic_of (error_without_place (fault.Uncovered f)) ≡ Nowhere Memory) ⊎ (diagnostic_of (error_without_place (fault.Uncovered f)) ≡ Nowhere TooLarge) → ⊥
+pub not_uncovered : (f : Form) → (diagnostic_of (error_without_place (fault.Uncovered f)) ≡ Nowhere Memory) ⊎ (diagnostic_of (error_without_place (fault.Uncovered f)) ≡ Nowhere TooLarge) → ⊥
 not_uncovered f (inl e) = absurd cc
 not_uncovered f (inr e) = absurd cc
 
@@ -228,22 +227,28 @@ not_ill rules bytes t denotes well ill =
     let e = one_module bytes t ill.part denotes ill.denotes in
     differ (is_well_formed_text t.kind) (is_well_formed_text ill.part.kind) well (rules_of rules t.kind ill.part.kind (λ i. (e i).kind)) ill.ill
 
-of_fault : SameRules → (bytes : List ℕ) (t : TextModule) (f : TextFault) → Denotes bytes (seen_module t) → IsTrue (is_well_formed_text t.kind) → Explains (DenotesNothing bytes) (DenotesIllFormed bytes) f → f ≡ text.Memory
+pub of_fault : SameRules → (bytes : List ℕ) (t : TextModule) (f : TextFault) → Denotes bytes (seen_module t) → IsTrue (is_well_formed_text t.kind) → Explains (DenotesNothing bytes) (DenotesIllFormed bytes) f → f ≡ text.Memory
 of_fault rules bytes t text.Memory denotes well is = refl
 of_fault rules bytes t (text.IllFormed n) denotes well (inl is) = absurd (denotes_either bytes (seen_module t) denotes is)
 of_fault rules bytes t (text.IllFormed n) denotes well (inr is) = absurd (not_ill rules bytes t denotes well is)
 of_fault rules bytes t f denotes well is = absurd (denotes_either bytes (seen_module t) denotes is)
 
 -- The error of a result that is one.
-error_in : Refused → Result (Vec ℕ) Refused → Refused
+unfoldable pub error_in : {A : Type 0} → Refused → Result A Refused → Refused
 error_in d (Ok b) = d
 error_in d (Err r) = r
 
-after_reading : SameAnswer → SameForms → SameRules → SameGeneration → (bytes : List ℕ) (b : Vec ℕ) (r : Refused) (x : IsEncoded bytes b) (read : Result TextModule TextError) → IsRead bytes read → AfterReading EncodesText read (Err r) → IsOfLimits r
+-- An error after reading a text that denotes a well-formed module is one of limits, if each error of a module like it is.
+pub after_reading : {A : Type 0} (is_answer : TextModule → Result A Refused → Type 0) → SameRules → (bytes : List ℕ) (t : TextModule) (r : Refused) → Denotes bytes (seen_module t) → IsTrue (is_well_formed_text t.kind)
+    → ((u : TextModule) → bare_module t ≡ bare_module u → is_answer u (Err r) → IsOfLimits r)
+    → (read : Result TextModule TextError) → IsRead bytes read → AfterReading is_answer read (Err r) → IsOfLimits r
 unfolding IsRead error_in
-after_reading answers forms rules generations bytes b r x (Ok u) is y = after_module answers forms rules generations x.t u b r (one_module bytes x.t u x.denotes is.0) x.encoded y
-after_reading answers forms rules generations bytes b r x (Err d) is y =
-    subst IsOfLimits (sym (ap (error_in r) y)) (of_fault rules bytes x.t d.fault x.denotes x.well is.0)
+after_reading is_answer rules bytes t r denotes well of_module (Ok u) is y = of_module u (one_module bytes t u denotes is.0) y
+after_reading is_answer rules bytes t r denotes well of_module (Err d) is y =
+    subst IsOfLimits (sym (ap (error_in r) y)) (of_fault rules bytes t d.fault denotes well is.0)
 
 pub same_success : SameAnswer → SameForms → SameRules → SameGeneration → SameSuccess
-same_success answers forms rules generations bytes b r x y = after_reading answers forms rules generations bytes b r (encoded_of bytes b x) y.read y.is_read y.answered
+same_success answers forms rules generations bytes b r x y =
+    let e = encoded_of bytes b x in
+    after_reading EncodesText rules bytes e.t r e.denotes e.well (λ u alike z. after_module answers forms rules generations e.t u b r alike e.encoded z)
+    y.read y.is_read y.answered

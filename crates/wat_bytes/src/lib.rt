@@ -25,8 +25,10 @@
 //! - [`encode_text`], `answer`: the result is that of `encode_module` for the module that the text
 //!   denotes. Otherwise it is an error of the text, which denotes no module then, or one that is not
 //!   well formed.
-//! - [`one_result`]: two calls that succeed for one text return the same bytes. If one succeeds,
-//!   another fails only for want of memory or because the module is too large.
+//! - [`one_result`]: two calls that succeed for one text return the same bytes, the same list of
+//!   names, and the same index for a name. If one call succeeds, another of the same function fails
+//!   only because an allocation failed or the module is too large. If two calls of [`encode_text`]
+//!   fail for other reasons, they return the same error of the module, or both an error of the text.
 //! - `place`: an error of the text has a position in the text or at its end.
 //! - A call without an allocator among its parameters does not allocate.
 #![tactic(auto)]

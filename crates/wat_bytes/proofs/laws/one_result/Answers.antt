@@ -1,3 +1,5 @@
+use Rattle.wat_bytes.proofs.OneError.{same_error}
+use Rattle.wat_bytes.proofs.OneList.{same_number, same_look_up, same_list, same_listing}
 use Rattle.wat_bytes.proofs.OneText.{same_bytes, same_success}
 use Rattle.wat_bytes.proofs.laws.one_result.Goals as goal
 
@@ -6,3 +8,18 @@ returns-clause-bytes c = same_bytes c.meaning_laws.ensures.meaning
 
 pub returns-clause-success : goal.returns-clause-success
 returns-clause-success c = same_success c.meaning_laws.ensures.answer c.meaning_laws.ensures.forms c.meaning_laws.ensures.rules c.meaning_laws.ensures.generation
+
+pub returns-clause-error : goal.returns-clause-error
+returns-clause-error c = same_error c.meaning_laws.ensures.answer c.meaning_laws.ensures.forms c.meaning_laws.ensures.rules c.meaning_laws.ensures.generation
+
+pub returns-clause-number : goal.returns-clause-number
+returns-clause-number c = same_number c.meaning_laws.ensures.numbers
+
+pub returns-clause-look_up : goal.returns-clause-look_up
+returns-clause-look_up c = same_look_up c.meaning_laws.ensures.answer c.meaning_laws.ensures.rules c.meaning_laws.ensures.generation
+
+pub returns-clause-list : goal.returns-clause-list
+returns-clause-list c = same_list c.meaning_laws.ensures.numbers
+
+pub returns-clause-listing : goal.returns-clause-listing
+returns-clause-listing c = same_listing c.meaning_laws.ensures.answer c.meaning_laws.ensures.rules c.meaning_laws.ensures.generation
