@@ -1,3 +1,4 @@
 pub mod Names
 pub mod OneText
 pub mod Texts
+pub mod WorkedResults

@@ -1,9 +1,9 @@
--- A text has one result: what a contract says of a text leaves a call no choice but want of memory and size.
+-- A text has one result: a contract on a text determines it, except for failed allocations and limits of size.
 --
--- A call reads a text into a tree, which has addresses, and a contract speaks of that tree. Here is that the addresses do not matter: two
--- calls that succeed for one text return the same bytes, the same list of names, or the same index of a name. If one call succeeds,
--- another can fail only because an allocation failed (E12) or because the module is too large (E10). If two fail for other reasons,
--- they return the same error.
+-- A call reads a text into a tree, which has addresses, and a contract is about that tree. These definitions say that the addresses do
+-- not matter. Two calls that succeed for one text return the same bytes, the same list of names, or the same index of a name. If one
+-- succeeds, another of the same function can fail only because an allocation failed (E12) or because the module is too large (E10). If
+-- two calls of encode_text fail for other reasons, both return an error of the text, or both the same error of the module.
 --
 --   (module (func $f) (export "a" (func $f)))      the same bytes from each call that succeeds, and the list: $f is the function 0
 --   (module (func $f) (func $f))                   no bytes and no list from any call, but E2 at the second $f
@@ -34,14 +34,15 @@ IsOfLimits (answer.Uncovered u) = ⊥
 abbrev pub SameSuccess : Type 0
 SameSuccess = (bytes : List ℕ) (b : Vec ℕ) (r : Refused) → OfText EncodesText bytes (Ok b) → OfText EncodesText bytes (Err r) → IsOfLimits r
 
--- The error of a module without addresses: its cause, and its position if it has one. An error of the text has none.
+-- The error of a module without addresses: its cause, and its position if it has one. E11 has none, because the token of an unsupported
+-- construct is not part of a contract, and neither has an error of the text. WorkedResults computes some.
 abbrev pub diagnostic_in : Refused → Option Diagnostic
 diagnostic_in (answer.Text e) = None
 diagnostic_in (answer.Module e) = Some (diagnostic_of e)
 diagnostic_in (answer.Uncovered u) = Some (diagnostic_of (error_without_place (fault.Uncovered u.form)))
 
--- Two calls that fail return the same error of the module, or both return an error of the text, unless one fails for a limit. For
--- example, `(module (start $f))` has E4 at `$f` each time.
+-- Two calls that fail return the same error of the module, or both return an error of the text, unless one fails because of a limit.
+-- For example, `(module (start $f))` has E4 at `$f` each time.
 abbrev pub SameError : Type 0
 SameError = (bytes : List ℕ) (q r : Refused) → OfText EncodesText bytes (Err q) → OfText EncodesText bytes (Err r) → IsOfLimits q ⊎ (IsOfLimits r ⊎ (diagnostic_in q ≡ diagnostic_in r))
 
@@ -49,11 +50,11 @@ SameError = (bytes : List ℕ) (q r : Refused) → OfText EncodesText bytes (Err
 abbrev pub SameNumber : Type 0
 SameNumber = (s : Space) (name bytes : List ℕ) (m n : Option ℕ) → OfText (NumbersText s name) bytes (Ok m) → OfText (NumbersText s name) bytes (Ok n) → m ≡ n
 
--- If a look-up succeeds, no other fails for a cause that is in the text.
+-- If a name is looked up with success, no other call with this name and index space fails for a cause that is in the text.
 abbrev pub SameLookUp : Type 0
 SameLookUp = (s : Space) (name bytes : List ℕ) (found : Option ℕ) (r : Refused) → OfText (NumbersText s name) bytes (Ok found) → OfText (NumbersText s name) bytes (Err r) → IsOfLimits r
 
--- What an entry of a list of names says: an index space, and a name with its index. For `(func $f)` it is the function f with 0.
+-- The content of an entry in a list of names: an index space, and a name with its index. For `(func $f)` it is the function f with 0.
 abbrev pub content_of : Denoted → Space × (Key × ℕ)
 content_of d = (d.space, entry_listed d)
 

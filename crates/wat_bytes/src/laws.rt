@@ -6,30 +6,33 @@ use wat_meaning::meaning_laws;
 
 /// A text has one result (text format: modules).
 ///
-/// A call parses a text into a tree, and a tree has addresses. Its contract speaks of the module that
-/// the text denotes, at any addresses. These theorems say that the addresses do not matter. They are
-/// about [`encode_text`](crate::encode_text), [`names_of_text`](crate::names_of_text) and
-/// [`number_in_text`](crate::number_in_text).
+/// A call parses a text into a tree, and a tree has addresses. Its contract is about the module that
+/// the rules of the text format read, at any addresses. These theorems say that the addresses do not
+/// matter. They are about [`encode_text`](crate::encode_text),
+/// [`names_of_text`](crate::names_of_text) and [`number_in_text`](crate::number_in_text).
 ///
 /// # Example
 ///
 /// For example, each call that returns bytes for `(module (func $f) (export "a" (func $f)))`
-/// returns the same bytes, and lists `$f` as function 0. For `(module (func $f) (func $f))` no call
-/// returns bytes.
+/// returns the same bytes, and each list of its names has `$f` as function 0. For
+/// `(module (func $f) (func $f))` no call returns bytes.
 ///
 /// # Guarantees
 ///
 /// - `bytes`: two calls that succeed for one text return the same bytes.
 /// - `success`: if one call of `encode_text` succeeds for a text, another fails only because an
 ///   allocation failed (E12) or because the module is too large (E10).
-/// - `error`: if two calls of `encode_text` fail for a text, and not because of E12 or E10, both return
-///   an error of the text, or both the same error of the module with the same position.
+/// - `error`: if two calls of `encode_text` fail for a text, and neither because of E12 or E10, both
+///   return an error of the text, or both the same error of the module. Its position is the same too.
+///   Only tests check the position of E11, and which error a text has.
 /// - `number`: two calls that look a name up in an index space of one text return the same index, or
 ///   both return none.
-/// - `look_up`: if one look-up succeeds, another fails only because of E12 or E10.
+/// - `look_up`: if one call that looks a name up succeeds, another with the same text, index space and
+///   name fails only because of E12 or E10.
 /// - `list`: two calls that list the names of one text return the same index spaces, names and
 ///   indices in the same order.
-/// - `listing`: if one call lists the names of a text, another fails only because of E12 or E10.
+/// - `listing`: if one call that lists the names of a text succeeds, another fails only because of E12
+///   or E10.
 pub fn one_result()
     ensures bytes { SameBytes }
     ensures success { SameSuccess }

@@ -15,7 +15,7 @@
 //! - `names` has [`names_of_text`] and [`number_in_text`], and the same for a parsed module.
 //! - `refusals` has the errors, and `uncovered` finds the token of an unsupported construct.
 //! - `modules` makes a module of `wast_core` from a parsed one.
-//! - `laws` states that a text has one result.
+//! - `laws` states that a text has one result, and `examples` has results that the prover computes.
 //!
 //! The rules are in `specs/`: `Texts` for the bytes of a text, `Names` for its ids, and `OneText`
 //! for the theorems.
@@ -34,6 +34,7 @@
 #![tactic(auto)]
 
 mod encodes;
+mod examples;
 mod laws;
 mod modules;
 mod names;

@@ -2,7 +2,7 @@
 --
 -- A tree has addresses beside bytes: those of the text that it was read from. Two trees of one text differ in addresses alone, and
 -- their bare trees are equal. Such trees meet the same demands, or the same first demand is unmet at the same position; they mean
--- the same parts, and have the same unsupported constructs. A source id denotes the same index in both.
+-- the same parts, and have the same unsupported constructs. A source id refers to the same index in both.
 --
 --   (module (func $f) (export "a" (func $f))), read twice      the same bytes, whatever the addresses
 use Rattle.std.specs.Prelude.{◌≡◌, ℕ, ◌<◌, List, Option}
@@ -38,8 +38,8 @@ abbrev pub SameForms : Type 0
 SameForms = (n : ℕ) (xs ys : List ModuleField) → AreAlike xs ys → greatest_generation xs < n → IsMet xs
     → uncovered_forms (resolved_fields_from n xs) ≡ uncovered_forms (resolved_fields_from n ys)
 
--- A source id denotes the same index in both, or none, if they are resolved from a counter past their ids. For example, `$g` is 1 in each
--- tree of `(module (func $f) (func $g))`.
+-- A source id refers to the same index in both, or to none, if they are resolved from a counter past their ids. For example, `$g` is 1 in
+-- each tree of `(module (func $f) (func $g))`.
 abbrev pub SameNumbers : Type 0
 SameNumbers = (n : ℕ) (xs ys : List ModuleField) → AreAlike xs ys → greatest_generation xs < n → (s : Space) (text : List ℕ)
     → (id_context (items (explicit_fields_from n xs))).number s (Written text) ≡ (id_context (items (explicit_fields_from n ys))).number s (Written text)

@@ -16,7 +16,8 @@
 //! # Guarantees
 //!
 //! - [`meaning_laws`]: such trees pass the same checks, or fail the same check first. They mean the
-//!   same parts, and have the same unsupported constructs. An id denotes the same index in both.
+//!   same parts, and have the same unsupported constructs. A source id refers to the same index in
+//!   both.
 #![tactic(auto)]
 
 mod examples;

@@ -24,7 +24,8 @@ use wast_resolve::naming_laws;
 /// - `meaning`: both mean the same parts of a binary module. So they have the same bytes.
 /// - `forms`: if the checks pass, both have the same unsupported constructs in the same order. So
 ///   E11 comes for both or for neither, and names the same construct.
-/// - `numbers`: each source id denotes the same index in both, or none.
+/// - `numbers`: each source id refers to the same index in both, or to none. Both are resolved from
+///   one counter that is past their generated ids.
 /// - `count`: both have the same number of generated ids. So an id counter ends at the same value.
 /// - `rules`: both are well formed, or neither is.
 /// - `generation`: the greatest generation of an id is the same. So both may be resolved from the
