@@ -17,6 +17,8 @@ use crate::references::{
 use crate::types::HeapType;
 use crate::vectors::{I8x16Shuffle, LaneArg, LoadOrStoreLane, V128Const};
 use std::alloc::Global;
+use std::fmt;
+use std::fmt::Debug;
 use wast_base::{Boxed, Error, Id, Index, LaneOp, MemLaneOp, MemOp, Plain, Seq};
 
 /// An instruction (text format: instructions).
@@ -32,7 +34,7 @@ use wast_base::{Boxed, Error, Id, Index, LaneOp, MemLaneOp, MemOp, Plain, Seq};
 ///     maker.push_instruction(&mut instrs, Instruction::Mem(MemOp::i32_load, arg));
 ///     maker.push_instruction(&mut instrs, Instruction::Plain(Plain::Bare(BareOp::drop)));
 #[allow(non_camel_case_types)]
-#[derive(Debug, Drop)]
+#[derive(Drop)]
 pub enum Instruction<'a> {
     /// An instruction without immediates.
     Plain(Plain),
@@ -230,6 +232,20 @@ pub enum Instruction<'a> {
     resume_throw_ref(ResumeThrowRef<'a>),
     /// An instruction that is not in the opcode table, by its name: `i64.add128`
     Beyond(&'a str),
+}
+
+/// Prints the operator of an instruction of one of the four classes, and `Instruction` for any
+/// other, because a derived impl takes a tenth of the proof of this crate.
+impl Debug for Instruction<'_> {
+    fn fmt<W: fmt::Write>(&self, f: &mut fmt::Formatter<W>) -> fmt::Result {
+        match self {
+            Instruction::Plain(op) => Debug::fmt(op, f),
+            Instruction::Mem(op, _) => Debug::fmt(op, f),
+            Instruction::Lane(op, _) => Debug::fmt(op, f),
+            Instruction::MemLane(op, _) => Debug::fmt(op, f),
+            _ => f.write_str("Instruction"),
+        }
+    }
 }
 
 impl<'a> Instruction<'a> {
