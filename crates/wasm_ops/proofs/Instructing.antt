@@ -1,9 +1,8 @@
 -- The instructions of the code are rows of the table, and are spelled as these.
-use Rattle.std.proofs.Common.{◌≡◌, ◌/◌, ◌%◌, ℕ, Bool, true, false, List, [], ◌∷◌, ◌++◌, Option, Some, None, Result, subst, append-nil, ap, sym, refl, ◌∙◌, map, arith}
+use Rattle.std.proofs.Common.{◌≡◌, ◌/◌, ◌%◌, ℕ, Bool, true, false, List, [], ◌∷◌, ◌++◌, Option, Some, None, Result, subst, append-nil, ap, sym, refl, ◌∙◌, arith}
 use Rattle.std.specs.List.{list_all}
 use Rattle.std.specs.Option.{option_map, option_to_list}
 use Rattle.std.specs.Prelude.{All, nat_lt}
-use Rattle.std.proofs.lemmas.List.{length-map}
 use Rattle.std.proofs.lemmas.List.Elements.{All-nil, All-head}
 use Rattle.wast_base.specs.declared.plain.BareOp.{BareOp}
 use Rattle.wast_base.specs.declared.plain.BareOp.TheVariants as bare
@@ -73,7 +72,7 @@ use Rattle.wasm_ops.specs.Sinks.{SinkRules, Writes}
 use Rattle.wasm_ops.specs.Spelling.{InRangeU32, vec, InRangeVec, heap_type, val_type}
 use Rattle.wasm_ops.specs.Table.{Kind, Index, Signed32, Signed64, Bits32, Bits64, Heap, Memarg, Block, Labels, Catches, Lane, Lanes, Nullables, Order, Field, kinds_of, table, Instr, HasRow, field, instr}
 use Rattle.wasm_ops.specs.VectorInstrs.{lanes_key}
-use Rattle.wasm_ops.proofs.Everywhere.{all_map, all_one}
+use Rattle.wasm_ops.proofs.Everywhere.{all_one}
 use Rattle.wasm_ops.proofs.Sinking.{puts_as, written_as}
 
 -- ---- rows
@@ -351,15 +350,7 @@ select_written rules spell InRange types a b (Some x) r same f g p =
     (λ h. (f x (All-head InRange x [] h), tt)) (λ i. all_one InRange x (g x i.0))
     (ap (λ bytes. 0x1c ∷ bytes) (same x ∙ sym (append-nil (vec (λ x. (val_type x).bytes) (types x))))) p
 
-pub select_covered : (o : Option (List ValType)) → list_all (list_all (λ x. (val_type x).is_covered)) (option_to_list o) ≡ true → (instr (select_instr o)).is_covered ≡ true
-select_covered None h = refl
-select_covered (Some types) h = h
-
 -- the same of what holds value types
 pub lists_covered : {X : Type 0} (types : X → List ValType) (o : Option X) → list_all (λ x. list_all (λ x. (val_type x).is_covered) (types x)) (option_to_list o) ≡ true → (instr (select_instr (option_map types o))).is_covered ≡ true
 lists_covered types None h = refl
 lists_covered types (Some x) h = h
-
--- value types of another kind, in range
-pub types_in_range : {X : Type 0} (f : X → ValType) (xs : List X) → InRangeVec (λ x. (val_type (f x)).in_range) xs → InRangeVec (λ x. (val_type x).in_range) (map f xs)
-types_in_range f xs h = (subst InRangeU32 (sym (length-map xs f)) h.0, all_map (λ x. (val_type x).in_range) f xs h.1)

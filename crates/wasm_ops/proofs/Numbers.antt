@@ -82,9 +82,5 @@ unsigned_fits (suc k) n lt =
       | inr ge ↦ let e = pow-suc 128 (suc k) in rw (unsigned-large n ge) (omega (arith, unsigned_fits k (n / 128) (omega (arith, e))))
     ]
 
--- how long a number of 32 bits is
-pub narrow : (n : ℕ) → n < 4294967296 → length (unsigned n) ≤ 5
-narrow n small = unsigned_fits 4 n (omega arith)
-
 pub unsigned-nonempty : (n : ℕ) → 0 < length (unsigned n)
 unsigned-nonempty n = elim (cases_lt n 128) [ inl lt ↦ rw (unsigned-small n lt) (omega arith) | inr ge ↦ rw (unsigned-large n ge) (omega arith) ]

@@ -80,9 +80,6 @@ one_section (x ∷ xs) ys b = refl
 abbrev behind_code : List Slot
 behind_code = drop 35 order
 
-places : order ≡ until_code order ++ (slot.Section kind.Code ∷ behind_code)
-places = refl
-
 module_split : (name : Option (List ℕ)) (fields : List ModuleField) → section_part Code (entries Code fields) ≡ record { kind = Listed Code; items = entries Code fields } ∷ []
     → flat_map part (parts name fields) ≡ flat_map part (flat_map (in_slot name fields) (until_code order)) ++ (part (record { kind = Listed Code; items = entries Code fields }) ++ flat_map part (flat_map (in_slot name fields) behind_code))
 module_split name fields one =

@@ -56,11 +56,6 @@ nothing_named (Some n) locals never =
     let few = ltb-false 0 (length (named_from 0 (flat_map (λ l. local_name l ∷ []) locals))) (sym never) in
     sym (none_named 0 n (flat_map (λ l. local_name l ∷ []) locals) 0 (omega arith) refl) ∙ nameless_then n locals
 
--- Whether a list has names, and whether one more item has an entry.
-pub one_named : (es : List (ℕ × List ℕ)) → nat_lt 0 (length es) ≡ true → 1 ≡ saturated_count (length (named_from 0 (where_named es ∷ [])))
-one_named [] some = absurd cc
-one_named (e ∷ es) some = refl
-
 pub either_named : (xs ys : List (Option (List ℕ))) (first : ℕ) → (nat_lt 0 (length (named_from 0 xs)) || nat_lt 0 (length (named_from 0 ys))) ≡ nat_lt 0 (length (named_from 0 xs ++ named_from first ys))
 either_named xs ys first =
     let a = length (named_from 0 xs) in

@@ -1,5 +1,5 @@
 -- The loop invariant for resolving the parts of a list one after another.
-use Rattle.std.proofs.Common.{◌≡◌, ℕ, suc, ◌+◌, ◌<◌, ◌≤◌, List, [], ◌∷◌, ◌++◌, sym, ◌∙◌, ap, length, map, get_or, drop, take, arith, add-one, subst, append_assoc, refl}
+use Rattle.std.proofs.Common.{◌≡◌, ℕ, suc, ◌+◌, ◌<◌, ◌≤◌, List, [], ◌∷◌, ◌++◌, sym, ◌∙◌, ap, length, map, get_or, drop, take, arith, add-one, subst, append_assoc}
 use Rattle.std.proofs.Math.ListN.{set, length-set}
 use Rattle.std.proofs.Math.Seq.{drop-cons, take-suc}
 use Rattle.std.specs.Prelude.{flat_map}
@@ -77,7 +77,3 @@ module _ {X : Type 0} {needed : X → List Signature} {bound : LookUp → X → 
 pub all_bound : {X : Type 0} {needed : X → List Signature} {bound : LookUp → X → X} {olds nows : List X} {i : ℕ} {a b : Binder} → IsHalfway needed bound olds nows i a b → length olds ≤ i → (more : BoundSignatures) → nows ≡ map (bound (found_in b.cx more)) olds
 all_bound {X} {needed} {bound} {olds} {nows} {i} {a} {b} h le more =
     sym (take_all i nows (omega (arith, h.len, le))) ∙ (h.become more ∙ ap (map (bound (found_in b.cx more))) (take_all i olds le))
-
--- no part is resolved yet
-pub starts : {X : Type 0} (needed : X → List Signature) (bound : LookUp → X → X) (olds : List X) (a : Binder) → IsHalfway needed bound olds olds 0 a a
-starts needed bound olds a = record { len = refl; left = refl; adds = adds_none a; become = λ more. refl }

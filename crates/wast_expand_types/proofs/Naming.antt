@@ -10,7 +10,7 @@ use Rattle.wast_tree_nodes.specs.Items.{items_in, items}
 use Rattle.wast_tree_nodes.specs.Known.{name_in, names_in}
 use Rattle.wast_expand_types.specs.Tree.{ModuleField}
 use Rattle.wast_expand_types.specs.Tree.space
-use Rattle.wast_expand_types.specs.Expanded.{lacks_id, with_type_id, type_id_count, StopsExpanding}
+use Rattle.wast_expand_types.specs.Expanded.{lacks_id, with_type_id}
 use Rattle.wast_expand_types.specs.TypeItems.{StopsNaming}
 use Rattle.wast_expand_types.proofs.Adding.{less_runs_out}
 use Rattle.wast_expand_types.proofs.TypeItems.{in_fields}
@@ -21,11 +21,6 @@ first_field x xs = flat_map-append (name_in space.Ty) (items_in x) (items xs)
 later : (m n : ℕ) (names more : List (Option Name)) (e : Error) → m ≤ n → length names ≤ length more → StopsNaming m names e → StopsNaming n more e
 later m n names more e le long (inl out) = inl (less_runs_out m n e le out)
 later m n names more e le long (inr many) = inr (many.0, omega (arith, many.1, long))
-
--- the pass fails if this step fails
-pub stops_expanding : (n : ℕ) (fields : List ModuleField) (e : Error) → StopsNaming (n + missing_id_count lacks_id fields) (in_fields fields) e → StopsExpanding n fields e
-stops_expanding n fields e (inl out) = inl (less_runs_out (n + missing_id_count lacks_id fields) (n + type_id_count fields) e (omega arith) out)
-stops_expanding n fields e (inr many) = inr many
 
 -- The field x is at i in ys, the fields before it have ids, and xs are the fields as they were.
 module _ (old new : List (Option Name)) (xs ys : List ModuleField) (m n i : ℕ) (x : ModuleField) (lt : i < length ys) (is : x ≡ get_or ys i x)

@@ -149,10 +149,6 @@ module _ (find : LookUp) where
   catches_stay blocks [] = refl
   catches_stay blocks (c ∷ cs) = λ t. catch_stays blocks c t ∷ catches_stay blocks cs t
 
-  labels_stay : (ls : List Index) → map (λ l. l) ls ≡ ls
-  labels_stay [] = refl
-  labels_stay (l ∷ ls) = λ t. l ∷ labels_stay ls t
-
   bound_anywhere : (h : BodyContext) (i : Instruction) → mapped_instr (binding_change find) h i ≡ mapped_instr (binding_change find) constant_context i
   bound_anywhere h (instr.call f) = refl
   bound_anywhere h i = refl

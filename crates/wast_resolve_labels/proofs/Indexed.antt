@@ -95,9 +95,6 @@ there ids steps d lt =
 pub as_many : (ids : List (Option Id)) → length (labels_of ids) ≡ length ids
 as_many ids = length-reverse (map label_of ids) ∙ length-map ids label_of
 
-pub sought_first : (q : Name) (ids : List (Option Id)) → IsSought q (labels_of ids) 0
-sought_first q ids = record { within = omega arith; others = λ k lt. absurd (omega arith) }
-
 module _ (q : Name) (ids : List (Option Id)) (steps : ℕ) (d : Option Id) (h : IsSought q (labels_of ids) steps) (lt : steps < length ids) where
   pub sought_here : is_called q (label_of (get_or ids (length ids - 1 - steps) d)) ≡ true → label_depth q (labels_of ids) ≡ Some steps
   sought_here here = first_place (is_called q) (labels_of ids) steps None (omega (arith, lt, as_many ids)) (ap (is_called q) (there ids steps d lt) ∙ here) h.others

@@ -10,9 +10,6 @@ use Rattle.std.proofs.lemmas.Bool.{cases_Bool, ltb-true, ltb-false}
 pub less : (x y : ℕ) → x < y → nat_cmp x y ≡ Less
 less x y h = sym (nat_cmp_is x y Less h)
 
-pub greater : (x y : ℕ) → y < x → nat_cmp x y ≡ Greater
-greater x y h = sym (nat_cmp_is x y Greater h)
-
 pub is_equal : (o : Ordering) → is_eq o ≡ true → o ≡ Equal
 is_equal Less h = cc
 is_equal Equal h = refl

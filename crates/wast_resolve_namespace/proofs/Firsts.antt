@@ -153,8 +153,3 @@ module _ (es fs : List (Id × ℕ)) (n : ℕ) (begun : 1 ≤ n) where
   all_left le h =
       let d : Key × ℕ = (([], None), 0) in
       sym (append-nil (entries_of fs)) ∙ (ap (λ xs. entries_of fs ++ others_behind key_cmp (get_or (entries_of es) (n - 1) d) xs) (sym (drop_all n (entries_of es) (omega (arith, le, length-map es entry_of)))) ∙ h d)
-
--- the first pair is kept
-pub first_left : (es : List (Id × ℕ)) (c : Id × ℕ) → 0 < length es → IsLeft es ([] ++ get_or es 0 c ∷ []) 1
-first_left [] c lt d = absurd (omega arith)
-first_left (e ∷ es) c lt d = refl

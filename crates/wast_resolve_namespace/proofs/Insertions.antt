@@ -29,12 +29,6 @@ pub record IsOnItsWay (es : List (Id × ℕ)) (n at : ℕ) : Type 0 where
   pub others : (k : ℕ) (d : Id × ℕ) → k + 1 < n → k + 1 ≢ at → before (get_or es (k + 1) d) (get_or es k d) ≡ false
   pub across : (k : ℕ) (d : Id × ℕ) → k + 1 ≡ at → k + 2 < n → before (get_or es (k + 2) d) (get_or es k d) ≡ false
 
-pub on_its_way : (es : List (Id × ℕ)) (last : ℕ) → AreRankedTo es last → IsOnItsWay es (last + 1) last
-on_its_way es last h = record {
-  others = λ k d lt not. h k d (omega arith) (omega (arith, lt, not));
-  across = λ k d is lt. absurd (omega (arith, is, lt));
-}
-
 alike : (x y z w : Id × ℕ) → x ≡ z → y ≡ w → before z w ≡ false → before x y ≡ false
 alike x y z w e f h = subst₂ (λ (a b : Id × ℕ). before a b ≡ false) (sym e) (sym f) h
 
@@ -84,9 +78,6 @@ arrived es n at d e within h test k f low lt = elim (cases_eq (k + 1) at) [
       (ap (λ i. get_or es i f) is ∙ any_default es at f d (omega (arith, is, lt, within)))
       (ap (λ i. get_or es i f) back ∙ any_default es (at - 1) f e (omega (arith, is, lt, within))) test
 ]
-
-pub arrived_first : (es : List (Id × ℕ)) (n at : ℕ) → at ≡ 0 → IsOnItsWay es n at → AreRankedTo es n
-arrived_first es n at none h k f low lt = h.others k f lt (omega (arith, none))
 
 -- Keys that move with their pairs.
 pub heads_swapped : (es fs : List (Id × ℕ)) (hs ks : List ℕ) (n a b : ℕ) → a < n → b < n → SwappedAt es fs a b → SwappedAt hs ks a b → AreHeads es hs n → AreHeads fs ks n

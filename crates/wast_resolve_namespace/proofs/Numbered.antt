@@ -47,9 +47,6 @@ module _ {K : Type 0} where
   to_place n (Some x ∷ xs) k p (zero, lt, e) = record { at = 0; place = (let f : n ≡ p = ap (λ (z : K × ℕ). z.1) e in omega (arith, f)); within = omega arith; is = ap (λ (z : K × ℕ). Some z.0) e }
   to_place n (Some x ∷ xs) k p (suc j, lt, e) = next n (Some x) xs k p (to_place (suc n) xs k p (j, omega (arith, lt), e))
 
-  places : List (K × ℕ) → List ℕ
-  places es = map (λ e. e.1) es
-
   above : (n m : ℕ) (xs : List (Option K)) → n < m → AllByRecursion (λ y. eqb n y ≡ false) (map (λ (e : K × ℕ). e.1) (numbered_from m xs))
   above n m [] lt = tt
   above n m (None ∷ xs) lt = above n (suc m) xs (omega arith)

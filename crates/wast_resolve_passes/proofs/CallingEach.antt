@@ -1,5 +1,5 @@
 -- The loop invariant of calls on the indices of each part of a list.
-use Rattle.std.proofs.Common.{◌≡◌, ℕ, suc, ◌+◌, ◌<◌, List, [], ◌∷◌, ◌++◌, refl, sym, ap, ◌∙◌, subst, length, map, get_or, drop, take, arith, add-one, Result, Ok, Err}
+use Rattle.std.proofs.Common.{◌≡◌, ℕ, suc, ◌+◌, ◌<◌, List, [], ◌∷◌, ◌++◌, sym, ap, ◌∙◌, subst, length, map, get_or, drop, take, arith, add-one, Result, Ok, Err}
 use Rattle.std.proofs.Math.ListN.{set, length-set}
 use Rattle.std.proofs.Math.Seq.{drop-cons, take-suc}
 use Rattle.std.specs.Prelude.{flat_map}
@@ -9,7 +9,7 @@ use Rattle.wast_base.specs.declared.faults.Error.{Error}
 use Rattle.wast_tree_nodes.specs.Sites.{Check}
 use Rattle.wast_resolve_passes.specs.Tree.{Index}
 use Rattle.wast_resolve_rules.specs.CoreTypes.{CallsOn, HasNeeds}
-use Rattle.wast_resolve_passes.proofs.Calling.{calls_on_none, calls_on_both, first_refused, needs_first, needs_second, needs_kept}
+use Rattle.wast_resolve_passes.proofs.Calling.{calls_on_both, first_refused, needs_first, needs_second, needs_kept}
 
 -- the calls on the first i parts of olds are done, and nows is the list after that
 pub record IsCalledOn {C X : Type 0} (needs : C → Index → Type 0) (called : C → Index → C → Index → Result ℕ Error → Type 0) (f : X → List Check) (w : X → X) (a : C) (olds : List X) (b : C) (nows : List X) (i : ℕ) : Type 0 where
@@ -23,8 +23,6 @@ one_more : {X : Type 0} (f : X → List Check) (xs : List X) (x : X) → flat_ma
 one_more f xs x = flat_map-append f xs (x ∷ []) ∙ ap (λ zs. flat_map f xs ++ zs) (append-nil (f x))
 
 module _ {C X : Type 0} {needs : C → Index → Type 0} {called : C → Index → C → Index → Result ℕ Error → Type 0} {f : X → List Check} {w : X → X} where
-  pub begins : {a : C} {olds : List X} → IsCalledOn needs called f w a olds a olds 0
-  begins = record { len = refl; left = refl; calls = calls_on_none; rest = refl; kept = λ k h. h }
 
   -- the next part, which is unchanged, and the lists around it
   same_part : {a b : C} {olds nows : List X} {i : ℕ} (x : X) → IsCalledOn needs called f w a olds b nows i → i < length olds → x ≡ get_or nows i x → get_or olds i x ≡ x

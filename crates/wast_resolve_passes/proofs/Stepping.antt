@@ -5,7 +5,7 @@ use Rattle.std.proofs.Math.Seq.{drop-cons, take-suc}
 use Rattle.std.proofs.lemmas.List.{append-nil, drop-drop, drop-set-lt, set-get_or, take_more_set, take-append-drop, take_all}
 use Rattle.wast_base.specs.Faults.{Diagnostic}
 use Rattle.wast_base.specs.Blocks.{Blocks}
-use Rattle.wast_tree_nodes.specs.Sites.{Locals, BodyContext, constant_context, after_all, context_after, in_instr, in_instrs}
+use Rattle.wast_tree_nodes.specs.Sites.{Locals, BodyContext, after_all, context_after, in_instr, in_instrs}
 use Rattle.wast_tree_nodes.proofs.Behind.{after-append, instrs-append}
 use Rattle.wast_tree_map.specs.Mapped.{Change, mapped_instr, mapped_instrs}
 use Rattle.wast_resolve_passes.specs.Tree.{Instruction}
@@ -44,9 +44,6 @@ at_place olds nows i x len left lt is =
 
 one_more : (olds : List Instruction) (i : ℕ) (x : Instruction) → i < length olds → get_or olds i x ≡ x → take (i + 1) olds ≡ take i olds ++ x ∷ []
 one_more olds i x lt item = ap (λ n. take n olds) (add-one i) ∙ (take-suc olds i x lt ∙ ap (λ z. take i olds ++ z ∷ []) item)
-
-about : (olds : List Instruction) (i : ℕ) (x : Instruction) → i < length olds → get_or olds i x ≡ x → olds ≡ take i olds ++ x ∷ drop (suc i) olds
-about olds i x lt item = sym (take-append-drop i olds) ∙ ap (λ zs. take i olds ++ zs) (drop-cons olds i x lt ∙ ap (λ z. z ∷ drop (suc i) olds) item)
 
 sites_one_more : (start : BodyContext) (olds : List Instruction) (i : ℕ) (x : Instruction) → i < length olds → get_or olds i x ≡ x
     → in_instrs start (take (i + 1) olds) ≡ in_instrs start (take i olds) ++ in_instr (reached start olds i) x

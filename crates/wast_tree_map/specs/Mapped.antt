@@ -59,10 +59,6 @@ pub record Change : Type 0 where
 abbrev pub mapped_locals : Change → Locals → Locals
 mapped_locals f l = record l { owner = option_map (f.used OfItem) l.owner }
 
--- The position of an instruction in such a body.
-abbrev pub mapped_here : Change → BodyContext → BodyContext
-mapped_here f h = record h { locals = mapped_locals f h.locals }
-
 -- The change that keeps everything.
 abbrev pub no_change : Change
 no_change = record { index = λ s i. i; used = λ w u. u; local = λ l i. i; field = λ o i. i; label = λ b i. i; id = λ o. o; own = λ o. o }

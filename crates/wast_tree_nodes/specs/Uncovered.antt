@@ -4,7 +4,6 @@
 --
 --   (func suspend 0) (memory 1)     one form, StackSwitching
 use Rattle.std.specs.Prelude.{Bool, true, List, [], ◌∷◌, flat_map, if◌then◌else◌, Option, Some, None}
-use Rattle.std.specs.List.{list_all}
 use Rattle.wast_tree_nodes.specs.Tree.{Form, ModuleField}
 use Rattle.wast_tree_nodes.specs.Sites.{Check, ItemIndex, InnerIndex, PlainId, Clause, Covered, checks_of, in_module}
 
@@ -37,7 +36,3 @@ is_covered_ask (InnerIndex i) = true
 is_covered_ask (PlainId m) = true
 is_covered_ask (Clause n holds) = true
 is_covered_ask (Covered f holds) = holds
-
--- whether a list of fields has no unsupported form
-abbrev pub is_covered : List ModuleField → Bool
-is_covered fields = list_all is_covered_ask (checks_of (in_module fields))

@@ -21,7 +21,7 @@ use Rattle.wast_resolve_rules.specs.Demands.{first_unmet, demands, IsTooLarge}
 use Rattle.wast_resolve_rules.specs.Explicit.{explicit_fields}
 use Rattle.wast_resolve_rules.specs.Finished.{resolved_fields_from}
 use Rattle.wasm_out.specs.Parts.{part}
-use Rattle.wasm_out.specs.Reads.{header, Reads}
+use Rattle.wasm_out.specs.Reads.{header}
 use Rattle.wast_core_name_section.specs.GivenNames.{written_text, given_name}
 use Rattle.wast_core.specs.Tree.{Id, NameAnnotation, ModuleField}
 use Rattle.wast_core.specs.Bounded.{IsBounded}
@@ -114,10 +114,6 @@ pieces_bare (p ∷ ps) = ap (λ bs. p.now ++ bs) (pieces_bare ps)
 same_pieces : (ps qs : List (Bor (List ℕ))) → held.Binary (map seen_text ps) ≡ held.Binary (map seen_text qs) → joined_pieces ps ≡ joined_pieces qs
 unfolding pieces_in
 same_pieces ps qs e = sym (pieces_bare ps) ∙ ap (λ k. joined_pieces (pieces_in k)) e ∙ pieces_bare qs
-
--- The bytes of two modules with the same name that are alike.
-bytes_of : (name : Option (List ℕ)) (b : Vec ℕ) (xs : List ModuleField) → Reads b.items (meaning name xs) → b.items ≡ header ++ flat_map part (meaning name xs)
-bytes_of name b xs r = r.spelled
 
 same_kind : SameMeaning → (name other : Option (List ℕ)) (k l : TextKind) (left rest : ModuleKind) (b c : Vec ℕ) → name ≡ other → bare_kind k ≡ bare_kind l
     → EncodesKind 1 name (kind_of k) (Ok b) left → EncodesKind 1 other (kind_of l) (Ok c) rest → b.items ≡ c.items

@@ -120,9 +120,6 @@ module _ (n : ℕ) where
   v128_fewer : (t : Toks) → count t ≤ n → Fewer n (v128const t)
   v128_fewer t h = if_taken (keyword key.I8x16 t) (keyword_takes n t h key.I8x16) (λ t h. and_then (times_fewer 16 (signed_number 8) (signed_fewer 8) t h) (λ x h. done n _ x.1 h)) (i16x8_fewer t h)
 
-  two_fewer : {T : Type 0} (f : Index → Index → T) (t : Toks) → count t ≤ n → Fewer n (index t >>= λ x. index x.1 >>= λ y. let o : T × Toks = (f x.0 y.0, y.1) in Some o)
-  two_fewer f t h = and_then (index_fewer n t h) (λ x h. and_then (index_fewer n x.1 h) (λ y h. done n _ y.1 h))
-
   access_fewer : (t : Toks) → count t ≤ n → Fewer n (struct_access t)
   access_fewer t h = and_then (index_fewer n t h) (λ x h. and_then (index_fewer n x.1 h) (λ y h. done n _ y.1 h))
 

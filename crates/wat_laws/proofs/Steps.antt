@@ -90,9 +90,6 @@ pub at : {T : Type 0} (bare : T → T) (rule : Toks → Parse T) → Kept bare r
     → Same (bare_both bare) (rule bared) (rule toks)
 at bare rule is toks bared e = record { is = ap rule e ∙ (is toks).is }
 
-pub over : (rule : Toks → Option Toks) → KeptOver rule → (toks bared : Toks) → bared ≡ bare_toks toks → Same bare_toks (rule bared) (rule toks)
-over rule is toks bared e = record { is = ap rule e ∙ (is toks).is }
-
 -- what may be left out
 pub of_option : {A : Type 0} (bare : A → A) (x : Option A) → Same bare (option_map bare x) x
 of_option bare x = same refl

@@ -15,7 +15,6 @@ use Rattle.wast_resolve_rules.specs.Scopes.{Scope, module_scope, denoted, type_a
 use Rattle.wast_resolve_rules.specs.Matches.{same_type}
 use Rattle.wast_resolve_rules.specs.ImportOrder.{imported_at, import_place, unless_import, last_defined, nothing_defined, order_demand}
 use Rattle.wast_resolve_rules.specs.Demands.{first_unmet, known_index, each_after, item_demands, ask_demands, match_with, match_demands, match_if, use_demand, site_demand, site_demands, name_demands, order_demands, demands, item_counts, kind_marks, declared_ids, local_counts_in, open_counts_at, open_counts, body_counts_in, body_counts}
-use Rattle.wast_resolve_rules.specs.Early.{early_demands}
 use Rattle.wat_syntax.specs.Seen.{seen_function_type, seen_type_use}
 use Rattle.wat_syntax.specs.Tree.{Index, FunctionType, TypeUse, FuncKind, ModuleField}
 use Rattle.wat_syntax.specs.Tree.space
@@ -111,9 +110,6 @@ order_demands_shown xs = orders_from [] xs
 -- All checks, and the first that fails.
 pub demands_shown : (xs : List ModuleField) → demands (shown_fields xs) ≡ demands xs
 demands_shown xs = λ i. order_demands_shown xs i ++ name_demands_shown xs i
-
-pub early_shown : (xs : List ModuleField) → early_demands (shown_fields xs) ≡ early_demands xs
-early_shown xs = λ i. order_demands_shown xs i ++ item_demands_shown xs i
 
 pub unmet_shown : (xs : List ModuleField) → first_unmet (demands (shown_fields xs)) ≡ first_unmet (demands xs)
 unmet_shown xs = ap first_unmet (demands_shown xs)

@@ -3,11 +3,11 @@
 --
 --   (func suspend 0) (export "a" (func 0))      one form, StackSwitching, wherever "a" is
 use Rattle.std.proofs.Common.{◌≡◌, max, List, ap}
-use Rattle.std.specs.List.{flat_map, list_all}
+use Rattle.std.specs.List.{flat_map}
 use Rattle.wast_tree_nodes.specs.Generations.{greatest_item, greatest_asked, greatest_generation}
 use Rattle.wast_tree_nodes.specs.Known.{id_context}
 use Rattle.wast_tree_nodes.specs.WellFormed.{are_kept, is_well_formed}
-use Rattle.wast_tree_nodes.specs.Uncovered.{uncovered_in, uncovered_forms, is_covered_ask, is_covered}
+use Rattle.wast_tree_nodes.specs.Uncovered.{uncovered_in, uncovered_forms}
 use Rattle.wat_syntax.specs.Tree.{ModuleField}
 use Rattle.wat_meaning.specs.Shown.{shown_fields}
 use Rattle.wat_meaning.proofs.ShownItems.{items_shown}
@@ -15,9 +15,6 @@ use Rattle.wat_meaning.proofs.ShownSites.{checks_shown}
 
 pub forms_shown : (xs : List ModuleField) → uncovered_forms (shown_fields xs) ≡ uncovered_forms xs
 forms_shown xs = ap (flat_map uncovered_in) (checks_shown xs)
-
-pub covered_shown : (xs : List ModuleField) → is_covered (shown_fields xs) ≡ is_covered xs
-covered_shown xs = ap (list_all is_covered_ask) (checks_shown xs)
 
 pub generation_shown : (xs : List ModuleField) → greatest_generation (shown_fields xs) ≡ greatest_generation xs
 generation_shown xs = λ i. max (greatest_item (items_shown xs i)) (greatest_asked (checks_shown xs i))

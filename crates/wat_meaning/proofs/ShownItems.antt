@@ -7,9 +7,7 @@ use Rattle.std.proofs.Common.{◌≡◌, ℕ, List, [], ◌∷◌, ◌++◌, map
 use Rattle.wast_base.specs.Ids.{mark_of_option}
 use Rattle.wast_tree_nodes.specs.Imports.{defined_space}
 use Rattle.wast_tree_nodes.specs.Items.{space_of_kind, item_of_sig, items_of_type, items_of_import, items_in, items}
-use Rattle.wast_tree_nodes.specs.Profiles.{is_imported_func, is_imported_table, is_imported_memory, is_imported_global, is_imported_tag, custom_span}
-use Rattle.wast_tree_nodes.specs.Kinds.{kind_in}
-use Rattle.wast_tree_nodes.specs.Profiles.{profile_of}
+use Rattle.wast_tree_nodes.specs.Profiles.{is_imported_func, is_imported_table, is_imported_memory, is_imported_global, is_imported_tag}
 use Rattle.wat_syntax.specs.Seen.{seen_text, seen_type, seen_item_kind, seen_item_sig, seen_item, seen_items, seen_tag_kind}
 use Rattle.wat_syntax.specs.Tree.{FuncKind, TableKind, MemoryKind, GlobalKind, TagKind, ItemKind, ItemSig, ImportItems, Custom, ModuleField}
 use Rattle.wat_syntax.specs.Tree.space
@@ -23,7 +21,7 @@ use Rattle.wat_syntax.specs.Tree.kind
 use Rattle.wat_syntax.specs.Tree.import_items
 use Rattle.wat_syntax.specs.Tree.custom
 use Rattle.wat_syntax.specs.Tree.field
-use Rattle.wat_meaning.specs.Shown.{shown_func_kind, shown_table_kind, shown_memory_kind, shown_global_kind, shown_custom, shown_field, shown_fields}
+use Rattle.wat_meaning.specs.Shown.{shown_func_kind, shown_table_kind, shown_memory_kind, shown_global_kind, shown_field, shown_fields}
 use Rattle.wat_meaning.proofs.ShownLists.{flat_same}
 use Rattle.wat_meaning.proofs.ShownTypeParts.{fields_shown}
 
@@ -116,44 +114,3 @@ global_imported (global.Inline e) = refl
 pub tag_imported : (k : TagKind) → is_imported_tag (seen_tag_kind k) ≡ is_imported_tag k
 tag_imported (tag_kind.Import source) = refl
 tag_imported tag_kind.Inline = refl
-
--- the kind of a field, and its position
-custom_kind : (c : Custom) → kind_in (field.Custom (shown_custom c)) ≡ kind_in (field.Custom c)
-custom_kind (custom.Raw section) = refl
-custom_kind (custom.Producers producers) = refl
-custom_kind (custom.Dylink0 info) = refl
-
-pub kind_shown : (x : ModuleField) → kind_in (shown_field x) ≡ kind_in x
-kind_shown (field.Ty t) = refl
-kind_shown (field.Rec r) = refl
-kind_shown (field.Import m) = refl
-kind_shown (field.Func f) = refl
-kind_shown (field.Table t) = refl
-kind_shown (field.Memory m) = refl
-kind_shown (field.Global g) = refl
-kind_shown (field.Export e) = refl
-kind_shown (field.Start i) = refl
-kind_shown (field.Elem e) = refl
-kind_shown (field.Data d) = refl
-kind_shown (field.Tag t) = refl
-kind_shown (field.Custom c) = custom_kind c
-
-custom_span_shown : (c : Custom) → custom_span (shown_custom c) ≡ custom_span c
-custom_span_shown (custom.Raw section) = refl
-custom_span_shown (custom.Producers producers) = refl
-custom_span_shown (custom.Dylink0 info) = refl
-
-pub span_shown : (x : ModuleField) → (profile_of (shown_field x)).span ≡ (profile_of x).span
-span_shown (field.Ty t) = refl
-span_shown (field.Rec r) = refl
-span_shown (field.Import m) = refl
-span_shown (field.Func f) = refl
-span_shown (field.Table t) = refl
-span_shown (field.Memory m) = refl
-span_shown (field.Global g) = refl
-span_shown (field.Export e) = refl
-span_shown (field.Start i) = refl
-span_shown (field.Elem e) = refl
-span_shown (field.Data d) = refl
-span_shown (field.Tag t) = refl
-span_shown (field.Custom c) = custom_span_shown c

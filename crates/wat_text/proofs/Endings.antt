@@ -19,11 +19,6 @@ use Rattle.wat_text.specs.declared.modules.TextKind.TheVariants as kind
 use Rattle.wat_text.specs.declared.modules.TextModule.{TextModule}
 use Rattle.wat_text.specs.declared.reader.Reader.{Reader}
 
--- a fault other than a failed allocation
-refusal : (f : TextFault) → f ≢ fault.Memory → IsRefusal f
-refusal fault.Memory h = absurd (h refl)
-refusal f h = tt
-
 pub memory_or : (f : TextFault) → (f ≡ fault.Memory) ⊎ (f ≢ fault.Memory)
 memory_or fault.Memory = inl refl
 memory_or f = inr (λ e. cc)

@@ -19,7 +19,7 @@ use Rattle.wat_text.specs.declared.bodies.Level.{Level}
 use Rattle.wat_text.specs.declared.bodies.Level.TheVariants as level
 use Rattle.wat_text.specs.declared.bodies.Hint as code
 use Rattle.wat_text.specs.declared.bodies.Open.{Open}
-use Rattle.wat_text.specs.Machine.{State, with_toks, without, else_word, no_part, taken, waited, stood, turned, arm_entered, waiting_put, then_arm, else_arm, do_arm, catch_arm, catch_all_arm, delegate_arm, first_by, next_by, folded_block, operator_of, opened_in, closed_by, closed_in, part_at, parted_by, next_level, level_of, word_by, other, takes_plain, at_nothing, hinted_by, step, hint_of_level, is_closed}
+use Rattle.wat_text.specs.Machine.{State, with_toks, without, else_word, no_part, taken, waited, stood, waiting_put, then_arm, else_arm, do_arm, catch_arm, catch_all_arm, delegate_arm, first_by, next_by, folded_block, operator_of, opened_in, closed_by, closed_in, part_at, parted_by, next_level, level_of, word_by, other, takes_plain, at_nothing, hinted_by, step, hint_of_level, is_closed}
 use Rattle.wat_text.proofs.Levels.{Base, Whole, One}
 use Rattle.wat_text.proofs.Machines.{goes_on, Reading, None_there, One_there, Bad, reading, step_as}
 use Rattle.wat_laws.proofs.Fewer.{one_less, Fewer, Takes, none, done, and_then, taking, some_of, either, cond, no_toks, toks, fewer, rparen_takes, keyword_takes, index_fewer, string_fewer}
@@ -103,9 +103,6 @@ module _ (shrinks : (t : Toks) (x : Instruction × Toks) → instruction t ≡ S
 
     takes : (f : Toks → Option Toks) (s : State) → Takes n (f s.toks) → Left n (taken f s)
     takes f s h = after_toks h (λ t h. at_state n (with_toks t s) h)
-
-    arms : (s : State) → count s.toks ≤ n → (l : Level) → Left n (turned l s >>= arm_entered)
-    arms s h l = at_state n _ h
 
     waiting_left : (h : Option code.Hint) (s : State) → count s.toks ≤ n → Left n (waiting_put h s)
     waiting_left h s few = at_state n _ few

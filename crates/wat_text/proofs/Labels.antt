@@ -67,7 +67,3 @@ table_is x y ys (Some p) rest e =
   where
     the_same : {A : Type 0} {x y : A} → Some x ≡ Some y → x ≡ y
     the_same e = cc
-
--- labels that there are not
-pub table_not : (x : Index) (p : Parse (List Index)) → p ≡ None → table_of x p ≡ None
-table_not x p e = ap (table_of x) e

@@ -1,8 +1,7 @@
 -- What is read after the opening of a module, and in a text in quotes, is the module that the tokens mean.
-use Rattle.std.proofs.Common.{◌≡◌, ◌≢◌, ◌∙◌, ◌⊎◌, ℕ, true, false, List, length, All, Option, None, Some, Result, Ok, Err, refl, sym, ap, subst, inl, inr}
+use Rattle.std.proofs.Common.{◌≡◌, ◌≢◌, ◌∙◌, ◌⊎◌, ℕ, true, List, length, All, Option, None, Some, Result, Ok, Err, refl, sym, ap, subst, inl, inr}
 use Rattle.std.specs.Prelude.{IfOk, IfErr}
 use Rattle.std.specs.Option.{option_or}
-use Rattle.std.specs.Str.{is_utf8}
 use Rattle.wat_grammar.specs.Parts.{◌>>=◌}
 use Rattle.wat_grammar.specs.Tokens.{tokens, bytes_of}
 use Rattle.wat_tokens.specs.Scans.{seen_all, IsNamed}
@@ -14,14 +13,14 @@ use Rattle.wat_syntax.specs.Tree.{Span, NameAnnotation}
 use Rattle.wat_syntax.specs.Tokens.{Toks, after, position, peek, key_of}
 use Rattle.wat_syntax.specs.Seen.{seen_name_option}
 use Rattle.wat_text.specs.Readers.{left, IsClean, IsRefusal, IsRefused, Decides, Reads, Expects}
-use Rattle.wat_text.specs.Denotes.{Contents, Fields, Quotes, contents_of, opening, quotes, quotes_of, text_in, all_of, all_in, module_end, module_position, fields_module, inner_opening, inner_module, seen_module, seen_opening, is_well_formed_module, AreTokensIf, MeansInQuotes, MeansQuoted, MeansAs, MeansAfter, MeansOpened, Means, MeansIllFormed, Denotes, DenotesNothing, untokened, unread, DenotesIllFormed, Explains, IsIllFormed}
+use Rattle.wat_text.specs.Denotes.{Contents, Fields, Quotes, contents_of, opening, quotes, quotes_of, all_of, all_in, module_end, module_position, fields_module, inner_opening, inner_module, seen_module, seen_opening, is_well_formed_module, MeansInQuotes, MeansQuoted, MeansAs, MeansAfter, MeansOpened, Means, MeansIllFormed, Denotes, DenotesNothing, untokened, unread, DenotesIllFormed, Explains, IsIllFormed}
 use Rattle.wat_text.specs.Finishes.{Finishes}
 use Rattle.wat_text.specs.Cursors.{ArePlaced}
 use Rattle.wat_text.specs.declared.modules.ModuleHead.{ModuleHead}
 use Rattle.wat_text.specs.declared.modules.TextModule.{TextModule}
 use Rattle.wat_text.specs.declared.quotes.Quote.{Quote}
 use Rattle.wat_text.specs.declared.reader.Reader.{Reader}
-use Rattle.wat_text.proofs.Endings.{memory_or, explains_nothing, explains_map, ReadsAll, skipped, fails_all}
+use Rattle.wat_text.proofs.Endings.{memory_or, explains_nothing, explains_map, ReadsAll, skipped}
 
 -- a module that is read to the end of the tokens, by what they mean
 abbrev pub Ends : (Option TextModule → Type 0) → Reader → Result TextModule TextError → Type 0
@@ -134,21 +133,6 @@ module _ (h : ModuleHead) where
         subst (λ s. MeansQuoted (seen_opening h) s (quotes_of (left r)) meaning) at
         (subst (λ o. MeansQuoted (seen_opening h) first o meaning) (sym read) q)
 
-    -- no tokens
-    pub none_in_quotes : (e : TextError) → (e.fault ≢ fault.Memory → AreTokensIf (is_utf8 (text_in qs)) (text_in qs) None) → Ends quotes_mean r (Err e)
-    none_in_quotes e lexed = record {
-      clean = tt;
-      gives = tt;
-      well = tt;
-      made = λ m. clean.1;
-      keeps = λ n m. absurd (n clean.0);
-      refuses = λ n. explains_nothing (IsIllFormed is_well_formed_module (λ m. quotes_mean (Some (seen_module m)))) e.fault (λ f. go f (memory_or e.fault));
-    }
-      where
-        go : IsRefusal e.fault → (e.fault ≡ fault.Memory) ⊎ (e.fault ≢ fault.Memory) → quotes_mean None
-        go f (inl m) = absurd (subst IsRefusal m f)
-        go f (inr m) = in_quotes None (record { inner = None; lexed = lexed m; gives = refl })
-
     -- the tokens of the text
     of_tokens : (placed : List Placed) → ArePlaced first qs placed → (meaning : Option TextModule) → inner_means (all_of placed first) meaning → quotes_mean meaning
     of_tokens placed p meaning e =
@@ -178,15 +162,6 @@ module _ (h : ModuleHead) where
           refuses = λ n. f.refuses new.0;
         }
 
-  -- an error in the strings
-  pub quotes_err : (r s a b : Reader) (qs : List Quote) (e : TextError) → left s ≡ after (left r) → s.fault ≡ r.fault → s.make ≡ r.make
-      → Reads quotes s a qs → Expects (module_end true) a b → (e.fault ≢ fault.Memory → (b.make ≡ false) × (b.fault ≡ Some e))
-      → Ends (λ m. MeansAs Quotes (seen_opening h) (left r) m) r (Err e)
-  quotes_err r s a b qs e same fault make reads ends f =
-      fails_all is_well_formed_module (λ m. MeansAs Quotes (seen_opening h) (left r) (Some (seen_module m))) (MeansAs Quotes (seen_opening h) (left r) None) (quotes_of (left r)) r b qs e
-      (skipped quotes (module_end true) r s a b qs same fault make reads ends) f
-      (λ n. subst (λ o. MeansQuoted (seen_opening h) (position (after (left r))) o None) (sym n) refl)
-
   -- the tokens of the strings, and what is read of them
   pub quotes_ok : (r s a b i j : Reader) (first span : Span) (ps qs : List Quote) (placed : List Placed) (o x : ModuleHead) (result : Result TextModule TextError)
       → first ≡ position (left s) → left s ≡ after (left r) → s.fault ≡ r.fault → s.make ≡ r.make → Reads quotes s a qs → Expects (module_end true) a b → IsClean b
@@ -201,13 +176,6 @@ module _ (h : ModuleHead) where
 
 -- what tokens mean, by what was read of them
 module _ (toks : Toks) (a : Reader) (clean : IsClean a) (same : left a ≡ toks) where
-  pub means_well : (result : Result TextModule TextError) → Ends (Means (left a)) a result → IfOk result (λ m. is_well_formed_module m ≡ true)
-  means_well (Ok m) f = f.well
-  means_well (Err e) f = tt
-
-  pub means_ok : (result : Result TextModule TextError) → Ends (Means (left a)) a result → IfOk result (λ m. Means toks (Some (seen_module m)))
-  means_ok (Ok m) f = subst (λ t. Means t (Some (seen_module m))) same f.gives
-  means_ok (Err e) f = tt
 
   pub means_err : (result : Result TextModule TextError) → Ends (Means (left a)) a result → IfErr result (λ e. Explains (Means toks None) (MeansIllFormed toks) e.fault)
   means_err (Ok m) f = tt

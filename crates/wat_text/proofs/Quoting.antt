@@ -106,13 +106,6 @@ module _ {A : Type 0} (f : A → A) where
   put_more zero (x ∷ xs) y e = ap (λ z. f z ∷ xs) (sym (the_same e))
   put_more (suc n) (x ∷ xs) y e = ap (λ zs. f x ∷ zs) (put_more n xs y e)
 
-  -- none, and all
-  pub put_all : (n : ℕ) (xs : List A) → length xs ≤ n → map f (take n xs) ++ drop n xs ≡ map f xs
-  put_all zero [] h = refl
-  put_all zero (x ∷ xs) h = absurd (omega (arith, h))
-  put_all (suc n) [] h = refl
-  put_all (suc n) (x ∷ xs) h = ap (λ zs. f x ∷ zs) (put_all n xs (omega (arith, h)))
-
 -- the text of one string more, if there is one
 text_then : (qs : List Quote) (n : ℕ) → text_in (take (suc n) qs) ≡ text_in (take n qs) ++ bytes_at qs n
 text_then [] zero = refl

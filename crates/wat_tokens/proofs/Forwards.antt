@@ -74,10 +74,6 @@ never : (b : Bool) → (b && false) ≡ false
 never true = refl
 never false = refl
 
-always : (b : Bool) → (b && true) ≡ b
-always true = refl
-always false = refl
-
 -- a digit before a fraction
 joined : (radix d : ℕ) (b : Bool) (v k w : ℕ) → w ≡ d * radix ^ k + v → (when {T = ℕ × ℕ} b (v, k) >>= λ p. Some (d * radix ^ p.1 + p.0, p.1 + 1)) ≡ when {T = ℕ × ℕ} b (w, suc k)
 joined radix d false v k w e = refl

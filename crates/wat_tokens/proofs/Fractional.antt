@@ -19,11 +19,6 @@ places_of is_hex p = count (digit_in is_hex) p.fraction
 abbrev pub exponent_of : Form → Bool × ℕ
 exponent_of p = (p.is_negative, power_of p.exponent)
 
--- an underscore is no digit
-pub under : (is_hex : Bool) → digit_in is_hex 0x5f ≡ None
-under true = refl
-under false = refl
-
 exponent_is : (o : Option (List ℕ)) → exponent o ≡ when {T = Bool × ℕ} (is_exponent (after_sign o)) (is_below o, power_of (after_sign o))
 exponent_is None = refl
 exponent_is (Some text) = ap (λ o. o >>= λ e. Some ((sign text).0, e)) (number_is digit 10 refl (sign text).1) ∙ go (is_digits false (sign text).1)

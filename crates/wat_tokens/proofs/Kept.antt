@@ -1,5 +1,5 @@
 -- Closes what reading hexadecimal digits leaves: the mantissa, and whether more is left, stand for all digits that were read.
-use Rattle.std.proofs.Common.{◌≡◌, ◌∙◌, ℕ, zero, suc, ◌+◌, ◌*◌, ◌<◌, ◌≤◌, ◌||◌, false, List, [], ◌∷◌, ◌++◌, length, take, get_or, Option, None, Some, refl, sym, ap, subst, arith, lt-ltb}
+use Rattle.std.proofs.Common.{◌≡◌, ◌∙◌, ℕ, zero, suc, ◌+◌, ◌*◌, ◌<◌, ◌≤◌, ◌||◌, List, [], ◌∷◌, ◌++◌, length, take, get_or, Option, None, Some, refl, sym, ap, subst, arith, lt-ltb}
 use Rattle.std.specs.Prelude.{nat_lt, ◌^◌}
 use Rattle.std.proofs.lemmas.List.{take_more, take_all}
 use native.Mathlib.Nat.{pow-suc, pow-zero}
@@ -7,17 +7,6 @@ use Rattle.wat_grammar.specs.Characters.{hexdigit}
 use Rattle.wat_tokens.specs.Fractions.{value_after, count, Keeps}
 use Rattle.wat_tokens.specs.declared.floats.Leading.{Leading}
 use Rattle.wat_tokens.proofs.Forwards.{taken, skipped, counted, uncounted}
-
--- no digits
-pub keeps_none : (s : Leading) → s.mantissa ≡ 0 → s.dropped ≡ 0 → s.is_more ≡ false → Keeps 0 s
-keeps_none s m d is = record {
-  rest = 0;
-  total = omega (arith, ap (λ y. y * 16 ^ s.dropped) m);
-  small = subst (λ k. 0 < 16 ^ k) (sym d) (omega (arith, pow-zero 16));
-  more = is;
-  long = λ h. absurd (omega (arith, d));
-  fits = omega (arith, m);
-}
 
 -- one more digit, which the mantissa takes
 pub keeps_taken : (n digit : ℕ) (s r : Leading) → digit < 16 → s.mantissa < 2 ^ 59 → r.mantissa ≡ s.mantissa * 16 + digit → r.dropped ≡ s.dropped → r.is_more ≡ s.is_more → Keeps n s → Keeps (16 * n + digit) r

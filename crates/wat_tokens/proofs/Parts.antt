@@ -1,18 +1,13 @@
 -- Closes what reading a part of a text leaves: the rules bind one result after another, and each lemma computes one such chain.
-use Rattle.std.proofs.Common.{◌≡◌, ◌≢◌, ◌∙◌, ℕ, suc, ◌+◌, ◌<◌, ◌≤◌, ◌==◌, Bool, true, false, List, [], ◌∷◌, length, drop, take, get_or, Option, None, Some, Ok, Err, refl, sym, ap, subst, arith, drop-cons, eqb-true}
+use Rattle.std.proofs.Common.{◌≡◌, ◌≢◌, ◌∙◌, ℕ, suc, ◌+◌, ◌<◌, ◌≤◌, ◌==◌, Bool, true, false, List, [], ◌∷◌, length, drop, take, Option, None, Some, Ok, Err, refl, sym, ap, subst, arith, eqb-true}
 use Rattle.std.proofs.lemmas.List.{drop-drop, length-drop}
 use Rattle.std.proofs.lemmas.Str.{IsUtf8-from_is_utf8, is_utf8-from_IsUtf8}
-use Rattle.std.specs.Prelude.{IsUtf8, if◌then◌else◌, slice_index}
+use Rattle.std.specs.Prelude.{IsUtf8, if◌then◌else◌}
 use Rattle.std.specs.Str.{is_utf8}
-use Rattle.wat_grammar.specs.Parts.{◌>>=◌, front}
-use Rattle.wat_grammar.specs.Space.{behind}
+use Rattle.wat_grammar.specs.Parts.{◌>>=◌}
 use Rattle.wat_grammar.specs.Strings.{string}
-use Rattle.wat_grammar.specs.Tokens.{string_length, Contents, bytes_of, as_written, a_string, a_name, id_chars, an_id, not_empty, is_idchar}
-use Rattle.wat_tokens.specs.Scans.{IsRead, IsName, contents_of}
-use Rattle.wat_tokens.proofs.Braces.{differs}
-
-cut : (T : List ℕ) (i : ℕ) → i < length T → drop i T ≡ get_or T i 0 ∷ drop (i + 1) T
-cut T i below = drop-cons T i 0 below ∙ ap (λ k. get_or T i 0 ∷ drop k T) {x = suc i} {y = i + 1} (omega arith)
+use Rattle.wat_grammar.specs.Tokens.{string_length, Contents, bytes_of, as_written, a_string, a_name, id_chars, an_id, not_empty}
+use Rattle.wat_tokens.specs.Scans.{IsRead, contents_of}
 
 -- a string, by the number of characters between its quotes
 a_string_is : (contents : Contents) (text : List ℕ) (n : ℕ) (bytes : List ℕ) → string_length false text ≡ Some n → contents (take n text) ≡ Some bytes → a_string contents text ≡ Some (bytes, drop (suc n) text)
@@ -37,9 +32,6 @@ wrong_string contents text n long none = ap (λ o. o >>= λ n. contents (take n 
 pub bytes_are : (content bytes : List ℕ) → string content ≡ Ok bytes → bytes_of content ≡ Some bytes
 bytes_are content bytes is = ap (λ r. elim r as (λ x. Option (List ℕ)) [ Ok bytes ↦ Some bytes | Err n ↦ None ]) is
 
-pub no_bytes : (content : List ℕ) (n : ℕ) → string content ≡ Err n → bytes_of content ≡ None
-no_bytes content n is = ap (λ r. elim r as (λ x. Option (List ℕ)) [ Ok bytes ↦ Some bytes | Err n ↦ None ]) is
-
 pub written_string : {S : Type 0} (strings : Option S) (T rest : List ℕ) (begin n end : ℕ) → strings ≡ None → rest ≡ drop begin T → begin ≤ length T → end ≡ begin + n + 1 → string_length false rest ≡ Some n → n < length rest
     → IsRead (a_string (contents_of strings) (drop begin T)) T begin (take n rest) end
 written_string None T rest begin n end none left start there long inside =
@@ -51,12 +43,6 @@ pub kept_string : {S : Type 0} (strings : Option S) (s : S) (T rest : List ℕ) 
 kept_string None s T rest begin n end bytes none left start there long inside is = absurd cc
 kept_string (Some x) s T rest begin n end bytes none left start there long inside is =
     read_string bytes_of T begin n end bytes start there (subst (λ r. string_length false r ≡ Some n) left long) (subst (λ r. n < length r) left inside) (bytes_are (take n (drop begin T)) bytes (subst (λ r. string (take n r) ≡ Ok bytes) left is))
-
-pub wrong_kept : {S : Type 0} (strings : Option S) (s : S) (T rest : List ℕ) (begin n k : ℕ) → strings ≡ Some s → rest ≡ drop begin T → string_length false rest ≡ Some n → string (take n rest) ≡ Err k
-    → a_string (contents_of strings) (drop begin T) ≡ None
-wrong_kept None s T rest begin n k some left long is = absurd cc
-wrong_kept (Some x) s T rest begin n k some left long is =
-    wrong_string bytes_of (drop begin T) n (subst (λ r. string_length false r ≡ Some n) left long) (no_bytes (take n (drop begin T)) k (subst (λ r. string (take n r) ≡ Err k) left is))
 
 -- a name is a string in UTF-8
 pub read_name : (contents : Contents) (T : List ℕ) (begin end : ℕ) (bytes : List ℕ) → IsUtf8 bytes → IsRead (a_string contents (drop begin T)) T begin bytes end → IsRead (a_name contents (drop begin T)) T begin bytes end
@@ -85,47 +71,5 @@ pub empty_is_none : (bytes rest : List ℕ) → (length bytes == 0) ≡ true →
 empty_is_none [] rest h = refl
 empty_is_none (c ∷ cs) rest h = absurd (let e : suc (length cs) ≡ 0 = eqb-true (suc (length cs)) 0 h in omega (arith, e))
 
-positive : (bytes : List ℕ) → (length bytes == 0) ≡ false → 0 < length bytes
-positive [] h = absurd cc
-positive (c ∷ cs) h = omega arith
-
-pub an_id_is : (contents : Contents) (T : List ℕ) (begin end : ℕ) (bytes : List ℕ) → (length bytes == 0) ≡ false → IsName (id_chars contents (drop begin T)) T begin bytes end → IsRead (an_id contents (drop begin T)) T begin bytes end
-an_id_is contents T begin end bytes some n = record {
-  gives = ap (λ o. o >>= λ x. not_empty x) n.gives ∙ not_empty_is bytes (drop end T) some;
-  forward = n.forward (positive bytes some);
-  inside = n.inside;
-}
-
-pub empty_id : (contents : Contents) (T : List ℕ) (begin end : ℕ) (bytes : List ℕ) → (length bytes == 0) ≡ true → IsName (id_chars contents (drop begin T)) T begin bytes end → an_id contents (drop begin T) ≡ None
-empty_id contents T begin end bytes none n = ap (λ o. o >>= λ x. not_empty x) n.gives ∙ empty_is_none bytes (drop end T) none
-
 pub no_id_chars : (contents : Contents) (text : List ℕ) → id_chars contents text ≡ None → an_id contents text ≡ None
 no_id_chars contents text none = ap (λ o. o >>= λ x. not_empty x) none
-
--- a name in quotes, or a word
-quoted : (contents : Contents) (c : ℕ) (cs : List ℕ) → c ≡ 0x22 → id_chars contents (c ∷ cs) ≡ a_name contents cs
-quoted contents c cs is = ap (λ x. id_chars contents (x ∷ cs)) is
-
-plain : (contents : Contents) (text : List ℕ) → slice_index text 0 ≢ 0x22 → id_chars contents text ≡ Some (front is_idchar text, behind is_idchar text)
-plain contents [] other = refl
-plain contents (c ∷ cs) other = ap (λ b. elim b as (λ x. Option (List ℕ × List ℕ)) [ true ↦ a_name contents cs | false ↦ Some (front is_idchar (c ∷ cs), behind is_idchar (c ∷ cs)) ]) (differs c 0x22 other)
-
-pub quoted_name : (contents : Contents) (T : List ℕ) (begin end : ℕ) (bytes : List ℕ) → begin < length T → get_or T begin 0 ≡ 0x22 → IsRead (a_name contents (drop (begin + 1) T)) T (begin + 1) bytes end
-    → IsName (id_chars contents (drop begin T)) T begin bytes end
-quoted_name contents T begin end bytes below is r = record {
-  gives = ap (id_chars contents) (cut T begin below) ∙ quoted contents (get_or T begin 0) (drop (begin + 1) T) is ∙ r.gives;
-  forward = λ h. let f = r.forward in omega (arith, f);
-  inside = r.inside;
-}
-
-pub no_quoted_name : (contents : Contents) (T : List ℕ) (begin : ℕ) → begin < length T → get_or T begin 0 ≡ 0x22 → a_name contents (drop (begin + 1) T) ≡ None → id_chars contents (drop begin T) ≡ None
-no_quoted_name contents T begin below is none = ap (id_chars contents) (cut T begin below) ∙ quoted contents (get_or T begin 0) (drop (begin + 1) T) is ∙ none
-
-pub plain_name : (contents : Contents) (T : List ℕ) (begin end : ℕ) (bytes : List ℕ) → slice_index (drop begin T) 0 ≢ 0x22 → bytes ≡ front is_idchar (drop begin T) → end ≡ begin + length (front is_idchar (drop begin T)) → end ≤ length T
-    → IsName (id_chars contents (drop begin T)) T begin bytes end
-plain_name contents T begin end bytes other are there inside = record {
-  gives = plain contents (drop begin T) other ∙ ap (λ b. Some (b, behind is_idchar (drop begin T))) (sym are)
-      ∙ ap (λ r. Some (bytes, r)) (drop-drop (length (front is_idchar (drop begin T))) begin T ∙ ap (λ k. drop k T) (sym there));
-  forward = λ some. let e : length bytes ≡ length (front is_idchar (drop begin T)) = ap length are in omega (arith, e, some, there);
-  inside = inside;
-}

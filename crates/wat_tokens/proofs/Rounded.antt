@@ -166,10 +166,6 @@ module _ (f : Format) (num den m x w steps : ℕ) (more : Bool) (p : IsPlaced f 
         go zero = inl (pow-zero 2)
         go (suc k) = inr (2 ^ k, omega (arith, pow-suc 2 k))
 
-    -- twice the number, against the point halfway
-    twice : 2 * (num * 2 ^ low f) * 2 ^ 4096 ≡ 2 * (num * 2 ^ low f * 2 ^ 4096)
-    twice = omega arith
-
     halfway : (2 * kept + 1) * (den * 2 ^ steps) * 2 ^ 4096 ≡ (2 * (kept * 2 ^ t) + 2 ^ t) * (den * 2 ^ x)
     halfway = omega (arith, value_right, same_right)
 

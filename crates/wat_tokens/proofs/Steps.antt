@@ -7,7 +7,7 @@ use Rattle.std.specs.Prelude.{if◌then◌else◌, ◌&&◌, ◌||◌, All}
 use Rattle.wat_grammar.specs.Parts.{◌>>=◌, front}
 use Rattle.wat_grammar.specs.Space.{is_blank, is_linechar, behind, linecomment, blockcomment}
 use Rattle.wat_grammar.specs.Tokens as grammar
-use Rattle.wat_grammar.specs.Tokens.{Contents, is_idchar, is_reserved, a_string, an_id, begins_comment, skipped_open, skipped_part, skipped, annotation, opened, one_token, string_token, id_token, word, part, parts, has_meaning}
+use Rattle.wat_grammar.specs.Tokens.{Contents, is_idchar, is_reserved, a_string, an_id, begins_comment, skipped_open, skipped_part, skipped, annotation, opened, string_token, id_token, word, part, parts}
 use Rattle.wat_tokens.specs.Scans.{first_of, is_first, begins_of, kind_of, opens_of, token_of, placed, seen_all, seen, IsNamed}
 use Rattle.wat_tokens.specs.declared.tokens.Placed.{Placed}
 use Rattle.wat_tokens.specs.declared.tokens.Token.TheVariants as token
@@ -47,10 +47,6 @@ pub so_annotation : (X : Contents) (t : List ℕ) → is_first 0x3b t ≡ false 
 so_annotation X [] h k = absurd cc
 so_annotation X (c ∷ cs) h k = ap (λ a. so X c cs a (c == 0x40)) h ∙ ap (λ b. so X c cs false b) k
 
-pub so_open : (X : Contents) (t : List ℕ) → is_first 0x3b t ≡ false → is_first 0x40 t ≡ false → skipped_open X t ≡ Some (1, t)
-so_open X [] h k = refl
-so_open X (c ∷ cs) h k = ap (λ a. so X c cs a (c == 0x40)) h ∙ ap (λ b. so X c cs false b) k
-
 -- a part of such an annotation
 abbrev sp : Contents → ℕ → List ℕ → Bool → Bool → Bool → Bool → Bool → Skip
 sp X c cs a b d e f = elim a [
@@ -64,9 +60,6 @@ sp X c cs a b d e f = elim a [
     ]
   ]
 ]
-
-sp_is : (X : Contents) (c : ℕ) (cs : List ℕ) → skipped_part X (c ∷ cs) ≡ sp X c cs (c == 0x28) (c == 0x22) (begins_comment c cs) (is_blank c || is_reserved c) (is_idchar c)
-sp_is X c cs = refl
 
 pub sp_open : (X : Contents) (t : List ℕ) → is_first 0x28 t ≡ true → skipped_part X t ≡ skipped_open X (drop 1 t)
 sp_open X [] h = absurd cc
@@ -167,36 +160,6 @@ pub op_annotation : (X : Contents) (place : ℕ) (t : List ℕ) → is_first 0x3
 op_annotation X place [] h k = absurd cc
 op_annotation X place (c ∷ cs) h k = ap (λ a. op X place c cs a (c == 0x40)) h ∙ ap (λ b. op X place c cs false b) k
 
-pub op_open : (X : Contents) (place : ℕ) (t : List ℕ) → is_first 0x3b t ≡ false → is_first 0x40 t ≡ false → opened X place t ≡ Some ((grammar.Open, place) ∷ [], t)
-op_open X place [] h k = refl
-op_open X place (c ∷ cs) h k = ap (λ a. op X place c cs a (c == 0x40)) h ∙ ap (λ b. op X place c cs false b) k
-
--- an annotation, by its id
-abbrev by_meaning : Contents → ℕ → List ℕ × List ℕ → Bool → Read
-by_meaning X place x b = elim b [ true ↦ Some ((grammar.Annotation x.0, place) ∷ [], x.1) | false ↦ skipped X (length x.1) 0 x.1 >>= no_tokens ]
-
-pub an_none : (X : Contents) (place : ℕ) (t : List ℕ) → an_id X t ≡ None → annotation X place t ≡ None
-an_none X place t none = ap (λ o. o >>= λ x. by_meaning X place x (has_meaning x.0)) none
-
-pub an_token : (X : Contents) (place : ℕ) (t id rest : List ℕ) → an_id X t ≡ Some (id, rest) → has_meaning id ≡ true → annotation X place t ≡ Some ((grammar.Annotation id, place) ∷ [], rest)
-an_token X place t id rest is h = ap (λ o. o >>= λ x. by_meaning X place x (has_meaning x.0)) is ∙ ap (by_meaning X place (id, rest)) h
-
-pub an_skipped : (X : Contents) (place : ℕ) (t id rest : List ℕ) → an_id X t ≡ Some (id, rest) → has_meaning id ≡ false → annotation X place t ≡ (skipped X (length rest) 0 rest >>= no_tokens)
-an_skipped X place t id rest is h = ap (λ o. o >>= λ x. by_meaning X place x (has_meaning x.0)) is ∙ ap (by_meaning X place (id, rest)) h
-
--- strings and ids
-pub st_is : (X : Contents) (place : ℕ) (t bytes rest : List ℕ) → a_string X t ≡ Some (bytes, rest) → string_token X place t ≡ one_token (grammar.String bytes) place rest
-st_is X place t bytes rest is = ap (λ o. o >>= λ s. one_token (grammar.String s.0) place s.1) is
-
-pub st_none : (X : Contents) (place : ℕ) (t : List ℕ) → a_string X t ≡ None → string_token X place t ≡ None
-st_none X place t is = ap (λ o. o >>= λ s. one_token (grammar.String s.0) place s.1) is
-
-pub id_is : (X : Contents) (place : ℕ) (t bytes rest : List ℕ) → an_id X t ≡ Some (bytes, rest) → id_token X place t ≡ one_token (grammar.Id bytes) place rest
-id_is X place t bytes rest is = ap (λ o. o >>= λ s. one_token (grammar.Id s.0) place s.1) is
-
-pub id_none : (X : Contents) (place : ℕ) (t : List ℕ) → an_id X t ≡ None → id_token X place t ≡ None
-id_none X place t is = ap (λ o. o >>= λ s. one_token (grammar.Id s.0) place s.1) is
-
 -- a part, by what its first byte begins
 abbrev chosen : Read → Read → Read → Read → Read → Bool → Read → Read → Kind → Read
 chosen r1 r2 r3 r4 r5 b r6 r7 kind.Blank = r1
@@ -281,9 +244,6 @@ pt_dollar X place c t h is = by_kind X place c t kind.Dollar h is
 pub pt_comment : (X : Contents) (place c : ℕ) (t : List ℕ) → first_of t ≡ Some c → kind_of c ≡ kind.Semicolon → begins_of t ≡ true → part X place t ≡ Some ([], linecomment (drop 1 (drop 1 t)))
 pt_comment X place c t h is k = by_kind X place c t kind.Semicolon h is ∙ ap (λ b. elim b as (λ x. Read) [ true ↦ Some ([], linecomment (drop 1 (drop 1 t))) | false ↦ None ]) k
 
-pub pt_semicolon : (X : Contents) (place c : ℕ) (t : List ℕ) → first_of t ≡ Some c → kind_of c ≡ kind.Semicolon → begins_of t ≡ false → part X place t ≡ None
-pt_semicolon X place c t h is k = by_kind X place c t kind.Semicolon h is ∙ ap (λ b. elim b as (λ x. Read) [ true ↦ Some ([], linecomment (drop 1 (drop 1 t))) | false ↦ None ]) k
-
 pub pt_word : (X : Contents) (place c : ℕ) (t : List ℕ) → first_of t ≡ Some c → kind_of c ≡ kind.Word → part X place t ≡ word place t
 pt_word X place c t h is = by_kind X place c t kind.Word h is
 
@@ -311,10 +271,6 @@ closed T place end found is same = sym (ap (λ o. (let p : List grammar.Placed �
 -- the tokens of a text, part by part
 abbrev pub with_before : List grammar.Placed → Option (List grammar.Placed) → Option (List grammar.Placed)
 with_before xs o = o >>= λ ys. Some (xs ++ ys)
-
-pub none_before : (o : Option (List grammar.Placed)) → o ≡ with_before [] o
-none_before None = refl
-none_before (Some x) = refl
 
 before_twice : (xs ys : List grammar.Placed) (o : Option (List grammar.Placed)) → with_before xs (with_before ys o) ≡ with_before (xs ++ ys) o
 before_twice xs ys None = refl
