@@ -35,8 +35,6 @@ mod lists;
 mod looks_up;
 mod messages;
 mod statuses;
-#[cfg(test)]
-mod tests;
 
 use diagnosis::Diagnosis;
 use encodes::{diagnose, encode_into};

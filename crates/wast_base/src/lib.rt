@@ -62,6 +62,3 @@ pub use plain::{
 };
 pub use seq::{IntoIter, Seq};
 pub use spaces::Space;
-
-#[cfg(test)]
-mod tests;

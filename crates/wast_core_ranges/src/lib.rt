@@ -24,6 +24,3 @@ mod stretches;
 pub use finding::FieldRanges;
 pub use stretches::FieldRange;
 pub use wast_tree_nodes::FieldKind;
-
-#[cfg(test)]
-mod tests;

@@ -33,6 +33,3 @@ mod marks;
 
 pub use labels::Labels;
 pub use laws::{expecting_law, walking_law};
-
-#[cfg(test)]
-mod tests;

@@ -31,6 +31,3 @@ mod sorting;
 pub use filling::NamespaceBuilder;
 pub use heads::leading;
 pub use namespace::{Namespace, resolve_error};
-
-#[cfg(test)]
-mod tests;

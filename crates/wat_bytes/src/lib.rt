@@ -39,8 +39,6 @@ mod laws;
 mod modules;
 mod names;
 mod refusals;
-#[cfg(test)]
-mod tests;
 mod uncovered;
 
 pub use encodes::{encode_text, encoded_text};

@@ -9,8 +9,6 @@ mod floats;
 mod integers;
 mod scans;
 mod strings;
-#[cfg(test)]
-mod tests;
 mod tokens;
 mod words;
 
