@@ -620,46 +620,50 @@ fn visit_instr<V: Visitor>(instr: &Instruction<'_>, visitor: &mut V)
         | Instruction::f64_const(_) => {}
         Instruction::ref_null(heap) => heap.visit(visitor),
         // Written by tools/ops from here.
-        Instruction::catch(tag) => visitor.index(Space::Tag, tag),
-        Instruction::throw(tag) => visitor.index(Space::Tag, tag),
-        Instruction::rethrow(label) => visitor.within(label),
-        Instruction::br(label) => visitor.within(label),
-        Instruction::br_if(label) => visitor.within(label),
-        Instruction::call(func) => visitor.index(Space::Func, func),
-        Instruction::return_call(func) => visitor.index(Space::Func, func),
-        Instruction::call_ref(ty) => visitor.index(Space::Ty, ty),
-        Instruction::return_call_ref(ty) => visitor.index(Space::Ty, ty),
-        Instruction::delegate(label) => visitor.within(label),
-        Instruction::local_get(local) => visitor.within(local),
-        Instruction::local_set(local) => visitor.within(local),
-        Instruction::local_tee(local) => visitor.within(local),
-        Instruction::global_get(global) => visitor.index(Space::Global, global),
-        Instruction::global_set(global) => visitor.index(Space::Global, global),
-        Instruction::table_get(arg) => visitor.index(Space::Table, &arg.dst),
-        Instruction::table_set(arg) => visitor.index(Space::Table, &arg.dst),
-        Instruction::memory_size(arg) => visitor.index(Space::Memory, &arg.mem),
-        Instruction::memory_grow(arg) => visitor.index(Space::Memory, &arg.mem),
-        Instruction::ref_func(func) => visitor.index(Space::Func, func),
-        Instruction::br_on_null(label) => visitor.within(label),
-        Instruction::br_on_non_null(label) => visitor.within(label),
-        Instruction::struct_new(ty) => visitor.index(Space::Ty, ty),
-        Instruction::struct_new_default(ty) => visitor.index(Space::Ty, ty),
-        Instruction::struct_get(access) => access.visit(visitor),
-        Instruction::struct_get_s(access) => access.visit(visitor),
-        Instruction::struct_get_u(access) => access.visit(visitor),
-        Instruction::struct_set(access) => access.visit(visitor),
-        Instruction::array_new(ty) => visitor.index(Space::Ty, ty),
-        Instruction::array_new_default(ty) => visitor.index(Space::Ty, ty),
+        Instruction::catch(tag) | Instruction::throw(tag) => visitor.index(Space::Tag, tag),
+        Instruction::rethrow(label)
+        | Instruction::br(label)
+        | Instruction::br_if(label)
+        | Instruction::delegate(label)
+        | Instruction::br_on_null(label)
+        | Instruction::br_on_non_null(label) => visitor.within(label),
+        Instruction::call(func) | Instruction::return_call(func) | Instruction::ref_func(func) =>
+            visitor.index(Space::Func, func),
+        Instruction::call_ref(ty)
+        | Instruction::return_call_ref(ty)
+        | Instruction::struct_new(ty)
+        | Instruction::struct_new_default(ty)
+        | Instruction::array_new(ty)
+        | Instruction::array_new_default(ty)
+        | Instruction::array_get(ty)
+        | Instruction::array_get_s(ty)
+        | Instruction::array_get_u(ty)
+        | Instruction::array_set(ty) => visitor.index(Space::Ty, ty),
+        Instruction::local_get(local)
+        | Instruction::local_set(local)
+        | Instruction::local_tee(local) => visitor.within(local),
+        Instruction::global_get(global) | Instruction::global_set(global) => visitor.index(
+            Space::Global,
+            global,
+        ),
+        Instruction::table_get(arg)
+        | Instruction::table_set(arg)
+        | Instruction::table_grow(arg)
+        | Instruction::table_size(arg)
+        | Instruction::table_fill(arg) => visitor.index(Space::Table, &arg.dst),
+        Instruction::memory_size(arg)
+        | Instruction::memory_grow(arg)
+        | Instruction::memory_fill(arg) => visitor.index(Space::Memory, &arg.mem),
+        Instruction::struct_get(access)
+        | Instruction::struct_get_s(access)
+        | Instruction::struct_get_u(access)
+        | Instruction::struct_set(access) => access.visit(visitor),
         Instruction::array_new_data(arg) => {
             visit_pair(visitor, Space::Ty, &arg.array, Space::Data, &arg.data_idx)
         }
         Instruction::array_new_elem(arg) => {
             visit_pair(visitor, Space::Ty, &arg.array, Space::Elem, &arg.elem_idx)
         }
-        Instruction::array_get(ty) => visitor.index(Space::Ty, ty),
-        Instruction::array_get_s(ty) => visitor.index(Space::Ty, ty),
-        Instruction::array_get_u(ty) => visitor.index(Space::Ty, ty),
-        Instruction::array_set(ty) => visitor.index(Space::Ty, ty),
         Instruction::array_fill(arg) => visitor.index(Space::Ty, &arg.array),
         Instruction::array_copy(arg) => {
             visit_pair(
@@ -683,7 +687,6 @@ fn visit_instr<V: Visitor>(instr: &Instruction<'_>, visitor: &mut V)
         Instruction::memory_copy(arg) => {
             visit_pair(visitor, Space::Memory, &arg.src, Space::Memory, &arg.dst)
         }
-        Instruction::memory_fill(arg) => visitor.index(Space::Memory, &arg.mem),
         Instruction::table_init(arg) => {
             visit_pair(visitor, Space::Elem, &arg.elem, Space::Table, &arg.table)
         }
@@ -691,16 +694,9 @@ fn visit_instr<V: Visitor>(instr: &Instruction<'_>, visitor: &mut V)
         Instruction::table_copy(arg) => {
             visit_pair(visitor, Space::Table, &arg.dst, Space::Table, &arg.src)
         }
-        Instruction::table_grow(arg) => visitor.index(Space::Table, &arg.dst),
-        Instruction::table_size(arg) => visitor.index(Space::Table, &arg.dst),
-        Instruction::table_fill(arg) => visitor.index(Space::Table, &arg.dst),
-        Instruction::struct_new_desc(ty) => {
-            visit_uncovered_index(Space::Ty, ty, Form::Descriptor, visitor)
-        }
-        Instruction::struct_new_default_desc(ty) => {
-            visit_uncovered_index(Space::Ty, ty, Form::Descriptor, visitor)
-        }
-        Instruction::ref_get_desc(ty) => {
+        Instruction::struct_new_desc(ty)
+        | Instruction::struct_new_default_desc(ty)
+        | Instruction::ref_get_desc(ty) => {
             visit_uncovered_index(Space::Ty, ty, Form::Descriptor, visitor)
         }
         Instruction::cont_new(ty) => {
