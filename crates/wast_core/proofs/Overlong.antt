@@ -17,10 +17,10 @@ use Rattle.wast_expand_inline.specs.Segments.{are_too_many, overflows_kind, has_
 use Rattle.wast_expand_inline.specs.WriteOut.{exports_of, data_in, memory_alone, desugar_field}
 use Rattle.wast_expand_inline.specs.Referring.{by_position}
 use Rattle.wast_expand_inline.specs.Written.{written_after, desugared_by_position}
-use Rattle.wast_expand_types.specs.ImpliedTypes.{implied_signatures}
-use Rattle.wast_expand_types.specs.Expanded.{unnamed_type, binding_change}
-use Rattle.wast_expand_types.specs.Completed.{fields_with_implied_types}
-use Rattle.wast_expand_types.specs.Positioned.{position_for}
+use Rattle.wast_expand_keys.specs.ImpliedTypes.{implied_signatures}
+use Rattle.wast_expand_keys.specs.Expanded.{unnamed_type, binding_change}
+use Rattle.wast_expand_keys.specs.Completed.{fields_with_implied_types}
+use Rattle.wast_expand_keys.specs.Positioned.{position_for}
 use Rattle.wast_resolve_rules.specs.Explicit.{by_positions}
 use Rattle.wast_resolve_rules.specs.Resolved.{numbering_change, resolved_fields}
 use Rattle.wast_resolve_rules.specs.Scopes.{module_scope}

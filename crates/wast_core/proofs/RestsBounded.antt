@@ -14,8 +14,8 @@ use Rattle.wast_tree_map.specs.Mapped.{mapped_site, mapped_val, mapped_signature
 use Rattle.wast_tree_map.proofs.Fields.{field_at}
 use Rattle.wast_tree_map.proofs.Kept.{stands_at}
 use Rattle.wast_expand_inline.specs.Written.{desugared_from, reference_id_count}
-use Rattle.wast_expand_types.specs.NeedingUses.{needed_signatures}
-use Rattle.wast_expand_types.specs.Expanded.{lacks_id, type_id_count}
+use Rattle.wast_expand_keys.specs.NeedingUses.{needed_signatures}
+use Rattle.wast_expand_keys.specs.Expanded.{lacks_id, type_id_count}
 use Rattle.wast_expand_types.proofs.AtRest.{wants_no_more}
 use Rattle.wast_expand_types.proofs.Staying.{says}
 use Rattle.wast_resolve_rules.specs.Scopes.{Shape, Function, Struct, Other, Scope, module_scope, denoted, type_at, params_of, unsaid_params}

@@ -6,7 +6,7 @@ use Rattle.wasm_out.specs.WorkedBytes as out
 use Rattle.wasm_out.specs.Parts.{part}
 use Rattle.wasm_out.specs.Reads.{header, Reads}
 use Rattle.wast_tree_nodes.specs.WorkedModules.{Address, text, id_at, by_number, plain_type, plain_func, plain_export, func_field, row27}
-use Rattle.wast_expand_types.specs.WorkedExpansions.{func_at, row2, row8_with}
+use Rattle.wast_expand_keys.specs.WorkedExpansions.{func_at, row2, row8_with}
 use Rattle.wast_core.specs.Bounded.{IsBounded}
 use Rattle.wast_core.specs.Meaning.{meaning}
 use Rattle.wast_core.specs.Tree.{ModuleField}

@@ -17,7 +17,7 @@
 //!
 //! - [`deinline`]: expands inline parts. The rule is `WriteOut` of `wast_expand_inline`.
 //! - [`types`]: resolves type uses and appends types. The rules are `EligibleTypes` and
-//!   `ImpliedTypes` of `wast_expand_types`.
+//!   `ImpliedTypes` of `wast_expand_keys`.
 //! - [`Expander`], [`FuncKey`], [`TypeKey`], [`TypeReference`]: the map from signatures to types,
 //!   for callers with type uses of their own.
 //!
@@ -31,4 +31,5 @@
 #![tactic(auto)]
 
 pub use wast_expand_inline::deinline;
-pub use wast_expand_types::{Expander, FuncKey, TypeKey, TypeReference, expanded_laws, types};
+pub use wast_expand_keys::{Expander, FuncKey, TypeKey, TypeReference};
+pub use wast_expand_types::{expanded_laws, types};

@@ -2,7 +2,7 @@
 use Rattle.std.proofs.Common.{◌≡◌, ℕ, suc, ◌+◌, ◌≤◌, Bool, true, false, cond, ◌||◌, List, [], ◌∷◌, ◌++◌, map, length, length-append, append_assoc, append-nil, Option, Some, None, is_some, inl, inr, refl, sym, ap, ◌∙◌, subst, arith}
 use mathlib.Core.Path.{fun_ext}
 use Rattle.std.proofs.Math.Bool.{or_assoc}
-use Rattle.std.specs.Map.{lookup, keys_of}
+use Rattle.std.specs.Map.{keys_of}
 use Rattle.std.specs.Option.{option_or}
 use Rattle.std.proofs.lemmas.Map.Made.{is_some-lookup}
 use Rattle.std.proofs.lemmas.List.{map-append}
@@ -10,14 +10,15 @@ use Rattle.std.proofs.lemmas.List.Concat.{flat_map-append}
 use Rattle.wast_base.specs.declared.faults.Error.{Error}
 use Rattle.wast_base.specs.Spaces.{position_of}
 use Rattle.wast_expand_types.specs.Tree.{Index, ValType}
-use Rattle.wast_expand_types.specs.Signatures.{Signature, type_of_param, same_signature}
-use Rattle.wast_expand_types.specs.Numbers.{TypeNames, numbered_signature}
-use Rattle.wast_expand_types.specs.ImpliedTypes.{is_among, first_new}
+use Rattle.wast_expand_keys.specs.Signatures.{Signature, type_of_param, same_signature}
+use Rattle.wast_expand_keys.specs.Numbers.{TypeNames, numbered_signature}
+use Rattle.wast_expand_keys.specs.ImpliedTypes.{is_among, first_new}
 use Rattle.wast_base.specs.Filling.{RunsOut}
-use Rattle.wast_expand_types.specs.Expanders.{BoundSignatures, LookUp, index_of, with_more, numbers_in, found_in}
-use Rattle.wast_expand_types.specs.Expanded.{unnamed_param, implied_type, implied_types, bindings_in, bindings}
+use Rattle.wast_expand_keys.specs.Expanders.{BoundSignatures, LookUp, index_of, with_more, numbers_in, found_in}
+use Rattle.wast_expand_keys.specs.Expanded.{unnamed_param, implied_type, implied_types, bindings_in, bindings}
 use Rattle.wast_expand_types.specs.Binding.{new_signatures, new_types, new_bindings, next_after, AddsTypes}
 use Rattle.wast_expand_types.specs.declared.binder.Binder.{Binder}
+use Rattle.wast_expand_keys.proofs.Bound.{lookup-append, or_or}
 use Rattle.wast_expand_types.proofs.NumberedTypes.{new_numbered}
 
 pub less_runs_out : (m n : ℕ) (e : Error) → m ≤ n → RunsOut m e → RunsOut n e
@@ -25,18 +26,6 @@ less_runs_out m n e le (inl x) = inl x
 less_runs_out m n e le (inr r) = inr (r.0, omega (arith, r.1))
 
 -- additions after additions
-pub lookup-append : (test : Signature → Bool) (a b : BoundSignatures) → lookup test (a ++ b) ≡ option_or (lookup test a) (lookup test b)
-lookup-append test [] b = refl
-lookup-append test (e ∷ a) b = head_case (test e.0) e.1 (lookup test a) (lookup test b) (lookup test (a ++ b)) (lookup-append test a b)
-  where
-    head_case : (t : Bool) (i : Index) (o p both : Option Index) → both ≡ option_or o p → cond t (Some i) both ≡ option_or (cond t (Some i) o) p
-    head_case true i o p both h = refl
-    head_case false i o p both h = h
-
-pub or_or : (o p q : Option Index) → option_or (option_or o p) q ≡ option_or o (option_or p q)
-or_or None p q = refl
-or_or (Some i) p q = refl
-
 pub with_more_twice : (find : LookUp) (a b : BoundSignatures) (s : Signature) → with_more (with_more find a) b s ≡ with_more find (a ++ b) s
 with_more_twice find a b s = or_or (find s) (index_of a s) (index_of b s) ∙ ap (option_or (find s)) (sym (lookup-append (same_signature s) a b))
 

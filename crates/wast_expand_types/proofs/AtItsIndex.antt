@@ -6,14 +6,14 @@ use Rattle.wast_expand_types.specs.Tree.{Id, Index, ModuleField}
 use Rattle.wast_expand_types.specs.Tree.index
 use Rattle.wast_expand_types.specs.Tree.ty
 use Rattle.wast_expand_types.specs.Tree.field
-use Rattle.wast_expand_types.specs.Signatures.{Signature, same_signature}
-use Rattle.wast_expand_types.specs.Numbers.{TypeNames, type_names, numbered_signature}
-use Rattle.wast_expand_types.specs.EligibleTypes.{taken_by}
-use Rattle.wast_expand_types.specs.ImpliedTypes.{implied_signatures}
-use Rattle.wast_expand_types.specs.TypeSpace.{types_in, has_signature, type_ids, index_by_id, index_by_id_at}
+use Rattle.wast_expand_keys.specs.Signatures.{Signature, same_signature}
+use Rattle.wast_expand_keys.specs.Numbers.{TypeNames, type_names, numbered_signature}
+use Rattle.wast_expand_keys.specs.EligibleTypes.{taken_by}
+use Rattle.wast_expand_keys.specs.ImpliedTypes.{implied_signatures}
+use Rattle.wast_expand_keys.specs.TypeSpace.{types_in, has_signature, type_ids, index_by_id, index_by_id_at}
 use Rattle.wast_base.specs.Filling.{one_if, missing_id_count}
-use Rattle.wast_expand_types.specs.Expanders.{BoundSignatures, index_of}
-use Rattle.wast_expand_types.specs.Expanded.{lacks_id, fields_with_types, binding_of, bindings}
+use Rattle.wast_expand_keys.specs.Expanders.{BoundSignatures, index_of}
+use Rattle.wast_expand_keys.specs.Expanded.{lacks_id, fields_with_types, binding_of, bindings}
 use Rattle.wast_expand_types.specs.Laws.{TakesTheTypeAtItsIndex}
 use Rattle.wast_expand_types.proofs.AtRest.{types_typed, none_lacks_after}
 

@@ -4,13 +4,13 @@ use Rattle.std.specs.List.{flat_map}
 use Rattle.std.proofs.lemmas.List.Concat.{flat_map-append}
 use Rattle.wast_expand_types.specs.Tree.{ValType, ModuleField}
 use Rattle.wast_expand_types.specs.Tree.field
-use Rattle.wast_expand_types.specs.Signatures.{Signature}
-use Rattle.wast_expand_types.specs.Numbers.{TypeNames, type_names, numbered_signature}
-use Rattle.wast_expand_types.specs.ImpliedTypes.{eligible_signatures, is_among, first_new, implied_signatures}
-use Rattle.wast_expand_types.specs.TypeSpace.{types_in, type_space}
+use Rattle.wast_expand_keys.specs.Signatures.{Signature}
+use Rattle.wast_expand_keys.specs.Numbers.{TypeNames, type_names, numbered_signature}
+use Rattle.wast_expand_keys.specs.ImpliedTypes.{eligible_signatures, is_among, first_new, implied_signatures}
+use Rattle.wast_expand_keys.specs.TypeSpace.{types_in, type_space}
 use Rattle.wast_base.specs.Filling.{one_if, given_if, with_ids_from, missing_id_count}
-use Rattle.wast_expand_types.specs.Expanders.{LookUp}
-use Rattle.wast_expand_types.specs.Expanded.{lacks_id, with_type_id, implied_types, fields_with_types, found_for, bound_field, expanded_fields}
+use Rattle.wast_expand_keys.specs.Expanders.{LookUp}
+use Rattle.wast_expand_keys.specs.Expanded.{lacks_id, with_type_id, implied_types, fields_with_types, found_for, bound_field, expanded_fields}
 use Rattle.wast_expand_types.specs.Laws.{TypesAreTheSpace, StaysExpanded, WantsNoMore}
 use Rattle.wast_expand_types.proofs.Adding.{types_again}
 use Rattle.wast_expand_types.proofs.Staying.{fields_stay, fields_say, ty_stays, rec_stays}

@@ -10,18 +10,19 @@ use Rattle.wast_base.specs.Spaces.{position_of}
 use Rattle.wast_base.specs.Ids.{Name, gensym_id}
 use Rattle.wast_expand_types.specs.Tree.{Id, Index, ModuleField}
 use Rattle.wast_expand_types.specs.Tree.field
-use Rattle.wast_expand_types.specs.Signatures.{Signature, same_signature}
+use Rattle.wast_expand_keys.specs.Signatures.{Signature, same_signature}
 use Rattle.wast_tree_nodes.specs.Sites.{if_there, in_field, in_module}
-use Rattle.wast_expand_types.specs.NeedingUses.{needed_in, needed_signatures}
-use Rattle.wast_expand_types.specs.Numbers.{TypeNames, type_names, numbered_signature}
-use Rattle.wast_expand_types.specs.EligibleTypes.{taken_by}
-use Rattle.wast_expand_types.specs.ImpliedTypes.{eligible_in, eligible_signatures, is_among, first_new, implied_signatures}
+use Rattle.wast_expand_keys.specs.NeedingUses.{needed_in, needed_signatures}
+use Rattle.wast_expand_keys.specs.Numbers.{TypeNames, type_names, numbered_signature}
+use Rattle.wast_expand_keys.specs.EligibleTypes.{taken_by}
+use Rattle.wast_expand_keys.specs.ImpliedTypes.{eligible_in, eligible_signatures, is_among, first_new, implied_signatures}
 use Rattle.wast_base.specs.Filling.{one_if, given_if, with_ids_from, missing_id_count}
-use Rattle.wast_expand_types.specs.Expanders.{BoundSignatures, LookUp, Bound, numbers_in, index_of, with_more, found_in, Extends}
-use Rattle.wast_expand_types.specs.Expanded.{lacks_id, with_type_id, implied_types, binding_of, bindings_in, bindings, found_for, bound_field, expanded_fields, type_id_count}
+use Rattle.wast_expand_keys.specs.Expanders.{BoundSignatures, LookUp, Bound, numbers_in, index_of, with_more, found_in, Extends}
+use Rattle.wast_expand_keys.specs.Expanded.{lacks_id, with_type_id, implied_types, binding_of, bindings_in, bindings, found_for, bound_field, expanded_fields, type_id_count}
 use Rattle.wast_expand_types.specs.Binding.{new_signatures, new_types, new_bindings, next_after, AddsTypes}
 use Rattle.wast_expand_types.specs.declared.binder.Binder.{Binder}
-use Rattle.wast_expand_types.proofs.Adding.{lookup-append, with_more_twice, adds_as, more_then}
+use Rattle.wast_expand_keys.proofs.Bound.{lookup-append}
+use Rattle.wast_expand_types.proofs.Adding.{with_more_twice, adds_as, more_then}
 use Rattle.wast_expand_types.proofs.Needing.{needed_both, needed_each, ty_none, made_type}
 use Rattle.wast_expand_types.proofs.Staying.{ty_stays}
 

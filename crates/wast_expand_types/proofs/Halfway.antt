@@ -6,9 +6,9 @@ use Rattle.std.specs.Prelude.{flat_map}
 use Rattle.std.proofs.lemmas.List.{append-nil, drop-drop, drop-set-lt, set-get_or, take_more_set, take-append-drop, take_all, map-append}
 use Rattle.std.proofs.lemmas.Grind.{flat_map-append}
 use Rattle.wast_base.specs.declared.faults.Error.{Error}
-use Rattle.wast_expand_types.specs.Signatures.{Signature}
+use Rattle.wast_expand_keys.specs.Signatures.{Signature}
 use Rattle.wast_base.specs.Filling.{RunsOut}
-use Rattle.wast_expand_types.specs.Expanders.{BoundSignatures, LookUp, found_in}
+use Rattle.wast_expand_keys.specs.Expanders.{BoundSignatures, LookUp, found_in}
 use Rattle.wast_expand_types.specs.Binding.{new_bindings, next_after, AddsTypes}
 use Rattle.wast_expand_types.specs.declared.binder.Binder.{Binder}
 use Rattle.wast_expand_types.proofs.Adding.{less_runs_out, adds_none, adds_both, count_then, more_then, first_after}

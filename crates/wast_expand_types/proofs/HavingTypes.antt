@@ -7,16 +7,17 @@ use Rattle.std.proofs.lemmas.List.Concat.{flat_map-append}
 use Rattle.std.proofs.lemmas.List.Folds.{list_all-map}
 use Rattle.wast_tree_nodes.specs.Sites.{in_field, in_module}
 use Rattle.wast_expand_types.specs.Tree.{ModuleField}
-use Rattle.wast_expand_types.specs.Signatures.{Signature, same_signature}
-use Rattle.wast_expand_types.specs.SignatureLaws.{signatures_equiv}
-use Rattle.wast_expand_types.specs.NeedingUses.{needed_in, needed_signatures}
-use Rattle.wast_expand_types.specs.Numbers.{TypeNames, type_names, numbered_signature}
-use Rattle.wast_expand_types.specs.ImpliedTypes.{eligible_signatures, needed_numbers, is_among, first_new, implied_signatures, are_distinct}
+use Rattle.wast_expand_keys.specs.Signatures.{Signature, same_signature}
+use Rattle.wast_expand_keys.specs.SignatureLaws.{signatures_equiv}
+use Rattle.wast_expand_keys.specs.NeedingUses.{needed_in, needed_signatures}
+use Rattle.wast_expand_keys.specs.Numbers.{TypeNames, type_names, numbered_signature}
+use Rattle.wast_expand_keys.specs.ImpliedTypes.{eligible_signatures, needed_numbers, is_among, first_new, implied_signatures, are_distinct}
 use Rattle.wast_base.specs.Filling.{with_ids_from, missing_id_count}
-use Rattle.wast_expand_types.specs.Expanders.{index_of}
-use Rattle.wast_expand_types.specs.Expanded.{lacks_id, with_type_id, implied_type, implied_types, fields_with_types, bindings_in, bindings, found_for}
+use Rattle.wast_expand_keys.specs.Expanders.{index_of}
+use Rattle.wast_expand_keys.specs.Expanded.{lacks_id, with_type_id, implied_type, implied_types, fields_with_types, bindings_in, bindings, found_for}
 use Rattle.wast_expand_types.specs.Laws.{UsesAreBound, ImpliedAreNew, ImpliedAreDistinct}
-use Rattle.wast_expand_types.proofs.Adding.{lookup-append, known_after}
+use Rattle.wast_expand_keys.proofs.Bound.{lookup-append}
+use Rattle.wast_expand_types.proofs.Adding.{known_after}
 use Rattle.wast_expand_types.proofs.Needing.{needed_both, ty_none, made_type}
 use Rattle.wast_expand_types.proofs.Staying.{fields_bound}
 use Rattle.wast_expand_types.proofs.Expanding.{needed_filled, eligible_known}

@@ -11,10 +11,10 @@ use Rattle.wast_expand_types.specs.Tree.payload
 use Rattle.wast_tree_map.specs.Mapped.{mapped_constant, mapped_payload, mapped_table_kind, mapped_global_kind, mapped_global, mapped_elem_kind}
 use Rattle.wast_tree_map.proofs.Ways.{index_in, option_at, list_at}
 use Rattle.wast_tree_map.proofs.Types.{ref_at, table_type_at, global_type_at}
-use Rattle.wast_expand_types.specs.Signatures.{Signature}
-use Rattle.wast_expand_types.specs.NeedingUses.{needed_in}
-use Rattle.wast_expand_types.specs.Expanders.{LookUp}
-use Rattle.wast_expand_types.specs.Expanded.{binding_change}
+use Rattle.wast_expand_keys.specs.Signatures.{Signature}
+use Rattle.wast_expand_keys.specs.NeedingUses.{needed_in}
+use Rattle.wast_expand_keys.specs.Expanders.{LookUp}
+use Rattle.wast_expand_keys.specs.Expanded.{binding_change}
 use Rattle.wast_expand_types.proofs.Needing.{needed_both, needed_each, each_none, needed_asking}
 
 -- what a constant expression needs

@@ -4,11 +4,11 @@ use Rattle.std.proofs.lemmas.List.Folds.{list_all-append}
 use Rattle.wast_tree_nodes.specs.WrittenOut.{is_written_field, is_written_out}
 use Rattle.wast_expand_types.specs.Tree.{ModuleField}
 use Rattle.wast_expand_types.specs.Tree.field
-use Rattle.wast_expand_types.specs.Signatures.{Signature}
-use Rattle.wast_expand_types.specs.ImpliedTypes.{implied_signatures}
+use Rattle.wast_expand_keys.specs.Signatures.{Signature}
+use Rattle.wast_expand_keys.specs.ImpliedTypes.{implied_signatures}
 use Rattle.wast_base.specs.Filling.{one_if, given_if, with_ids_from, missing_id_count}
 use Rattle.wast_tree_map.proofs.Alone.{written_alone}
-use Rattle.wast_expand_types.specs.Expanded.{lacks_id, with_type_id, implied_types, fields_with_types, found_for, binding_change}
+use Rattle.wast_expand_keys.specs.Expanded.{lacks_id, with_type_id, implied_types, fields_with_types, found_for, binding_change}
 use Rattle.wast_expand_types.specs.Laws.{StaysWrittenOut}
 
 written_given : (b : Bool) (n : ℕ) (x : ModuleField) → is_written_field (given_if b with_type_id n x) ≡ is_written_field x

@@ -4,9 +4,7 @@ pub mod TypeItems
 pub mod Naming
 pub mod InConstants
 pub mod Staying
-pub mod Bound
 pub mod Adding
-pub mod Placed
 pub mod OneMore
 pub mod Halfway
 pub mod Expanding
@@ -15,4 +13,3 @@ pub mod InPlace
 pub mod AtRest
 pub mod AtItsIndex
 pub mod Positions
-pub mod Worked

@@ -10,7 +10,7 @@ use Rattle.wast_tree_nodes.specs.Items.{items_in, items}
 use Rattle.wast_tree_nodes.specs.Known.{name_in, names_in}
 use Rattle.wast_expand_types.specs.Tree.{ModuleField}
 use Rattle.wast_expand_types.specs.Tree.space
-use Rattle.wast_expand_types.specs.Expanded.{lacks_id, with_type_id}
+use Rattle.wast_expand_keys.specs.Expanded.{lacks_id, with_type_id}
 use Rattle.wast_expand_types.specs.TypeItems.{StopsNaming}
 use Rattle.wast_expand_types.proofs.Adding.{less_runs_out}
 use Rattle.wast_expand_types.proofs.TypeItems.{in_fields}

@@ -20,10 +20,10 @@ use Rattle.wast_expand_types.specs.Tree.field
 use Rattle.wast_tree_map.specs.Mapped.{mapped_select, mapped_catch, mapped_instr, mapped_instrs, mapped_expression, mapped_constant, mapped_local, mapped_func_kind, mapped_handle, mapped_handlers}
 use Rattle.wast_tree_map.proofs.Types.{val_at}
 use Rattle.wast_tree_map.proofs.Fields.{select_at, caught_at}
-use Rattle.wast_expand_types.specs.Signatures.{Signature, signature_of}
-use Rattle.wast_expand_types.specs.NeedingUses.{needed_at, needed_in}
-use Rattle.wast_expand_types.specs.Expanders.{LookUp}
-use Rattle.wast_expand_types.specs.Expanded.{def_of, start_of_text, bound_if, bound_use, binding_change}
+use Rattle.wast_expand_keys.specs.Signatures.{Signature, signature_of}
+use Rattle.wast_expand_keys.specs.NeedingUses.{needed_at, needed_in}
+use Rattle.wast_expand_keys.specs.Expanders.{LookUp}
+use Rattle.wast_expand_keys.specs.Expanded.{def_of, start_of_text, bound_if, bound_use, binding_change}
 use Rattle.wast_expand_types.specs.Binding.{no_use, wants_type}
 
 -- The signatures that consecutive parts need, and those of a list.

@@ -1,17 +1,14 @@
 -- Proves ImpliedAreNumbered: replacing ids by numbers twice is the same as once, so it leaves appended types unchanged.
-use Rattle.std.proofs.Common.{◌≡◌, Bool, true, false, cond, ◌||◌, List, [], ◌∷◌, map, None, refl, ap}
-use Rattle.wast_base.specs.Ids.{Name, name_of}
-use Rattle.wast_base.specs.Denoted.{numbered_by, resolved_index}
+use Rattle.std.proofs.Common.{◌≡◌, Bool, true, false, cond, ◌||◌, List, [], ◌∷◌, map, refl}
 use Rattle.wast_base.proofs.Numbered.{resolved_twice}
 use Rattle.wast_tree_map.proofs.Ways.{list_at}
 use Rattle.wast_tree_map.proofs.Types.{val_at}
-use Rattle.wast_tree_map.proofs.Joined.{indices_join, indices_stay}
-use Rattle.wast_expand_types.specs.Tree.{Id, Index, ValType, FunctionType}
-use Rattle.wast_expand_types.specs.Tree.index
-use Rattle.wast_expand_types.specs.Signatures.{Signature, type_of_param, signature_of, same_signature}
-use Rattle.wast_expand_types.specs.NeedingUses.{needed_signatures}
-use Rattle.wast_expand_types.specs.Numbers.{TypeNames, type_names, in_numbers, numbered_val, numbered_signature}
-use Rattle.wast_expand_types.specs.ImpliedTypes.{eligible_signatures, is_among, first_new}
+use Rattle.wast_tree_map.proofs.Joined.{indices_join}
+use Rattle.wast_expand_types.specs.Tree.{ValType}
+use Rattle.wast_expand_keys.specs.Signatures.{Signature, same_signature}
+use Rattle.wast_expand_keys.specs.NeedingUses.{needed_signatures}
+use Rattle.wast_expand_keys.specs.Numbers.{TypeNames, type_names, in_numbers, numbered_val, numbered_signature}
+use Rattle.wast_expand_keys.specs.ImpliedTypes.{eligible_signatures, is_among, first_new}
 use Rattle.wast_expand_types.specs.Laws.{ImpliedAreNumbered}
 
 module _ (k : TypeNames) where
@@ -29,18 +26,6 @@ module _ (k : TypeNames) where
           → map (numbered_signature k) (cond b xs (numbered_signature k s ∷ ys)) ≡ cond b xs (numbered_signature k s ∷ ys)
       by true p q = p
       by false p q = λ i. twice s i ∷ q i
-
--- If no type has an id, signatures are unchanged.
-module _ (k : TypeNames) (none : (q : Name) → k q ≡ None) where
-  index_stays : (i : Index) → resolved_index k i ≡ i
-  index_stays (index.Num n p) = refl
-  index_stays (index.Id id) = ap (λ o. numbered_by o id) (none (name_of id))
-
-  values_stay : (ts : List ValType) → map (numbered_val k) ts ≡ ts
-  values_stay ts = indices_stay (in_numbers k) (λ s i. index_stays i) ts (list_at val_at ts)
-
-  pub stays_as_written : (t : FunctionType) → numbered_signature k (signature_of t) ≡ signature_of t
-  stays_as_written t = λ i. (values_stay (map type_of_param t.params) i, values_stay t.results i)
 
 pub implied_are_numbered : ImpliedAreNumbered
 implied_are_numbered fields = new_numbered (type_names fields) (is_among (eligible_signatures fields)) (needed_signatures fields)

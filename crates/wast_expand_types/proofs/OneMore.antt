@@ -4,11 +4,11 @@ use Rattle.std.specs.Option.{option_or}
 use Rattle.wast_base.specs.Ids.{gensym_id}
 use Rattle.wast_expand_types.specs.Tree.{Index, ValType}
 use Rattle.wast_expand_types.specs.Tree.index
-use Rattle.wast_expand_types.specs.Signatures.{Signature, same_signature}
-use Rattle.wast_expand_types.specs.SignatureLaws.{signatures_equiv}
-use Rattle.wast_expand_types.specs.Numbers.{TypeNames, numbered_signature}
-use Rattle.wast_expand_types.specs.Expanders.{BoundSignatures, numbers_in, index_of, with_more, Extends}
-use Rattle.wast_expand_types.specs.Expanded.{start_of_text, implied_type, implied_types, bindings}
+use Rattle.wast_expand_keys.specs.Signatures.{Signature, same_signature}
+use Rattle.wast_expand_keys.specs.SignatureLaws.{signatures_equiv}
+use Rattle.wast_expand_keys.specs.Numbers.{TypeNames, numbered_signature}
+use Rattle.wast_expand_keys.specs.Expanders.{BoundSignatures, numbers_in, index_of, with_more, Extends}
+use Rattle.wast_expand_keys.specs.Expanded.{start_of_text, implied_type, implied_types, bindings}
 use Rattle.wast_expand_types.specs.Binding.{new_signatures, AddsTypes}
 use Rattle.wast_expand_types.specs.declared.binder.Binder.{Binder}
 use Rattle.wast_expand_types.proofs.Adding.{types_again}

@@ -7,14 +7,14 @@ use Rattle.wast_expand_types.specs.Tree.{Id, ModuleField}
 use Rattle.wast_expand_types.specs.Tree.index
 use Rattle.wast_expand_types.specs.Tree.ty
 use Rattle.wast_expand_types.specs.Tree.field
-use Rattle.wast_expand_types.specs.Signatures.{Signature, same_signature}
-use Rattle.wast_expand_types.specs.Numbers.{TypeNames, type_names, numbered_signature}
-use Rattle.wast_expand_types.specs.EligibleTypes.{taken_by}
-use Rattle.wast_expand_types.specs.ImpliedTypes.{implied_signatures}
-use Rattle.wast_expand_types.specs.TypeSpace.{types_in, has_signature, type_space, index_for}
+use Rattle.wast_expand_keys.specs.Signatures.{Signature, same_signature}
+use Rattle.wast_expand_keys.specs.Numbers.{TypeNames, type_names, numbered_signature}
+use Rattle.wast_expand_keys.specs.EligibleTypes.{taken_by}
+use Rattle.wast_expand_keys.specs.ImpliedTypes.{implied_signatures}
+use Rattle.wast_expand_keys.specs.TypeSpace.{types_in, has_signature, type_space, index_for}
 use Rattle.wast_base.specs.Filling.{one_if, missing_id_count}
-use Rattle.wast_expand_types.specs.Expanders.{BoundSignatures, index_of}
-use Rattle.wast_expand_types.specs.Expanded.{lacks_id, fields_with_types, binding_of, bindings, found_for}
+use Rattle.wast_expand_keys.specs.Expanders.{BoundSignatures, index_of}
+use Rattle.wast_expand_keys.specs.Expanded.{lacks_id, fields_with_types, binding_of, bindings, found_for}
 use Rattle.wast_expand_types.proofs.AtRest.{types_typed, none_lacks_after}
 
 found : {A : Type 0} (p : A → Bool) (xs : List A) → is_some (position p xs) ≡ list_any p xs

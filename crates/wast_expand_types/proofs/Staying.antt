@@ -13,10 +13,10 @@ use Rattle.wast_tree_map.specs.Mapped.{no_change, mapped_site, KeepsMarks, Joins
 use Rattle.wast_tree_map.proofs.Laws.{stands, still, same_keeps, alike}
 use Rattle.wast_tree_map.proofs.Kept.{joins_at}
 use Rattle.wast_tree_map.proofs.Fields.{field_at}
-use Rattle.wast_expand_types.specs.Signatures.{Signature, signature_of}
-use Rattle.wast_expand_types.specs.NeedingUses.{inline_signature, needs_type, needed_if, needed_without, needed_at, needed_in, needed_signatures}
-use Rattle.wast_expand_types.specs.Expanders.{LookUp}
-use Rattle.wast_expand_types.specs.Expanded.{bound_if, bound_index, bound_inline, binding_change, bound_field}
+use Rattle.wast_expand_keys.specs.Signatures.{Signature, signature_of}
+use Rattle.wast_expand_keys.specs.NeedingUses.{inline_signature, needs_type, needed_if, needed_without, needed_at, needed_in, needed_signatures}
+use Rattle.wast_expand_keys.specs.Expanders.{LookUp}
+use Rattle.wast_expand_keys.specs.Expanded.{bound_if, bound_index, bound_inline, binding_change, bound_field}
 use Rattle.wast_expand_types.proofs.Needing.{ty_none, rec_none}
 
 pub left_none : {A : Type 0} (xs ys : List A) → xs ++ ys ≡ [] → xs ≡ []

@@ -14,7 +14,7 @@ use Rattle.wast_expand_types.specs.Tree.space
 use Rattle.wast_expand_types.specs.Tree.kind
 use Rattle.wast_expand_types.specs.Tree.import_items
 use Rattle.wast_expand_types.specs.Tree.field
-use Rattle.wast_expand_types.specs.TypeSpace.{ids_in, type_ids}
+use Rattle.wast_expand_keys.specs.TypeSpace.{ids_in, type_ids}
 use Rattle.wast_expand_types.specs.TypeItems.{StopsGathering}
 
 -- the names of the types, by their ids

@@ -5,13 +5,13 @@
 use Rattle.std.specs.Prelude.{◌≡◌, ℕ, ◌+◌, is_some, Bool, false, List, [], ◌++◌, map, length, Option, Some, None}
 use Rattle.wast_expand_types.specs.Tree.{Index, FunctionType, TypeUse, Instruction, ModuleField}
 use Rattle.wast_expand_types.specs.declared.binder.Binder.{Binder}
-use Rattle.wast_expand_types.specs.Signatures.{Signature}
+use Rattle.wast_expand_keys.specs.Signatures.{Signature}
 use Rattle.wast_tree_nodes.specs.Sites.{OfBlock, constant_context, in_instr}
-use Rattle.wast_expand_types.specs.NeedingUses.{needs_type, needed_in}
-use Rattle.wast_expand_types.specs.Numbers.{numbered_signature}
-use Rattle.wast_expand_types.specs.ImpliedTypes.{first_new}
-use Rattle.wast_expand_types.specs.Expanders.{BoundSignatures, Bound, LookUp, numbers_in, index_of, Extends}
-use Rattle.wast_expand_types.specs.Expanded.{binding_change, implied_types, bindings}
+use Rattle.wast_expand_keys.specs.NeedingUses.{needs_type, needed_in}
+use Rattle.wast_expand_keys.specs.Numbers.{numbered_signature}
+use Rattle.wast_expand_keys.specs.ImpliedTypes.{first_new}
+use Rattle.wast_expand_keys.specs.Expanders.{BoundSignatures, Bound, LookUp, numbers_in, index_of, Extends}
+use Rattle.wast_expand_keys.specs.Expanded.{binding_change, implied_types, bindings}
 use Rattle.wast_tree_map.specs.Mapped.{mapped_instr}
 
 -- a type use without index and inline type

@@ -6,12 +6,12 @@ use Rattle.std.specs.Prelude.{◌≡◌, ℕ, false, List, [], map, flat_map, Is
 use Rattle.std.specs.List.{list_any}
 use Rattle.wast_tree_nodes.specs.WrittenOut.{is_written_out}
 use Rattle.wast_expand_types.specs.Tree.{ModuleField}
-use Rattle.wast_expand_types.specs.Signatures.{Signature}
-use Rattle.wast_expand_types.specs.NeedingUses.{needed_signatures}
-use Rattle.wast_expand_types.specs.Numbers.{type_names, numbered_signature}
-use Rattle.wast_expand_types.specs.ImpliedTypes.{eligible_signatures, is_among, implied_signatures, are_distinct}
-use Rattle.wast_expand_types.specs.TypeSpace.{types_in, type_space, index_for, type_ids, index_by_id_at}
-use Rattle.wast_expand_types.specs.Expanded.{fields_with_types, found_for, expanded_fields, type_id_count}
+use Rattle.wast_expand_keys.specs.Signatures.{Signature}
+use Rattle.wast_expand_keys.specs.NeedingUses.{needed_signatures}
+use Rattle.wast_expand_keys.specs.Numbers.{type_names, numbered_signature}
+use Rattle.wast_expand_keys.specs.ImpliedTypes.{eligible_signatures, is_among, implied_signatures, are_distinct}
+use Rattle.wast_expand_keys.specs.TypeSpace.{types_in, type_space, index_for, type_ids, index_by_id_at}
+use Rattle.wast_expand_keys.specs.Expanded.{fields_with_types, found_for, expanded_fields, type_id_count}
 
 -- Each type use that needs a type has an index.
 abbrev pub UsesAreBound : Type 0

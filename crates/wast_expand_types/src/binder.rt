@@ -5,16 +5,15 @@ ghost use Rattle.wast_base.specs.Faults.{out_of_memory};
 ghost use Rattle.wast_base.specs.Filling.{RunsOut};
 ghost use Rattle.wast_base.specs.Ids.{gensym_id};
 ghost use Rattle.wast_expand_types.specs.Tree.index;
-ghost use Rattle.wast_expand_types.specs.Numbers.{numbered_signature};
-ghost use Rattle.wast_expand_types.specs.NeedingUses.{inline_signature};
-ghost use Rattle.wast_expand_types.specs.Expanders.{numbers_in, index_of, Extends};
-ghost use Rattle.wast_expand_types.specs.Expanded.{start_of_text, implied_type};
+ghost use Rattle.wast_expand_keys.specs.Numbers.{numbered_signature};
+ghost use Rattle.wast_expand_keys.specs.NeedingUses.{inline_signature};
+ghost use Rattle.wast_expand_keys.specs.Expanders.{numbers_in, index_of, Extends};
+ghost use Rattle.wast_expand_keys.specs.Expanded.{start_of_text, implied_type};
 ghost use Rattle.wast_expand_types.specs.Binding.{next_after, AddsTypes};
 
-use crate::expanders::Expander;
-use crate::keys::{FuncKey, TypeKey, key_in};
 use std::alloc::Global;
 use wast_base::{Error, Gensym, Index, Seq, Span};
+use wast_expand_keys::{Expander, FuncKey, TypeKey, key_in, put_key};
 use wast_tree_nodes::{FunctionType, ModuleField, Type, push_field};
 
 /// The state of the pass, apart from the tree.
@@ -41,7 +40,7 @@ impl<'a> Binder<'a> {
         ensures counter_grows { self.old.gensym ≤ self.new.gensym }
     {
         let key = inline_key(self.alloc, inline, &mut self.cx)?;
-        match self.cx.get(&key) {
+        match key.lookup(&self.cx) {
             Some(index) => Ok(index),
             None => {
                 let index = self.add_type(key)?;
@@ -68,7 +67,7 @@ impl<'a> Binder<'a> {
             &mut self.implied,
             ModuleField::Ty(Type::new(span, Some(id), def)),
         )?;
-        self.cx.put(key, Index::Id(id))?;
+        put_key(&mut self.cx, key, Index::Id(id))?;
         Ok(Index::Id(id))
     }
 }

@@ -2,20 +2,20 @@
 
 ghost use Rattle.std.specs.Prelude.{◌≡◌, ◌≤◌, [], Some, List, map, flat_map, IfOk, IfErr, IsTrue, OnOk};
 ghost use Rattle.wast_expand_types.specs.Tree.index;
-ghost use Rattle.wast_expand_types.specs.Signatures.{Signature};
+ghost use Rattle.wast_expand_keys.specs.Signatures.{Signature};
 ghost use Rattle.wast_tree_nodes.specs.Sites.{OfItem, OfBlock, constant_context, in_block, in_try_table, in_instr, in_indirect, in_constant, in_func_kind, in_use, in_func, in_tag_type, in_item_kind, in_sig, in_import, in_field};
 ghost use Rattle.wast_tree_nodes.specs.Types.{is_short};
 ghost use Rattle.wast_tree_map.specs.Mapped.{mapped_block, mapped_try_table, mapped_indirect, mapped_instr, mapped_constant, mapped_func_kind, mapped_func, mapped_tag_type, mapped_item_kind, mapped_sig, mapped_import_items, mapped_import, mapped_tag};
-ghost use Rattle.wast_expand_types.specs.NeedingUses.{needed_in};
+ghost use Rattle.wast_expand_keys.specs.NeedingUses.{needed_in};
 ghost use Rattle.wast_base.specs.Filling.{RunsOut};
-ghost use Rattle.wast_expand_types.specs.Expanders.{BoundSignatures, LookUp, found_in};
-ghost use Rattle.wast_expand_types.specs.Expanded.{bound_inline, bound_use, binding_change, bound_field};
+ghost use Rattle.wast_expand_keys.specs.Expanders.{BoundSignatures, LookUp, found_in};
+ghost use Rattle.wast_expand_keys.specs.Expanded.{bound_inline, bound_use, binding_change, bound_field};
 ghost use Rattle.wast_expand_types.specs.Binding.{no_use, wants_type, next_after, AddsTypes, IsPassed};
 
 use crate::binder::Binder;
-use crate::keys::TypeReference;
 use std::alloc::Global;
 use wast_base::{Error, Seq};
+use wast_expand_keys::TypeReference;
 use wast_tree_nodes::{
     BlockType, CallIndirect, Expression, Func, FuncKind, FunctionType, ImportItems, Imports,
     Instruction, ItemKind, ItemSig, ModuleField, Tag, TagType, TryTable, TypeUse,

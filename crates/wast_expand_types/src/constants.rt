@@ -3,8 +3,8 @@
 ghost use Rattle.std.specs.Prelude.{option_map};
 ghost use Rattle.wast_tree_nodes.specs.Sites.{if_there, in_constant, in_table_kind, in_global, in_global_kind, in_elem, in_elem_kind, in_payload, in_data_kind};
 ghost use Rattle.wast_tree_map.specs.Mapped.{mapped_constant, mapped_table, mapped_table_kind, mapped_global, mapped_global_kind, mapped_elem, mapped_elem_kind, mapped_payload, mapped_data, mapped_data_kind};
-ghost use Rattle.wast_expand_types.specs.NeedingUses.{needed_in};
-ghost use Rattle.wast_expand_types.specs.Expanded.{binding_change};
+ghost use Rattle.wast_expand_keys.specs.NeedingUses.{needed_in};
+ghost use Rattle.wast_expand_keys.specs.Expanded.{binding_change};
 
 use crate::binder::Binder;
 use crate::binding::{Bind, bind_each};

@@ -6,19 +6,18 @@ ghost use Rattle.wast_base.specs.Filling.{one_if, given_if, with_ids_from, missi
 ghost use Rattle.wast_tree_nodes.specs.Items.{items, items_in};
 ghost use Rattle.wast_tree_nodes.specs.Known.{names_in};
 ghost use Rattle.wast_expand_types.specs.Tree.space;
-ghost use Rattle.wast_expand_types.specs.EligibleTypes.{is_eligible, taken_by};
-ghost use Rattle.wast_expand_types.specs.Expanders.{numbers_in, Extends};
+ghost use Rattle.wast_expand_keys.specs.EligibleTypes.{is_eligible, taken_by};
+ghost use Rattle.wast_expand_keys.specs.Expanders.{numbers_in, Extends};
 ghost use Rattle.wast_expand_types.specs.TypeItems.{StopsNaming};
-ghost use Rattle.wast_expand_types.specs.Expanded.{lacks_id, with_type_id, binding_of, bindings_in, bindings, expanded_fields, type_id_count, StopsExpanding};
+ghost use Rattle.wast_expand_keys.specs.Expanded.{lacks_id, with_type_id, binding_of, bindings_in, bindings, expanded_fields, type_id_count, StopsExpanding};
 
 use crate::binder::Binder;
 use crate::binding::bind_each;
-use crate::expanders::Expander;
-use crate::keys::key_in;
 use crate::type_names::gather_field;
 use std::alloc::Global;
 use std::mem;
 use wast_base::{Error, Gensym, Id, Index, Seq};
+use wast_expand_keys::{Expander, key_in, put_key, with_names};
 use wast_resolve_namespace::NamespaceBuilder;
 use wast_tree_nodes::{
     InnerTypeKind, ModuleField, TypeDef, discard_fields, push_field, take_field,
@@ -106,7 +105,7 @@ fn expand_fields<'a>(
 {
     let mut names = NamespaceBuilder::none(alloc);
     name_types(fields, gensym, &mut names)?;
-    let mut cx = Expander::with_names(alloc, names);
+    let mut cx = with_names(alloc, names);
     bind_types(fields.as_slice(), &mut cx)?;
     let mut binder = Binder {
         alloc,
@@ -217,7 +216,7 @@ fn bind_def<'a>(
     match (&def.kind, id) {
         (InnerTypeKind::Func(ty), Some(id)) => {
             let key = key_in(ty, cx)?;
-            cx.put(key, Index::Id(id))?;
+            put_key(cx, key, Index::Id(id))?;
             Ok(())
         }
         (InnerTypeKind::Func(_), None) => Ok(()),

@@ -12,15 +12,11 @@
 //! # Modules
 //!
 //! - `types`: the public name of the pass, `expand`.
-//! - `expansion`: the pass. The rule is `expanded_fields` of `specs/Expanded.antt`. The rule for
-//!   eligible types is in `specs/EligibleTypes.antt`.
+//! - `expansion`: the pass. The rule is `expanded_fields`, and the rule for eligible types
+//!   `is_eligible`: both are definitions of `wast_expand_keys`.
 //! - `binding`, `constants`: one `impl` of `Bind` for each part of the tree. `binder`: the state
-//!   that they share.
-//! - `keys`: [`FuncKey`], and the traits [`TypeReference`] and [`TypeKey`]. `same_signature` of
-//!   `specs/Signatures.antt` is the rule for equal signatures.
-//! - `expanders`: [`Expander`], the map from signatures to types. `type_names`: the ids of the
-//!   source's types.
-//! - `laws`: theorems about the result. `examples`: example modules that the definitions compute.
+//!   that they share. `type_names`: the ids of the source's types.
+//! - `laws`: theorems about the result.
 //!
 //! # Guarantees
 //!
@@ -34,15 +30,10 @@
 mod binder;
 mod binding;
 mod constants;
-mod examples;
-mod expanders;
 mod expansion;
-mod keys;
 mod laws;
 mod type_names;
 
-pub use expanders::Expander;
-pub use keys::{FuncKey, TypeKey, TypeReference};
 pub use laws::expanded_laws;
 
 /// The pass over the fields of a module.

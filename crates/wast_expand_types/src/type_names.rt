@@ -1,4 +1,4 @@
-//! The ids of the source's types, and which function types refer to a type by id.
+//! The ids of the source's types.
 
 ghost use Rattle.std.specs.Prelude.{◌≡◌, ◌++◌, ◌∷◌, [], flat_map, IfErr, OnOk};
 ghost use Rattle.wast_base.specs.Ids.{mark_of_option};
@@ -8,9 +8,9 @@ ghost use Rattle.wast_tree_nodes.specs.Known.{names_in};
 ghost use Rattle.wast_expand_types.specs.Tree.space;
 ghost use Rattle.wast_expand_types.specs.TypeItems.{StopsGathering};
 
-use wast_base::{Error, Fault, Id, Index};
+use wast_base::{Error, Fault, Id};
 use wast_resolve_namespace::NamespaceBuilder;
-use wast_tree_nodes::{FunctionType, HeapType, ModuleField, Type, ValType};
+use wast_tree_nodes::{ModuleField, Type};
 
 /// Appends the ids of the types in a field.
 pub(crate) fn gather_field<'a>(
@@ -60,30 +60,4 @@ fn gather_type<'a>(
     }
     gathering.add(id)?;
     Ok(())
-}
-
-/// Returns whether a function type refers to a type by id.
-pub(crate) fn names_a_type<'a>(ty: &FunctionType<'a>) -> bool {
-    for param in ty.params.as_slice() {
-        if is_by_id(&param.2) {
-            return true;
-        }
-    }
-    for value in ty.results.as_slice() {
-        if is_by_id(value) {
-            return true;
-        }
-    }
-    false
-}
-
-/// Returns whether a value type refers to a type by id.
-fn is_by_id<'a>(ty: &ValType<'a>) -> bool {
-    match ty {
-        ValType::Ref(ty) => matches!(
-            ty.heap,
-            HeapType::Concrete(Index::Id(_)) | HeapType::Exact(Index::Id(_))
-        ),
-        _ => false,
-    }
 }

@@ -10,8 +10,8 @@ use Rattle.wast_tree_nodes.proofs.Bearing.{borne_among}
 use Rattle.wast_expand_inline.specs.Written.{with_referred_ids, desugared_from, reference_id_count}
 use Rattle.wast_expand_inline.proofs.BothPass.{either_stays}
 use Rattle.wast_expand_inline.proofs.WrittenItems.{same_of_items, any_referable}
-use Rattle.wast_expand_types.specs.Completed.{fields_with_implied_types}
-use Rattle.wast_expand_types.specs.Expanded.{expanded_fields}
+use Rattle.wast_expand_keys.specs.Completed.{fields_with_implied_types}
+use Rattle.wast_expand_keys.specs.Expanded.{expanded_fields}
 use Rattle.wast_resolve_rules.specs.Explicit.{explicit_fields_from}
 use Rattle.wast_resolve_laws.proofs.Changes.{Change, Kept, Given, olds, news}
 use Rattle.wast_resolve_laws.proofs.ExpandedItems.{changes, old_items, new_items}

@@ -14,7 +14,7 @@ use Rattle.wast_tree_nodes.specs.Known.{id_context}
 use Rattle.wast_tree_nodes.specs.Types.{types_of}
 use Rattle.wast_tree_nodes.specs.Sites.{Check, ItemIndex, InnerIndex, Covered, Site, Asked, Used, LocalAt, FieldAt, if_there, in_index, in_signature, in_inner, in_descriptor, in_type, in_rec, in_type_use, in_func_kind, asked_in, in_field, in_module, checks_of}
 use Rattle.wast_tree_nodes.proofs.Asking.{asked_both, asked_asking}
-use Rattle.wast_expand_types.specs.Signatures.{signature_of}
+use Rattle.wast_expand_keys.specs.Signatures.{signature_of}
 use Rattle.wast_resolve_laws.specs.Tree.{Index, Space, FunctionType, InnerTypeKind, ModuleField}
 use Rattle.wast_resolve_laws.specs.Tree.index
 use Rattle.wast_resolve_laws.specs.Tree.space

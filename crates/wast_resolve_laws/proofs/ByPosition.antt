@@ -11,13 +11,13 @@ use Rattle.wast_tree_nodes.specs.Sites.{Check, ItemIndex, InnerIndex, PlainId, C
 use Rattle.wast_tree_nodes.specs.Generations.{generation_in, greatest_asked, greatest_generation}
 use Rattle.wast_tree_map.specs.Mapped.{mapped_field, mapped_def}
 use Rattle.wast_tree_map.specs.Laws.{all_mapped}
-use Rattle.wast_expand_types.specs.Signatures.{Signature}
-use Rattle.wast_expand_types.specs.ImpliedTypes.{implied_signatures}
-use Rattle.wast_expand_types.specs.TypeSpace.{index_for, type_ids, index_by_id, index_by_id_at}
-use Rattle.wast_expand_types.specs.Expanders.{LookUp}
-use Rattle.wast_expand_types.specs.Expanded.{start_of_text, lacks_id, with_type_id, unnamed_type, implied_types, fields_with_types, found_for, bound_field, expanded_fields}
-use Rattle.wast_expand_types.specs.Completed.{fields_with_implied_types}
-use Rattle.wast_expand_types.specs.Positioned.{position_for, fields_with_type_positions}
+use Rattle.wast_expand_keys.specs.Signatures.{Signature}
+use Rattle.wast_expand_keys.specs.ImpliedTypes.{implied_signatures}
+use Rattle.wast_expand_keys.specs.TypeSpace.{index_for, type_ids, index_by_id, index_by_id_at}
+use Rattle.wast_expand_keys.specs.Expanders.{LookUp}
+use Rattle.wast_expand_keys.specs.Expanded.{start_of_text, lacks_id, with_type_id, unnamed_type, implied_types, fields_with_types, found_for, bound_field, expanded_fields}
+use Rattle.wast_expand_keys.specs.Completed.{fields_with_implied_types}
+use Rattle.wast_expand_keys.specs.Positioned.{position_for, fields_with_type_positions}
 use Rattle.wast_expand_types.proofs.AtItsIndex.{takes_the_type_at_its_index}
 use Rattle.wast_expand_types.proofs.Positions.{bound_where_there}
 use Rattle.wast_resolve_laws.specs.Tree.{Id, Index, Space, ModuleField}

@@ -11,15 +11,15 @@ use Rattle.std.proofs.lemmas.Grind.{flat_map-append}
 use Rattle.wast_tree_nodes.specs.Sites.{Check, ItemIndex, Covered, Where, Site, Used, if_there, in_index, in_id, in_heap, in_val, in_param, in_signature, in_field, in_module, check_sites, asked_in, checks_of}
 use Rattle.wast_tree_nodes.specs.Generations.{generation_in, greatest_asked}
 use Rattle.wast_tree_nodes.proofs.Asking.{asked_both, asked_asking}
-use Rattle.wast_expand_types.specs.Signatures.{Signature, type_of_param, signature_of}
-use Rattle.wast_expand_types.specs.NeedingUses.{inline_signature, needs_type, needed_if, needed_without, needed_at, needed_in}
+use Rattle.wast_expand_keys.specs.Signatures.{Signature, type_of_param, signature_of}
+use Rattle.wast_expand_keys.specs.NeedingUses.{inline_signature, needs_type, needed_if, needed_without, needed_at, needed_in}
 use Rattle.wast_base.specs.Ids.{name_of, place_of}
 use Rattle.wast_base.specs.Denoted.{numbered_by, resolved_index}
 use Rattle.wast_tree_map.specs.Mapped.{mapped_heap}
-use Rattle.wast_expand_types.specs.Numbers.{TypeNames, type_names, in_numbers, numbered_val}
-use Rattle.wast_expand_types.specs.ImpliedTypes.{implied_signatures}
-use Rattle.wast_expand_types.specs.Expanded.{unnamed_param, unnamed_type}
-use Rattle.wast_expand_types.specs.Completed.{fields_with_implied_types}
+use Rattle.wast_expand_keys.specs.Numbers.{TypeNames, type_names, in_numbers, numbered_val}
+use Rattle.wast_expand_keys.specs.ImpliedTypes.{implied_signatures}
+use Rattle.wast_expand_keys.specs.Expanded.{unnamed_param, unnamed_type}
+use Rattle.wast_expand_keys.specs.Completed.{fields_with_implied_types}
 use Rattle.wast_expand_inline.proofs.Below.{each_below, greatest_below}
 use Rattle.wast_resolve_laws.specs.Tree.{Id, Index, Span, NameAnnotation, HeapType, ValType, FunctionType, ModuleField}
 use Rattle.wast_resolve_laws.specs.Tree.index

@@ -8,9 +8,9 @@ use Rattle.wast_tree_nodes.specs.Known.{IdContext, id_context}
 use Rattle.wast_tree_nodes.specs.Sites.{Check, ItemIndex, checks_of, in_module}
 use Rattle.wast_tree_nodes.specs.Generations.{generation_in, greatest_item, greatest_asked, greatest_generation}
 use Rattle.wast_tree_nodes.specs.WellFormed.{is_kept, are_kept, is_well_formed}
-use Rattle.wast_expand_types.specs.Expanders.{LookUp}
-use Rattle.wast_expand_types.specs.Expanded.{fields_with_types, found_for, expanded_fields, type_id_count}
-use Rattle.wast_expand_types.specs.Completed.{fields_with_implied_types}
+use Rattle.wast_expand_keys.specs.Expanders.{LookUp}
+use Rattle.wast_expand_keys.specs.Expanded.{fields_with_types, found_for, expanded_fields, type_id_count}
+use Rattle.wast_expand_keys.specs.Completed.{fields_with_implied_types}
 use Rattle.wast_expand_inline.proofs.Below.{each_below}
 use Rattle.wast_resolve_laws.specs.Tree.{Index, Space, ModuleField}
 use Rattle.wast_resolve_laws.specs.Tree.space

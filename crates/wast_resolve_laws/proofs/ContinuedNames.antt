@@ -10,9 +10,9 @@ use Rattle.wast_tree_nodes.specs.Items.{Item, items}
 use Rattle.wast_tree_nodes.specs.Known.{id_context, names_in}
 use Rattle.wast_tree_nodes.specs.Generations.{generation_or_zero, greatest_item}
 use Rattle.wast_tree_nodes.proofs.Bearing.{borne_among}
-use Rattle.wast_expand_types.specs.ImpliedTypes.{implied_signatures}
-use Rattle.wast_expand_types.specs.Expanded.{unnamed_type, expanded_fields}
-use Rattle.wast_expand_types.specs.Numbers.{type_names}
+use Rattle.wast_expand_keys.specs.ImpliedTypes.{implied_signatures}
+use Rattle.wast_expand_keys.specs.Expanded.{unnamed_type, expanded_fields}
+use Rattle.wast_expand_keys.specs.Numbers.{type_names}
 use Rattle.wast_expand_types.proofs.TypeItems.{fields_join}
 use Rattle.wast_resolve_laws.specs.Tree.{ModuleField}
 use Rattle.wast_resolve_laws.specs.Tree.space

@@ -15,9 +15,9 @@ use Rattle.wast_expand_inline.specs.WriteOut.{Reference, export_of, elem_in, dat
 use Rattle.wast_expand_inline.specs.Referring.{by_position}
 use Rattle.wast_expand_inline.specs.Written.{written_after, desugared_by_position}
 use Rattle.wast_expand_inline.proofs.WrittenItems.{same_after}
-use Rattle.wast_expand_types.specs.Signatures.{Signature}
-use Rattle.wast_expand_types.specs.ImpliedTypes.{implied_signatures}
-use Rattle.wast_expand_types.specs.Expanded.{unnamed_type}
+use Rattle.wast_expand_keys.specs.Signatures.{Signature}
+use Rattle.wast_expand_keys.specs.ImpliedTypes.{implied_signatures}
+use Rattle.wast_expand_keys.specs.Expanded.{unnamed_type}
 use Rattle.wast_resolve_laws.specs.Tree.{Span, Index, Space, ExportKind, FuncKind, Func, TableKind, Table, MemoryKind, Memory, GlobalKind, Global, TagKind, Tag, ModuleField}
 use Rattle.wast_resolve_laws.specs.Tree.space
 use Rattle.wast_resolve_laws.specs.Tree.export

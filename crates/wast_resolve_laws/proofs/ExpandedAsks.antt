@@ -6,12 +6,12 @@ use Rattle.wast_base.specs.Filling.{one_if, given_if, with_ids_from, missing_id_
 use Rattle.wast_tree_nodes.specs.Sites.{Check, ItemIndex, Where, OfItem, OfCall, OfBlock, Site, Asked, Used, if_there, in_index, in_signature, in_type_use, asked_in, checks_of, in_field, in_module}
 use Rattle.wast_tree_map.specs.Mapped.{mapped_ask, mapped_site}
 use Rattle.wast_tree_map.proofs.Laws.{stands}
-use Rattle.wast_expand_types.specs.Signatures.{Signature}
-use Rattle.wast_expand_types.specs.NeedingUses.{inline_signature, needs_type}
-use Rattle.wast_expand_types.specs.ImpliedTypes.{implied_signatures}
-use Rattle.wast_expand_types.specs.Expanders.{LookUp}
-use Rattle.wast_expand_types.specs.Expanded.{lacks_id, with_type_id, unnamed_type, implied_types, fields_with_types, bound_if, bound_index, bound_inline, bound_use, binding_change, bound_field}
-use Rattle.wast_expand_types.specs.Completed.{fields_with_implied_types}
+use Rattle.wast_expand_keys.specs.Signatures.{Signature}
+use Rattle.wast_expand_keys.specs.NeedingUses.{inline_signature, needs_type}
+use Rattle.wast_expand_keys.specs.ImpliedTypes.{implied_signatures}
+use Rattle.wast_expand_keys.specs.Expanders.{LookUp}
+use Rattle.wast_expand_keys.specs.Expanded.{lacks_id, with_type_id, unnamed_type, implied_types, fields_with_types, bound_if, bound_index, bound_inline, bound_use, binding_change, bound_field}
+use Rattle.wast_expand_keys.specs.Completed.{fields_with_implied_types}
 use Rattle.wast_expand_types.proofs.Staying.{binding_keeps}
 use Rattle.wast_resolve_laws.specs.Tree.{Index, FunctionType, TypeUse, ModuleField}
 use Rattle.wast_resolve_laws.specs.Tree.space

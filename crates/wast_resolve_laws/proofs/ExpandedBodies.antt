@@ -8,11 +8,11 @@ use Rattle.wast_tree_nodes.specs.Sites.{Site, OfItem, param_marks, in_field}
 use Rattle.wast_tree_map.specs.Mapped.{Change, KeepsMarks, mapped_site, mapped_func_kind, mapped_field}
 use Rattle.wast_tree_map.proofs.Fields.{field_at}
 use Rattle.wast_tree_map.proofs.Kept.{stands_at}
-use Rattle.wast_expand_types.specs.Signatures.{empty_signature, same_signature}
-use Rattle.wast_expand_types.specs.Numbers.{TypeNames, type_names, numbered_signature}
-use Rattle.wast_expand_types.specs.Expanders.{LookUp}
-use Rattle.wast_expand_types.specs.Expanded.{with_type_id, found_for, bound_index, binding_change, bound_field, expanded_fields}
-use Rattle.wast_expand_types.specs.Completed.{fields_with_implied_types}
+use Rattle.wast_expand_keys.specs.Signatures.{empty_signature, same_signature}
+use Rattle.wast_expand_keys.specs.Numbers.{TypeNames, type_names, numbered_signature}
+use Rattle.wast_expand_keys.specs.Expanders.{LookUp}
+use Rattle.wast_expand_keys.specs.Expanded.{with_type_id, found_for, bound_index, binding_change, bound_field, expanded_fields}
+use Rattle.wast_expand_keys.specs.Completed.{fields_with_implied_types}
 use Rattle.wast_expand_types.proofs.Staying.{binding_keeps}
 use Rattle.wast_resolve_laws.specs.Tree.{ValType, Index, FunctionType, ModuleField}
 use Rattle.wast_resolve_laws.specs.Tree.space

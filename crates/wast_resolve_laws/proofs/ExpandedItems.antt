@@ -10,12 +10,12 @@ use Rattle.wast_tree_nodes.specs.Items.{Item, field_ids, fields_of, item, items_
 use Rattle.wast_tree_nodes.specs.Known.{names_in}
 use Rattle.wast_tree_nodes.specs.Generations.{greatest_item}
 use Rattle.wast_tree_map.proofs.Alone.{items_alone}
-use Rattle.wast_expand_types.specs.Signatures.{Signature}
-use Rattle.wast_expand_types.specs.ImpliedTypes.{implied_signatures}
+use Rattle.wast_expand_keys.specs.Signatures.{Signature}
+use Rattle.wast_expand_keys.specs.ImpliedTypes.{implied_signatures}
 use Rattle.wast_base.specs.Filling.{one_if, given_if, with_ids_from, missing_id_count}
-use Rattle.wast_expand_types.specs.Expanders.{LookUp}
-use Rattle.wast_expand_types.specs.Expanded.{lacks_id, with_type_id, start_of_text, unnamed_type, implied_types, fields_with_types, found_for, binding_change, bound_field, expanded_fields, type_id_count}
-use Rattle.wast_expand_types.specs.Completed.{fields_with_implied_types}
+use Rattle.wast_expand_keys.specs.Expanders.{LookUp}
+use Rattle.wast_expand_keys.specs.Expanded.{lacks_id, with_type_id, start_of_text, unnamed_type, implied_types, fields_with_types, found_for, binding_change, bound_field, expanded_fields, type_id_count}
+use Rattle.wast_expand_keys.specs.Completed.{fields_with_implied_types}
 use Rattle.wast_expand_types.proofs.Staying.{binding_keeps}
 use Rattle.wast_resolve_laws.specs.Tree.{Id, Span, Space, StructField, ModuleField}
 use Rattle.wast_resolve_laws.specs.Tree.space

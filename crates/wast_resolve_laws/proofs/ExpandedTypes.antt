@@ -3,12 +3,12 @@ use Rattle.std.proofs.Common.{◌≡◌, ℕ, ◌+◌, Bool, true, false, List, 
 use Rattle.std.specs.List.{flat_map}
 use Rattle.std.proofs.lemmas.Grind.{flat_map-append}
 use Rattle.wast_tree_map.proofs.Types.{type_at, rec_at}
-use Rattle.wast_expand_types.specs.Signatures.{Signature}
-use Rattle.wast_expand_types.specs.ImpliedTypes.{implied_signatures}
+use Rattle.wast_expand_keys.specs.Signatures.{Signature}
+use Rattle.wast_expand_keys.specs.ImpliedTypes.{implied_signatures}
 use Rattle.wast_base.specs.Filling.{one_if, given_if, with_ids_from, missing_id_count}
-use Rattle.wast_expand_types.specs.Expanders.{LookUp}
-use Rattle.wast_expand_types.specs.Expanded.{lacks_id, with_type_id, unnamed_type, implied_types, fields_with_types, found_for, bound_field, expanded_fields}
-use Rattle.wast_expand_types.specs.Completed.{fields_with_implied_types}
+use Rattle.wast_expand_keys.specs.Expanders.{LookUp}
+use Rattle.wast_expand_keys.specs.Expanded.{lacks_id, with_type_id, unnamed_type, implied_types, fields_with_types, found_for, bound_field, expanded_fields}
+use Rattle.wast_expand_keys.specs.Completed.{fields_with_implied_types}
 use Rattle.wast_resolve_laws.specs.Tree.{Rec, ModuleField}
 use Rattle.wast_resolve_laws.specs.Tree.ty
 use Rattle.wast_resolve_laws.specs.Tree.field

@@ -12,12 +12,12 @@ use Rattle.wast_tree_nodes.specs.Sites.{Check, ItemIndex, Where, OfItem, OfCall,
 use Rattle.wast_tree_map.specs.Mapped.{mapped_locals, mapped_site}
 use Rattle.wast_tree_map.proofs.Laws.{stands}
 use Rattle.wast_tree_nodes.specs.Generations.{greatest_item}
-use Rattle.wast_expand_types.specs.Signatures.{Signature, signature_of}
-use Rattle.wast_expand_types.specs.Numbers.{type_names, numbered_signature}
-use Rattle.wast_expand_types.specs.NeedingUses.{inline_signature, needs_type}
-use Rattle.wast_expand_types.specs.Expanders.{LookUp}
-use Rattle.wast_expand_types.specs.Expanded.{fields_with_types, found_for, bound_if, bound_index, bound_inline, binding_change, expanded_fields}
-use Rattle.wast_expand_types.specs.Completed.{fields_with_implied_types}
+use Rattle.wast_expand_keys.specs.Signatures.{Signature, signature_of}
+use Rattle.wast_expand_keys.specs.Numbers.{type_names, numbered_signature}
+use Rattle.wast_expand_keys.specs.NeedingUses.{inline_signature, needs_type}
+use Rattle.wast_expand_keys.specs.Expanders.{LookUp}
+use Rattle.wast_expand_keys.specs.Expanded.{fields_with_types, found_for, bound_if, bound_index, bound_inline, binding_change, expanded_fields}
+use Rattle.wast_expand_keys.specs.Completed.{fields_with_implied_types}
 use Rattle.wast_expand_types.proofs.Staying.{binding_keeps}
 use Rattle.wast_resolve_laws.specs.Tree.{Index, Span, FunctionType, ModuleField}
 use Rattle.wast_resolve_laws.specs.Tree.space

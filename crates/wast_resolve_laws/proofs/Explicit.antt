@@ -5,8 +5,8 @@ use Rattle.wast_expand_inline.specs.Written.{desugared_from, reference_id_count}
 use Rattle.wast_expand_inline.proofs.Left.{nothing_is_left}
 use Rattle.wast_expand_inline.proofs.Below.{written_below}
 use Rattle.wast_expand_inline.proofs.Settled.{written_well_formed}
-use Rattle.wast_expand_types.specs.Expanded.{type_id_count}
-use Rattle.wast_expand_types.specs.Completed.{fields_with_implied_types}
+use Rattle.wast_expand_keys.specs.Expanded.{type_id_count}
+use Rattle.wast_expand_keys.specs.Completed.{fields_with_implied_types}
 use Rattle.wast_resolve_laws.specs.Tree.{ModuleField}
 use Rattle.wast_resolve_rules.specs.Scopes.{module_scope}
 use Rattle.wast_resolve_rules.specs.Demands.{first_unmet, demands}

@@ -9,11 +9,11 @@ use Rattle.wast_base.specs.Spaces.{name_if, position_of}
 use Rattle.wast_tree_nodes.specs.Items.{items}
 use Rattle.wast_tree_nodes.specs.Known.{names_in}
 use Rattle.wast_tree_nodes.specs.Sites.{in_signature}
-use Rattle.wast_expand_types.specs.Signatures.{Signature, signature_of, same_signature}
-use Rattle.wast_expand_types.specs.Numbers.{TypeNames, type_names, numbered_signature}
-use Rattle.wast_expand_types.specs.EligibleTypes.{is_eligible, kind_signature, taken_by}
-use Rattle.wast_expand_types.specs.TypeSpace.{types_in, type_space, has_signature, index_for, type_ids, index_by_id, index_by_id_at}
-use Rattle.wast_expand_types.specs.Expanded.{fields_with_types, found_for, expanded_fields}
+use Rattle.wast_expand_keys.specs.Signatures.{Signature, signature_of, same_signature}
+use Rattle.wast_expand_keys.specs.Numbers.{TypeNames, type_names, numbered_signature}
+use Rattle.wast_expand_keys.specs.EligibleTypes.{is_eligible, kind_signature, taken_by}
+use Rattle.wast_expand_keys.specs.TypeSpace.{types_in, type_space, has_signature, index_for, type_ids, index_by_id, index_by_id_at}
+use Rattle.wast_expand_keys.specs.Expanded.{fields_with_types, found_for, expanded_fields}
 use Rattle.wast_expand_types.proofs.TypeItems.{names_by, names_of_types}
 use Rattle.wast_expand_types.proofs.AtRest.{types_are_the_space}
 use Rattle.wast_expand_types.proofs.AtItsIndex.{takes_the_type_at_its_index}

@@ -7,11 +7,11 @@ use Rattle.wast_tree_nodes.specs.Items.{Item, fields_of, item, items_in, items}
 use Rattle.wast_tree_nodes.specs.Known.{names_in}
 use Rattle.wast_tree_nodes.specs.Generations.{greatest_item}
 use Rattle.wast_tree_nodes.proofs.Bearing.{borne_among, borne_by_both}
-use Rattle.wast_expand_types.specs.Signatures.{Signature, same_signature}
-use Rattle.wast_expand_types.specs.Numbers.{TypeNames}
-use Rattle.wast_expand_types.specs.EligibleTypes.{taken_by}
-use Rattle.wast_expand_types.specs.Expanders.{index_of}
-use Rattle.wast_expand_types.specs.Expanded.{binding_of, bindings}
+use Rattle.wast_expand_keys.specs.Signatures.{Signature, same_signature}
+use Rattle.wast_expand_keys.specs.Numbers.{TypeNames}
+use Rattle.wast_expand_keys.specs.EligibleTypes.{taken_by}
+use Rattle.wast_expand_keys.specs.Expanders.{index_of}
+use Rattle.wast_expand_keys.specs.Expanded.{binding_of, bindings}
 use Rattle.wast_resolve_laws.specs.Tree.{Id, Index, StructField, ModuleField}
 use Rattle.wast_resolve_laws.specs.Tree.index
 use Rattle.wast_resolve_laws.specs.Tree.space

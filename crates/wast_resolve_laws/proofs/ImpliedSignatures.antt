@@ -3,10 +3,10 @@ use Rattle.std.proofs.Common.{◌≡◌, Bool, true, false, cond, ◌||◌, ◌&
 use Rattle.std.specs.Cmp.{first_so, second_so}
 use Rattle.std.specs.List.{flat_map, list_all}
 use Rattle.std.proofs.lemmas.List.Folds.{list_all-append, list_all-map}
-use Rattle.wast_expand_types.specs.Signatures.{Signature, same_signature}
-use Rattle.wast_expand_types.specs.NeedingUses.{needed_signatures}
-use Rattle.wast_expand_types.specs.Numbers.{TypeNames, type_names, numbered_val, numbered_signature}
-use Rattle.wast_expand_types.specs.ImpliedTypes.{eligible_signatures, needed_numbers, is_among, first_new, implied_signatures}
+use Rattle.wast_expand_keys.specs.Signatures.{Signature, same_signature}
+use Rattle.wast_expand_keys.specs.NeedingUses.{needed_signatures}
+use Rattle.wast_expand_keys.specs.Numbers.{TypeNames, type_names, numbered_val, numbered_signature}
+use Rattle.wast_expand_keys.specs.ImpliedTypes.{eligible_signatures, needed_numbers, is_among, first_new, implied_signatures}
 use Rattle.wast_resolve_laws.specs.Tree.{ValType, ModuleField}
 
 pub both_so : (a b : Bool) → a ≡ true → b ≡ true → (a && b) ≡ true

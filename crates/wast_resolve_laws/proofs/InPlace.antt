@@ -1,7 +1,7 @@
 -- Proves FinishedIsWrittenOut: resolving adds no inline part.
 use Rattle.std.proofs.Common.{◌∙◌}
 use Rattle.wast_tree_map.proofs.Alone.{written_alone}
-use Rattle.wast_expand_types.specs.Expanded.{expanded_fields}
+use Rattle.wast_expand_keys.specs.Expanded.{expanded_fields}
 use Rattle.wast_expand_types.proofs.InPlace.{stays_written_out}
 use Rattle.wast_resolve_rules.specs.Scopes.{module_scope}
 use Rattle.wast_resolve_rules.specs.Resolved.{numbering_change}

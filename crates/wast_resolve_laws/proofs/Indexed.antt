@@ -12,9 +12,9 @@ use Rattle.wast_tree_nodes.specs.Types.{is_short, says_enough}
 use Rattle.wast_tree_nodes.specs.Resolved.{is_numbered, are_numbered, is_resolved_site}
 use Rattle.wast_tree_map.specs.Mapped.{mapped_val, mapped_param, mapped_signature, mapped_site, mapped_field}
 use Rattle.wast_tree_map.proofs.Laws.{stands}
-use Rattle.wast_expand_types.specs.Signatures.{Signature, signature_of}
-use Rattle.wast_expand_types.specs.NeedingUses.{needed_if, needed_without, needed_by_use, needed_at, needed_in, needed_signatures}
-use Rattle.wast_expand_types.specs.Expanded.{fields_with_types, found_for, expanded_fields}
+use Rattle.wast_expand_keys.specs.Signatures.{Signature, signature_of}
+use Rattle.wast_expand_keys.specs.NeedingUses.{needed_if, needed_without, needed_by_use, needed_at, needed_in, needed_signatures}
+use Rattle.wast_expand_keys.specs.Expanded.{fields_with_types, found_for, expanded_fields}
 use Rattle.wast_expand_types.proofs.Staying.{left_none, right_none, says, fields_say}
 use Rattle.wast_expand_types.proofs.HavingTypes.{uses_are_bound}
 use Rattle.wast_resolve_laws.specs.Tree.{Index, FunctionType, ModuleField}

@@ -11,10 +11,10 @@ use Rattle.wast_tree_nodes.specs.Sites.{Check, ItemIndex}
 use Rattle.wast_tree_nodes.specs.Generations.{generation_in, greatest_asked}
 use Rattle.wast_tree_nodes.specs.WellFormed.{is_kept, are_kept}
 use Rattle.wast_tree_nodes.proofs.Bearing.{borne_among, borne_by_both}
-use Rattle.wast_expand_types.specs.Signatures.{Signature}
-use Rattle.wast_expand_types.specs.ImpliedTypes.{implied_signatures}
-use Rattle.wast_expand_types.specs.Expanded.{unnamed_type}
-use Rattle.wast_expand_types.specs.Completed.{fields_with_implied_types}
+use Rattle.wast_expand_keys.specs.Signatures.{Signature}
+use Rattle.wast_expand_keys.specs.ImpliedTypes.{implied_signatures}
+use Rattle.wast_expand_keys.specs.Expanded.{unnamed_type}
+use Rattle.wast_expand_keys.specs.Completed.{fields_with_implied_types}
 use Rattle.wast_resolve_laws.specs.Tree.{Space, ModuleField}
 use Rattle.wast_resolve_laws.specs.Tree.index
 use Rattle.wast_resolve_laws.specs.Tree.space

@@ -12,7 +12,7 @@ use Rattle.wast_tree_map.specs.Mapped.{mapped_ask, mapped_val, mapped_signature}
 use Rattle.wast_tree_map.proofs.Kept.{stands_in}
 use Rattle.wast_tree_map.proofs.Ways.{option_at}
 use Rattle.wast_tree_map.proofs.Types.{signature_at}
-use Rattle.wast_expand_types.specs.Signatures.{Signature, signature_of, same_signature_by}
+use Rattle.wast_expand_keys.specs.Signatures.{Signature, signature_of, same_signature_by}
 use Rattle.wast_resolve_laws.specs.Tree.{Id, Index, FunctionType}
 use Rattle.wast_resolve_laws.specs.Tree.index
 use Rattle.wast_resolve_laws.specs.Tree.space

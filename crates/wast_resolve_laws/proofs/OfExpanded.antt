@@ -5,9 +5,9 @@ use Rattle.wast_tree_nodes.specs.WellFormed.{is_well_formed}
 use Rattle.wast_tree_nodes.specs.Resolved.{has_numbers, is_resolved}
 use Rattle.wast_tree_nodes.specs.WrittenOut.{is_written_out}
 use Rattle.wast_tree_nodes.specs.Generations.{greatest_generation}
-use Rattle.wast_expand_types.specs.NeedingUses.{needed_signatures}
-use Rattle.wast_expand_types.specs.Expanded.{expanded_fields, type_id_count}
-use Rattle.wast_expand_types.specs.Completed.{fields_with_implied_types}
+use Rattle.wast_expand_keys.specs.NeedingUses.{needed_signatures}
+use Rattle.wast_expand_keys.specs.Expanded.{expanded_fields, type_id_count}
+use Rattle.wast_expand_keys.specs.Completed.{fields_with_implied_types}
 use Rattle.wast_resolve_laws.specs.Tree.{ModuleField}
 use Rattle.wast_resolve_rules.specs.Demands.{first_unmet, item_demands, demands, item_counts, body_counts}
 use Rattle.wast_resolve_rules.specs.Resolved.{resolved_fields}

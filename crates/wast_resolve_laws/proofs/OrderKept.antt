@@ -3,12 +3,12 @@ use Rattle.std.proofs.Common.{◌≡◌, ℕ, ◌+◌, Bool, true, false, List, 
 use Rattle.std.specs.Option.{option_or}
 use Rattle.wast_tree_map.specs.Mapped.{mapped_func_kind, mapped_table_kind, mapped_global_kind}
 use Rattle.wast_tree_map.proofs.Alone.{defines_alone}
-use Rattle.wast_expand_types.specs.Signatures.{Signature}
-use Rattle.wast_expand_types.specs.ImpliedTypes.{implied_signatures}
-use Rattle.wast_expand_types.specs.Expanders.{LookUp}
+use Rattle.wast_expand_keys.specs.Signatures.{Signature}
+use Rattle.wast_expand_keys.specs.ImpliedTypes.{implied_signatures}
+use Rattle.wast_expand_keys.specs.Expanders.{LookUp}
 use Rattle.wast_base.specs.Filling.{given_if, one_if, with_ids_from, missing_id_count}
-use Rattle.wast_expand_types.specs.Expanded.{lacks_id, with_type_id, unnamed_type, implied_types, fields_with_types, found_for, binding_change, bound_field, expanded_fields}
-use Rattle.wast_expand_types.specs.Completed.{fields_with_implied_types}
+use Rattle.wast_expand_keys.specs.Expanded.{lacks_id, with_type_id, unnamed_type, implied_types, fields_with_types, found_for, binding_change, bound_field, expanded_fields}
+use Rattle.wast_expand_keys.specs.Completed.{fields_with_implied_types}
 use Rattle.wast_resolve_laws.specs.Tree.{Space, Span, FuncKind, TableKind, GlobalKind, FunctionType, TypeUse, ModuleField}
 use Rattle.wast_resolve_laws.specs.Tree.func
 use Rattle.wast_resolve_laws.specs.Tree.table

@@ -17,7 +17,7 @@ use Rattle.wast_tree_map.specs.Mapped.{Indices, Ids, mapped_heap, mapped_ref, ma
 use Rattle.wast_tree_map.specs.Named.{Naming, RenamesIds, renamed, renamed_mark, renamed_item}
 use Rattle.wast_tree_map.specs.Laws.{NamesItems}
 use Rattle.wast_tree_map.proofs.Fields.{named_if}
-use Rattle.wast_expand_types.specs.Signatures.{Signature, signature_of, type_of_param, value_rank, reference_in, same_heap_by, same_reference_by, same_value_by, same_values_by, same_signature_by}
+use Rattle.wast_expand_keys.specs.Signatures.{Signature, signature_of, type_of_param, value_rank, reference_in, same_heap_by, same_reference_by, same_value_by, same_values_by, same_signature_by}
 use Rattle.wast_resolve_laws.specs.Tree.{Id, Index, Space, NameAnnotation, HeapType, RefType, ValType, FunctionType}
 use Rattle.wast_resolve_laws.specs.Tree.space
 use Rattle.wast_resolve_laws.specs.Tree.index

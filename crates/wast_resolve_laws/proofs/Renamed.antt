@@ -12,8 +12,8 @@ use Rattle.wast_tree_map.proofs.Fields.{field_at, marks_named}
 use Rattle.wast_expand_inline.specs.Written.{desugared_from, desugared_by_position}
 use Rattle.wast_expand_inline.proofs.Left.{nothing_is_left}
 use Rattle.wast_expand_inline.proofs.Staying.{stays_by_position}
-use Rattle.wast_expand_types.specs.Completed.{fields_with_implied_types}
-use Rattle.wast_expand_types.specs.Positioned.{fields_with_type_positions}
+use Rattle.wast_expand_keys.specs.Completed.{fields_with_implied_types}
+use Rattle.wast_expand_keys.specs.Positioned.{fields_with_type_positions}
 use Rattle.wast_resolve_laws.specs.Tree.{Space, FunctionType, TypeUse, FuncKind, ModuleField}
 use Rattle.wast_resolve_laws.specs.Tree.func
 use Rattle.wast_resolve_laws.specs.Tree.field

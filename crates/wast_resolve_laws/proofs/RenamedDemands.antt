@@ -20,7 +20,7 @@ use Rattle.wast_tree_map.proofs.Ways.{option_at, index_in, both_at}
 use Rattle.wast_tree_map.proofs.Types.{signature_at}
 use Rattle.wast_tree_map.proofs.Laws.{stands_named}
 use Rattle.wast_tree_map.proofs.Alone.{defines_alone}
-use Rattle.wast_expand_types.specs.Signatures.{signature_of, same_signature_by}
+use Rattle.wast_expand_keys.specs.Signatures.{signature_of, same_signature_by}
 use Rattle.wast_resolve_laws.specs.Tree.{Span, Index, Space, FunctionType, TypeUse, FuncKind, TableKind, GlobalKind, ModuleField}
 use Rattle.wast_resolve_laws.specs.Tree.func
 use Rattle.wast_resolve_laws.specs.Tree.table

@@ -11,7 +11,7 @@ use Rattle.wast_tree_nodes.specs.Sites.{Locals}
 use Rattle.wast_tree_map.specs.Mapped.{mapped_val, named_struct_field, named_inner, mapped_type, mapped_field}
 use Rattle.wast_tree_map.specs.Named.{Naming, renamed, renamed_mark, renamed_item, named_locals}
 use Rattle.wast_tree_map.proofs.Alone.{items_named}
-use Rattle.wast_expand_types.specs.Signatures.{Signature}
+use Rattle.wast_expand_keys.specs.Signatures.{Signature}
 use Rattle.wast_resolve_laws.specs.Tree.{Index, Space, FunctionType, TypeUse, InnerTypeKind, StructField, ModuleField}
 use Rattle.wast_resolve_laws.specs.Tree.index
 use Rattle.wast_resolve_laws.specs.Tree.inner

@@ -10,8 +10,8 @@ use Rattle.wast_tree_map.specs.Mapped.{mapped_table_kind, mapped_field}
 use Rattle.wast_expand_inline.specs.Segments.{has_bytes, has_elements, has_oversized_data}
 use Rattle.wast_expand_inline.specs.Written.{desugared_by_position}
 use Rattle.wast_expand_inline.specs.Referring.{exports_some, wants_id}
-use Rattle.wast_expand_types.specs.ImpliedTypes.{implied_signatures}
-use Rattle.wast_expand_types.specs.Expanded.{lacks_id, type_id_count}
+use Rattle.wast_expand_keys.specs.ImpliedTypes.{implied_signatures}
+use Rattle.wast_expand_keys.specs.Expanded.{lacks_id, type_id_count}
 use Rattle.wast_resolve_laws.specs.Tree.{Span, Id, TableKind, ModuleField}
 use Rattle.wast_resolve_laws.specs.Tree.table
 use Rattle.wast_resolve_laws.specs.Tree.field

@@ -9,16 +9,16 @@ use Rattle.wast_tree_nodes.specs.Types.{is_short}
 use Rattle.wast_tree_map.specs.Mapped.{Ids, Change, JoinsAsk, Joins, named_param, named_inner, named_def, mapped_val, mapped_type, mapped_field}
 use Rattle.wast_tree_map.specs.Named.{NamedJoins, named_site}
 use Rattle.wast_tree_map.proofs.Laws.{stands_named, joins_named, joins, each_so}
-use Rattle.wast_expand_types.specs.Signatures.{Signature, same_signature}
-use Rattle.wast_expand_types.specs.NeedingUses.{inline_signature, needs_type, needed_if, needed_without, needed_at, needed_in, needed_signatures}
-use Rattle.wast_expand_types.specs.EligibleTypes.{is_final, has_no, is_eligible, kind_signature, taken_by}
-use Rattle.wast_expand_types.specs.ImpliedTypes.{eligible_in, eligible_signatures, needed_numbers, is_among, first_new, implied_signatures}
-use Rattle.wast_expand_types.specs.Numbers.{TypeNames, type_names, in_numbers, numbered_signature}
-use Rattle.wast_expand_types.specs.TypeSpace.{types_in, type_space, has_signature, index_for}
-use Rattle.wast_expand_types.specs.Expanders.{LookUp}
-use Rattle.wast_expand_types.specs.Expanded.{unnamed_param, unnamed_type, start_of_text, bound_if, bound_index, bound_inline, bound_use, binding_change, bound_field}
-use Rattle.wast_expand_types.specs.Completed.{fields_with_implied_types}
-use Rattle.wast_expand_types.specs.Positioned.{position_for, fields_with_type_positions}
+use Rattle.wast_expand_keys.specs.Signatures.{Signature, same_signature}
+use Rattle.wast_expand_keys.specs.NeedingUses.{inline_signature, needs_type, needed_if, needed_without, needed_at, needed_in, needed_signatures}
+use Rattle.wast_expand_keys.specs.EligibleTypes.{is_final, has_no, is_eligible, kind_signature, taken_by}
+use Rattle.wast_expand_keys.specs.ImpliedTypes.{eligible_in, eligible_signatures, needed_numbers, is_among, first_new, implied_signatures}
+use Rattle.wast_expand_keys.specs.Numbers.{TypeNames, type_names, in_numbers, numbered_signature}
+use Rattle.wast_expand_keys.specs.TypeSpace.{types_in, type_space, has_signature, index_for}
+use Rattle.wast_expand_keys.specs.Expanders.{LookUp}
+use Rattle.wast_expand_keys.specs.Expanded.{unnamed_param, unnamed_type, start_of_text, bound_if, bound_index, bound_inline, bound_use, binding_change, bound_field}
+use Rattle.wast_expand_keys.specs.Completed.{fields_with_implied_types}
+use Rattle.wast_expand_keys.specs.Positioned.{position_for, fields_with_type_positions}
 use Rattle.wast_expand_types.proofs.Staying.{binding_keeps}
 use Rattle.wast_resolve_laws.specs.Tree.{Id, Index, NameAnnotation, ValType, FunctionType, InnerTypeKind, TypeDef, ModuleField}
 use Rattle.wast_resolve_laws.specs.Tree.index

@@ -8,10 +8,10 @@ use Rattle.wast_tree_nodes.specs.Items.{items}
 use Rattle.wast_tree_nodes.specs.Known.{names_in}
 use Rattle.wast_tree_nodes.specs.Generations.{greatest_generation}
 use Rattle.wast_expand_inline.specs.Written.{desugared_from, reference_id_count}
-use Rattle.wast_expand_types.specs.ImpliedTypes.{implied_signatures}
-use Rattle.wast_expand_types.specs.Expanded.{unnamed_type, expanded_fields, type_id_count, HasManyTypes, StopsExpanding}
+use Rattle.wast_expand_keys.specs.ImpliedTypes.{implied_signatures}
+use Rattle.wast_expand_keys.specs.Expanded.{unnamed_type, expanded_fields, type_id_count, HasManyTypes, StopsExpanding}
 use Rattle.wast_expand_types.proofs.TypeItems.{fields_join}
-use Rattle.wast_expand_types.specs.Completed.{fields_with_implied_types}
+use Rattle.wast_expand_keys.specs.Completed.{fields_with_implied_types}
 use Rattle.wast_resolve_laws.specs.Tree.{ModuleField}
 use Rattle.wast_resolve_laws.specs.Tree.space
 use Rattle.wast_resolve_rules.specs.Explicit.{explicit_fields, explicit_fields_from}

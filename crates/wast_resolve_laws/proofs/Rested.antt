@@ -9,8 +9,8 @@ use Rattle.wast_tree_nodes.specs.Sites.{in_field, in_module}
 use Rattle.wast_tree_nodes.specs.WrittenOut.{is_written_field, is_written_out}
 use Rattle.wast_tree_map.specs.Mapped.{mapped_field}
 use Rattle.wast_expand_inline.specs.Written.{desugared_from, reference_id_count}
-use Rattle.wast_expand_types.specs.NeedingUses.{needed_signatures}
-use Rattle.wast_expand_types.specs.Expanded.{lacks_id, with_type_id, type_id_count}
+use Rattle.wast_expand_keys.specs.NeedingUses.{needed_signatures}
+use Rattle.wast_expand_keys.specs.Expanded.{lacks_id, with_type_id, type_id_count}
 use Rattle.wast_expand_types.proofs.AtRest.{wants_no_more}
 use Rattle.wast_expand_types.proofs.Staying.{says}
 use Rattle.wast_resolve_laws.specs.Tree.{ModuleField}

@@ -13,8 +13,8 @@ use Rattle.wast_base.specs.Faults.{Cause}
 use Rattle.wast_tree_nodes.specs.Known.{IdContext}
 use Rattle.wast_tree_nodes.specs.Sites.{Check, ItemIndex, Covered, if_there, in_index, in_id, in_heap, in_ref, in_val, in_param, in_signature}
 use Rattle.wast_tree_map.specs.Mapped.{mapped_heap, mapped_ref, mapped_val}
-use Rattle.wast_expand_types.specs.Signatures.{Signature, type_of_param, signature_of, value_rank, reference_in, same_heap_by, same_reference_by, same_value_by, same_values_by, same_signature_by, same_signature}
-use Rattle.wast_expand_types.specs.Numbers.{TypeNames, in_numbers, numbered_signature}
+use Rattle.wast_expand_keys.specs.Signatures.{Signature, type_of_param, signature_of, value_rank, reference_in, same_heap_by, same_reference_by, same_value_by, same_values_by, same_signature_by, same_signature}
+use Rattle.wast_expand_keys.specs.Numbers.{TypeNames, in_numbers, numbered_signature}
 use Rattle.wast_resolve_laws.specs.Tree.{Id, Index, Span, NameAnnotation, HeapType, RefType, ValType, FunctionType}
 use Rattle.wast_resolve_laws.specs.Tree.index
 use Rattle.wast_resolve_laws.specs.Tree.space

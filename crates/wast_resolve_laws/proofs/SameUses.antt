@@ -12,10 +12,10 @@ use Rattle.wast_tree_map.proofs.Ways.{each_first, each_rest, option_at}
 use Rattle.wast_tree_map.proofs.Types.{signature_at}
 use Rattle.wast_tree_map.proofs.Laws.{twice, same_keeps, alike}
 use Rattle.wast_tree_map.proofs.Kept.{joins_in}
-use Rattle.wast_expand_types.specs.Signatures.{Signature}
-use Rattle.wast_expand_types.specs.NeedingUses.{inline_signature, needs_type}
-use Rattle.wast_expand_types.specs.Expanders.{LookUp}
-use Rattle.wast_expand_types.specs.Expanded.{bound_if, bound_index, bound_inline, bound_use, binding_change}
+use Rattle.wast_expand_keys.specs.Signatures.{Signature}
+use Rattle.wast_expand_keys.specs.NeedingUses.{inline_signature, needs_type}
+use Rattle.wast_expand_keys.specs.Expanders.{LookUp}
+use Rattle.wast_expand_keys.specs.Expanded.{bound_if, bound_index, bound_inline, bound_use, binding_change}
 use Rattle.wast_expand_types.proofs.Staying.{binding_keeps}
 use Rattle.wast_resolve_laws.specs.Tree.{Index, FunctionType, TypeUse, ModuleField}
 use Rattle.wast_resolve_laws.specs.Tree.space

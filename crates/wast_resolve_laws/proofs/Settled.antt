@@ -6,14 +6,14 @@ use Rattle.wast_tree_nodes.specs.Sites.{in_module}
 use Rattle.wast_tree_nodes.specs.WrittenOut.{is_written_out}
 use Rattle.wast_expand_inline.specs.Written.{reference_id_count, desugared_by_position}
 use Rattle.wast_expand_inline.proofs.Staying.{wants_no_reference, stays_written, stays_by_position}
-use Rattle.wast_expand_types.specs.Signatures.{Signature}
-use Rattle.wast_expand_types.specs.NeedingUses.{needed_signatures}
-use Rattle.wast_expand_types.specs.Numbers.{type_names, numbered_signature}
-use Rattle.wast_expand_types.specs.ImpliedTypes.{eligible_signatures, is_among, first_new, implied_signatures}
-use Rattle.wast_expand_types.specs.Expanders.{LookUp}
-use Rattle.wast_expand_types.specs.Expanded.{lacks_id, with_type_id, unnamed_type, implied_types, fields_with_types, found_for, bound_field, expanded_fields, type_id_count}
-use Rattle.wast_expand_types.specs.Completed.{fields_with_implied_types}
-use Rattle.wast_expand_types.specs.Positioned.{position_for, fields_with_type_positions}
+use Rattle.wast_expand_keys.specs.Signatures.{Signature}
+use Rattle.wast_expand_keys.specs.NeedingUses.{needed_signatures}
+use Rattle.wast_expand_keys.specs.Numbers.{type_names, numbered_signature}
+use Rattle.wast_expand_keys.specs.ImpliedTypes.{eligible_signatures, is_among, first_new, implied_signatures}
+use Rattle.wast_expand_keys.specs.Expanders.{LookUp}
+use Rattle.wast_expand_keys.specs.Expanded.{lacks_id, with_type_id, unnamed_type, implied_types, fields_with_types, found_for, bound_field, expanded_fields, type_id_count}
+use Rattle.wast_expand_keys.specs.Completed.{fields_with_implied_types}
+use Rattle.wast_expand_keys.specs.Positioned.{position_for, fields_with_type_positions}
 use Rattle.wast_expand_types.proofs.AtRest.{filled_none}
 use Rattle.wast_expand_types.proofs.Staying.{says, fields_stay}
 use Rattle.wast_resolve_laws.specs.Tree.{ModuleField}

@@ -15,12 +15,12 @@ use Rattle.wast_tree_map.specs.Mapped.{Change, mapped_type, mapped_field}
 use Rattle.wast_expand_inline.specs.WriteOut.{desugar_field}
 use Rattle.wast_expand_inline.specs.Referring.{by_id, wants_id, with_item_id}
 use Rattle.wast_expand_inline.specs.Written.{with_referred_ids, desugared_from, reference_id_count}
-use Rattle.wast_expand_types.specs.Signatures.{Signature}
-use Rattle.wast_expand_types.specs.NeedingUses.{needed_at, needed_in, needed_signatures}
-use Rattle.wast_expand_types.specs.Numbers.{type_names, numbered_signature}
-use Rattle.wast_expand_types.specs.ImpliedTypes.{eligible_in, eligible_signatures, is_among, first_new, implied_signatures}
-use Rattle.wast_expand_types.specs.Expanders.{LookUp, index_of}
-use Rattle.wast_expand_types.specs.Expanded.{lacks_id, with_type_id, def_of, start_of_text, implied_type, implied_types, fields_with_types, bindings_in, bindings, found_for, bound_field, expanded_fields}
+use Rattle.wast_expand_keys.specs.Signatures.{Signature}
+use Rattle.wast_expand_keys.specs.NeedingUses.{needed_at, needed_in, needed_signatures}
+use Rattle.wast_expand_keys.specs.Numbers.{type_names, numbered_signature}
+use Rattle.wast_expand_keys.specs.ImpliedTypes.{eligible_in, eligible_signatures, is_among, first_new, implied_signatures}
+use Rattle.wast_expand_keys.specs.Expanders.{LookUp, index_of}
+use Rattle.wast_expand_keys.specs.Expanded.{lacks_id, with_type_id, def_of, start_of_text, implied_type, implied_types, fields_with_types, bindings_in, bindings, found_for, bound_field, expanded_fields}
 use Rattle.wast_resolve_laws.specs.Tree.{Span, Index, Space, ModuleField}
 use Rattle.wast_resolve_laws.specs.Tree.index
 use Rattle.wast_resolve_laws.specs.Tree.space

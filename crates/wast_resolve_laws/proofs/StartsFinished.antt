@@ -6,8 +6,8 @@ use Rattle.wast_base.specs.Filling.{missing_id_count}
 use Rattle.wast_tree_nodes.specs.Items.{items}
 use Rattle.wast_tree_nodes.specs.Known.{id_context}
 use Rattle.wast_tree_map.specs.Mapped.{mapped_field}
-use Rattle.wast_expand_types.specs.ImpliedTypes.{implied_signatures}
-use Rattle.wast_expand_types.specs.Expanded.{lacks_id, binding_change}
+use Rattle.wast_expand_keys.specs.ImpliedTypes.{implied_signatures}
+use Rattle.wast_expand_keys.specs.Expanded.{lacks_id, binding_change}
 use Rattle.wast_resolve_laws.specs.Tree.{ModuleField}
 use Rattle.wast_resolve_laws.specs.Tree.space
 use Rattle.wast_resolve_rules.specs.Scopes.{module_scope}

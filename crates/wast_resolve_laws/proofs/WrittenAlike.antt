@@ -7,8 +7,8 @@ use Rattle.wast_tree_nodes.specs.Generations.{generation_in, greatest_item, grea
 use Rattle.wast_expand_inline.specs.Written.{desugared_from, desugared_by_position}
 use Rattle.wast_expand_inline.proofs.WrittenAsks.{written_out_pass}
 use Rattle.wast_expand_inline.proofs.Below.{each_below}
-use Rattle.wast_expand_types.specs.Expanded.{type_id_count}
-use Rattle.wast_expand_types.specs.Completed.{fields_with_implied_types}
+use Rattle.wast_expand_keys.specs.Expanded.{type_id_count}
+use Rattle.wast_expand_keys.specs.Completed.{fields_with_implied_types}
 use Rattle.wast_resolve_laws.specs.Tree.{ModuleField}
 use Rattle.wast_resolve_laws.specs.Tree.form
 use Rattle.wast_resolve_rules.specs.Scopes.{module_scope}

@@ -7,9 +7,9 @@ use Rattle.wast_tree_nodes.specs.Items.{Item, items_in, items}
 use Rattle.wast_tree_nodes.specs.Known.{id_context}
 use Rattle.wast_tree_nodes.specs.Generations.{generation_or_zero, greatest_item}
 use Rattle.wast_base.specs.Filling.{one_if, given_if}
-use Rattle.wast_expand_types.specs.ImpliedTypes.{implied_signatures}
-use Rattle.wast_expand_types.specs.Expanded.{unnamed_type}
-use Rattle.wast_expand_types.specs.Completed.{fields_with_implied_types}
+use Rattle.wast_expand_keys.specs.ImpliedTypes.{implied_signatures}
+use Rattle.wast_expand_keys.specs.Expanded.{unnamed_type}
+use Rattle.wast_expand_keys.specs.Completed.{fields_with_implied_types}
 use Rattle.wast_expand_inline.specs.Tree.{ModuleField}
 use Rattle.wast_expand_inline.specs.Tree.field
 use Rattle.wast_expand_inline.specs.WriteOut.{Reference, desugar_field}

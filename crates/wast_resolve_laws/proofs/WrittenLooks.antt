@@ -13,16 +13,16 @@ use Rattle.wast_tree_nodes.proofs.Asking.{each_of_each}
 use Rattle.wast_base.specs.Filling.{one_if, missing_id_count}
 use Rattle.wast_expand_inline.specs.Referring.{wants_id}
 use Rattle.wast_expand_inline.specs.Written.{desugared_from, desugared_by_position}
-use Rattle.wast_expand_types.specs.Signatures.{Signature}
-use Rattle.wast_expand_types.specs.Numbers.{TypeNames, type_names, numbered_signature}
+use Rattle.wast_expand_keys.specs.Signatures.{Signature}
+use Rattle.wast_expand_keys.specs.Numbers.{TypeNames, type_names, numbered_signature}
 use Rattle.wast_expand_types.proofs.TypeItems.{names_by, names_of_types}
-use Rattle.wast_expand_types.specs.NeedingUses.{needed_at, needed_in, needed_signatures}
-use Rattle.wast_expand_types.specs.ImpliedTypes.{eligible_in, is_among, first_new, implied_signatures}
-use Rattle.wast_expand_types.specs.ImpliedTypes as implied_types
-use Rattle.wast_expand_types.specs.TypeSpace.{types_in, type_space, has_signature, ids_in}
-use Rattle.wast_expand_types.specs.Expanded.{start_of_text, lacks_id, unnamed_type, type_id_count}
-use Rattle.wast_expand_types.specs.Completed.{fields_with_implied_types}
-use Rattle.wast_expand_types.specs.Positioned.{position_for}
+use Rattle.wast_expand_keys.specs.NeedingUses.{needed_at, needed_in, needed_signatures}
+use Rattle.wast_expand_keys.specs.ImpliedTypes.{eligible_in, is_among, first_new, implied_signatures}
+use Rattle.wast_expand_keys.specs.ImpliedTypes as implied_types
+use Rattle.wast_expand_keys.specs.TypeSpace.{types_in, type_space, has_signature, ids_in}
+use Rattle.wast_expand_keys.specs.Expanded.{start_of_text, lacks_id, unnamed_type, type_id_count}
+use Rattle.wast_expand_keys.specs.Completed.{fields_with_implied_types}
+use Rattle.wast_expand_keys.specs.Positioned.{position_for}
 use Rattle.wast_resolve_laws.specs.Tree.{Id, Index, Space, Span, FunctionType, TypeUse, ModuleField}
 use Rattle.wast_resolve_laws.specs.Tree.index
 use Rattle.wast_resolve_laws.specs.Tree.field

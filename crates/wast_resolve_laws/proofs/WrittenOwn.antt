@@ -13,9 +13,9 @@ use Rattle.wast_base.specs.Filling.{one_if, given_if}
 use Rattle.wast_expand_inline.specs.WriteOut.{desugar_field}
 use Rattle.wast_expand_inline.specs.Referring.{by_id, wants_id, with_item_id}
 use Rattle.wast_expand_inline.specs.Written.{with_referred_ids, desugared_from}
-use Rattle.wast_expand_types.specs.ImpliedTypes.{implied_signatures}
-use Rattle.wast_expand_types.specs.Expanded.{unnamed_type}
-use Rattle.wast_expand_types.specs.Completed.{fields_with_implied_types}
+use Rattle.wast_expand_keys.specs.ImpliedTypes.{implied_signatures}
+use Rattle.wast_expand_keys.specs.Expanded.{unnamed_type}
+use Rattle.wast_expand_keys.specs.Completed.{fields_with_implied_types}
 use Rattle.wast_expand_inline.proofs.WrittenItems.{is_of_segments, same_in_field, given}
 use Rattle.wast_resolve_laws.specs.Tree.{Id, Index, Space, ModuleField}
 use Rattle.wast_resolve_laws.specs.Tree.index

@@ -7,10 +7,10 @@ use Rattle.wast_tree_nodes.specs.Generations.{greatest_asked, greatest_generatio
 use Rattle.wast_tree_map.specs.Laws.{all_mapped}
 use Rattle.wast_expand_inline.specs.Written.{desugared_from, desugared_by_position}
 use Rattle.wast_expand_inline.proofs.Below.{written_out_below}
-use Rattle.wast_expand_types.specs.TypeSpace.{index_for}
-use Rattle.wast_expand_types.specs.Expanders.{LookUp}
-use Rattle.wast_expand_types.specs.Completed.{fields_with_implied_types}
-use Rattle.wast_expand_types.specs.Positioned.{position_for, fields_with_type_positions}
+use Rattle.wast_expand_keys.specs.TypeSpace.{index_for}
+use Rattle.wast_expand_keys.specs.Expanders.{LookUp}
+use Rattle.wast_expand_keys.specs.Completed.{fields_with_implied_types}
+use Rattle.wast_expand_keys.specs.Positioned.{position_for, fields_with_type_positions}
 use Rattle.wast_resolve_laws.specs.Tree.{ModuleField}
 use Rattle.wast_resolve_rules.specs.Demands.{first_unmet, item_demands, site_demands, order_demands, name_demands, demands}
 use Rattle.wast_resolve_rules.specs.Scopes.{module_scope}

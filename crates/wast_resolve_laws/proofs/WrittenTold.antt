@@ -8,7 +8,7 @@ use Rattle.wast_tree_map.specs.Mapped.{Change, mapped_field, mapped_constant, ma
 use Rattle.wast_tree_map.specs.Laws.{all_mapped}
 use Rattle.wast_expand_inline.specs.Segments.{at_zero}
 use Rattle.wast_expand_inline.specs.Written.{desugared_from, desugared_by_position}
-use Rattle.wast_expand_types.specs.Completed.{fields_with_implied_types}
+use Rattle.wast_expand_keys.specs.Completed.{fields_with_implied_types}
 use Rattle.wast_resolve_laws.specs.Tree.{Span, Index, FunctionType, TypeUse, ModuleField}
 use Rattle.wast_resolve_laws.specs.Tree.elem
 use Rattle.wast_resolve_laws.specs.Tree.data_kind

@@ -11,7 +11,7 @@ use Rattle.wast_tree_map.specs.Mapped.{Change, mapped_locals, mapped_site}
 use Rattle.wast_tree_map.specs.Laws.{all_mapped}
 use Rattle.wast_tree_map.proofs.Laws.{stands}
 use Rattle.wast_expand_inline.specs.Written.{desugared_from, desugared_by_position}
-use Rattle.wast_expand_types.specs.Completed.{fields_with_implied_types}
+use Rattle.wast_expand_keys.specs.Completed.{fields_with_implied_types}
 use Rattle.wast_resolve_laws.specs.Tree.space
 use Rattle.wast_resolve_laws.specs.Tree.{Index, Space, Span, ModuleField}
 use Rattle.wast_resolve_laws.specs.Tree.index

@@ -12,7 +12,7 @@ use Rattle.wast_tree_nodes.specs.WellFormed.{is_well_formed}
 use Rattle.wast_tree_nodes.specs.WrittenOut.{is_written_out}
 use Rattle.wast_base.specs.Faults.{Cause}
 use Rattle.wast_tree_nodes.specs.Generations.{greatest_generation}
-use Rattle.wast_expand_types.specs.NeedingUses.{needed_signatures}
+use Rattle.wast_expand_keys.specs.NeedingUses.{needed_signatures}
 use Rattle.wast_resolve_laws.specs.Tree.{Span, Instruction, ModuleField}
 use Rattle.wast_resolve_rules.specs.Demands.{first_unmet, demands, item_demands, site_demands, item_counts, body_counts}
 use Rattle.wast_resolve_rules.specs.Early.{early_demands}

@@ -1,8 +1,8 @@
 -- Resolved example modules, also with start fields after them, computed. Names may be at any address.
 use Rattle.std.specs.Prelude.{◌≡◌, ℕ, List, [], ◌∷◌, ◌++◌, None, codes}
 use Rattle.wast_tree_nodes.specs.WorkedModules.{Address, place, id_at, by_id, by_number, row27}
-use Rattle.wast_expand_types.specs.Signatures.{empty_signature}
-use Rattle.wast_expand_types.specs.Expanded.{empty_type, implied_types}
+use Rattle.wast_expand_keys.specs.Signatures.{empty_signature}
+use Rattle.wast_expand_keys.specs.Expanded.{empty_type, implied_types}
 use Rattle.wast_resolve_laws.specs.Tree.{Span, ModuleField}
 use Rattle.wast_resolve_rules.specs.Demands.{first_unmet, demands}
 use Rattle.wast_resolve_rules.specs.Explicit.{explicit_fields, generated_id_count}

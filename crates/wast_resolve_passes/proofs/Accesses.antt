@@ -2,7 +2,7 @@
 use Rattle.std.proofs.Common.{◌≡◌, ℕ, List, Option, Some, None, Result, Ok, Err, IfErr, option_map, slice_get, is_some, codes, refl, sym, ap, ◌∙◌, subst}
 use Rattle.std.specs.Option.{option_copied}
 use Rattle.std.specs.Borrow.{Bor}
-use Rattle.wast_expand_types.specs.Signatures.{Signature}
+use Rattle.wast_expand_keys.specs.Signatures.{Signature}
 use Rattle.wast_resolve_namespace.specs.Namespaces.{NameSpace, number_in}
 use Rattle.wast_base.specs.declared.faults.Error.{Error}
 use Rattle.wast_base.specs.Faults.{diagnostic_of}

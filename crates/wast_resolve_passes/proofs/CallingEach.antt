@@ -23,7 +23,6 @@ one_more : {X : Type 0} (f : X → List Check) (xs : List X) (x : X) → flat_ma
 one_more f xs x = flat_map-append f xs (x ∷ []) ∙ ap (λ zs. flat_map f xs ++ zs) (append-nil (f x))
 
 module _ {C X : Type 0} {needs : C → Index → Type 0} {called : C → Index → C → Index → Result ℕ Error → Type 0} {f : X → List Check} {w : X → X} where
-
   -- the next part, which is unchanged, and the lists around it
   same_part : {a b : C} {olds nows : List X} {i : ℕ} (x : X) → IsCalledOn needs called f w a olds b nows i → i < length olds → x ≡ get_or nows i x → get_or olds i x ≡ x
   same_part {olds = olds} {nows = nows} {i = i} x p lt is =

@@ -8,7 +8,7 @@ use Rattle.wast_resolve_passes.specs.Tree.{Space}
 use Rattle.wast_resolve_passes.specs.Tree.space
 use Rattle.wast_base.specs.Spaces.{rank_of}
 use Rattle.wast_tree_nodes.specs.Known.{IdContext}
-use Rattle.wast_expand_types.specs.Signatures.{Signature}
+use Rattle.wast_expand_keys.specs.Signatures.{Signature}
 use Rattle.wast_resolve_passes.specs.declared.resolver.Ns.{Ns}
 use Rattle.wast_resolve_passes.specs.declared.resolver.TypeShape.{TypeShape}
 use Rattle.wast_resolve_passes.specs.declared.resolver.Ns.TheVariants as ns

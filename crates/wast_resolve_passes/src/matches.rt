@@ -4,7 +4,7 @@ ghost use Rattle.std.specs.Prelude.{◌≡◌, List, None, map, IsTrue, OnOk, If
 ghost use Rattle.wast_base.specs.Ids.{is_number};
 ghost use Rattle.wast_base.specs.Faults.{diagnostic_of};
 ghost use Rattle.wast_tree_nodes.specs.Sites.{Check, in_signature};
-ghost use Rattle.wast_expand_types.specs.Signatures.{type_of_param, same_heap_by, same_ref_by, same_value_by, same_values_by};
+ghost use Rattle.wast_expand_keys.specs.Signatures.{type_of_param, same_heap_by, same_ref_by, same_value_by, same_values_by};
 ghost use Rattle.wast_resolve_passes.specs.Tree.{Index, ValType};
 ghost use Rattle.wast_resolve_rules.specs.Scopes.{Scope};
 ghost use Rattle.wast_resolve_rules.specs.Matches.{same_type, signatures_match};
@@ -19,7 +19,7 @@ ghost use Rattle.wast_resolve_passes.specs.Resolvers.{known_of, scope_of};
 use crate::core_types::resolve_type_func;
 use crate::resolver::Resolver;
 use wast_base::{Error, Id, Index, NameAnnotation};
-use wast_expand_types::FuncKey;
+use wast_expand_keys::FuncKey;
 use wast_tree_nodes::{FunctionType, HeapType, RefType, ValType};
 
 /// Returns whether two heap types are equal.

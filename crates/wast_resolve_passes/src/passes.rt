@@ -21,7 +21,7 @@ use wast_tree_nodes::{ModuleField, discard_fields};
 ///
 /// The new indices keep the positions of the ids. Any fields are accepted. Inline exports, imports,
 /// elements and data are unchanged. A type use without an index stays without one, because
-/// [`wast_expand_types::types::expand`] adds them.
+/// `types::expand` of `wast_expand_types` adds them.
 ///
 /// # Example
 ///

@@ -24,7 +24,7 @@ use std::marker::Model;
 use wast_base::{
     Error, Fault, Id, Index, Numbering, Space, denoted_number, number_index, try_number,
 };
-use wast_expand_types::FuncKey;
+use wast_expand_keys::FuncKey;
 use wast_tree_nodes::{FunctionType, StructAccess, TypeUse};
 
 /// An index space in which an index can be looked up (text format: indices).

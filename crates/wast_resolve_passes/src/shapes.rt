@@ -4,7 +4,7 @@ ghost use Rattle.std.specs.Prelude.{◌≡◌, ◌≤◌, ◌^◌, None, [], ◌
 ghost use Rattle.wast_base.specs.Faults.{out_of_memory};
 ghost use Rattle.wast_base.specs.Spaces.{name_if};
 ghost use Rattle.wast_tree_nodes.specs.Items.{field_ids, fields_of};
-ghost use Rattle.wast_expand_types.specs.Signatures.{signature_of};
+ghost use Rattle.wast_expand_keys.specs.Signatures.{signature_of};
 ghost use Rattle.wast_resolve_rules.specs.Demands.{first_unmet, field_demands, HasMany};
 ghost use Rattle.wast_resolve_passes.specs.Resolvers.{read_shape};
 ghost use Rattle.wast_resolve_rules.specs.Scopes.{Function, struct_shape, shape_of, shapes_in, shapes_of_types};
@@ -16,7 +16,7 @@ use crate::resolver::TypeShape;
 use std::alloc::Global;
 use std::slice;
 use wast_base::Error;
-use wast_expand_types::{Expander, TypeReference};
+use wast_expand_keys::{Expander, TypeReference};
 use wast_tree_nodes::{FunctionType, InnerTypeKind, ModuleField, StructField, Type};
 
 /// Returns the ids of the fields of a struct with their numbers. No two are the same.

@@ -5,7 +5,7 @@ use Rattle.wast_base.specs.Ids.{span_of_index}
 use Rattle.wast_base.proofs.Numbered.{denoted_still, span_still}
 use Rattle.wast_tree_nodes.specs.Known.{IdContext}
 use Rattle.wast_tree_map.specs.Mapped.{mapped_heap, mapped_val, mapped_param, mapped_signature}
-use Rattle.wast_expand_types.specs.Signatures.{Signature, type_of_param, same_heap_by, same_value_by, same_values_by}
+use Rattle.wast_expand_keys.specs.Signatures.{Signature, type_of_param, same_heap_by, same_value_by, same_values_by}
 use Rattle.wast_resolve_rules.specs.Tree.{Id, Index, NameAnnotation, HeapType, ValType, FunctionType, TypeUse}
 use Rattle.wast_resolve_rules.specs.Tree.index
 use Rattle.wast_resolve_rules.specs.Tree.space

@@ -24,7 +24,7 @@ use Rattle.wast_base.specs.Blocks.{Blocks}
 use Rattle.wast_resolve_labels.specs.OpenBlocks.{label_depth, is_expected_label}
 use Rattle.wast_tree_nodes.specs.Sites.{Check, ItemIndex, InnerIndex, PlainId, Clause, Covered, Site, Asked, Used, Declared, LocalAt, FieldAt, LabelAt, Repeated, Begins, Ends, in_type_use, param_marks, local_marks, in_field, in_module}
 use Rattle.wast_tree_nodes.specs.Known.{IdContext, names_in}
-use Rattle.wast_expand_types.specs.Signatures.{Signature}
+use Rattle.wast_expand_keys.specs.Signatures.{Signature}
 use Rattle.wast_expand_inline.specs.Segments.{has_oversized_data}
 use Rattle.wast_resolve_rules.specs.Explicit.{explicit_fields, generated_id_count}
 pub use Rattle.wast_base.specs.FirstUnmet.{Demand, one_demand, first_unmet, unknown_demand, known_index, Answers}

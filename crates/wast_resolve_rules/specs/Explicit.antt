@@ -8,9 +8,9 @@
 --   explicit_fields_from 1    (export "a" (func [1])) (func [1] (type [2])) (type [2] (func))
 use Rattle.std.specs.Prelude.{ℕ, ◌+◌, List}
 use Rattle.wast_expand_inline.specs.Written.{desugared_from, reference_id_count, desugared_by_position}
-use Rattle.wast_expand_types.specs.Expanded.{expanded_fields, type_id_count}
-use Rattle.wast_expand_types.specs.Completed.{fields_with_implied_types}
-use Rattle.wast_expand_types.specs.Positioned.{fields_with_type_positions}
+use Rattle.wast_expand_keys.specs.Expanded.{expanded_fields, type_id_count}
+use Rattle.wast_expand_keys.specs.Completed.{fields_with_implied_types}
+use Rattle.wast_expand_keys.specs.Positioned.{fields_with_type_positions}
 use Rattle.wast_resolve_rules.specs.Tree.{ModuleField}
 
 -- without generated ids: exports and segments refer to positions

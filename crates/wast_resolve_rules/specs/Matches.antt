@@ -5,7 +5,7 @@
 --   (type $t (func)) (type $a (func (param (ref $t)))) (func (type $a) (param (ref 0)))      they match
 use Rattle.std.specs.Prelude.{ℕ, ◌==◌, Bool, false, Option, Some, None}
 use Rattle.wast_tree_nodes.specs.Known.{IdContext}
-use Rattle.wast_expand_types.specs.Signatures.{Signature, signature_of, same_signature_by}
+use Rattle.wast_expand_keys.specs.Signatures.{Signature, signature_of, same_signature_by}
 use Rattle.wast_resolve_rules.specs.Tree.{Index, FunctionType}
 use Rattle.wast_resolve_rules.specs.Tree.space
 use Rattle.wast_resolve_rules.specs.Scopes.{denoted}

@@ -8,7 +8,7 @@ use Rattle.std.specs.List.{list_any}
 use Rattle.wast_tree_nodes.specs.Items.{field_ids, items}
 use Rattle.wast_tree_nodes.specs.Known.{IdContext, id_context}
 use Rattle.wast_tree_nodes.specs.Types.{types_of}
-use Rattle.wast_expand_types.specs.Signatures.{Signature, signature_of}
+use Rattle.wast_expand_keys.specs.Signatures.{Signature, signature_of}
 pub use Rattle.wast_base.specs.Denoted.{denoted}
 use Rattle.wast_base.specs.Ids.{Name}
 use Rattle.wast_base.specs.Spaces.{name_if, position_of}

@@ -6,7 +6,7 @@
 --   (func [1] (type 0))      (func (type 0))
 use Rattle.std.specs.Prelude.{cond, Option, Some, None, option_map}
 use Rattle.wast_base.specs.Ids.{name_of, is_generated}
-use Rattle.wast_expand_types.specs.Expanded.{start_of_text}
+use Rattle.wast_expand_keys.specs.Expanded.{start_of_text}
 use Rattle.wast_tree_map.specs.Mapped.{Change}
 use Rattle.wast_resolve_rules.specs.Tree.{Id, Index, FunctionType, TypeUse}
 use Rattle.wast_resolve_rules.specs.Tree.index

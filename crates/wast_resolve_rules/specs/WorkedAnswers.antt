@@ -3,11 +3,11 @@ use Rattle.std.specs.Prelude.{◌≡◌, ℕ, false, List, [], ◌∷◌, ◌++�
 use Rattle.wast_base.specs.Faults.{Duplicate, DuplicateField, Unknown, OutOfBounds, NotFunc, NoMatch}
 use Rattle.wast_tree_nodes.specs.Items.{items}
 use Rattle.wast_tree_nodes.specs.WorkedModules.{Address, place, id_at, by_id, by_number, plain_def, plain_type, plain_func, type_field, export_field, row27_with, row27, row31, row32}
-use Rattle.wast_expand_types.specs.Signatures.{empty_signature}
-use Rattle.wast_expand_types.specs.Expanded.{unnamed_type, implied_type, implied_types, expanded_fields}
-use Rattle.wast_expand_types.specs.Completed.{fields_with_implied_types}
-use Rattle.wast_expand_types.specs.Positioned.{fields_with_type_positions}
-use Rattle.wast_expand_types.specs.WorkedExpansions.{func_at, function_type, type_at, ref_to, row2, row7, row7_with, row8_with, row23_with, indirect_with, indirect_calls, types_of_calls}
+use Rattle.wast_expand_keys.specs.Signatures.{empty_signature}
+use Rattle.wast_expand_keys.specs.Expanded.{unnamed_type, implied_type, implied_types, expanded_fields}
+use Rattle.wast_expand_keys.specs.Completed.{fields_with_implied_types}
+use Rattle.wast_expand_keys.specs.Positioned.{fields_with_type_positions}
+use Rattle.wast_expand_keys.specs.WorkedExpansions.{func_at, function_type, type_at, ref_to, row2, row7, row7_with, row8_with, row23_with, indirect_with, indirect_calls, types_of_calls}
 use Rattle.wast_resolve_rules.specs.Tree.{Id, Index, ValType, FunctionType, StructField, ModuleField}
 use Rattle.wast_resolve_rules.specs.Tree.value
 use Rattle.wast_resolve_rules.specs.Tree.storage

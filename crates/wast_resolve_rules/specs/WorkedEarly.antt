@@ -2,7 +2,7 @@
 use Rattle.std.specs.Prelude.{◌≡◌, ℕ, ◌+◌, false, [], ◌∷◌, Option, Some, None, codes}
 use Rattle.wast_base.specs.Faults.{ImportAfter, Duplicate}
 use Rattle.wast_tree_nodes.specs.WorkedModules.{Address, text, place, id_at, by_id, row32}
-use Rattle.wast_expand_types.specs.WorkedExpansions.{func_at}
+use Rattle.wast_expand_keys.specs.WorkedExpansions.{func_at}
 use Rattle.wast_resolve_rules.specs.Tree.{Id, ModuleField}
 use Rattle.wast_resolve_rules.specs.Tree.func
 use Rattle.wast_resolve_rules.specs.Tree.field

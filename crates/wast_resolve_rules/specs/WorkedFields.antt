@@ -3,10 +3,10 @@
 use Rattle.std.specs.Prelude.{◌≡◌, ◌++◌, List, [], ◌∷◌, Some, None, codes}
 use Rattle.wast_base.specs.Faults.{Unknown, NoNamedFields}
 use Rattle.wast_tree_nodes.specs.WorkedModules.{Address, place, id_at, by_id, by_number}
-use Rattle.wast_expand_types.specs.Signatures.{empty_signature}
-use Rattle.wast_expand_types.specs.Expanded.{implied_types}
-use Rattle.wast_expand_types.specs.Completed.{fields_with_implied_types}
-use Rattle.wast_expand_types.specs.WorkedExpansions.{function_type, type_at}
+use Rattle.wast_expand_keys.specs.Signatures.{empty_signature}
+use Rattle.wast_expand_keys.specs.Expanded.{implied_types}
+use Rattle.wast_expand_keys.specs.Completed.{fields_with_implied_types}
+use Rattle.wast_expand_keys.specs.WorkedExpansions.{function_type, type_at}
 use Rattle.wast_resolve_rules.specs.Tree.{Index, FunctionType, TypeUse, ModuleField}
 use Rattle.wast_resolve_rules.specs.Tree.heap
 use Rattle.wast_resolve_rules.specs.Tree.bare

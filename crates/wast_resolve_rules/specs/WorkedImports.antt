@@ -2,8 +2,8 @@
 use Rattle.std.specs.Prelude.{◌≡◌, ℕ, ◌+◌, false, List, [], ◌∷◌, Option, Some, None, codes}
 use Rattle.wast_base.specs.Faults.{ImportAfter, Duplicate, Unknown}
 use Rattle.wast_tree_nodes.specs.WorkedModules.{Address, text, place, id_at, by_id}
-use Rattle.wast_expand_types.specs.Completed.{fields_with_implied_types}
-use Rattle.wast_expand_types.specs.WorkedExpansions.{func_at}
+use Rattle.wast_expand_keys.specs.Completed.{fields_with_implied_types}
+use Rattle.wast_expand_keys.specs.WorkedExpansions.{func_at}
 use Rattle.wast_resolve_rules.specs.Tree.{Id, FunctionType, TypeUse, MemoryType, ModuleField}
 use Rattle.wast_resolve_rules.specs.Tree.func
 use Rattle.wast_resolve_rules.specs.Tree.tag

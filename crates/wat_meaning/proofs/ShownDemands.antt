@@ -10,7 +10,7 @@ use Rattle.wast_base.specs.Ids.{Name, span_of_index}
 use Rattle.wast_base.specs.Spaces.{position_of}
 use Rattle.wast_tree_nodes.specs.Items.{items}
 use Rattle.wast_tree_nodes.specs.Sites.{Locals, Site, Asked, Used, Declared, LocalAt, FieldAt, LabelAt, Repeated, Begins, Ends, in_field, in_module}
-use Rattle.wast_expand_types.specs.Signatures.{Signature, same_signature_by}
+use Rattle.wast_expand_keys.specs.Signatures.{Signature, same_signature_by}
 use Rattle.wast_resolve_rules.specs.Scopes.{Scope, module_scope, denoted, type_at, local_number}
 use Rattle.wast_resolve_rules.specs.Matches.{same_type}
 use Rattle.wast_resolve_rules.specs.ImportOrder.{imported_at, import_place, unless_import, last_defined, nothing_defined, order_demand}

@@ -12,9 +12,9 @@ use Rattle.wast_tree_nodes.specs.Sites.{Where, OfItem, OfCall, OfBlock}
 use Rattle.wast_tree_nodes.specs.Types.{inline_alone, said_once}
 use Rattle.wast_tree_map.specs.Mapped.{mapped_signature, mapped_field}
 use Rattle.wast_expand_inline.specs.Written.{desugared_from, reference_id_count, desugared_by_position}
-use Rattle.wast_expand_types.specs.Expanded.{expanded_fields, type_id_count}
-use Rattle.wast_expand_types.specs.Completed.{fields_with_implied_types}
-use Rattle.wast_expand_types.specs.Positioned.{fields_with_type_positions}
+use Rattle.wast_expand_keys.specs.Expanded.{expanded_fields, type_id_count}
+use Rattle.wast_expand_keys.specs.Completed.{fields_with_implied_types}
+use Rattle.wast_expand_keys.specs.Positioned.{fields_with_type_positions}
 use Rattle.wast_resolve_rules.specs.Explicit.{explicit_fields, by_positions, explicit_fields_from, generated_id_count}
 use Rattle.wast_resolve_rules.specs.Finished.{resolved_fields_from}
 use Rattle.wast_resolve_rules.specs.Resolved.{numbered_at, numbered_use, resolved_use, numbering_change, resolved_fields}

@@ -12,16 +12,16 @@ use Rattle.wast_base.specs.Filling.{with_ids_from, missing_id_count}
 use Rattle.wast_tree_nodes.specs.Known.{id_context}
 use Rattle.wast_tree_nodes.specs.Sites.{if_there, Where, OfItem, OfCall, OfBlock, Site, Asked, Used, Declared, LocalAt, FieldAt, LabelAt, Repeated, Begins, Ends, in_module}
 use Rattle.wast_tree_nodes.specs.Types.{is_short}
-use Rattle.wast_expand_types.specs.Signatures.{Signature, type_of_param, signature_of}
-use Rattle.wast_expand_types.specs.NeedingUses.{inline_signature, needs_type, needed_if, needed_without, needed_at, needed_in, needed_signatures}
-use Rattle.wast_expand_types.specs.Numbers.{TypeNames, type_names, numbered_signature}
-use Rattle.wast_expand_types.specs.EligibleTypes.{is_eligible, kind_signature, taken_by}
-use Rattle.wast_expand_types.specs.ImpliedTypes.{eligible_in, eligible_signatures, is_among, first_new, implied_signatures}
-use Rattle.wast_expand_types.specs.TypeSpace.{types_in, type_space, has_signature, index_for}
-use Rattle.wast_expand_types.specs.Expanders.{LookUp, index_of}
-use Rattle.wast_expand_types.specs.Expanded.{lacks_id, with_type_id, unnamed_param, unnamed_type, def_of, start_of_text, implied_types, fields_with_types, binding_of, bindings_in, bindings, found_for, bound_if, bound_index, bound_inline, binding_change, bound_field, expanded_fields, type_id_count}
-use Rattle.wast_expand_types.specs.Completed.{fields_with_implied_types}
-use Rattle.wast_expand_types.specs.Positioned.{position_for, fields_with_type_positions}
+use Rattle.wast_expand_keys.specs.Signatures.{Signature, type_of_param, signature_of}
+use Rattle.wast_expand_keys.specs.NeedingUses.{inline_signature, needs_type, needed_if, needed_without, needed_at, needed_in, needed_signatures}
+use Rattle.wast_expand_keys.specs.Numbers.{TypeNames, type_names, numbered_signature}
+use Rattle.wast_expand_keys.specs.EligibleTypes.{is_eligible, kind_signature, taken_by}
+use Rattle.wast_expand_keys.specs.ImpliedTypes.{eligible_in, eligible_signatures, is_among, first_new, implied_signatures}
+use Rattle.wast_expand_keys.specs.TypeSpace.{types_in, type_space, has_signature, index_for}
+use Rattle.wast_expand_keys.specs.Expanders.{LookUp, index_of}
+use Rattle.wast_expand_keys.specs.Expanded.{lacks_id, with_type_id, unnamed_param, unnamed_type, def_of, start_of_text, implied_types, fields_with_types, binding_of, bindings_in, bindings, found_for, bound_if, bound_index, bound_inline, binding_change, bound_field, expanded_fields, type_id_count}
+use Rattle.wast_expand_keys.specs.Completed.{fields_with_implied_types}
+use Rattle.wast_expand_keys.specs.Positioned.{position_for, fields_with_type_positions}
 use Rattle.wat_syntax.specs.Tree.{Id, Index, NameAnnotation, ValType, FunctionType, InnerTypeKind, TypeDef, ModuleField}
 use Rattle.wat_syntax.specs.Tree.index
 use Rattle.wat_syntax.specs.Tree.space

@@ -1,7 +1,7 @@
 use Rattle.wast_tree_nodes.specs.Sites.{constant_context, in_instr}
 use Rattle.wast_tree_map.specs.Mapped.{mapped_instr}
-use Rattle.wast_expand_types.specs.Expanded.{binding_change}
-use Rattle.wast_expand_types.specs.NeedingUses.{needed_in}
+use Rattle.wast_expand_keys.specs.Expanded.{binding_change}
+use Rattle.wast_expand_keys.specs.NeedingUses.{needed_in}
 use Rattle.wast_expand_types.proofs.Halfway.{IsHalfway}
 use Rattle.wast_expand_types.proofs.binding.bind_instrs.Given as goal
 

@@ -1,8 +1,8 @@
 use Rattle.std.proofs.Common.{List, Option, arith, subst, ◌∙◌}
 use Rattle.wast_base.specs.Ids.{Name}
 use Rattle.wast_base.specs.Spaces.{position_of}
-use Rattle.wast_expand_types.specs.Expanders.{Extends, numbers_in}
-use Rattle.wast_expand_types.specs.Expanded.{bindings_in}
+use Rattle.wast_expand_keys.specs.Expanders.{Extends, numbers_in}
+use Rattle.wast_expand_keys.specs.Expanded.{bindings_in}
 use Rattle.wast_expand_types.proofs.Expanding.{extends_more}
 use Rattle.wast_expand_types.proofs.expansion.bind_types.Goals as goal
 

@@ -1,6 +1,6 @@
 use Rattle.std.proofs.Common.{◌≡◌, take}
-use Rattle.wast_expand_types.specs.Expanders.{numbers_in, Extends}
-use Rattle.wast_expand_types.specs.Expanded.{bindings}
+use Rattle.wast_expand_keys.specs.Expanders.{numbers_in, Extends}
+use Rattle.wast_expand_keys.specs.Expanded.{bindings}
 use Rattle.wast_expand_types.proofs.expansion.bind_types.Given as goal
 
 abbrev pub invariant-loop-field : goal.invariant-loop-field

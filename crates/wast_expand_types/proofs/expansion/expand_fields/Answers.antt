@@ -5,8 +5,8 @@ use Rattle.wast_base.specs.Filling.{RunsOut}
 use Rattle.wast_tree_nodes.specs.Items.{items}
 use Rattle.wast_tree_nodes.specs.Known.{names_in}
 use Rattle.wast_expand_types.specs.Tree.space
-use Rattle.wast_expand_types.specs.Numbers.{type_names}
-use Rattle.wast_expand_types.specs.Expanders.{Bound, numbers_in}
+use Rattle.wast_expand_keys.specs.Numbers.{type_names}
+use Rattle.wast_expand_keys.specs.Expanders.{Bound, numbers_in}
 use Rattle.wast_expand_types.proofs.Expanding.{counts, lists}
 use Rattle.wast_expand_types.proofs.expansion.expand_fields.Goals as goal
 

@@ -1,6 +1,6 @@
 use Rattle.std.proofs.Common.{◌≡◌, ◌+◌, ◌≤◌, ◌++◌, take, drop, length}
 use Rattle.wast_base.specs.Filling.{with_ids_from, missing_id_count}
-use Rattle.wast_expand_types.specs.Expanded.{lacks_id, with_type_id}
+use Rattle.wast_expand_keys.specs.Expanded.{lacks_id, with_type_id}
 use Rattle.wast_expand_types.proofs.TypeItems.{in_fields}
 use Rattle.wast_expand_types.proofs.expansion.name_types.Given as goal
 

@@ -2,7 +2,7 @@ use Rattle.std.proofs.Common.{◌∙◌, ◌+◌, ℕ, ap, sym, subst, subst₂,
 use Rattle.std.proofs.lemmas.Result.{err_from_is_err_and}
 use Rattle.wast_tree_nodes.specs.Items.{items}
 use Rattle.wast_tree_nodes.specs.Known.{id_context}
-use Rattle.wast_expand_types.specs.Expanded.{type_id_count, StopsExpanding}
+use Rattle.wast_expand_keys.specs.Expanded.{type_id_count, StopsExpanding}
 use Rattle.wast_base.specs.FirstUnmet.{first_unmet, Answers}
 use Rattle.wast_base.specs.Faults.{diagnostic_of}
 use Rattle.wast_resolve.specs.Tree.{ModuleField}

@@ -1,5 +1,5 @@
 use Rattle.std.proofs.Common.{◌≡◌, map, drop}
-use Rattle.wast_expand_types.specs.Signatures.{same_values_by}
+use Rattle.wast_expand_keys.specs.Signatures.{same_values_by}
 use Rattle.wast_resolve_rules.specs.Matches.{same_type}
 use Rattle.wast_resolve_passes.specs.Resolvers.{known_of}
 use Rattle.wast_resolve_passes.proofs.matches.same_values.Given as goal

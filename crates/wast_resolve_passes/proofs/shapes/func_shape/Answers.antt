@@ -1,6 +1,6 @@
 use Rattle.std.proofs.Common.{ap, ◌∙◌}
-use Rattle.wast_expand_types.specs.Expanders.{Bound, numbers_in}
-use Rattle.wast_expand_types.proofs.NumberedTypes.{stays_as_written}
+use Rattle.wast_expand_keys.specs.Expanders.{Bound, numbers_in}
+use Rattle.wast_expand_keys.proofs.AsWritten.{stays_as_written}
 use Rattle.wast_resolve_rules.specs.Scopes.{Function}
 use Rattle.wast_resolve_passes.proofs.shapes.func_shape.Goals as goal
 

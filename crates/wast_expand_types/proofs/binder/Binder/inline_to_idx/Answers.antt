@@ -2,10 +2,10 @@ use Rattle.std.proofs.Common.{sym, ap, ◌∙◌, subst, ◌∷◌, []}
 use Rattle.wast_base.specs.Ids.{gensym_id}
 use Rattle.wast_base.specs.Spaces.{position_of}
 use Rattle.wast_expand_types.specs.Tree.index
-use Rattle.wast_expand_types.specs.NeedingUses.{inline_signature}
-use Rattle.wast_expand_types.specs.Numbers.{numbered_signature}
-use Rattle.wast_expand_types.specs.Expanders.{Bound, index_of, Extends}
-use Rattle.wast_expand_types.specs.Expanded.{start_of_text}
+use Rattle.wast_expand_keys.specs.NeedingUses.{inline_signature}
+use Rattle.wast_expand_keys.specs.Numbers.{numbered_signature}
+use Rattle.wast_expand_keys.specs.Expanders.{Bound, index_of, Extends}
+use Rattle.wast_expand_keys.specs.Expanded.{start_of_text}
 use Rattle.wast_expand_types.proofs.OneMore.{now_bound, adds_one}
 use Rattle.wast_expand_types.proofs.binder.Binder.inline_to_idx.Goals as goal
 

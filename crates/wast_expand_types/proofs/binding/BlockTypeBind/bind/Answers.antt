@@ -1,6 +1,6 @@
 use Rattle.std.proofs.Common.{ap, sym, ◌∙◌}
 use Rattle.wast_expand_types.specs.Tree.{FunctionType, TypeUse}
-use Rattle.wast_expand_types.specs.Expanders.{found_in}
+use Rattle.wast_expand_keys.specs.Expanders.{found_in}
 use Rattle.wast_expand_types.proofs.Needing.{block_wants}
 use Rattle.wast_expand_types.proofs.binding.BlockTypeBind.bind.Goals as goal
 

@@ -2,9 +2,9 @@ use Rattle.std.proofs.Common.{◌++◌, ap, sym, ◌∙◌, subst}
 use Rattle.std.proofs.lemmas.Result.{err_from_is_err_and}
 use Rattle.wast_tree_nodes.specs.Sites.{OfItem, in_func_kind}
 use Rattle.wast_base.specs.Filling.{RunsOut}
-use Rattle.wast_expand_types.specs.NeedingUses.{needed_in}
-use Rattle.wast_expand_types.specs.Expanders.{LookUp, found_in}
-use Rattle.wast_expand_types.specs.Expanded.{bound_use}
+use Rattle.wast_expand_keys.specs.NeedingUses.{needed_in}
+use Rattle.wast_expand_keys.specs.Expanders.{LookUp, found_in}
+use Rattle.wast_expand_keys.specs.Expanded.{bound_use}
 use Rattle.wast_expand_types.specs.Binding.{no_use, new_bindings, next_after}
 use Rattle.wast_expand_types.proofs.Adding.{adds_as, adds_both, count_then, more_then}
 use Rattle.wast_expand_types.proofs.Needing.{needed_func, bound_kind_anywhere}

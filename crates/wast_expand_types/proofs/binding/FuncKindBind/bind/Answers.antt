@@ -5,9 +5,9 @@ use Rattle.wast_base.specs.Filling.{RunsOut}
 use Rattle.wast_tree_map.specs.Mapped.{mapped_func_kind}
 use Rattle.wast_expand_types.specs.Tree.{Expression}
 use Rattle.wast_expand_types.specs.Tree.func
-use Rattle.wast_expand_types.specs.NeedingUses.{needed_in}
-use Rattle.wast_expand_types.specs.Expanders.{found_in}
-use Rattle.wast_expand_types.specs.Expanded.{binding_change}
+use Rattle.wast_expand_keys.specs.NeedingUses.{needed_in}
+use Rattle.wast_expand_keys.specs.Expanders.{found_in}
+use Rattle.wast_expand_keys.specs.Expanded.{binding_change}
 use Rattle.wast_expand_types.specs.Binding.{no_use, next_after}
 use Rattle.wast_expand_types.proofs.Adding.{adds_as}
 use Rattle.wast_expand_types.proofs.Needing.{needed_inline, inline_bound}

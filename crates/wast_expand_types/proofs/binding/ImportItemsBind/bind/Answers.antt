@@ -8,9 +8,9 @@ use Rattle.wast_tree_nodes.specs.Sites.{in_sig, in_shared_id, in_import, uncover
 use Rattle.wast_tree_map.specs.Mapped.{mapped_item_kind, mapped_import_items}
 use Rattle.wast_tree_map.proofs.Alone.{shared_id_stays}
 use Rattle.wast_expand_types.specs.Binding.{next_after}
-use Rattle.wast_expand_types.specs.Expanders.{found_in}
-use Rattle.wast_expand_types.specs.Expanded.{binding_change}
-use Rattle.wast_expand_types.specs.NeedingUses.{needed_in}
+use Rattle.wast_expand_keys.specs.Expanders.{found_in}
+use Rattle.wast_expand_keys.specs.Expanded.{binding_change}
+use Rattle.wast_expand_keys.specs.NeedingUses.{needed_in}
 use Rattle.wast_expand_types.proofs.Adding.{adds_as}
 use Rattle.wast_expand_types.proofs.Needing.{needed_besides, needed_group}
 use Rattle.wast_expand_types.proofs.binding.ImportItemsBind.bind.Goals as goal

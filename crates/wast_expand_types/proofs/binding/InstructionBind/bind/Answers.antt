@@ -5,9 +5,9 @@ use Rattle.wast_expand_types.specs.Tree.{ResumeTable}
 use Rattle.wast_expand_types.specs.Tree.form
 use Rattle.wast_expand_types.specs.Tree.space
 use Rattle.wast_expand_types.specs.Tree.instr
-use Rattle.wast_expand_types.specs.Expanded.{binding_change}
-use Rattle.wast_expand_types.specs.Expanders.{found_in}
-use Rattle.wast_expand_types.specs.NeedingUses.{needed_in}
+use Rattle.wast_expand_keys.specs.Expanded.{binding_change}
+use Rattle.wast_expand_keys.specs.Expanders.{found_in}
+use Rattle.wast_expand_keys.specs.NeedingUses.{needed_in}
 use Rattle.wast_expand_types.proofs.Adding.{adds_nothing}
 use Rattle.wast_expand_types.proofs.Needing.{select_stays, needed_asking, needed_besides, needed_cast, needed_resume, handlers_stay, needed_br_table}
 use Rattle.wast_expand_types.proofs.binding.InstructionBind.bind.Goals as goal

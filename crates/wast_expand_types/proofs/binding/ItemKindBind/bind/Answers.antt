@@ -6,9 +6,9 @@ use Rattle.wast_expand_types.specs.Tree.kind
 use Rattle.wast_tree_nodes.specs.Sites.{OfItem, in_use, in_item_kind, uncovered_check}
 use Rattle.wast_tree_map.specs.Mapped.{mapped_item_kind}
 use Rattle.wast_expand_types.specs.Binding.{next_after}
-use Rattle.wast_expand_types.specs.Expanders.{found_in}
-use Rattle.wast_expand_types.specs.Expanded.{binding_change}
-use Rattle.wast_expand_types.specs.NeedingUses.{needed_in}
+use Rattle.wast_expand_keys.specs.Expanders.{found_in}
+use Rattle.wast_expand_keys.specs.Expanded.{binding_change}
+use Rattle.wast_expand_keys.specs.NeedingUses.{needed_in}
 use Rattle.wast_expand_types.proofs.Adding.{adds_as}
 use Rattle.wast_expand_types.proofs.Needing.{needed_besides}
 use Rattle.wast_expand_types.proofs.binding.ItemKindBind.bind.Goals as goal

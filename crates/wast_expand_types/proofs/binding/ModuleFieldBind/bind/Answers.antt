@@ -1,9 +1,9 @@
 use Rattle.std.proofs.Common.{ap, sym, ◌∙◌}
 use Rattle.wast_expand_types.specs.Tree.field
-use Rattle.wast_expand_types.specs.Expanders.{found_in}
+use Rattle.wast_expand_keys.specs.Expanders.{found_in}
 use Rattle.wast_tree_nodes.specs.Sites.{in_type, in_rec, in_field}
-use Rattle.wast_expand_types.specs.NeedingUses.{needed_in}
-use Rattle.wast_expand_types.specs.Expanded.{bound_field}
+use Rattle.wast_expand_keys.specs.NeedingUses.{needed_in}
+use Rattle.wast_expand_keys.specs.Expanded.{bound_field}
 use Rattle.wast_expand_types.proofs.Adding.{adds_nothing}
 use Rattle.wast_expand_types.proofs.Needing.{ty_none, rec_none, custom_none}
 use Rattle.wast_expand_types.proofs.Staying.{stays_as, asking_says}

@@ -1,9 +1,9 @@
 use Rattle.std.proofs.Common.{[], ap, sym, ◌∙◌}
 use Rattle.wast_tree_nodes.specs.Sites.{in_block}
 use Rattle.wast_tree_map.specs.Mapped.{mapped_block}
-use Rattle.wast_expand_types.specs.NeedingUses.{needed_in}
-use Rattle.wast_expand_types.specs.Expanders.{found_in}
-use Rattle.wast_expand_types.specs.Expanded.{binding_change}
+use Rattle.wast_expand_keys.specs.NeedingUses.{needed_in}
+use Rattle.wast_expand_keys.specs.Expanders.{found_in}
+use Rattle.wast_expand_keys.specs.Expanded.{binding_change}
 use Rattle.wast_expand_types.proofs.Adding.{adds_as}
 use Rattle.wast_expand_types.proofs.Needing.{needed_block, needed_try_table, catches_stay}
 use Rattle.wast_expand_types.proofs.binding.TryTableBind.bind.Goals as goal

@@ -2,8 +2,8 @@ use Rattle.std.proofs.Common.{ap, sym, ◌∙◌}
 use Rattle.wast_tree_map.specs.Mapped.{mapped_data_kind}
 use Rattle.wast_expand_types.specs.Tree.{Expression}
 use Rattle.wast_expand_types.specs.Tree.data_kind
-use Rattle.wast_expand_types.specs.Expanders.{found_in}
-use Rattle.wast_expand_types.specs.Expanded.{binding_change}
+use Rattle.wast_expand_keys.specs.Expanders.{found_in}
+use Rattle.wast_expand_keys.specs.Expanded.{binding_change}
 use Rattle.wast_expand_types.proofs.constants.DataKindBind.bind.Goals as goal
 
 pub returns-in_ok-bind-in-Active-clause-bound : goal.returns-in_ok-bind-in-Active-clause-bound

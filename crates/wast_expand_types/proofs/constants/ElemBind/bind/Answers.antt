@@ -3,9 +3,9 @@ use Rattle.std.proofs.lemmas.Result.{err_from_is_err_and}
 use Rattle.wast_tree_nodes.specs.Sites.{in_payload}
 use Rattle.wast_tree_map.specs.Mapped.{mapped_elem_kind}
 use Rattle.wast_base.specs.Filling.{RunsOut}
-use Rattle.wast_expand_types.specs.NeedingUses.{needed_in}
-use Rattle.wast_expand_types.specs.Expanders.{LookUp}
-use Rattle.wast_expand_types.specs.Expanded.{binding_change}
+use Rattle.wast_expand_keys.specs.NeedingUses.{needed_in}
+use Rattle.wast_expand_keys.specs.Expanders.{LookUp}
+use Rattle.wast_expand_keys.specs.Expanded.{binding_change}
 use Rattle.wast_expand_types.specs.Binding.{new_bindings, next_after}
 use Rattle.wast_expand_types.proofs.Adding.{adds_as, adds_both, count_then, more_then, first_runs_out}
 use Rattle.wast_expand_types.proofs.InConstants.{elem_needs}

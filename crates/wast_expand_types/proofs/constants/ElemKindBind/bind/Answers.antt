@@ -5,9 +5,9 @@ use Rattle.wast_tree_map.specs.Mapped.{mapped_elem_kind}
 use Rattle.wast_base.specs.Filling.{RunsOut}
 use Rattle.wast_expand_types.specs.Tree.{Expression}
 use Rattle.wast_expand_types.specs.Tree.elem
-use Rattle.wast_expand_types.specs.NeedingUses.{needed_in}
-use Rattle.wast_expand_types.specs.Expanders.{LookUp, found_in}
-use Rattle.wast_expand_types.specs.Expanded.{binding_change}
+use Rattle.wast_expand_keys.specs.NeedingUses.{needed_in}
+use Rattle.wast_expand_keys.specs.Expanders.{LookUp, found_in}
+use Rattle.wast_expand_keys.specs.Expanded.{binding_change}
 use Rattle.wast_expand_types.specs.Binding.{next_after}
 use Rattle.wast_expand_types.proofs.Adding.{adds_as}
 use Rattle.wast_expand_types.proofs.InConstants.{active_needs, active_bound}

@@ -2,7 +2,7 @@ use Rattle.std.proofs.Common.{ap, sym, ◌∙◌, subst}
 use Rattle.std.proofs.lemmas.Result.{err_from_is_err_and}
 use Rattle.wast_base.specs.Filling.{RunsOut}
 use Rattle.wast_expand_types.specs.Tree.{GlobalKind}
-use Rattle.wast_expand_types.specs.Expanders.{found_in}
+use Rattle.wast_expand_keys.specs.Expanders.{found_in}
 use Rattle.wast_expand_types.specs.Binding.{next_after}
 use Rattle.wast_expand_types.proofs.Adding.{adds_as}
 use Rattle.wast_expand_types.proofs.InConstants.{global_needs, global_bound}

@@ -5,9 +5,9 @@ use Rattle.wast_tree_map.specs.Mapped.{mapped_table_kind}
 use Rattle.wast_base.specs.Filling.{RunsOut}
 use Rattle.wast_expand_types.specs.Tree.{Expression, ElemPayload}
 use Rattle.wast_expand_types.specs.Tree.table
-use Rattle.wast_expand_types.specs.NeedingUses.{needed_in}
-use Rattle.wast_expand_types.specs.Expanders.{LookUp, found_in}
-use Rattle.wast_expand_types.specs.Expanded.{binding_change}
+use Rattle.wast_expand_keys.specs.NeedingUses.{needed_in}
+use Rattle.wast_expand_keys.specs.Expanders.{LookUp, found_in}
+use Rattle.wast_expand_keys.specs.Expanded.{binding_change}
 use Rattle.wast_expand_types.specs.Binding.{next_after}
 use Rattle.wast_expand_types.proofs.Adding.{adds_as, adds_nothing}
 use Rattle.wast_expand_types.proofs.InConstants.{import_needs, normal_needs, inline_needs, import_bound, normal_bound, inline_bound}

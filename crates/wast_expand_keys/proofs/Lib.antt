@@ -1,0 +1,4 @@
+pub mod AsWritten
+pub mod Bound
+pub mod Placed
+pub mod Worked

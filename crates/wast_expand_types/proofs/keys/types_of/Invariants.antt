@@ -1,9 +1,0 @@
-use Rattle.std.proofs.Common.{◌≡◌, ◌++◌, map, drop}
-use Rattle.wast_expand_types.specs.Signatures.{type_of_param}
-use Rattle.wast_expand_types.specs.Numbers.{numbered_val}
-use Rattle.wast_expand_types.specs.Expanders.{numbers_in}
-use Rattle.wast_expand_types.proofs.keys.types_of.Given as goal
-
-abbrev pub invariant-loop-param : goal.invariant-loop-param
-invariant-loop-param l =
-    l.types.items ++ map (numbered_val (numbers_in l.cx)) (map type_of_param (drop l.param-index l.params)) ≡ map (numbered_val (numbers_in l.cx)) (map type_of_param l.params)
