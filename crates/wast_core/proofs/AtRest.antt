@@ -31,10 +31,12 @@ use Rattle.wast_core.specs.declared.module.ModuleKind.{ModuleKind}
 use Rattle.wast_core.specs.declared.module.ModuleKind.TheVariants as kind
 use Rattle.wast_core.specs.AtRest.{StartsLast, NumbersLast, IsWithheld, RestsWithheld, ResolvesAgain, SecondResolve, EncodesAgain, SecondEncoding}
 use Rattle.wast_core.specs.Bounded.{IsBounded}
-use Rattle.wast_core.specs.Headline.{IsMet, ResolvesKind, Counts, IsUnwritten, IsUnencoded, EncodesKind}
+use Rattle.wast_core_sections.specs.Encoding.{IsUnwritten}
+use Rattle.wast_core.specs.Headline.{IsMet, ResolvesKind, Counts, IsUnencoded, EncodesKind}
 use Rattle.wast_core.specs.Laws.{MeansWhatIsWritten, TooLargeIsUnbounded}
-use Rattle.wast_core.specs.Meaning.{parts, meaning}
-use Rattle.wast_core.specs.Uncovered.{head_of, uncovered_forms, IsCovered}
+use Rattle.wast_core_sections.specs.Sections.{parts}
+use Rattle.wast_core.specs.Meaning.{meaning}
+use Rattle.wast_core_sections.specs.Uncovered.{head_of, uncovered_forms, IsCovered}
 use Rattle.wast_core.proofs.Swapped.{parts_swapped}
 
 -- An index that names something becomes a number.

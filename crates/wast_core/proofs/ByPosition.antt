@@ -17,17 +17,17 @@ use Rattle.wast_resolve_rules.specs.Finished.{resolved_fields_from}
 use Rattle.wast_resolve_rules.specs.Stripped.{stripping}
 use Rattle.wast_resolve_laws.specs.Laws.{SamePositions}
 use Rattle.wast_core.specs.Tree.{ModuleField}
-use Rattle.wast_core.specs.declared.slots.Slot.{Slot}
-use Rattle.wast_core.specs.declared.slots.Slot.TheVariants as slot
-use Rattle.wast_core.specs.Slots.{order}
+use Rattle.wast_core_sections.specs.declared.slots.Slot.{Slot}
+use Rattle.wast_core_sections.specs.declared.slots.Slot.TheVariants as slot
+use Rattle.wast_core_sections.specs.Slots.{order}
 use Rattle.wast_tree_nodes.specs.Customs.{customs_at, is_custom_called}
 use Rattle.wast_core.specs.Tree.{CustomPlace}
 use Rattle.wast_core_conv.specs.Customs.{custom_bytes}
 use Rattle.wast_core.specs.Tree.field
 use Rattle.wast_core_name_section.specs.NamesPart.{names_part}
-use Rattle.wast_core.specs.Hints.{hinted_functions, InRangeHints}
-use Rattle.wast_core.specs.Meaning.{has_own_names, subsections_of, in_slot, parts}
-use Rattle.wast_core.specs.Bounded.{InRangeHeld, InRangeSlot, InRangeModule, IsWritable}
+use Rattle.wast_core_sections.specs.Hints.{hinted_functions, InRangeHints}
+use Rattle.wast_core_sections.specs.Sections.{has_own_names, subsections_of, in_slot, parts}
+use Rattle.wast_core_sections.specs.Writable.{InRangeHeld, InRangeSlot, InRangeModule, IsWritable}
 use Rattle.wast_core.specs.Headline.{IsMet}
 use Rattle.wast_core.specs.Laws.{MeansWhatIsWritten}
 use Rattle.wast_core.proofs.Fronts.{same_customs, same_hinted, same_slot}

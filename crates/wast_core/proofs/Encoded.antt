@@ -15,10 +15,12 @@ use Rattle.wast_core_conv.proofs.Ready.{fields_at_rest}
 use Rattle.wast_core.specs.Tree.{ModuleField}
 use Rattle.wast_core.specs.declared.module.ModuleKind.{ModuleKind}
 use Rattle.wast_core.specs.declared.module.ModuleKind.TheVariants as kind
-use Rattle.wast_core.specs.Bounded.{IsWritable, IsBounded}
-use Rattle.wast_core.specs.Headline.{IsMet, ResolvesKind, EncodesKind, IsUnwritten}
+use Rattle.wast_core_sections.specs.Writable.{IsWritable}
+use Rattle.wast_core.specs.Bounded.{IsBounded}
+use Rattle.wast_core_sections.specs.Encoding.{IsUnwritten}
+use Rattle.wast_core.specs.Headline.{IsMet, ResolvesKind, EncodesKind}
 use Rattle.wast_core.specs.Modules.{bound_of_kind}
-use Rattle.wast_core.specs.Uncovered.{head_of, uncovered_forms}
+use Rattle.wast_core_sections.specs.Uncovered.{head_of, uncovered_forms}
 use Rattle.wast_core.specs.Writing.{EncodesResolved}
 use Rattle.wast_core.proofs.ByPosition.{means_what_is_written, written_where_meant}
 

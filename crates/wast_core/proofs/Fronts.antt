@@ -17,16 +17,16 @@ use Rattle.wast_core.specs.Tree.func
 use Rattle.wast_core.specs.Tree.kind
 use Rattle.wast_core.specs.Tree.import_items
 use Rattle.wast_core.specs.Tree.field
-use Rattle.wast_core.specs.declared.slots.Slot.{Slot}
-use Rattle.wast_core.specs.declared.slots.Slot.TheVariants as slot
-use Rattle.wast_core.specs.Slots.{section_kind, order}
+use Rattle.wast_core_sections.specs.declared.slots.Slot.{Slot}
+use Rattle.wast_core_sections.specs.declared.slots.Slot.TheVariants as slot
+use Rattle.wast_core_sections.specs.Slots.{section_kind, order}
 use Rattle.wast_core_conv.specs.Customs.{custom_part}
 use Rattle.wast_core_name_section.specs.GivenNames.{named_from}
 use Rattle.wast_core_name_section.proofs.Each.{each_like}
-use Rattle.wast_core.specs.DataCounts.{count_parts}
+use Rattle.wast_core_sections.specs.DataCounts.{count_parts}
 use Rattle.wast_core.specs.Front.{KeepsNumbers, is_front, FrontStays}
-use Rattle.wast_core.specs.Hints.{if_hinted, imported_func, functions_in, hinted_functions, hints_part}
-use Rattle.wast_core.specs.Meaning.{Contribution, start_part, starts_in, of_kind, entries_in, entries, section_part, in_slot}
+use Rattle.wast_core_sections.specs.Hints.{if_hinted, imported_func, functions_in, hinted_functions, hints_part}
+use Rattle.wast_core_sections.specs.Sections.{Contribution, start_part, starts_in, of_kind, entries_in, entries, section_part, in_slot}
 use Rattle.wast_core.proofs.Counting.{same_need}
 use Rattle.wast_core.proofs.Told.{contributed_told, body_told}
 

@@ -29,9 +29,9 @@ use Rattle.wast_core.specs.Tree.space
 use Rattle.wast_core.specs.Tree.export
 use Rattle.wast_core.specs.Tree.memory
 use Rattle.wast_core.specs.Tree.field
-use Rattle.wast_core.specs.declared.slots.Slot.TheVariants as slot
-use Rattle.wast_core.specs.Meaning.{entries_in, entries, section_part}
-use Rattle.wast_core.specs.Bounded.{InRangeModule}
+use Rattle.wast_core_sections.specs.declared.slots.Slot.TheVariants as slot
+use Rattle.wast_core_sections.specs.Sections.{entries_in, entries, section_part}
+use Rattle.wast_core_sections.specs.Writable.{InRangeModule}
 use Rattle.wast_core.specs.Laws.{TooLargeIsUnbounded}
 
 -- A data segment of 2^32 bytes or more.

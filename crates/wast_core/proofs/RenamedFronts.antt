@@ -15,11 +15,12 @@ use Rattle.wast_resolve_rules.specs.Resolved.{resolved_fields}
 use Rattle.wast_resolve_rules.specs.Stripped.{stripping}
 use Rattle.wast_core.specs.Tree.{Index, FunctionType, ValType, ModuleField}
 use Rattle.wast_core.specs.Tree.index
-use Rattle.wast_core.specs.declared.slots.Slot.TheVariants as slot
-use Rattle.wast_core.specs.Slots.{order}
+use Rattle.wast_core_sections.specs.declared.slots.Slot.TheVariants as slot
+use Rattle.wast_core_sections.specs.Slots.{order}
 use Rattle.wast_core_conv.specs.Values.{index_value, short_block_type, use_as_block}
 use Rattle.wast_core.specs.Front.{KeepsNumbers, is_front, parts_before_names, meant_front, RenamedParts, WrittenMeans, front_bytes, names_bytes, BeginAlike, SameFront, WrittenFront}
-use Rattle.wast_core.specs.Meaning.{in_slot, parts, meaning}
+use Rattle.wast_core_sections.specs.Sections.{in_slot, parts}
+use Rattle.wast_core.specs.Meaning.{meaning}
 use Rattle.wast_core.proofs.Fronts.{front_stays}
 use Rattle.wast_core.proofs.Stripping.{stripping_tells}
 use Rattle.wast_core.proofs.ToldTypes.{val_told}

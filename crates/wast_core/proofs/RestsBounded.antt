@@ -38,7 +38,8 @@ use Rattle.wast_core.specs.Tree.space
 use Rattle.wast_core.specs.Tree.func
 use Rattle.wast_core.specs.Tree.field
 use Rattle.wast_core.specs.AtRest.{RestsBounded}
-use Rattle.wast_core.specs.Bounded.{IsWritable, IsBounded}
+use Rattle.wast_core_sections.specs.Writable.{IsWritable}
+use Rattle.wast_core.specs.Bounded.{IsBounded}
 use Rattle.wast_core.specs.Headline.{IsMet}
 
 module _ (c : Scope) where

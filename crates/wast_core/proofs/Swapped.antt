@@ -18,12 +18,12 @@ use Rattle.wast_core_name_section.specs.NamesPart.{names_part}
 use Rattle.wast_core.specs.Tree.{Index, ModuleField}
 use Rattle.wast_core.specs.Tree.ty
 use Rattle.wast_core.specs.Tree.field
-use Rattle.wast_core.specs.declared.slots.Slot.{Slot}
-use Rattle.wast_core.specs.declared.slots.Slot.TheVariants as slot
-use Rattle.wast_core.specs.DataCounts.{body_needs_count, count_parts}
-use Rattle.wast_core.specs.Hints.{functions_in, hints_part}
-use Rattle.wast_core.specs.Meaning.{of_start, of_kind, entries_in, section_part, starts_in, in_slot, parts}
-use Rattle.wast_core.specs.Slots.{section_kind, order}
+use Rattle.wast_core_sections.specs.declared.slots.Slot.{Slot}
+use Rattle.wast_core_sections.specs.declared.slots.Slot.TheVariants as slot
+use Rattle.wast_core_sections.specs.DataCounts.{body_needs_count, count_parts}
+use Rattle.wast_core_sections.specs.Hints.{functions_in, hints_part}
+use Rattle.wast_core_sections.specs.Sections.{of_start, of_kind, entries_in, section_part, starts_in, in_slot, parts}
+use Rattle.wast_core_sections.specs.Slots.{section_kind, order}
 
 -- A start field has no entry in a list.
 no_entries : (kind : SectionKind) (i : Index) → of_kind kind (of_start i) ≡ []

@@ -12,7 +12,7 @@ use Rattle.wast_core.specs.Tree.func
 use Rattle.wasm_ops.specs.SelectInstrs.{select_instr}
 use Rattle.wast_core_conv.specs.FieldEntries.{as_imports, table_of, value_of}
 use Rattle.wast_core_conv.specs.Values.{as_block_type, as_catch, as_heap_type, as_ref_type, as_table_type, as_global_type, as_mem_arg}
-use Rattle.wast_core.specs.Meaning.{contribution_of, index_value, as_val_type, as_sub_type, type_index, as_tag_type, as_entity_type, as_instr, as_expression, as_body, as_element_mode, as_element_items, as_data_mode}
+use Rattle.wast_core_sections.specs.Sections.{contribution_of, index_value, as_val_type, as_sub_type, type_index, as_tag_type, as_entity_type, as_instr, as_expression, as_body, as_element_mode, as_element_items, as_data_mode}
 use Rattle.wast_core.specs.Front.{KeepsNumbers}
 use Rattle.wast_core.proofs.ToldTypes as types
 use Rattle.wast_core.proofs.ToldTypes.{each_alike, option_alike}

@@ -22,18 +22,20 @@ use Rattle.wast_resolve_rules.specs.Explicit.{explicit_fields, by_positions}
 use Rattle.wast_resolve_rules.specs.Demands.{item_counts, body_counts, HasMany, IsCrowded}
 use Rattle.wast_resolve_rules.specs.Resolved.{resolved_fields}
 use Rattle.wast_core.specs.Tree.{ModuleField}
-use Rattle.wast_core.specs.declared.slots.Slot.{Slot}
-use Rattle.wast_core.specs.declared.slots.Slot.TheVariants as slot
-use Rattle.wast_core.specs.Bounded.{InRangeHeld, InRangeSlot, InRangeModule, IsBounded}
-use Rattle.wast_core.specs.Hints.{hinted_functions, InRangeHinted, InRangeHints}
-use Rattle.wast_core.specs.Meaning.{in_slot, subsections_of, parts, meaning}
-use Rattle.wast_core.specs.Utf8Names.{HasUtf8Names}
+use Rattle.wast_core_sections.specs.declared.slots.Slot.{Slot}
+use Rattle.wast_core_sections.specs.declared.slots.Slot.TheVariants as slot
+use Rattle.wast_core_sections.specs.Writable.{InRangeHeld, InRangeSlot, InRangeModule}
+use Rattle.wast_core.specs.Bounded.{IsBounded}
+use Rattle.wast_core_sections.specs.Hints.{hinted_functions, InRangeHinted, InRangeHints}
+use Rattle.wast_core_sections.specs.Sections.{in_slot, subsections_of, parts}
+use Rattle.wast_core.specs.Meaning.{meaning}
+use Rattle.wast_core_sections.specs.Utf8Names.{HasUtf8Names}
 use Rattle.wast_tree_nodes.specs.Customs.{customs_at}
 use Rattle.wast_core.specs.Tree.{CustomPlace}
 use Rattle.wast_core_conv.specs.Customs.{custom_bytes}
-use Rattle.wast_core.specs.Slots.{order}
+use Rattle.wast_core_sections.specs.Slots.{order}
 use Rattle.wast_core.specs.WorkedMeanings.{Row1, Row2, Row8, Row24, Row27, AnnotatedFunction, SecondNamed, LongSection}
-use Rattle.wast_core.proofs.Readings.{reads_module}
+use Rattle.wast_core_sections.proofs.Readings.{reads_module}
 
 -- A test of each number.
 below : (bound : ℕ) (xs : List ℕ) → list_all (λ x. nat_lt x bound) xs ≡ true → All (λ x. x < bound) xs

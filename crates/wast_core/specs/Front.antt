@@ -18,12 +18,13 @@ use Rattle.wast_resolve_rules.specs.Explicit.{by_positions}
 use Rattle.wast_resolve_rules.specs.Resolved.{resolved_fields}
 use Rattle.wast_resolve_laws.specs.Renaming.{Renaming, IsRenaming, renamed_fields}
 use Rattle.wast_core.specs.Tree.{Index, Space, TypeUse, FunctionType, ModuleField}
-use Rattle.wast_core.specs.declared.slots.Slot.{Slot}
-use Rattle.wast_core.specs.declared.slots.Slot.TheVariants as slot
-use Rattle.wast_core.specs.Slots.{order}
+use Rattle.wast_core_sections.specs.declared.slots.Slot.{Slot}
+use Rattle.wast_core_sections.specs.declared.slots.Slot.TheVariants as slot
+use Rattle.wast_core_sections.specs.Slots.{order}
 use Rattle.wast_core_conv.specs.Values.{index_value, type_index, use_as_block}
 use Rattle.wast_core.specs.Headline.{IsMet}
-use Rattle.wast_core.specs.Meaning.{in_slot, meaning}
+use Rattle.wast_core_sections.specs.Sections.{in_slot}
+use Rattle.wast_core.specs.Meaning.{meaning}
 
 -- Whether it is any position but that of the name section.
 abbrev pub is_front : Slot → Bool

@@ -9,14 +9,12 @@
 -- text module, and encode_module for a binary one, because a contract cannot express whether memory was left; tests check
 -- that it is not returned without need. E10 is permitted only if a bound is exceeded: see IsTooLarge (resolving) and
 -- IsBounded (encoding).
-use Rattle.std.specs.Prelude.{◌≡◌, ℕ, ◌+◌, List, [], Option, Some, None, Result, Ok, Err, ◌⊎◌}
+use Rattle.std.specs.Prelude.{◌≡◌, ℕ, ◌+◌, List, [], Option, None, Result, Ok, Err, ◌⊎◌}
 use Rattle.std.specs.List.{flat_map}
 use Rattle.std.specs.Borrow.{Bor}
 use Rattle.std.specs.Global.{Vec}
 use Rattle.wast_base.specs.declared.faults.Error.{Error}
-use Rattle.wast_base.specs.declared.faults.Fault.TheVariants as fault
-use Rattle.wast_base.specs.declared.faults.Form.{Form}
-use Rattle.wast_base.specs.Faults.{error_without_place, too_large, out_of_memory}
+use Rattle.wast_base.specs.Faults.{out_of_memory}
 use Rattle.wast_tree_nodes.specs.Known.{id_context}
 use Rattle.wast_tree_nodes.specs.Items.{items}
 use Rattle.wasm_out.specs.Reads.{Reads}
@@ -31,7 +29,8 @@ use Rattle.wast_core.specs.declared.module.ModuleKind.TheVariants as kind
 use Rattle.wast_core_name_section.specs.GivenNames.{given_name}
 use Rattle.wast_core.specs.Meaning.{meaning}
 use Rattle.wast_core.specs.Bounded.{IsBounded}
-use Rattle.wast_core.specs.Uncovered.{head_of, uncovered_forms, IsCovered}
+use Rattle.wast_core_sections.specs.Encoding.{IsUnwritten}
+use Rattle.wast_core_sections.specs.Uncovered.{head_of, uncovered_forms, IsCovered}
 
 -- Each demand (check of resolving) is met. The demands are those of the fields after inline forms became fields, with
 -- the implicit type definitions.
@@ -69,11 +68,6 @@ name_of_module m = given_name m.name m.id
 -- The pieces of a binary module, joined.
 abbrev pub joined_pieces : List (Bor (List ℕ)) → List ℕ
 joined_pieces pieces = flat_map (λ p. p.now) pieces
-
--- Why resolved fields are not encoded: an unsupported construct; or else allocation failed, or they are too large.
-abbrev pub IsUnwritten : Option Form → Type 0 → Error → Type 0
-IsUnwritten (Some form) is_bounded e = e ≡ error_without_place (fault.Uncovered form)
-IsUnwritten None is_bounded e = (e ≡ out_of_memory) ⊎ ((e ≡ too_large) × (is_bounded → ⊥))
 
 -- Why a text module is not encoded: it is not resolved, and keeps the error; or it is resolved, and its fields are not
 -- encoded.

@@ -1,15 +1,9 @@
-pub mod DataCounts
-pub mod Slots
-pub mod Uncovered
 pub mod Bounded
 pub mod Headline
-pub mod Hints
-pub mod HintPlaces
 pub mod Laws
 pub mod AtRest
 pub mod Meaning
 pub mod Modules
-pub mod Utf8Names
 pub mod WorkedMeanings
 pub mod WorkedEntries
 pub mod WorkedAbbreviations
@@ -22,7 +16,6 @@ pub mod WorkedResolving
 pub mod Tree
 pub mod Wats
 pub mod Writing
-pub mod Putting
 pub mod Front
 pub mod WorkedFronts
 pub mod FiniteNames

@@ -8,7 +8,7 @@ use Rattle.wast_resolve_rules.specs.Finished.{resolved_fields_from}
 use Rattle.wast_resolve_laws.specs.Renaming.{Renaming, IsRenaming, renamed_fields}
 use Rattle.wast_core.specs.Tree.{ModuleField}
 use Rattle.wast_core.specs.Headline.{IsMet}
-use Rattle.wast_core.specs.Uncovered.{uncovered_forms}
+use Rattle.wast_core_sections.specs.Uncovered.{uncovered_forms}
 
 -- Two lists of fields, resolved from counters past their ids, have the same unsupported constructs in the same order.
 -- So encoding fails with E11 for both or for neither, and names the same construct.

@@ -5,7 +5,6 @@ pub use Rattle.wast_base.specs.declared.ids.Index.TheVariants as index
 pub use Rattle.wast_base.specs.declared.ids.NameAnnotation.{NameAnnotation}
 pub use Rattle.wast_base.specs.declared.spaces.Space.{Space}
 pub use Rattle.wast_base.specs.declared.spaces.Space.TheVariants as space
-pub use Rattle.wast_base.specs.declared.faults.Form.TheVariants as form
 pub use Rattle.wast_tree_nodes.specs.declared.types.ValType.{ValType}
 pub use Rattle.wast_tree_nodes.specs.declared.types.ValType.TheVariants as value
 pub use Rattle.wast_tree_nodes.specs.declared.types.RefType.{RefType}
@@ -13,7 +12,6 @@ pub use Rattle.wast_tree_nodes.specs.declared.types.HeapType.{HeapType}
 pub use Rattle.wast_tree_nodes.specs.declared.types.HeapType.TheVariants as heap
 pub use Rattle.wast_tree_nodes.specs.declared.types.AbstractHeapType.TheVariants as abstract
 pub use Rattle.wast_tree_nodes.specs.declared.types.StorageType.{StorageType}
-pub use Rattle.wast_tree_nodes.specs.declared.types.StorageType.TheVariants as storage
 pub use Rattle.wast_tree_nodes.specs.declared.types.StructField.{StructField}
 pub use Rattle.wast_tree_nodes.specs.declared.types.FunctionType.{FunctionType}
 pub use Rattle.wast_tree_nodes.specs.declared.types.TypeUse.{TypeUse}
@@ -21,7 +19,6 @@ pub use Rattle.wast_tree_nodes.specs.declared.types.InnerTypeKind.{InnerTypeKind
 pub use Rattle.wast_tree_nodes.specs.declared.types.InnerTypeKind.TheVariants as inner
 pub use Rattle.wast_tree_nodes.specs.declared.types.TypeDef.{TypeDef}
 pub use Rattle.wast_tree_nodes.specs.declared.types.Type as ty
-pub use Rattle.wast_tree_nodes.specs.declared.types.Rec.{Rec}
 pub use Rattle.wast_tree_nodes.specs.declared.immediates.BlockType.{BlockType}
 pub use Rattle.wast_tree_nodes.specs.declared.immediates.MemArg.{MemArg}
 pub use Rattle.wast_tree_nodes.specs.declared.immediates.TryTableCatch.{TryTableCatch}
@@ -33,18 +30,15 @@ pub use Rattle.wast_tree_nodes.specs.declared.entities.TableType.{TableType}
 pub use Rattle.wast_tree_nodes.specs.declared.entities.GlobalType.{GlobalType}
 pub use Rattle.wast_tree_nodes.specs.declared.entities.TagType.{TagType}
 pub use Rattle.wast_tree_nodes.specs.declared.entities.TagType.TheVariants as tag
-pub use Rattle.wast_tree_nodes.specs.declared.imports.Imports.{Imports}
 pub use Rattle.wast_tree_nodes.specs.declared.imports.ImportItems.{ImportItems}
 pub use Rattle.wast_tree_nodes.specs.declared.imports.ImportItems.TheVariants as import_items
 pub use Rattle.wast_tree_nodes.specs.declared.imports.ItemSig.{ItemSig}
 pub use Rattle.wast_tree_nodes.specs.declared.imports.ItemKind.{ItemKind}
 pub use Rattle.wast_tree_nodes.specs.declared.imports.ItemKind.TheVariants as kind
-pub use Rattle.wast_tree_nodes.specs.declared.segments.Elem.{Elem}
 pub use Rattle.wast_tree_nodes.specs.declared.segments.ElemKind.{ElemKind}
 pub use Rattle.wast_tree_nodes.specs.declared.segments.ElemKind.TheVariants as elem
 pub use Rattle.wast_tree_nodes.specs.declared.segments.ElemPayload.{ElemPayload}
 pub use Rattle.wast_tree_nodes.specs.declared.segments.ElemPayload.TheVariants as payload
-pub use Rattle.wast_tree_nodes.specs.declared.segments.Data.{Data}
 pub use Rattle.wast_tree_nodes.specs.declared.segments.DataKind.{DataKind}
 pub use Rattle.wast_tree_nodes.specs.declared.segments.DataKind.TheVariants as data_kind
 pub use Rattle.wast_tree_nodes.specs.declared.segments.DataVal.TheVariants as bytes
@@ -52,18 +46,13 @@ pub use Rattle.wast_tree_nodes.specs.declared.fields.Local.{Local}
 pub use Rattle.wast_tree_nodes.specs.declared.fields.FuncKind.{FuncKind}
 pub use Rattle.wast_tree_nodes.specs.declared.fields.FuncKind.TheVariants as func
 pub use Rattle.wast_tree_nodes.specs.declared.fields.Func.{Func}
-pub use Rattle.wast_tree_nodes.specs.declared.fields.Table.{Table}
 pub use Rattle.wast_tree_nodes.specs.declared.fields.TableKind.{TableKind}
 pub use Rattle.wast_tree_nodes.specs.declared.fields.TableKind.TheVariants as table
 pub use Rattle.wast_tree_nodes.specs.declared.fields.Memory.{Memory}
 pub use Rattle.wast_tree_nodes.specs.declared.fields.MemoryKind.{MemoryKind}
 pub use Rattle.wast_tree_nodes.specs.declared.fields.MemoryKind.TheVariants as memory
-pub use Rattle.wast_tree_nodes.specs.declared.fields.Global.{Global}
 pub use Rattle.wast_tree_nodes.specs.declared.fields.GlobalKind.{GlobalKind}
 pub use Rattle.wast_tree_nodes.specs.declared.fields.GlobalKind.TheVariants as global
-pub use Rattle.wast_tree_nodes.specs.declared.fields.Tag.{Tag}
-pub use Rattle.wast_tree_nodes.specs.declared.fields.TagKind.TheVariants as tag_kind
-pub use Rattle.wast_tree_nodes.specs.declared.fields.Export.{Export}
 pub use Rattle.wast_tree_nodes.specs.declared.fields.ExportKind.TheVariants as export
 pub use Rattle.wast_tree_nodes.specs.declared.customs.Custom.{Custom}
 pub use Rattle.wast_tree_nodes.specs.declared.customs.Custom.TheVariants as custom

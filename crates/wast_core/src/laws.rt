@@ -7,12 +7,12 @@ ghost use Rattle.wast_resolve_laws.specs.Extended.{ExtendedIsInjective, Extended
 ghost use Rattle.wast_resolve_laws.specs.Renaming.{RenamedAnswer, RenamedCounts, RenamedFilled, RenamedTooLarge, WrittenAnswer};
 ghost use Rattle.wast_core.specs.FiniteNames.{RenamesFinitely};
 ghost use Rattle.wast_core.specs.Front.{RenamedParts, SameFront, WrittenMeans, WrittenFront};
-ghost use Rattle.wast_core.specs.HintPlaces.{HintsPointAtInstructions};
-ghost use Rattle.wast_core.specs.Laws.{MeansWhatIsWritten, TooLargeIsUnbounded, CustomsStandOnce};
+ghost use Rattle.wast_core.specs.Laws.{MeansWhatIsWritten, TooLargeIsUnbounded};
 ghost use Rattle.wast_core.specs.OtherForms.{RenamedForms, WrittenForms};
 
 pub use crate::rests::at_rest;
 use wasm_out::reading_laws;
+pub use wast_core_sections::{customs_law, hint_places};
 use wast_resolve::laws::naming_laws;
 use wast_resolve::resolved_laws;
 
@@ -52,24 +52,6 @@ pub fn meaning_law()
 /// one with so many locals in a function.
 pub fn bounded_law()
     ensures { TooLargeIsUnbounded }
-{}
-
-/// Each custom section has one position in a module (text format: custom annotations).
-///
-/// So each custom section occurs once in the encoding. Custom sections with the same position are
-/// in the order of the fields.
-pub fn customs_law()
-    ensures { CustomsStandOnce }
-{}
-
-/// Branch hints point at their instructions (branch hinting).
-///
-/// The theorem is about bytes that are read as the parts of some fields, as those of
-/// [`EncodeOptions::encode_module`](crate::EncodeOptions::encode_module) are. The offset of a hint
-/// counts from the first byte after the size of the body in the code section. At this offset the
-/// instruction of the hint begins. The section of hints has the function by its index.
-pub fn hint_places()
-    ensures { HintsPointAtInstructions }
 {}
 
 /// Renaming ids changes nothing but names (text format: identifiers).

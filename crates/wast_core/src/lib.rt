@@ -15,11 +15,9 @@
 //! # Modules
 //!
 //! - `module` has [`Module`] and [`Module::resolve`]. `wat` has [`Wat`]: a module or a component.
-//! - `encode` has [`EncodeOptions`], and `spelled` has [`Encode`].
-//! - `sections` writes a whole module, in the order of sections that `slots` defines. `entries`,
-//!   `counts`, `customs` and `hints` write single kinds of sections, and `items` their lists.
-//! - [`laws`] and `rests` have theorems about modules, for callers' proofs. `utf8_names` has one
-//!   for this crate.
+//! - `encode` has [`EncodeOptions`], and `spelled` has [`Encode`]. `wast_core_sections` writes the
+//!   sections.
+//! - [`laws`] and `rests` have theorems about modules, for callers' proofs.
 //! - `examples` has example modules whose meaning the prover computes.
 //!
 //! The rules are in `specs/`: `Headline` has the contracts, `Meaning` defines the sections of a
@@ -34,20 +32,12 @@
 //! - [`one_meaning`]: it reads the bytes as no other module.
 #![tactic(auto)]
 
-mod counts;
-mod customs;
 mod encode;
-mod entries;
 mod examples;
-mod hints;
-mod items;
 pub mod laws;
 mod module;
 mod rests;
-mod sections;
-mod slots;
 mod spelled;
-mod utf8_names;
 mod wat;
 
 pub use encode::EncodeOptions;

@@ -32,10 +32,11 @@ use Rattle.wast_core.specs.declared.module.ModuleKind.{ModuleKind}
 use Rattle.wast_core.specs.declared.module.ModuleKind.TheVariants as kind
 use Rattle.wast_core.specs.AtRest.{IsWithheld, RestsWithheld, StartsLast}
 use Rattle.wast_core.specs.Bounded.{IsBounded}
-use Rattle.wast_core.specs.Headline.{IsMet, ResolvesKind, Counts, IsUnwritten, EncodesKind}
+use Rattle.wast_core_sections.specs.Encoding.{IsUnwritten}
+use Rattle.wast_core.specs.Headline.{IsMet, ResolvesKind, Counts, EncodesKind}
 use Rattle.wast_core.specs.Modules.{is_well_formed_kind, bound_of_kind, IsReady}
 use Rattle.wast_core.specs.Meaning.{meaning}
-use Rattle.wast_core.specs.Uncovered.{head_of, uncovered_forms}
+use Rattle.wast_core_sections.specs.Uncovered.{head_of, uncovered_forms}
 use Rattle.wast_rows.specs.Starting.{IsNoBinary, IsSettledStart, with_start, finished_start, AddsStart, CountsStart}
 use Rattle.wast_rows.specs.StartSteps.{FindsStart, IsText, PutsStart}
 

@@ -27,9 +27,10 @@ use Rattle.wast_core.specs.declared.module.ModuleKind.{ModuleKind}
 use Rattle.wast_core.specs.declared.module.ModuleKind.TheVariants as kind
 use Rattle.wast_core.specs.AtRest.{IsWithheld}
 use Rattle.wast_core.specs.Bounded.{IsBounded}
-use Rattle.wast_core.specs.Headline.{IsMet, IsUnwritten}
+use Rattle.wast_core_sections.specs.Encoding.{IsUnwritten}
+use Rattle.wast_core.specs.Headline.{IsMet}
 use Rattle.wast_core.specs.Meaning.{meaning}
-use Rattle.wast_core.specs.Uncovered.{head_of, uncovered_forms}
+use Rattle.wast_core_sections.specs.Uncovered.{head_of, uncovered_forms}
 
 -- A text module, or one with an earlier error.
 abbrev pub IsNoBinary : ModuleKind → Type 0

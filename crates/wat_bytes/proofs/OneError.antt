@@ -17,8 +17,9 @@ use Rattle.wast_resolve_rules.specs.Explicit.{explicit_fields}
 use Rattle.wast_resolve_rules.specs.Finished.{resolved_fields_from}
 use Rattle.wast_core.specs.Tree.{ModuleField}
 use Rattle.wast_core.specs.Bounded.{IsBounded}
-use Rattle.wast_core.specs.Uncovered.{head_of, uncovered_forms}
-use Rattle.wast_core.specs.Headline.{EncodesKind, IsUnencoded, IsUnwritten, name_of_module}
+use Rattle.wast_core_sections.specs.Uncovered.{head_of, uncovered_forms}
+use Rattle.wast_core_sections.specs.Encoding.{IsUnwritten}
+use Rattle.wast_core.specs.Headline.{EncodesKind, IsUnencoded, name_of_module}
 use Rattle.wast_core.specs.Modules.{bound_of_kind}
 use Rattle.wast_core.specs.declared.module.ModuleKind.{ModuleKind}
 use Rattle.wat_tokens.specs.declared.faults.TextError.{TextError}

@@ -25,8 +25,9 @@ use Rattle.wasm_out.specs.Reads.{header}
 use Rattle.wast_core_name_section.specs.GivenNames.{written_text, given_name}
 use Rattle.wast_core.specs.Tree.{Id, NameAnnotation, ModuleField}
 use Rattle.wast_core.specs.Bounded.{IsBounded}
-use Rattle.wast_core.specs.Uncovered.{head_of, uncovered_forms, IsCovered}
-use Rattle.wast_core.specs.Headline.{IsMet, EncodesKind, IsUnencoded, IsUnwritten, joined_pieces, name_of_module}
+use Rattle.wast_core_sections.specs.Uncovered.{head_of, uncovered_forms, IsCovered}
+use Rattle.wast_core_sections.specs.Encoding.{IsUnwritten}
+use Rattle.wast_core.specs.Headline.{IsMet, EncodesKind, IsUnencoded, joined_pieces, name_of_module}
 use Rattle.wast_core.specs.Meaning.{meaning}
 use Rattle.wast_core.specs.Modules.{IsReady, is_well_formed_kind, bound_of_kind}
 use Rattle.wast_core.specs.declared.module.ModuleKind.{ModuleKind}

@@ -21,7 +21,7 @@ use Rattle.wat_text.specs.declared.modules.TextKind.TheVariants as held
 use Rattle.wat_text.specs.declared.modules.TextModule.{TextModule}
 use Rattle.wat_text.specs.Texts.{is_well_formed_text}
 use Rattle.wat_text.specs.Denotes.{Denotes, DenotesNothing, DenotesIllFormed, Explains, seen_module}
-use Rattle.wast_core.specs.Uncovered.{head_of, uncovered_forms}
+use Rattle.wast_core_sections.specs.Uncovered.{head_of, uncovered_forms}
 use Rattle.wast_core.specs.declared.module.Module.{Module}
 use Rattle.wast_core.specs.declared.module.ModuleKind.{ModuleKind}
 use Rattle.wast_core.specs.declared.module.ModuleKind.TheVariants as kind

@@ -11,7 +11,8 @@ use Rattle.wast_resolve_rules.specs.Resolved.{resolved_fields}
 use Rattle.wast_resolve_laws.specs.Renaming.{renaming, renamed_fields, RenamedPositions}
 use Rattle.wast_core_conv.specs.Customs.{custom_part}
 use Rattle.wast_core.specs.Front.{KeepsNumbers}
-use Rattle.wast_core.specs.Meaning.{has_own_names, parts, meaning}
+use Rattle.wast_core_sections.specs.Sections.{has_own_names, parts}
+use Rattle.wast_core.specs.Meaning.{meaning}
 use Rattle.wast_core.specs.Tree.{ModuleField}
 use Rattle.wast_core.specs.Tree.field
 use Rattle.wast_core.proofs.Counting.{same_need}

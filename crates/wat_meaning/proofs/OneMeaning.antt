@@ -12,7 +12,8 @@ use Rattle.wast_resolve_rules.specs.Finished.{resolved_fields_from}
 use Rattle.wast_resolve_rules.specs.Resolved.{resolved_fields}
 use Rattle.wast_resolve_laws.specs.Renaming.{renamed_fields, RenamedAnswer, RenamedPositions, RenamedFilled, RenamedTooLarge}
 use Rattle.wast_core.specs.Headline.{IsMet}
-use Rattle.wast_core.specs.Meaning.{parts, meaning}
+use Rattle.wast_core_sections.specs.Sections.{parts}
+use Rattle.wast_core.specs.Meaning.{meaning}
 use Rattle.wast_core.specs.OtherForms.{RenamedForms}
 use Rattle.wast_core.specs.Tree.{ModuleField}
 use Rattle.wat_laws.specs.Bare.{bare_fields}

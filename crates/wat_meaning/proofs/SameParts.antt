@@ -10,9 +10,9 @@ use Rattle.wast_core_conv.specs.Customs.{custom_part}
 use Rattle.wast_core_name_section.specs.NamesPart.{names_part}
 use Rattle.wast_core_name_section.proofs.Each.{each_like}
 use Rattle.wast_core_name_section.proofs.SameNameSection.{KeepsNames, same_subsections}
-use Rattle.wast_core.specs.DataCounts.{needs_count, count_parts}
-use Rattle.wast_core.specs.Hints.{hinted_functions, hints_part}
-use Rattle.wast_core.specs.Meaning.{Contribution, contribution_of, of_kind, entries_in, entries, start_part, starts_in, data_counts, has_own_names, section_part, subsections_of, parts}
+use Rattle.wast_core_sections.specs.DataCounts.{needs_count, count_parts}
+use Rattle.wast_core_sections.specs.Hints.{hinted_functions, hints_part}
+use Rattle.wast_core_sections.specs.Sections.{Contribution, contribution_of, of_kind, entries_in, entries, start_part, starts_in, data_counts, has_own_names, section_part, subsections_of, parts}
 use Rattle.wast_core.specs.Tree.{CustomPlace, CustomPlaceAnchor, ModuleField}
 use Rattle.wast_core.specs.Tree.custom_place as at
 use Rattle.wast_core.specs.Tree.anchor

@@ -12,7 +12,7 @@ use Rattle.wasm_out.specs.Producers.{producers}
 use Rattle.wast_tree_nodes.specs.Customs.{custom_name, subsection_id, stands_at, customs_in, customs_at, is_custom_called}
 use Rattle.wast_core_conv.specs.Customs.{as_producer_value, as_producer_field, export_flags, import_flags, listed_name, subsection_content, subsection, custom_bytes, custom_part}
 use Rattle.wast_core_name_section.proofs.Each.{each_like}
-use Rattle.wast_core.specs.Meaning.{has_own_names}
+use Rattle.wast_core_sections.specs.Sections.{has_own_names}
 use Rattle.wast_core.specs.Tree.{CustomPlace}
 use Rattle.wast_core.proofs.ToldTypes.{each_alike}
 use Rattle.wat_syntax.specs.Customs.{Version}

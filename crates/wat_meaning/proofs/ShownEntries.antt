@@ -16,9 +16,9 @@ use Rattle.wast_core_conv.specs.FieldEntries.{as_imports, table_of, memory_of, v
 use Rattle.wast_core_conv.specs.Values.{index_value, as_block_type, use_as_block, as_val_type, as_field_type, as_inner_type, as_sub_type, as_tag_type, as_entity_type, as_instr, as_expression, as_body}
 use Rattle.wast_core_name_section.specs.GivenNames.{named_from}
 use Rattle.wast_core_name_section.proofs.Each.{each_like}
-use Rattle.wast_core.specs.DataCounts.{instrs_of, body_needs_count, needs_count}
-use Rattle.wast_core.specs.Hints.{if_hinted, imported_func, functions_in, hinted_functions}
-use Rattle.wast_core.specs.Meaning.{contribution_of, no_contribution, as_data, as_element_mode, as_element_items, as_data_mode}
+use Rattle.wast_core_sections.specs.DataCounts.{instrs_of, body_needs_count, needs_count}
+use Rattle.wast_core_sections.specs.Hints.{if_hinted, imported_func, functions_in, hinted_functions}
+use Rattle.wast_core_sections.specs.Sections.{contribution_of, no_contribution, as_data, as_element_mode, as_element_items, as_data_mode}
 use Rattle.wast_core.proofs.ToldTypes.{each_alike, option_alike}
 use Rattle.wat_syntax.specs.Seen.{seen_param, seen_function_type, seen_struct_field, seen_composite, seen_type_def, seen_type, seen_block, seen_local, seen_tag_type, seen_item_kind, seen_item_sig, seen_items}
 use Rattle.wat_syntax.specs.Tree.{Id, Index, NameAnnotation, ValType, StructField, FunctionType, InnerTypeKind, TypeDef, BlockType, Instruction, Expression, TagType, ItemKind, ImportItems, Local, FuncKind, TableKind, MemoryKind, GlobalKind, ElemKind, ElemPayload, Data, DataKind, ModuleField}

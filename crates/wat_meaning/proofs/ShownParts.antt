@@ -2,7 +2,7 @@
 --
 -- For example, `(data "ab")` has the bytes 97 98, wherever the text "ab" is.
 use Rattle.std.proofs.Common.{◌≡◌, ℕ, List, Option}
-use Rattle.wast_core.specs.Meaning.{parts}
+use Rattle.wast_core_sections.specs.Sections.{parts}
 use Rattle.wast_core.specs.Tree.{ModuleField}
 use Rattle.wat_meaning.specs.Shown.{shown_field, shown_fields}
 use Rattle.wat_meaning.proofs.SameParts.{KeepsParts, parts_stay}

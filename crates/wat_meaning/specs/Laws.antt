@@ -16,7 +16,7 @@ use Rattle.wast_resolve_rules.specs.Demands.{demands, first_unmet, IsTooLarge}
 use Rattle.wast_resolve_rules.specs.Finished.{resolved_fields_from}
 use Rattle.wast_core.specs.Headline.{IsMet}
 use Rattle.wast_core.specs.Tree.{Space, ModuleField}
-use Rattle.wast_core.specs.Uncovered.{uncovered_forms}
+use Rattle.wast_core_sections.specs.Uncovered.{uncovered_forms}
 use Rattle.wast_core.specs.Meaning.{meaning}
 use Rattle.wat_laws.specs.Bare.{bare_fields}
 

@@ -1,6 +1,6 @@
 use Rattle.std.proofs.Common.{subst}
 use Rattle.wast_core_name_section.specs.FoundNames.{text_seen}
-use Rattle.wast_core.specs.Writing.{EncodesFields}
+use Rattle.wast_core_sections.specs.Encoding.{EncodesFields}
 use Rattle.wast_core.proofs.encode.encode_resolved.Goals as goal
 
 pub returns-in-Text : goal.returns-in-Text

@@ -1,6 +1,6 @@
 use Rattle.std.proofs.Common.{subst}
 use Rattle.wast_core_name_section.specs.FoundNames.{text_seen}
-use Rattle.wast_core.specs.Writing.{PutsFields}
+use Rattle.wast_core_sections.specs.Encoding.{PutsFields}
 use Rattle.wast_core.proofs.encode.EncodeOptions.put_module.Goals as goal
 
 pub returns : goal.returns

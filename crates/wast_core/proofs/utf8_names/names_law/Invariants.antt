@@ -1,7 +1,0 @@
-use Rattle.std.proofs.Common.{take}
-use Rattle.std.specs.Prelude.{All}
-use Rattle.wast_core.specs.Utf8Names.{HasUtf8Names}
-use Rattle.wast_core.proofs.utf8_names.names_law.Given as goal
-
-abbrev pub invariant-loop-field : goal.invariant-loop-field
-invariant-loop-field l = All HasUtf8Names (take l.field-index l.fields)

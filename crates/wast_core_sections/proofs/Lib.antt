@@ -1,0 +1,13 @@
+pub mod Appended
+pub mod CountedFirst
+pub mod Counting
+pub mod CustomParts
+pub mod CustomPlaces
+pub mod DataAsked
+pub mod EncodedFields
+pub mod GivenNames
+pub mod Hinting
+pub mod Listed
+pub mod Pointing
+pub mod Putting
+pub mod Readings

@@ -1,0 +1,11 @@
+pub mod DataCounts
+pub mod Encoding
+pub mod HintPlaces
+pub mod Hints
+pub mod Putting
+pub mod Sections
+pub mod Slots
+pub mod Tree
+pub mod Uncovered
+pub mod Utf8Names
+pub mod Writable

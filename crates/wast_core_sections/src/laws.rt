@@ -1,0 +1,22 @@
+//! Theorems about sections, for callers' proofs. The functions do nothing when they run.
+
+ghost use Rattle.wast_core_sections.specs.HintPlaces.{HintsPointAtInstructions};
+ghost use Rattle.wast_core_sections.specs.Slots.{CustomsStandOnce};
+
+/// Each custom section has one position in a module (text format: custom annotations).
+///
+/// So each custom section occurs once in the encoding. Custom sections with the same position are
+/// in the order of the fields.
+pub fn customs_law()
+    ensures { CustomsStandOnce }
+{}
+
+/// Branch hints point at their instructions (branch hinting).
+///
+/// The theorem is about bytes that are read as the parts of some fields, as those of
+/// `EncodeOptions::encode_module` are. The offset of a hint counts from the first byte after the
+/// size of the body in the code section. At this offset the instruction of the hint begins. The
+/// section of hints has the function by its index.
+pub fn hint_places()
+    ensures { HintsPointAtInstructions }
+{}
