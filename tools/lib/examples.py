@@ -13,7 +13,7 @@ import sources
 ROOT = sources.ROOT
 
 # The ends of the names of crates whose whole source CI runs.
-RUN = ("_tests", "_bench", "_example", "_golden", "_samples", "wast_rows", "wastrow", "wat")
+RUN = ("_tests", "_example", "_golden", "_samples", "wast_rows", "wastrow", "wat")
 
 
 def blocks(lines):

@@ -1,7 +1,0 @@
-use Rattle.std.proofs.Common.{refl, sym, subst}
-use Rattle.wasm_ops.specs.ConstExprs.{SpellsExpression}
-use Rattle.wasm_out.proofs.Building.{spells_expression}
-use Rattle.wasm_out_tests.proofs.sections.number.Goals as goal
-
-pub raw-requires : goal.raw-requires
-raw-requires c = subst SpellsExpression (sym c.in_ok-bytes.ensures.bytes) (spells_expression _ c.in_ok-bytes.ensures.in_range refl)
