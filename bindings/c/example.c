@@ -1,18 +1,18 @@
-/* Prints the bytes of the modules of texts in hexadecimal, or their faults with line and column: example TEXT..
+/* Prints the bytes of the modules of texts in hexadecimal, or their faults with line and column:
+ * example TEXT..
  *
  * cc -o example example.c $(pkg-config --cflags --libs rigyomad) */
+#include "escapes.h"
 #include "rigyomad.h"
-
-#include <stdio.h>
-#include <string.h>
 
 static uint32_t print_fault(const char *text) {
     struct rigyomad_diagnosis at;
     char message[256];
     uint32_t status = rigyomad_fault(text, strlen(text), message, sizeof message, &at);
     if (status == RIGYOMAD_FAULT) {
-        int shown = (int)(at.size < sizeof message ? at.size : sizeof message);
-        printf("%zu:%zu: %.*s\n", at.line, at.column, shown, message);
+        printf("%zu:%zu: ", at.line, at.column);
+        print_escaped(message, at.size < sizeof message ? at.size : sizeof message, "");
+        printf("\n");
     }
     return status;
 }

@@ -1,6 +1,7 @@
-/* Calls each function on texts, and on slices that are null or too short: holds SEED COUNT SIZE.
- * COUNT texts are SIZE random bytes, and COUNT are standard input with a few bytes changed. It ends
- * with status 0 if each call returns what rigyomad.h says; else it prints what failed. */
+/* Calls each function on texts, and on slices that are null or too short: holds SEED COUNT SIZE
+ * VERSION. COUNT texts are SIZE random bytes, and COUNT are standard input with a few bytes
+ * changed. VERSION is that of the archive. It ends with status 0 if each call returns what
+ * rigyomad.h says; else it prints what failed. */
 #include "rigyomad.h"
 
 #include <stdio.h>
@@ -173,8 +174,32 @@ static void texts_of_numbers(void) {
     expect(!strcmp(rigyomad_fault_text(14), "no such fault"), "no fault has the number 14");
 }
 
+/* Each index space has its number: a name is in its own alone. */
+static void spaces(void) {
+    static const struct {
+        enum rigyomad_space space;
+        const char *name;
+    } named[] = {
+        {RIGYOMAD_SPACE_FUNC, "f"},  {RIGYOMAD_SPACE_TABLE, "t"}, {RIGYOMAD_SPACE_MEMORY, "m"},
+        {RIGYOMAD_SPACE_GLOBAL, "g"}, {RIGYOMAD_SPACE_TAG, "e"},  {RIGYOMAD_SPACE_ELEM, "s"},
+        {RIGYOMAD_SPACE_DATA, "d"},  {RIGYOMAD_SPACE_TYPE, "y"},
+    };
+    static const char text[] =
+        "(module (func $f) (table $t 1 funcref) (memory $m 1) (global $g i32 (i32.const 0))"
+        " (tag $e) (elem $s func) (data $d \"\") (type $y (func)))";
+    uint32_t number;
+    for (size_t i = 0; i < 8; i++) {
+        for (size_t k = 0; k < 8; k++) {
+            const char *name = named[i].name;
+            enum rigyomad_space space = named[k].space;
+            uint32_t status = rigyomad_resolve(text, sizeof text - 1, space, name, 1, &number);
+            expect(status == (i == k ? RIGYOMAD_DONE : RIGYOMAD_UNKNOWN), "a name has its space");
+        }
+    }
+}
+
 int main(int count, char **words) {
-    if (count != 4) {
+    if (count != 5) {
         return 2;
     }
     state = strtoull(words[1], NULL, 10);
@@ -183,8 +208,10 @@ int main(int count, char **words) {
     size_t written_size = fread(written, 1, MOST, stdin);
     char *text = malloc(size + 1);
     expect(text != NULL, "there is memory");
+    expect(!strcmp(rigyomad_version_text(), words[4]), "the archive has this version");
     texts_of_numbers();
     no_slices();
+    spaces();
     for (size_t i = 0; i < texts; i++) {
         random_bytes(text, size);
         call_each(text, size);

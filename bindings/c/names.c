@@ -1,20 +1,31 @@
 /* Prints what each name of the modules of texts denotes, as `wat --names` does: names TEXT..
  * The status is that of the first call that does not succeed. */
+#include "escapes.h"
 #include "rigyomad.h"
 
-#include <stdio.h>
 #include <stdlib.h>
-#include <string.h>
 
 /* The word of each index space. */
 static const char *const WORDS[] = {"func", "table", "memory", "global",
                                     "tag",  "elem",  "data",   "type"};
 
+/* Whether an id needs no quotes. */
+static int is_plain(const char *name, size_t size) {
+    size_t i = 0;
+    while (i < size && name[i] > ' ' && name[i] < 0x7f && !strchr("\"(),;[]{}", name[i])) {
+        i++;
+    }
+    return i == size;
+}
+
 static void print_names(const struct rigyomad_name *names, size_t count, const char *bytes) {
     for (size_t i = 0; i < count; i++) {
-        const char *word = WORDS[names[i].space];
         const char *name = bytes + names[i].start;
-        printf("%s $%.*s %u\n", word, (int)names[i].size, name, (unsigned)names[i].number);
+        size_t size = names[i].size;
+        int has_quotes = !is_plain(name, size);
+        printf("%s %s", WORDS[names[i].space], has_quotes ? "$\"" : "$");
+        print_escaped(name, size, has_quotes ? "\"'\\" : "");
+        printf("%s %u\n", has_quotes ? "\"" : "", (unsigned)names[i].number);
     }
 }
 

@@ -159,6 +159,7 @@ struct rigyomad_names_room {
 
 /* The calls of the archive. They require that no pointer is null, and that each length is that of
  * its slice. Call the functions below, which check the first. */
+extern const char rigyomad_c_version_text[];
 uint32_t rigyomad_c_version(void);
 uint32_t rigyomad_c_encode(const uint8_t *text, size_t text_size, uint8_t *out, size_t out_size,
                            size_t *size);
@@ -186,6 +187,10 @@ static inline int rigyomad_is_slice(const void *bytes, size_t size) {
 
 /* Returns the number of the archive's declarations: RIGYOMAD_VERSION, if header and archive fit. */
 static inline uint32_t rigyomad_version(void) { return rigyomad_c_version(); }
+
+/* Returns the version of the archive, as 0.1.0, and whether it was built without proofs: 0.1.0
+ * (UNPROVED). */
+static inline const char *rigyomad_version_text(void) { return rigyomad_c_version_text; }
 
 /* Writes the bytes of the module of a text to out, and how many they are to *size: RIGYOMAD_DONE.
  *

@@ -11,6 +11,7 @@ rigyomad_status of rigyomad.h). A call keeps no state, so threads may call at an
 """
 
 import ctypes
+import re
 import sys
 
 # The number of the declarations below: RIGYOMAD_VERSION of rigyomad.h.
@@ -18,6 +19,15 @@ VERSION = 1
 
 # enum rigyomad_status
 DONE, SHORT, FAULT = 0, 1, 2
+
+# What could send a command to a terminal, begin a line of a log, or change the order of a line.
+CONTROLS = re.compile("[\0-\x1f\x7f-\x9f\u061c\u200e\u200f\u2028-\u202e\u2066-\u2069]")
+
+
+def escaped(message):
+    """A message as the command `wat` prints it: a line feed as `\\n`, and an escape character as `\\u{1b}`."""
+    letters = {"\t": "\\t", "\n": "\\n", "\r": "\\r"}
+    return CONTROLS.sub(lambda it: letters.get(it[0], f"\\u{{{ord(it[0]):x}}}"), message)
 
 
 class Diagnosis(ctypes.Structure):
@@ -78,7 +88,7 @@ def main(path, texts):
             print(module.hex())
         elif status == FAULT:
             at, message = rigyomad.fault(text.encode())
-            print(f"{at.line}:{at.column}: {message}")
+            print(f"{at.line}:{at.column}: {escaped(message)}")
         else:
             return status
     return 0

@@ -13,6 +13,8 @@ import subprocess
 import sys
 import tempfile
 
+import symbols
+
 ROOT = pathlib.Path(__file__).resolve().parent.parent.parent
 
 # What `rt try` is made of, which looks for the kit beside itself: copied, so that it finds the folder of links.
@@ -34,6 +36,26 @@ exec '{compiler}' "$@"
 COMPILED = """--target=x86_64-unknown-linux-gnu -march=x86-64 -mllvm -no-trap-after-noreturn -ffunction-sections -fdata-sections
 -mllvm -trap-unreachable -mllvm -no-x86-call-frame-opt -mllvm -disable-machine-licm -mllvm -disable-postra-machine-licm
 -mllvm -sink-common-insts=false --no-default-config -no-canonical-prefixes -fintegrated-cc1 -fno-crash-diagnostics""".split()
+
+# A test that calls each function of the archive: `rt try` compiles what a test reaches.
+CALLS = """
+#[cfg(test)]
+mod calls {
+    use crate::diagnosis::Diagnosis;
+    use crate::lists::Room;
+    use crate::*;
+
+    #[test]
+    fn each_function_is_called(rt: HostRuntime) {
+        let (mut size, mut number) = (0, rigyomad_c_version());
+        let (mut diagnosis, mut room) = (Diagnosis::none(), Room::none());
+        let _ = rigyomad_c_encode(rt.alloc(), b"", &mut [], &mut size);
+        let _ = rigyomad_c_fault(rt.alloc(), b"", &mut [], &mut diagnosis);
+        let _ = rigyomad_c_resolve(rt.alloc(), b"", 0, b"", &mut number);
+        let _ = rigyomad_c_names(rt.alloc(), b"", &mut [], &mut [], &mut room);
+    }
+}
+"""
 
 # No program takes longer to compile.
 SECONDS = 1_200
@@ -135,16 +157,23 @@ def exported(path, crate):
     return text
 
 
-def archive(crate, out, room, level=2):
-    """Builds the archive of a crate of functions for C, of what its tests reach: each of its functions that C calls."""
-    together([compiled(exported(module(crate, room, is_test=True), crate), level)], out)
+def archive(crate, out, room, version, level=2):
+    """Builds the archive of a crate of functions for C."""
+    source = crate / "src/lib.rt"
+    source.write_text(source.read_text(encoding="utf-8") + CALLS, encoding="utf-8")
+    together([compiled(exported(module(crate, room, is_test=True), crate), level)], out, version)
 
 
-def together(objects, out):
-    """Puts object files, and what they want of the kit beside `malloc`, `realloc` and `free`, into one archive."""
+def together(objects, out, version):
+    """Puts object files, what they want of the kit beside `malloc`, `realloc` and `free`, and the text of the version into one
+    archive. Only the names that the header declares are global, so that a program may have any others of its own."""
     with tempfile.TemporaryDirectory() as room:
+        room = pathlib.Path(room)
+        told, whole = room / "version.ll", room / "rigyomad.o"
+        told.write_text(f'@rigyomad_c_version_text = constant [{len(version) + 1} x i8] c"{version}\\00"\n', encoding="utf-8")
+        called("toolchain/bin/clang", ["--target=x86_64-unknown-linux-gnu", "-c", "-x", "ir", told, "-o", told.with_suffix(".o")])
         called("toolchain/bin/llvm-ar", ["x", kit() / "c/liblibc_c.a"], cwd=room)
+        called("toolchain/bin/ld.lld", ["-r", *objects, *sorted(room.glob("*.o")), "-o", whole])
+        symbols.localize(whole, "rigyomad_c_")
         out.unlink(missing_ok=True)
-        called("toolchain/bin/llvm-ar", ["rcs", out, *objects, *sorted(pathlib.Path(room).iterdir())])
-
-
+        called("toolchain/bin/llvm-ar", ["rcs", out, whole])

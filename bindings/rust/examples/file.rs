@@ -6,7 +6,7 @@ use std::{env, fs};
 
 fn convert(file: &str, out: &str) -> Result<(), String> {
     let bytes = rigyomad::parse_file(file).map_err(|error| format!("{error:#}"))?;
-    fs::write(out, bytes).map_err(|error| format!("cannot write {out}: {error}"))
+    fs::write(out, bytes).map_err(|error| format!("cannot write {out:?}: {error}"))
 }
 
 fn main() -> ExitCode {

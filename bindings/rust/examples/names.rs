@@ -5,7 +5,7 @@ use std::env;
 fn main() -> Result<(), rigyomad::Fault> {
     for text in env::args().skip(1) {
         for name in rigyomad::names(&text)? {
-            println!("{} ${} {}", name.space, name.name, name.number);
+            println!("{name}");
         }
     }
     Ok(())

@@ -2,7 +2,7 @@
 
 use crate::archive::Diagnosis;
 use crate::room;
-use crate::snippet::{Shown, Snippet};
+use crate::snippet::{Escaped, Snippet};
 use std::borrow::Cow;
 use std::error::Error;
 use std::path::Path;
@@ -123,8 +123,8 @@ impl fmt::Display for Kind {
 /// Why a text has no bytes.
 ///
 /// It is printed in one line, with the line and the column of its place. `{:#}` prints more lines:
-/// the line of the text too, and a caret below the place. It shows control characters of the text
-/// as U+FFFD, and at most 120 bytes of a line.
+/// the line of the text too, at most 120 bytes of it, and a caret below the place. Both print control
+/// characters as escapes, such as `\n` or `\u{1b}`, because a name in the text may have them.
 ///
 /// # Example
 ///
@@ -171,7 +171,7 @@ impl Fault {
         self.place.as_ref().map(|(place, _)| *place)
     }
 
-    /// Returns what is wrong, without the place.
+    /// Returns what is wrong, without the place. A name in it is as in the text, without escapes.
     pub fn message(&self) -> &str {
         &self.message
     }
@@ -223,31 +223,33 @@ impl Fault {
             return self.fmt_lines(f, file);
         }
         if let Some(file) = file {
-            write!(f, "{}:", file.display())?;
+            write!(f, "{}:", Escaped(file.display()))?;
         }
+        let message = Escaped(&self.message);
         match &self.place {
-            Some((place, _)) => write!(f, "{place}: {}", self.message),
-            None if file.is_some() => write!(f, " {}", self.message),
-            None => f.write_str(&self.message),
+            Some((place, _)) => write!(f, "{place}: {message}"),
+            None if file.is_some() => write!(f, " {message}"),
+            None => write!(f, "{message}"),
         }
     }
 
     /// Prints the message, the place and the line of the place, with a caret below the place.
     fn fmt_lines(&self, f: &mut fmt::Formatter<'_>, file: Option<&Path>) -> fmt::Result {
-        write!(f, "{}", Shown(&self.message))?;
-        let file = file.map(Path::to_string_lossy).unwrap_or_default();
-        let (name, colon) = (Shown(&file), if file.is_empty() { "" } else { ":" });
-        match &self.place {
-            Some((place, snippet)) => {
-                let (number, margin) = (place.line, digits(place.line));
-                writeln!(f, "\n{:margin$}--> {name}{colon}{place}", "")?;
-                writeln!(f, "{:margin$} |", "")?;
-                writeln!(f, "{number} | {}", snippet.line())?;
-                write!(f, "{:margin$} | {}^", "", snippet.blanks())
-            }
-            None if file.is_empty() => Ok(()),
-            None => write!(f, "\n --> {name}"),
+        write!(f, "{}", Escaped(&self.message))?;
+        let margin = self.place().map_or(1, |place| digits(place.line));
+        if file.is_some() || self.place.is_some() {
+            write!(f, "\n{:margin$}--> ", "")?;
         }
+        if let Some(file) = file {
+            let colon = if self.place.is_some() { ":" } else { "" };
+            write!(f, "{}{colon}", Escaped(file.display()))?;
+        }
+        if let Some((place, snippet)) = &self.place {
+            writeln!(f, "{place}\n{:margin$} |", "")?;
+            writeln!(f, "{} | {}", place.line, snippet.line())?;
+            write!(f, "{:margin$} | {}^", "", snippet.blanks())?;
+        }
+        Ok(())
     }
 }
 
@@ -261,7 +263,18 @@ impl Error for Fault {}
 
 #[cfg(test)]
 mod tests {
-    use super::digits;
+    use super::{digits, Diagnosis, Fault};
+
+    #[test]
+    fn fault_without_a_line_has_no_place() {
+        let at = Diagnosis { number: 10, ..Diagnosis::default() };
+        let fault = Fault::new("(module)", &at, b"too large");
+        assert_eq!((fault.place(), fault.number()), (None, Some(10)));
+        assert_eq!(
+            (fault.to_string(), format!("{fault:#}")),
+            ("too large".into(), "too large".into())
+        );
+    }
 
     #[test]
     fn numbers_have_digits() {

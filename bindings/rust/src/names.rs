@@ -72,6 +72,23 @@ pub struct Name {
     pub name: String,
 }
 
+/// Whether a byte can be in an id without quotes (text format, identifiers).
+fn is_id_byte(byte: u8) -> bool {
+    byte.is_ascii_graphic() && !b"\"(),;[]{}".contains(&byte)
+}
+
+/// Prints its space, its id and its number as `wat --names` does: `func $f 1`. An id that needs quotes
+/// has its control characters as escapes.
+impl fmt::Display for Name {
+    fn fmt(&self, f: &mut fmt::Formatter<'_>) -> fmt::Result {
+        write!(f, "{} ", self.space)?;
+        if self.name.bytes().all(is_id_byte) {
+            return write!(f, "${} {}", self.name, self.number);
+        }
+        write!(f, "$\"{}\" {}", self.name.escape_default(), self.number)
+    }
+}
+
 /// Returns the number of what a name, without its `$`, denotes in an index space of the module of a
 /// text; `None` if nothing of the space has the name.
 ///

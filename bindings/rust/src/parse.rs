@@ -1,5 +1,6 @@
 //! Bytes of texts and of files, by the signatures of the crate `wat`.
 
+use crate::snippet::Escaped;
 use crate::{encode, Fault};
 use std::borrow::Cow;
 use std::ffi::OsString;
@@ -19,7 +20,7 @@ enum Cause {
 /// Why [`parse_str`], [`parse_bytes`] or [`parse_file`] returns no bytes.
 ///
 /// It is printed in one line: the file if there is one, the line and the column, and what is wrong.
-/// `{:#}` prints the line of the text too, as [`Fault`] does.
+/// `{:#}` prints the line of the text too, as [`Fault`] does. Control characters are printed as escapes.
 ///
 /// # Example
 ///
@@ -84,9 +85,9 @@ impl fmt::Display for Error {
         match (&self.cause, &self.path) {
             (Cause::Fault(fault), path) => fault.fmt_in(f, path.as_deref()),
             (Cause::Read(error), Some(path)) => {
-                write!(f, "cannot read {}: {error}", path.display())
+                write!(f, "cannot read {}: {}", Escaped(path.display()), Escaped(error))
             }
-            (Cause::Read(error), None) => write!(f, "cannot read: {error}"),
+            (Cause::Read(error), None) => write!(f, "cannot read: {}", Escaped(error)),
         }
     }
 }

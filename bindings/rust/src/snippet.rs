@@ -22,32 +22,68 @@ fn is_bidirectional_control(character: char) -> bool {
     )
 }
 
-/// Returns the character that is shown for one of a text. One that could send a command to a
-/// terminal, or begin a line, is shown as U+FFFD.
-fn shown(character: char) -> char {
-    let is_line = matches!(character, '\u{2028}' | '\u{2029}');
-    let is_control = character.is_control() && character != '\t';
-    if is_control || is_line || is_bidirectional_control(character) {
-        return char::REPLACEMENT_CHARACTER;
-    }
-    character
+/// Whether a character could send a command to a terminal, begin a line of a log, or change the order
+/// of a line. It is printed as an escape, as the command `wat` does.
+fn is_escaped(character: char) -> bool {
+    character.is_control()
+        || is_bidirectional_control(character)
+        || matches!(character, '\u{2028}' | '\u{2029}')
 }
 
-/// Prints each character of a text as it is shown.
-pub(crate) struct Shown<'a>(pub(crate) &'a str);
+/// Prints what is written to it with escapes: a line feed as `\n`, and an escape character as
+/// `\u{1b}`.
+struct Escaping<'a, 'f>(&'a mut fmt::Formatter<'f>);
+
+impl Write for Escaping<'_, '_> {
+    fn write_char(&mut self, character: char) -> fmt::Result {
+        if is_escaped(character) {
+            return write!(self.0, "{}", character.escape_default());
+        }
+        self.0.write_char(character)
+    }
+
+    fn write_str(&mut self, text: &str) -> fmt::Result {
+        text.chars().try_for_each(|character| self.write_char(character))
+    }
+}
+
+/// Prints something in one line, with escapes.
+pub(crate) struct Escaped<T>(pub(crate) T);
+
+impl<T: fmt::Display> fmt::Display for Escaped<T> {
+    fn fmt(&self, f: &mut fmt::Formatter<'_>) -> fmt::Result {
+        write!(Escaping(f), "{}", self.0)
+    }
+}
+
+/// Prints a part of a line as `Escaped` does, but a tab as it is.
+pub(crate) struct Shown<'a>(&'a str);
 
 impl fmt::Display for Shown<'_> {
     fn fmt(&self, f: &mut fmt::Formatter<'_>) -> fmt::Result {
-        self.0.chars().try_for_each(|character| f.write_char(shown(character)))
+        for (index, part) in self.0.split('\t').enumerate() {
+            f.write_str(if index > 0 { "\t" } else { "" })?;
+            write!(f, "{}", Escaped(part))?;
+        }
+        Ok(())
     }
 }
 
-/// Prints a blank for each character of a text, and a tab for a tab.
+/// Prints a blank for each character that is written to it, and a tab for a tab.
+struct Blanking<'a, 'f>(&'a mut fmt::Formatter<'f>);
+
+impl Write for Blanking<'_, '_> {
+    fn write_str(&mut self, text: &str) -> fmt::Result {
+        text.chars().try_for_each(|it| self.0.write_char(if it == '\t' { it } else { ' ' }))
+    }
+}
+
+/// Prints blanks as long as what `Shown` prints of a text.
 pub(crate) struct Blanks<'a>(&'a str);
 
 impl fmt::Display for Blanks<'_> {
     fn fmt(&self, f: &mut fmt::Formatter<'_>) -> fmt::Result {
-        self.0.chars().try_for_each(|it| f.write_char(if it == '\t' { it } else { ' ' }))
+        write!(Blanking(f), "{}", Shown(self.0))
     }
 }
 
@@ -130,9 +166,9 @@ mod tests {
 
     #[test]
     fn blanks_keep_tabs_and_count_characters() {
-        assert_eq!(lines("\té\u{1b}x", 4), ["\té\u{fffd}x", "\t  "]);
+        assert_eq!(lines("\té\u{1b}x", 4), ["\té\\u{1b}x", "\t       "]);
         assert_eq!(lines("é", 1), ["é", ""]);
-        assert_eq!(lines("\u{202e}\u{2028}", 3), ["\u{fffd}\u{fffd}", " "]);
+        assert_eq!(lines("\u{202e}\u{2028}", 3), ["\\u{202e}\\u{2028}", "        "]);
     }
 
     #[test]

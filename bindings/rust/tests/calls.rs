@@ -43,13 +43,6 @@ fn faults_show_the_line_of_their_place() {
 }
 
 #[test]
-fn shown_faults_have_no_control_characters() {
-    let fault = encode(r#"(module (start $"\1b[31m"))"#).unwrap_err();
-    assert!(fault.to_string().contains('\u{1b}'));
-    assert!(!format!("{fault:#}").contains('\u{1b}'));
-}
-
-#[test]
 fn kinds_have_the_numbers_of_their_faults() {
     let texts = [
         ("(module (func) (import \"\" \"\" (func)))", Kind::ImportAfter),

@@ -153,9 +153,6 @@ fn store_output(
     file: &str,
     output: &[u8],
 ) -> Result<(), Failure> {
-    if let Some(target) = &options.target {
-        return write_output_to(rt, target.as_str(), output);
-    }
     match output_path(rt.alloc(), options, file) {
         Ok(path) => write_output_to(rt, path.as_str(), output),
         Err(_) => Err(Failure::memory(rt)),

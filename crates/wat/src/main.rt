@@ -24,11 +24,11 @@ mod sections;
 use conversions::convert_file;
 use help::print_help;
 use options::{Misuse, Options, Request};
-use outputs::shared_path;
+use outputs::check_outputs;
 use std::env;
 use std::io::{self, IsTerminal};
 use std::process::ExitCode;
-use wat_command::{Escaped, Failure, STANDARD};
+use wat_command::{Failure, STANDARD};
 
 /// The version of the command.
 const VERSION: &str = "0.1.0";
@@ -48,12 +48,6 @@ fn convert_files(rt: &HostRuntime, options: &Options) -> Result<(), Failure> {
     }
 }
 
-/// Reports that two files would have the same output.
-fn shared_output(rt: &HostRuntime, file: Escaped<'_>) -> Failure {
-    let _ = eprintln!(rt; "error: more than one file has the output `{file}` (see `wat --help`)");
-    Failure::System
-}
-
 /// Reports that the bytes of a module would go to a terminal.
 fn terminal_output(rt: &HostRuntime) -> Failure {
     let _ = eprintln!(rt;
@@ -62,14 +56,13 @@ fn terminal_output(rt: &HostRuntime) -> Failure {
     Failure::System
 }
 
-/// Reports two files that would have the same output, because only one of the outputs would be
-/// left.
-fn check_outputs(rt: &HostRuntime, options: &Options) -> Result<(), Failure> {
-    match shared_path(rt.alloc(), options) {
-        Ok(None) => Ok(()),
-        Ok(Some(path)) => Err(shared_output(rt, Escaped(path.as_str()))),
-        Err(_) => Err(Failure::memory(rt)),
+/// Reports wrong arguments.
+fn misused(rt: &HostRuntime, misuse: Misuse) -> Failure {
+    if let Misuse::Memory = misuse {
+        return Failure::memory(rt);
     }
+    let _ = eprintln!(rt; "error: {misuse} (see `wat --help`)");
+    Failure::System
 }
 
 /// Converts the files of the options.
@@ -77,8 +70,10 @@ fn convert(rt: &HostRuntime, options: &Options) -> Result<(), Failure> {
     if options.prints_bytes() && rt.stdout().is_terminal() {
         return Err(terminal_output(rt));
     }
-    if options.names_outputs() {
-        check_outputs(rt, options)?;
+    if !options.prints() {
+        if let Err(misuse) = check_outputs(rt, options) {
+            return Err(misused(rt, misuse));
+        }
     }
     if options.files.is_empty() {
         return convert_file(rt, options, STANDARD);
@@ -104,11 +99,7 @@ fn run(rt: &HostRuntime) -> Result<(), Failure> {
         Ok(Request::Convert(options)) => convert(rt, &options),
         Ok(Request::Help) => printed(rt, print_help(rt)),
         Ok(Request::Version) => printed(rt, println!(rt; "wat {VERSION}")),
-        Err(Misuse::Memory) => Err(Failure::memory(rt)),
-        Err(misuse) => {
-            let _ = eprintln!(rt; "error: {misuse} (see `wat --help`)");
-            Err(Failure::System)
-        }
+        Err(misuse) => Err(misused(rt, misuse)),
     }
 }
 

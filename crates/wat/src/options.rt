@@ -178,6 +178,10 @@ pub(crate) enum Misuse {
     OneForSeveral,
     /// The output of standard input has no name.
     Unnamed,
+    /// More than one file has this output.
+    SharedOutput(String),
+    /// This output is a file to read.
+    ReadOutput(String),
     /// Allocation failed.
     Memory,
 }
@@ -210,6 +214,14 @@ impl fmt::Display for Misuse {
             }
             Misuse::OneForSeveral => f.write_str("`--output` with more than one file"),
             Misuse::Unnamed => f.write_str("output of standard input needs `--output`"),
+            Misuse::SharedOutput(path) => {
+                let path = Escaped(path.as_str());
+                write!(f, "more than one file has the output `{path}`")
+            }
+            Misuse::ReadOutput(path) => {
+                let path = Escaped(path.as_str());
+                write!(f, "output would replace a file to read: `{path}`")
+            }
             Misuse::Memory => f.write_str("out of memory"),
         }
     }

@@ -1,8 +1,8 @@
 //! Which file an output is written to.
 
-use crate::options::{Options, Output};
+use crate::options::{Misuse, Options, Output};
 use std::alloc::{AllocError, Global};
-use wat_command::split_path;
+use wat_command::{file_key, is_kept, split_path};
 
 /// Returns a name without this extension, if there is a name before it.
 fn without_extension<'a>(name: &'a str, extension: &str) -> Option<&'a str> {
@@ -29,13 +29,16 @@ fn extension_of(output: Output) -> &'static str {
     }
 }
 
-/// Returns the path of the output of a file: in the folder of the file, or in the folder of the
-/// outputs.
+/// Returns the path of the output of a file: that of `--output`, or one in the folder of the outputs
+/// or of the file.
 pub(crate) fn output_path(
     alloc: Global,
     options: &Options,
     file: &str,
 ) -> Result<String, AllocError> {
+    if let Some(target) = &options.target {
+        return String::from_str(alloc, target.as_str());
+    }
     let (beside, name) = split_path(file);
     let folder = match &options.folder {
         Some(folder) => folder.as_str(),
@@ -51,26 +54,66 @@ pub(crate) fn output_path(
     format!(in alloc; "{folder}{slash}{stem}{extension}")
 }
 
-/// Returns the paths of the outputs of all files, sorted.
-fn sorted_paths(alloc: Global, options: &Options) -> Result<Vec<String>, AllocError> {
-    let mut paths = Vec::new(alloc);
+/// Returns the keys of the outputs of all files, sorted.
+fn sorted_keys(rt: &HostRuntime, options: &Options) -> Result<Vec<String>, AllocError> {
+    let mut keys = Vec::new(rt.alloc());
     for file in options.files.iter() {
-        let path = output_path(alloc, options, file.as_str())?;
-        paths.push(path)?;
+        let path = output_path(rt.alloc(), options, file.as_str())?;
+        let key = file_key(rt, path.as_str())?;
+        keys.push(key)?;
     }
-    paths.sort()?;
-    Ok(paths)
+    keys.sort()?;
+    Ok(keys)
 }
 
-/// Returns a path that two files have as their output.
-pub(crate) fn shared_path(alloc: Global, options: &Options) -> Result<Option<String>, AllocError> {
-    let paths = sorted_paths(alloc, options)?;
-    let mut previous = String::new(alloc);
-    for path in paths {
-        if path.as_str() == previous.as_str() {
-            return Ok(Some(path));
+/// Returns a key that is twice in a sorted list.
+fn repeated(keys: &[String]) -> Option<&str> {
+    let mut previous = "";
+    for key in keys.iter() {
+        if key.as_str() == previous {
+            return Some(previous);
         }
-        previous = path;
+        previous = key.as_str();
+    }
+    None
+}
+
+/// Returns the path of the output that has this key.
+fn path_of(rt: &HostRuntime, options: &Options, key: &str) -> Result<String, AllocError> {
+    let mut found = String::new(rt.alloc());
+    for file in options.files.iter() {
+        let path = output_path(rt.alloc(), options, file.as_str())?;
+        let of_path = file_key(rt, path.as_str())?;
+        if of_path.as_str() == key {
+            found = path;
+        }
+    }
+    Ok(found)
+}
+
+/// Returns an output that two files have, or that is itself a file to read: one of the outputs, or the
+/// file, would be lost.
+fn lost(rt: &HostRuntime, options: &Options) -> Result<Option<Misuse>, AllocError> {
+    let keys = sorted_keys(rt, options)?;
+    if let Some(key) = repeated(keys.as_slice()) {
+        let path = path_of(rt, options, key)?;
+        return Ok(Some(Misuse::SharedOutput(path)));
+    }
+    for file in options.files.iter() {
+        let key = file_key(rt, file.as_str())?;
+        if is_kept(rt, file.as_str()) && keys.as_slice().binary_search(&key).is_ok() {
+            let path = path_of(rt, options, key.as_str())?;
+            return Ok(Some(Misuse::ReadOutput(path)));
+        }
     }
     Ok(None)
+}
+
+/// Checks that no output replaces another one or a file to read.
+pub(crate) fn check_outputs(rt: &HostRuntime, options: &Options) -> Result<(), Misuse> {
+    match lost(rt, options) {
+        Ok(None) => Ok(()),
+        Ok(Some(misuse)) => Err(misuse),
+        Err(_) => Err(Misuse::Memory),
+    }
 }

@@ -83,7 +83,7 @@ fn convert_text(
     let strings = Strings::new(rt.alloc());
     let stem = stem_of_target(target);
     match conversion_of_text(rt.alloc(), text, &strings, source, stem) {
-        Ok(conversion) => write_outputs(rt, target, &conversion),
+        Ok(conversion) => write_outputs(rt, source, target, &conversion),
         Err(Refusal(refused)) => Err(report(rt, rt.alloc(), shown(source), text, &refused)),
     }
 }

@@ -4,8 +4,10 @@ ghost use Rattle.std.specs.Prelude.{OnOk};
 ghost use Rattle.std.specs.Io.KnownBytes.{Appends};
 
 use crate::escapes::Escaped;
-use std::fs::{self, File, OpenOptions, Permissions};
+use std::alloc::AllocError;
+use std::fs::{self, File, Metadata, OpenOptions, Permissions};
 use std::io::{self, ErrorKind, Read, Write};
+use std::os::unix::fs::{MetadataExt, OpenOptionsExt, PermissionsExt};
 use std::str;
 
 /// The file name for standard input and standard output.
@@ -37,6 +39,37 @@ pub fn shown(file: &str) -> Escaped<'_> {
         return Escaped("<stdin>");
     }
     Escaped(file)
+}
+
+/// Returns the key of a file by its device and number, and by the name of a file in it.
+fn key_in(rt: &HostRuntime, found: &Metadata, name: &str) -> Result<String, AllocError> {
+    let (device, number) = (found.dev(), found.ino());
+    format!(in rt.alloc(); "{device} {number} {name}")
+}
+
+/// Returns the key of a file. All paths of one file have the same key, also those through links.
+///
+/// For a file that does not exist yet it is made of its folder and its name. A path in a folder that
+/// does not exist is its own key.
+pub fn file_key(rt: &HostRuntime, path: &str) -> Result<String, AllocError> {
+    if let Ok(found) = fs::metadata(rt, path) {
+        return key_in(rt, &found, "");
+    }
+    let (folder, name) = split_path(path);
+    let folder = if folder.is_empty() { "." } else { folder };
+    match fs::metadata(rt, folder) {
+        Ok(found) => key_in(rt, &found, name),
+        Err(_) => String::from_str(rt.alloc(), path),
+    }
+}
+
+/// Returns whether a file to read would be lost if an output replaced it. Standard input, devices and
+/// pipes would not.
+pub fn is_kept(rt: &HostRuntime, file: &str) -> bool {
+    match fs::metadata(rt, file) {
+        Ok(found) => found.is_file() && file != STANDARD,
+        Err(_) => false,
+    }
 }
 
 /// Reads all bytes of a file, or of standard input.
@@ -72,12 +105,20 @@ pub fn write_bytes<W: Write>(writer: &mut W, bytes: &[u8]) -> io::Result<()>
     writer.flush()
 }
 
-/// Creates a file in the folder of this path. It never opens one that is already there.
-fn create_temporary(rt: &HostRuntime, path: &str) -> io::Result<Temporary> {
+/// Creates a file with these permissions, less those that the user masks. It never opens one that is
+/// already there.
+fn create_new(rt: &HostRuntime, path: &str, mode: u32) -> io::Result<File> {
+    let mut options = OpenOptions::new();
+    let _ = options.write(true).create_new(true).mode(mode);
+    options.open(rt, path)
+}
+
+/// Creates a file in the folder of this path.
+fn create_temporary(rt: &HostRuntime, path: &str, mode: u32) -> io::Result<Temporary> {
     let (folder, _) = split_path(path);
     for number in 0..MOST {
         let path = format!(in rt.alloc(); "{folder}.wat-{number}.tmp")?;
-        match File::create_new(rt, path.as_str()) {
+        match create_new(rt, path.as_str(), mode) {
             Ok(file) => return Ok(Temporary { path, file }),
             Err(error) => {
                 if error.kind() != ErrorKind::AlreadyExists {
@@ -90,13 +131,23 @@ fn create_temporary(rt: &HostRuntime, path: &str) -> io::Result<Temporary> {
 }
 
 /// Writes all bytes to an open file, and waits until the system has them, because an error that
-/// comes later would be lost.
+/// comes later would be lost. The file gets its permissions before its first byte, so that nobody can
+/// read it who could not read the old file.
 fn fill(file: &mut File, permissions: Option<Permissions>, bytes: &[u8]) -> io::Result<()> {
-    file.write_all(bytes)?;
     if let Some(permissions) = permissions {
         file.set_permissions(permissions)?;
     }
+    file.write_all(bytes)?;
     file.sync_all()
+}
+
+/// Returns the permission bits that a file is created with: those of the file that it replaces, or
+/// those of any new file.
+fn mode_of(permissions: &Option<Permissions>) -> u32 {
+    match permissions {
+        Some(permissions) => permissions.mode() & 0o777,
+        None => 0o666,
+    }
 }
 
 /// Writes a file under a temporary name, and renames it when it is complete. If that fails, the
@@ -110,7 +161,7 @@ fn replace(
     let Temporary {
         path: temporary,
         mut file,
-    } = create_temporary(rt, path)?;
+    } = create_temporary(rt, path, mode_of(&permissions))?;
     let replaced = match fill(&mut file, permissions, bytes) {
         Ok(()) => fs::rename(rt, temporary.as_str(), path),
         Err(error) => Err(error),

@@ -16,4 +16,7 @@ mod files;
 pub use diagnostics::{report, report_malformed, warn};
 pub use escapes::Escaped;
 pub use failures::Failure;
-pub use files::{STANDARD, read_input, shown, split_path, text_before, write_bytes, write_file};
+pub use files::{
+    STANDARD, file_key, is_kept, read_input, shown, split_path, text_before, write_bytes,
+    write_file,
+};
