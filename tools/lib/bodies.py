@@ -77,7 +77,8 @@ HEAPS = dict(
     func=0x70, extern=0x6F, exn=0x69, noexn=0x74, any=0x6E, eq=0x6D, struct=0x6B, array=0x6A, nofunc=0x73, noextern=0x72, none=0x71, i31=0x6C
 )
 
-# Instructions whose indices are 1, 2 and so on in the order in which they are looked up, the spaces of these, and the bytes.
+# Instructions whose indices are 1, 2 and so on in the order in which they are looked up, the spaces of these, and the bytes, or the
+# form that no encoder covers.
 ORDERS = """
 memory.init {2} {1}	data memory	fc080102
 memory.copy {2} {1}	memory memory	fc0a0201
@@ -102,6 +103,26 @@ ref.cast (ref null {1})	type	fb1701
 br_on_cast {1} (ref null {3}) (ref null {2})	label type type	fb1803010302
 br_on_cast_fail {1} (ref null {3}) (ref null {2})	label type type	fb1903010302
 v128.load8_lane {1} 0	memory	fd5440010000
+memory.discard {1}	memory	instruction beyond the table
+global.atomic.get acq_rel {1}	global	atomic of a global, table, struct or array
+table.atomic.get acq_rel {1}	table	atomic of a global, table, struct or array
+struct.atomic.get acq_rel {1} {2}	type field	atomic of a global, table, struct or array
+array.atomic.get acq_rel {1}	type	atomic of a global, table, struct or array
+i32.atomic.load seq_cst {1}	memory	memory ordering
+v128.load8_lane seq_cst {1} 0	memory	memory ordering
+struct.new_desc {1}	type	descriptor or exact type
+struct.new_default_desc {1}	type	descriptor or exact type
+ref.get_desc {1}	type	descriptor or exact type
+ref.cast_desc_eq (ref null {1})	type	descriptor or exact type
+br_on_cast_desc_eq {1} (ref null {3}) (ref null {2})	label type type	descriptor or exact type
+br_on_cast_desc_eq_fail {1} (ref null {3}) (ref null {2})	label type type	descriptor or exact type
+cont.new {1}	type	stack switching
+cont.bind {1} {2}	type type	stack switching
+suspend {1}	tag	stack switching
+resume {1} (on {2} {3}) (on {4} switch)	type tag label tag	stack switching
+resume_throw {1} {2} (on {3} {4}) (on 0 switch)	type tag tag label	stack switching
+resume_throw_ref {1} (on {2} {3}) (on {4} switch)	type tag label tag	stack switching
+switch {1} {2}	type tag	stack switching
 """
 
 VECTORS = {
@@ -126,9 +147,10 @@ def orders():
     for line in ORDERS.strip().split("\n"):
         template, spaces, code = line.split("\t")
         spaces = spaces.split()
-        yield template.format(None, 1, 2, 3), code, "data" in spaces, None
+        form = None if code.isalnum() else f"refused: uncovered form: {code}"
+        yield template.format(None, 1, 2, 3, 4), code, "data" in spaces, form
         for first, space in enumerate(spaces, 1):
-            indices = [None, *(str(n) if n < first else "$x" for n in range(1, 4))]
+            indices = [None, *(str(n) if n < first else "$x" for n in range(1, 5))]
             place = len(template.split("{%d}" % first)[0].format(*indices))
             fault = f"unknown {space}: failed to find name `$x`"
             if space == "field":

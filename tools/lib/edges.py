@@ -301,6 +301,12 @@ EDGES = r"""
 (module (func (drop (block (result i32) i32.const 0)) (br_table 0 0 (i32.const 0))))	0061736d01000000010401600000030201000a10010e00027f41000b1a41000e0100000b
 (module (func (drop (if (result i32) (i32.const 0) (then i32.const 1 nop) (else i32.const 2 nop)))))	0061736d01000000010401600000030201000a11010f004100047f410101054102010b1a0b
 
+# A group of imports of one type defines an item for each name (compact import section proposal): two
+# of them have one id, and what its type names is looked up before the group is refused.
+(module (import "m" (item "a") (item "b") (func ^$f)) (start $f))	fault at ^: duplicate func identifier
+(module (func) (^import "m" (item "a") (func $f)) (start $f))	fault at ^: import after function
+(module (import "m" (item "a") (func $f (type ^$t))) (start $f))	fault at ^: unknown type: failed to find name `$t`
+
 # What is no text by the grammar, though other readers take it, beside the same thing as it is
 # written (text format, instructions and modules; legacy exception handling). The bytes of a folded
 # `try` are those of the same instructions without parentheses.
