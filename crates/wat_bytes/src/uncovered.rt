@@ -9,7 +9,7 @@ use std::alloc::Global;
 use wast_core::{Module, ModuleKind, discard_module};
 use wast_tree::{Form, Span, Uncovered, first_uncovered};
 use wat_text::{Strings, TextModule, read};
-use wat_tokens::{Key, Placed, Token, UncoveredOp, Word, tokens_of};
+use wat_tokens::{Key, OwnOp, PairOp, Placed, Token, UncoveredOp, Word, tokens_of};
 
 /// Returns the first unsupported construct of a module. It takes `&mut` and changes nothing,
 /// because for a `&` the prover would compare the type of the whole tree with itself.
@@ -49,44 +49,87 @@ fn written_place<'a>(
     }
 }
 
-/// Returns whether a token belongs to a construct.
-fn is_word_of(form: Form, word: &str) -> bool {
-    match form {
-        Form::StackSwitching => is_switching(word),
-        Form::Shared => word == "shared",
-        Form::Ordering => word == "seq_cst" || word == "acq_rel",
-        Form::Atomic => word.contains(".atomic."),
-        Form::Descriptor => {
-            matches!(word, "exact" | "descriptor" | "describes") || word.contains("_desc")
-        }
-        Form::CompactImports => word == "item",
-        Form::TargetArch => word == "target-arch",
-        Form::ArrayMemArg | Form::Beyond => false,
-    }
-}
-
-/// Returns whether a token is an instruction or a type of stack switching.
-fn is_switching(word: &str) -> bool {
+/// Returns whether a word is an instruction or a type of stack switching.
+fn is_switching(word: Word) -> bool {
     match word {
-        "cont" | "contref" | "nullcontref" | "nocont" => true,
-        "cont.new" | "cont.bind" | "suspend" | "switch" => true,
-        "resume" | "resume_throw" | "resume_throw_ref" => true,
+        Word::Key(Key::Cont | Key::Contref | Key::Nullcontref | Key::Nocont) => true,
+        Word::Uncovered(UncoveredOp::cont_new | UncoveredOp::suspend) => true,
+        Word::Pair(PairOp::cont_bind | PairOp::switch) => true,
+        Word::Own(OwnOp::resume | OwnOp::resume_throw | OwnOp::resume_throw_ref) => true,
         _ => false,
     }
 }
 
-/// Returns the text of a token, if it belongs to a construct.
-fn word_of<'a>(form: Form, token: &Token<'a>) -> Option<&'a str> {
-    let Token::Word(meaning, word) = *token else {
-        return None;
-    };
-    let belongs = match meaning {
-        Word::Beyond | Word::UncoveredOrZero(UncoveredOp::memory_discard) => form == Form::Beyond,
-        _ => is_word_of(form, word),
-    };
-    match belongs {
-        true => Some(word),
-        false => None,
+/// Returns whether a word is of a descriptor or an exact type.
+fn is_descriptor(word: Word) -> bool {
+    match word {
+        Word::Key(Key::Exact | Key::Descriptor | Key::Describes) => true,
+        Word::Uncovered(UncoveredOp::struct_new_desc | UncoveredOp::struct_new_default_desc) =>
+            true,
+        Word::Uncovered(UncoveredOp::ref_get_desc) => true,
+        Word::Own(OwnOp::ref_cast_desc_eq | OwnOp::br_on_cast_desc_eq) => true,
+        Word::Own(OwnOp::br_on_cast_desc_eq_fail) => true,
+        _ => false,
+    }
+}
+
+/// Returns whether a word is the ordering of a memory access, or `acq_rel` of a fence. The encoder
+/// supports `atomic.fence seq_cst`.
+fn is_ordering(before: Token<'_>, word: Word) -> bool {
+    match before {
+        Token::Word(Word::Mem(_, _) | Word::MemLane(_, _), _) => {
+            matches!(word, Word::Key(Key::SeqCst | Key::AcqRel))
+        }
+        Token::Word(Word::Own(OwnOp::atomic_fence), _) => matches!(word, Word::Key(Key::AcqRel)),
+        _ => false,
+    }
+}
+
+/// Returns whether a word belongs to a construct, between the tokens before and after it. Some words
+/// are also a part of supported constructs: `shared` after the limits of a memory, and `item` before
+/// an expression.
+fn is_of(form: Form, before: Token<'_>, word: Word, after: Option<Token<'_>>) -> bool {
+    match form {
+        Form::StackSwitching => is_switching(word),
+        Form::Shared => {
+            matches!(word, Word::Key(Key::Shared)) && !matches!(before, Token::Other(_))
+        }
+        Form::Ordering => is_ordering(before, word),
+        Form::Atomic => matches!(word, Word::Atomic(_)),
+        Form::Descriptor => is_descriptor(word),
+        Form::CompactImports => {
+            matches!(word, Word::Key(Key::Item)) && matches!(after, Some(Token::String(_)))
+        }
+        Form::TargetArch => matches!(word, Word::Key(Key::TargetArch)),
+        Form::Beyond => {
+            matches!(
+                word,
+                Word::Beyond | Word::UncoveredOrZero(UncoveredOp::memory_discard)
+            )
+        }
+        Form::ArrayMemArg => false,
+    }
+}
+
+/// Returns the text of a token, if it belongs to a construct, between the tokens before and after
+/// it.
+fn word_of<'a>(
+    form: Form,
+    before: Token<'a>,
+    token: Token<'a>,
+    after: Option<Token<'a>>,
+) -> Option<&'a str> {
+    match token {
+        Token::Word(word, text) if is_of(form, before, word, after) => Some(text),
+        _ => None,
+    }
+}
+
+/// Returns the token at an index, if there is one.
+fn token_at<'a>(tokens: &[Placed<'a>], index: usize) -> Option<Token<'a>> {
+    match tokens.get(index) {
+        Some(placed) => Some(placed.token),
+        None => None,
     }
 }
 
@@ -106,8 +149,9 @@ fn first_word<'a>(tokens: &[Placed<'a>], form: Form, from: Span) -> Option<(Span
     let field = field_depth(tokens);
     let mut depth = 0_usize;
     let mut found = None;
-    for placed in tokens {
-        match &placed.token {
+    let mut before = Token::Open;
+    for (index, placed) in tokens.iter().enumerate() {
+        match placed.token {
             Token::Open | Token::Annotation(_) => {
                 if depth == field {
                     found = None;
@@ -117,10 +161,12 @@ fn first_word<'a>(tokens: &[Placed<'a>], form: Form, from: Span) -> Option<(Span
             Token::Close => depth = depth.saturating_sub(1),
             token => {
                 if found.is_none() {
-                    found = word_of(form, token).map(|word| (placed.span, word));
+                    let after = token_at(tokens, index.saturating_add(1));
+                    found = word_of(form, before, token, after).map(|word| (placed.span, word));
                 }
             }
         }
+        before = placed.token;
         if found.is_some() && placed.span.offset >= from.offset {
             return found;
         }

@@ -21,6 +21,7 @@ use Rattle.wat_tokens.specs.declared.words.AtomicOp.{AtomicOp}
 use Rattle.wat_tokens.specs.declared.words.AtomicOp.TheVariants as atomic
 use Rattle.wat_tokens.specs.declared.words.BlockOp.{BlockOp}
 use Rattle.wat_tokens.specs.declared.words.BlockOp.TheVariants as opens
+use Rattle.wat_tokens.specs.Words.{alignment_bytes, op_of}
 use Rattle.wat_tokens.specs.declared.tokens.Token.{Token}
 use Rattle.wat_tokens.specs.declared.tokens.Token.TheVariants as token
 use Rattle.wat_syntax.specs.Tree.{Index, Ordering, MemArgOrdering, BlockType, V128Const}
@@ -226,11 +227,11 @@ pair_bare op x y = refl
 -- by its word
 pub of_plaininstr : (w : Word) (name : Bor (List ℕ)) (toks : Toks) → Same (bare_both bare_instr) (plaininstr w (seen_text name) (bare_toks toks)) (plaininstr w name toks)
 of_plaininstr (word.Plain op) name toks = same refl
-of_plaininstr (word.Mem op N) name toks = bind _ (of_memarg N toks) (λ m. same refl)
+of_plaininstr (word.Mem op N) name toks = bind _ (of_memarg (alignment_bytes N) toks) (λ m. same refl)
 of_plaininstr (word.Lane op) name toks = bind _ (of_laneidx toks) (λ l. same refl)
-of_plaininstr (word.MemLane op N) name toks = bind _ (of_lane_memarg N toks) (λ m. same refl)
+of_plaininstr (word.MemLane op N) name toks = bind _ (of_lane_memarg (alignment_bytes N) toks) (λ m. same refl)
 of_plaininstr (word.Index op) name toks = bind _ (of_index toks) (λ x. same (ap (λ i. Some (i, bare_toks x.1)) (index_bare op x.0)))
-of_plaininstr (word.IndexOrZero op) name toks = bind _ (of_index_or_zero toks) (λ x. same (ap (λ i. Some (i, bare_toks x.1)) (index_bare op x.0)))
+of_plaininstr (word.IndexOrZero op) name toks = bind _ (of_index_or_zero toks) (λ x. same (ap (λ i. Some (i, bare_toks x.1)) (index_bare (op_of op) x.0)))
 of_plaininstr (word.Uncovered op) name toks = bind _ (of_index toks) (λ x. same (ap (λ i. Some (i, bare_toks x.1)) (uncovered_bare op x.0)))
 of_plaininstr (word.UncoveredOrZero op) name toks = bind _ (of_index_or_zero toks) (λ x. same (ap (λ i. Some (i, bare_toks x.1)) (uncovered_bare op x.0)))
 of_plaininstr (word.Pair op) name toks = bind _ (of_index toks) (λ x. bind _ (of_index x.1) (λ y. same (ap (λ i. Some (i, bare_toks y.1)) (pair_bare op x.0 y.0))))

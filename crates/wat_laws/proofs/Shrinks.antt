@@ -18,6 +18,7 @@ use Rattle.wat_tokens.specs.declared.words.AtomicOp.{AtomicOp}
 use Rattle.wat_tokens.specs.declared.words.AtomicOp.TheVariants as atomic
 use Rattle.wat_tokens.specs.declared.words.BlockOp.{BlockOp}
 use Rattle.wat_tokens.specs.declared.words.BlockOp.TheVariants as opens
+use Rattle.wat_tokens.specs.Words.{alignment_bytes}
 use Rattle.wat_tokens.specs.declared.tokens.Token.{Token}
 use Rattle.wat_tokens.specs.declared.tokens.Token.TheVariants as token
 use Rattle.std.specs.Borrow.{Bor}
@@ -219,9 +220,9 @@ module _ (n : ℕ) where
 
   plain_fewer : (w : Word) (name : Bor (List ℕ)) (t : Toks) → count t ≤ n → Fewer n (plaininstr w name t)
   plain_fewer (word.Plain op) name t h = done n _ t h
-  plain_fewer (word.Mem op N) name t h = and_then (memarg_fewer N t h) (λ x h. done n _ x.1 h)
+  plain_fewer (word.Mem op N) name t h = and_then (memarg_fewer (alignment_bytes N) t h) (λ x h. done n _ x.1 h)
   plain_fewer (word.Lane op) name t h = and_then (laneidx_fewer t h) (λ x h. done n _ x.1 h)
-  plain_fewer (word.MemLane op N) name t h = and_then (lane_memarg_fewer N t h) (λ x h. done n _ x.1 h)
+  plain_fewer (word.MemLane op N) name t h = and_then (lane_memarg_fewer (alignment_bytes N) t h) (λ x h. done n _ x.1 h)
   plain_fewer (word.Index op) name t h = and_then (index_fewer n t h) (λ x h. done n _ x.1 h)
   plain_fewer (word.IndexOrZero op) name t h = and_then (index_or_zero_fewer n t h) (λ x h. done n _ x.1 h)
   plain_fewer (word.Uncovered op) name t h = and_then (index_fewer n t h) (λ x h. done n _ x.1 h)

@@ -29,6 +29,7 @@ use Rattle.wat_tokens.specs.declared.words.AtomicOp.TheVariants as atomic
 use Rattle.wat_tokens.specs.declared.words.BlockOp.{BlockOp}
 use Rattle.wat_tokens.specs.declared.words.BlockOp.TheVariants as opens
 use Rattle.wat_tokens.specs.declared.tokens.Token.{Token}
+use Rattle.wat_tokens.specs.Words.{alignment_bytes, op_of}
 use Rattle.wat_tokens.specs.declared.tokens.Token.TheVariants as token
 use Rattle.wat_syntax.specs.Tokens.{Toks, Parse, peek, after, count, word_of, is_lparen, lparen, rparen, keyword, form, is_form, optional, many}
 use Rattle.wat_syntax.specs.Values.{number, u32, is_number, id, name_annotation, index, optional_index, index_or_zero}
@@ -269,11 +270,11 @@ is_plaininstr w = true
 -- instructions). plaininstr ::= 'i8x16.extract_lane_s' l:laneidx ⇒ i8x16.extract_lane_s l | .. (text format: vector instructions).
 abbrev pub plaininstr : Word → Bor (List ℕ) → Toks → Parse Instruction
 plaininstr (word.Plain op) name toks = Some (instr.Plain op, toks)
-plaininstr (word.Mem op N) name toks = memarg N toks >>= λ m. Some (instr.Mem op m.0, m.1)
+plaininstr (word.Mem op N) name toks = memarg (alignment_bytes N) toks >>= λ m. Some (instr.Mem op m.0, m.1)
 plaininstr (word.Lane op) name toks = laneidx toks >>= λ l. Some (instr.Lane op l.0, l.1)
-plaininstr (word.MemLane op N) name toks = lane_memarg N toks >>= λ m. Some (instr.MemLane op m.0, m.1)
+plaininstr (word.MemLane op N) name toks = lane_memarg (alignment_bytes N) toks >>= λ m. Some (instr.MemLane op m.0, m.1)
 plaininstr (word.Index op) name toks = index toks >>= λ x. Some (index_instr op x.0, x.1)
-plaininstr (word.IndexOrZero op) name toks = index_or_zero toks >>= λ x. Some (index_instr op x.0, x.1)
+plaininstr (word.IndexOrZero op) name toks = index_or_zero toks >>= λ x. Some (index_instr (op_of op) x.0, x.1)
 plaininstr (word.Uncovered op) name toks = index toks >>= λ x. Some (uncovered_instr op x.0, x.1)
 plaininstr (word.UncoveredOrZero op) name toks = index_or_zero toks >>= λ x. Some (uncovered_instr op x.0, x.1)
 plaininstr (word.Pair op) name toks = index toks >>= λ x. index x.1 >>= λ y. Some (pair_instr op x.0 y.0, y.1)

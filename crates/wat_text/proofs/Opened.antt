@@ -176,7 +176,6 @@ module _ (h : ModuleHead) where
 
 -- what tokens mean, by what was read of them
 module _ (toks : Toks) (a : Reader) (clean : IsClean a) (same : left a ≡ toks) where
-
   pub means_err : (result : Result TextModule TextError) → Ends (Means (left a)) a result → IfErr result (λ e. Explains (Means toks None) (MeansIllFormed toks) e.fault)
   means_err (Ok m) f = tt
   means_err (Err e) f = subst (λ t. Explains (Means t None) (MeansIllFormed t) e.fault) same (f.refuses clean.0)

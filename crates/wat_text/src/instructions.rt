@@ -202,14 +202,14 @@ impl<'a> Reader<'a> {
     {
         match word {
             Word::Plain(op) => Instruction::Plain(op),
-            Word::Mem(op, align) => Instruction::Mem(op, self.mem_arg(align as u64)),
+            Word::Mem(op, align) => Instruction::Mem(op, self.mem_arg(align.bytes())),
             Word::Lane(op) => Instruction::Lane(op, self.lane_arg()),
             Word::MemLane(op, align) => Instruction::MemLane(
                 op,
-                self.load_or_store_lane(align as u64),
+                self.load_or_store_lane(align.bytes()),
             ),
             Word::Index(op) => with_index(op, self.index()),
-            Word::IndexOrZero(op) => with_index(op, self.index_or_zero()),
+            Word::IndexOrZero(op) => with_index(op.op(), self.index_or_zero()),
             Word::Uncovered(op) => with_uncovered(op, self.index()),
             Word::UncoveredOrZero(op) => with_uncovered(op, self.index_or_zero()),
             Word::Pair(op) => {

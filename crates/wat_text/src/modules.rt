@@ -432,21 +432,50 @@ fn quoted_module<'a>(
     module_of_fields(inner, span, ModuleHead { keyword, id, name })
 }
 
-/// Reads the module of a text, as [`read`] does. The contract does not bound the position of an
-/// error.
-#[tactic(auto, using(crate::proofs::Opened::text_none, crate::proofs::Opened::text_ok))]
-fn read_module<'a>(
+/// Returns a position, or `end` if it is after that.
+fn up_to_end(span: Span, end: Span) -> Span
+    ensures { result.offset ≤ end.offset }
+{
+    Span {
+        offset: span.offset.min(end.offset),
+    }
+}
+
+/// Reads the fields of a module from its tokens, as [`read_tokens`] does. The contract does not
+/// bound the position of an error.
+fn fields_of_tokens<'a>(
     alloc: Global,
-    text: &'a str,
+    tokens: Vec<Placed<'a>>,
+    end: Span,
+) -> Result<Seq<ModuleField<'a>>, TextError>
+    ensures well_formed { IfOk result (λ fields. IsTrue (is_well_formed fields)) }
+    ensures denotes { IfOk result (AreFields (fields_of_module (all_of tokens.entry.items end))) }
+    ensures refuses { IfErr result (λ e. Explains (fields_of_module (all_of tokens.entry.items end) ≡ None) (AreIllFormed (fields_of_module (all_of tokens.entry.items end))) e.fault) }
+{
+    let mut reader = Reader::new(alloc, tokens, end);
+    let head = reader.module_head();
+    rest_of_fields(reader, head.keyword.is_some())
+}
+
+/// Reads a module from its tokens, as [`read_module_tokens`] does. The contract does not bound the
+/// position of an error.
+fn module_of_tokens<'a>(
+    alloc: Global,
+    tokens: Vec<Placed<'a>>,
+    end: Span,
     strings: &'a Strings,
 ) -> Result<TextModule<'a>, TextError>
     ensures well_formed { IfOk result (λ m. IsTrue (is_well_formed_text m.kind)) }
-    ensures denotes { IfOk result (λ m. Denotes text.now (seen_module m)) }
-    ensures refuses { IfErr result (λ e. Explains (DenotesNothing text.now) (DenotesIllFormed text.now) e.fault) }
+    ensures denotes { IfOk result (λ m. Means (all_of tokens.entry.items end) (Some (seen_module m))) }
+    ensures refuses { IfErr result (λ e. Explains (Means (all_of tokens.entry.items end) None) (MeansIllFormed (all_of tokens.entry.items end)) e.fault) }
 {
-    let tokens = tokens_of(alloc, text, strings)?;
-    let end = Span { offset: text.len() };
-    read_module_tokens(alloc, tokens, end, strings)
+    let mut reader = Reader::new(alloc, tokens, end);
+    let head = reader.module_head();
+    match reader.key(0) {
+        Some(Key::Binary) if head.keyword.is_some() => binary_module(reader, head),
+        Some(Key::Quote) if head.keyword.is_some() => quoted_module(reader, head, strings),
+        _ => module_of_fields(reader, module_place(head.keyword), head),
+    }
 }
 
 /// Reads a module in the text format (text format: modules).
@@ -487,6 +516,7 @@ fn read_module<'a>(
 /// # Memory
 ///
 /// Allocates for the tokens, the tree and `strings`.
+#[tactic(auto, using(crate::proofs::Opened::text_none, crate::proofs::Opened::text_ok))]
 pub fn read<'a>(
     alloc: Global,
     text: &'a str,
@@ -497,16 +527,9 @@ pub fn read<'a>(
     ensures refuses { IfErr result (λ e. Explains (DenotesNothing text.now) (DenotesIllFormed text.now) e.fault) }
     ensures place { IfErr result (λ e. e.span.offset ≤ length text.now) }
 {
-    match read_module(alloc, text, strings) {
-        Ok(module) => Ok(module),
-        Err(error) => {
-            let offset = error.span.offset.min(text.len());
-            Err(TextError {
-                span: Span { offset },
-                ..error
-            })
-        }
-    }
+    let tokens = tokens_of(alloc, text, strings)?;
+    let end = Span { offset: text.len() };
+    read_module_tokens(alloc, tokens, end, strings)
 }
 
 /// Reads the fields of a module from its tokens, as [`read`] does from a text (text format:
@@ -527,8 +550,8 @@ pub fn read<'a>(
 ///
 /// # Errors
 ///
-/// A [`TextFault`] with the position of a token, or `end`: the tokens are not a module of fields,
-/// or the fields are not well formed, or allocation failed.
+/// A [`TextFault`] with a position up to `end`: the tokens are not a module of fields, or the fields
+/// are not well formed, or allocation failed.
 ///
 /// # Guarantees
 ///
@@ -537,6 +560,8 @@ pub fn read<'a>(
 /// - `refuses`: unless the error is [`TextFault::Memory`], the rules read the tokens as no module
 ///   of fields. If it is [`TextFault::IllFormed`], they may also read fields that are not well
 ///   formed.
+/// - `place`: the position of an error is not after `end`. So it is in the text or at its end, if
+///   `end` is.
 ///
 /// # Memory
 ///
@@ -549,10 +574,15 @@ pub fn read_tokens<'a>(
     ensures well_formed { IfOk result (λ fields. IsTrue (is_well_formed fields)) }
     ensures denotes { IfOk result (AreFields (fields_of_module (all_of tokens.entry.items end))) }
     ensures refuses { IfErr result (λ e. Explains (fields_of_module (all_of tokens.entry.items end) ≡ None) (AreIllFormed (fields_of_module (all_of tokens.entry.items end))) e.fault) }
+    ensures place { IfErr result (λ e. e.span.offset ≤ end.offset) }
 {
-    let mut reader = Reader::new(alloc, tokens, end);
-    let head = reader.module_head();
-    rest_of_fields(reader, head.keyword.is_some())
+    match fields_of_tokens(alloc, tokens, end) {
+        Ok(fields) => Ok(fields),
+        Err(error) => Err(TextError {
+            span: up_to_end(error.span, end),
+            ..error
+        }),
+    }
 }
 
 /// Reads a module from its tokens, as [`read`] does from a text (text format: modules).
@@ -562,8 +592,8 @@ pub fn read_tokens<'a>(
 ///
 /// # Errors
 ///
-/// A [`TextFault`] with the position of a token, or `end`: the tokens are not a module, or its
-/// fields are not well formed, or allocation failed.
+/// A [`TextFault`] with a position up to `end`: the tokens are not a module, or its fields are not
+/// well formed, or allocation failed.
 ///
 /// # Guarantees
 ///
@@ -572,6 +602,8 @@ pub fn read_tokens<'a>(
 /// - `refuses`: unless the error is [`TextFault::Memory`], the rules read the tokens as no module.
 ///   If it is [`TextFault::IllFormed`], they may also read them as a module that is not well
 ///   formed.
+/// - `place`: the position of an error is not after `end`. So it is in the text or at its end, if
+///   `end` is.
 ///
 /// # Memory
 ///
@@ -585,12 +617,13 @@ pub fn read_module_tokens<'a>(
     ensures well_formed { IfOk result (λ m. IsTrue (is_well_formed_text m.kind)) }
     ensures denotes { IfOk result (λ m. Means (all_of tokens.entry.items end) (Some (seen_module m))) }
     ensures refuses { IfErr result (λ e. Explains (Means (all_of tokens.entry.items end) None) (MeansIllFormed (all_of tokens.entry.items end)) e.fault) }
+    ensures place { IfErr result (λ e. e.span.offset ≤ end.offset) }
 {
-    let mut reader = Reader::new(alloc, tokens, end);
-    let head = reader.module_head();
-    match reader.key(0) {
-        Some(Key::Binary) if head.keyword.is_some() => binary_module(reader, head),
-        Some(Key::Quote) if head.keyword.is_some() => quoted_module(reader, head, strings),
-        _ => module_of_fields(reader, module_place(head.keyword), head),
+    match module_of_tokens(alloc, tokens, end, strings) {
+        Ok(module) => Ok(module),
+        Err(error) => Err(TextError {
+            span: up_to_end(error.span, end),
+            ..error
+        }),
     }
 }

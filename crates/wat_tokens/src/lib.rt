@@ -18,4 +18,6 @@ pub use integers::{integer8, integer16, integer32, integer64, unsigned8, unsigne
 pub use scans::{tokens_of, written_tokens_of};
 pub use strings::{StringError, Strings};
 pub use tokens::{Annotation, Placed, Token};
-pub use words::{AtomicOp, BlockOp, Key, OwnOp, PairOp, UncoveredOp, Word, look_up};
+pub use words::{
+    Alignment, AtomicOp, BlockOp, IndexOrZeroOp, Key, OwnOp, PairOp, UncoveredOp, Word, look_up,
+};

@@ -1,8 +1,8 @@
--- The goal of `read_module_tokens` that tactics leave open, closed by lemmas of Opened.
+-- The goal of `module_of_tokens` that tactics leave open, closed by lemmas of Opened.
 use Rattle.std.proofs.Common.{rules}
 use Rattle.wat_text.specs.Denotes.{Fields, seen_opening, all_of}
 use Rattle.wat_text.proofs.Opened.{means_opened, means_as, means_err, fields_as}
-use Rattle.wat_text.proofs.modules.read_module_tokens.Goals as goal
+use Rattle.wat_text.proofs.modules.module_of_tokens.Goals as goal
 
 pub returns-in_default-clause-refuses : goal.returns-in_default-clause-refuses
 returns-in_default-clause-refuses c = means_err (all_of c.args.tokens.items c.args.end) c.new-reader.result c.new-reader.ensures.clean c.new-reader.ensures.left c.module_of_fields.result
