@@ -3,9 +3,7 @@
 use crate::kept::Kept;
 use std::alloc::Global;
 use std::process::Abort;
-use wasm_ops::{
-    Encode, IndexInstr, IndexOp, MemArg, MemArgTarget, MemInstr, Raw, WithLength,
-};
+use wasm_ops::{Encode, IndexInstr, IndexOp, MemArg, MemArgTarget, MemInstr, Raw, WithLength};
 use wast_base::MemOp;
 
 /// Checks the bytes of indices, after the byte of `call` and after the two bytes of `data.drop`.

@@ -6,7 +6,8 @@ ghost use Rattle.wasm_ops.specs.Spelling as encodings;
 ghost use Rattle.wasm_ops.specs.Spelling.{ref_type};
 
 use wasm_ops::{
-    AbstractHeapType, BlockOp, BlockType, BrCastOp, CastOp, Catch, Delimiter, HeapType, IndexPairOp, InstructionSink, LanesOp, MemArg, MemArgTarget, Ordering, RefType, Room, Sink,
+    AbstractHeapType, BlockOp, BlockType, BrCastOp, CastOp, Catch, Delimiter, HeapType,
+    IndexPairOp, InstructionSink, LanesOp, MemArg, MemArgTarget, Ordering, RefType, Room, Sink,
     ValType,
 };
 use wast_base::{Error, LaneOp, MemLaneOp, MemOp};

@@ -14,7 +14,7 @@
 //! - `conversions`, `filled`, `items`: parts of the tree as values of the binary format.
 //! - `expand`, `resolve`: keys of signatures, a user-defined resolver, errors before resolving.
 //! - `tree`, `visits`: builders, accessors, a user-defined visitor.
-//! - `texts`: bytes, names and errors of texts.
+//! - `texts`: bytes, names and errors of texts. `scripts`: commands of scripts.
 #![tactic(auto)]
 
 #[cfg(test)]
@@ -42,6 +42,8 @@ mod ops;
 mod ranges;
 #[cfg(test)]
 mod resolve;
+#[cfg(test)]
+mod scripts;
 #[cfg(test)]
 mod sections;
 #[cfg(test)]

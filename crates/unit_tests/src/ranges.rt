@@ -1,7 +1,7 @@
 //! Ranges of fields that are no larger than their fields need, which no contract states.
 
-use wast_core_ranges::{FieldKind, FieldRange, FieldRanges};
 use wast_base::{Index, Seq, Span};
+use wast_core_ranges::{FieldKind, FieldRange, FieldRanges};
 use wast_tree_nodes::{Export, ExportKind, ModuleField, discard_fields, push_field};
 
 fn start<'a>() -> ModuleField<'a> {

@@ -13,6 +13,7 @@ ghost use Rattle.wasm_ops.specs.Spelling as encodings;
 ghost use Rattle.wasm_ops.specs.Spelling.{heap_type, ref_type, sub_type, val_type};
 ghost use Rattle.wasm_out.specs.Bodies.{SpellsBody};
 
+use crate::writing::written;
 use std::alloc::Global;
 use wasm_ops::{
     AbstractHeapType, CompositeInnerType, CompositeType, ConstExpr, EntityType, ExportKind,
@@ -386,6 +387,12 @@ fn built_custom_sections_encode_correctly(rt: HostRuntime) {
         }
     };
     assert!(rt; built.as_slice() == expected.as_slice());
+}
+
+#[test]
+fn module_without_a_tree_has_its_memory(rt: HostRuntime) {
+    let bytes = written(rt.alloc()).expect(&rt, "memory");
+    assert!(rt; bytes.len() == 55);
 }
 
 #[test]
