@@ -1,55 +1,12 @@
 //! Converts the commands of a script to JSON and to the files of its modules.
 
-use crate::instances::Instances;
-use crate::json::Json;
-use crate::lines::Lines;
 use crate::refusals::{Refusal, is_of_names};
-use crate::values::{write_arguments, write_results};
 use std::alloc::{AllocError, Global};
-use wast_script::{
-    Action, ActionKind, Command, CommandKind, Execution, ModuleForm, Part, Script, ScriptModule,
-};
-use wast_tree::{Id, Span};
+use wast_script::{Command, CommandKind, Execution, ModuleForm, Part, Script, ScriptModule};
+use wast_script_json::{Contents, Conversion, ScriptJson};
+use wast_tree::Span;
 use wat_bytes::{Refused, UncoveredForm, encode_text, encoded_text};
 use wat_text::Strings;
-
-/// A file of a module: its name, and its bytes.
-#[derive(Drop)]
-pub(crate) struct ModuleFile {
-    /// The name, without a folder.
-    pub name: String,
-    /// The bytes of the module, or its text.
-    pub bytes: Vec<u8>,
-}
-
-/// What a script is converted to.
-#[derive(Drop)]
-pub(crate) struct Conversion {
-    /// The text of the JSON file.
-    pub json: String,
-    /// The files of the modules.
-    pub files: Vec<ModuleFile>,
-}
-
-/// The contents of a module's file.
-#[derive(Drop)]
-struct Contents {
-    bytes: Vec<u8>,
-    /// Whether it is a text.
-    is_text: bool,
-}
-
-/// A script that is converted, and what it is converted to so far.
-#[derive(Drop)]
-struct Converter<'a> {
-    alloc: Global,
-    json: Json,
-    files: Vec<ModuleFile>,
-    instances: Instances<'a>,
-    lines: Lines,
-    /// What the names of files begin with.
-    stem: String,
-}
 
 /// Returns an unsupported construct with its word and the position of that, as encoding the text of the module finds them.
 fn as_written<'a>(
@@ -135,40 +92,14 @@ fn contents_of<'a>(
     }
 }
 
+/// A script that is converted, and what it is converted to so far.
+#[derive(Drop)]
+struct Converter<'a> {
+    alloc: Global,
+    written: ScriptJson<'a>,
+}
+
 impl<'a> Converter<'a> {
-    /// Appends the type of a command.
-    fn begin(&mut self, ty: &str) -> Result<(), AllocError> {
-        self.json.raw("  {\"type\": ")?;
-        self.json.string(ty)
-    }
-
-    /// Appends the number of the line of a position.
-    fn line(&mut self, text: &str, span: Span) -> Result<(), AllocError> {
-        let line = self.lines.line_at(text, span);
-        self.json.key("line")?;
-        self.json.number(line)
-    }
-
-    /// Appends an id, if there is one, under a key.
-    fn id(&mut self, key: &str, id: Option<Id<'a>>) -> Result<(), AllocError> {
-        if let Some(id) = id {
-            self.json.key(key)?;
-            self.json.id(id.name())?;
-        }
-        Ok(())
-    }
-
-    /// Adds the file of a module, and appends its name.
-    fn file(&mut self, contents: Contents) -> Result<(), AllocError> {
-        let (stem, number) = (self.stem.as_str(), self.files.len());
-        let extension = if contents.is_text { "wat" } else { "wasm" };
-        let name = format!(in self.alloc; "{stem}.{number}.{extension}")?;
-        self.json.member("filename", name.as_str())?;
-        let bytes = contents.bytes;
-        self.files.push(ModuleFile { name, bytes })?;
-        Ok(())
-    }
-
     /// Appends a module that is instantiated or defined.
     fn module(
         &mut self,
@@ -177,79 +108,14 @@ impl<'a> Converter<'a> {
         module: &ScriptModule<'a>,
         is_definition: bool,
     ) -> Result<(), Refusal<'a>> {
-        self.begin(if is_definition {
-            "module_definition"
-        } else {
-            "module"
-        })?;
-        self.line(script.text, module.span)?;
-        self.id("name", module.id)?;
-        let bytes = match bytes_of(self.alloc, script, strings, module) {
-            Ok(bytes) => bytes,
-            Err(refused) => return Err(Refusal(refused)),
-        };
-        match is_definition {
-            true => {
-                let _number = self.instances.define(module.id, bytes.as_slice())?;
+        match bytes_of(self.alloc, script, strings, module) {
+            Ok(bytes) => {
+                self.written
+                    .module(script.text, module, is_definition, bytes)?;
+                Ok(())
             }
-            false => self.instances.instantiate(module.id, bytes.as_slice())?,
+            Err(refused) => Err(Refusal(refused)),
         }
-        self.file(Contents {
-            bytes,
-            is_text: false,
-        })?;
-        Ok(())
-    }
-
-    /// Appends an instance of a definition.
-    fn instance(
-        &mut self,
-        text: &str,
-        span: Span,
-        id: Option<Id<'a>>,
-        of: Option<Id<'a>>,
-    ) -> Result<(), AllocError> {
-        self.begin("module_instance")?;
-        self.line(text, span)?;
-        self.id("instance", id)?;
-        self.id("module", of)?;
-        self.instances.copy(id, of)
-    }
-
-    /// Appends `register`. Its line is that of the id, if there is one.
-    fn register(
-        &mut self,
-        text: &str,
-        span: Span,
-        name: &str,
-        module: Option<Id<'a>>,
-    ) -> Result<(), AllocError> {
-        self.begin("register")?;
-        let span = match module {
-            Some(id) => id.span(),
-            None => span,
-        };
-        self.line(text, span)?;
-        self.id("name", module)?;
-        self.json.member("as", name)
-    }
-
-    /// Appends an assertion about a module, with its message, if it has one.
-    fn module_command(
-        &mut self,
-        ty: &str,
-        place: (&str, Span),
-        contents: Contents,
-        message: Option<&str>,
-    ) -> Result<(), AllocError> {
-        let form = if contents.is_text { "text" } else { "binary" };
-        self.begin(ty)?;
-        self.line(place.0, place.1)?;
-        self.file(contents)?;
-        if let Some(message) = message {
-            self.json.member("text", message)?;
-        }
-        self.json.member("module_type", form)
     }
 
     /// Appends an assertion that a module is wrong.
@@ -262,7 +128,8 @@ impl<'a> Converter<'a> {
         message: &str,
     ) -> Result<(), Refusal<'a>> {
         let contents = contents_of(self.alloc, script, strings, module, true)?;
-        self.module_command(ty, (script.text, module.span), contents, Some(message))?;
+        self.written
+            .module_command(ty, (script.text, module.span), contents, Some(message))?;
         Ok(())
     }
 
@@ -276,83 +143,9 @@ impl<'a> Converter<'a> {
         message: Option<&str>,
     ) -> Result<(), Refusal<'a>> {
         let contents = contents_of(self.alloc, script, strings, module, false)?;
-        self.module_command(ty, (script.text, module.span), contents, message)?;
+        self.written
+            .module_command(ty, (script.text, module.span), contents, message)?;
         Ok(())
-    }
-
-    /// Appends an action.
-    fn action(&mut self, script: &Script<'a>, action: &Action<'a>) -> Result<(), AllocError> {
-        self.line(script.text, action.span)?;
-        self.json.key("action")?;
-        self.json.raw(match action.kind {
-            ActionKind::Invoke => "{\"type\": \"invoke\"",
-            ActionKind::Get => "{\"type\": \"get\"",
-        })?;
-        self.id("module", action.module)?;
-        self.json.member("field", action.name)?;
-        if let ActionKind::Invoke = action.kind {
-            self.json.key("args")?;
-            write_arguments(&mut self.json, script, action.arguments)?;
-        }
-        self.json.raw("}")
-    }
-
-    /// Appends the types of the results of an action.
-    fn types(&mut self, action: &Action<'a>) -> Result<(), AllocError> {
-        self.json.key("expected")?;
-        let types = self.instances.types_of(action.module, action.name);
-        self.json.raw(types)
-    }
-
-    /// Appends a command that has an action, with its message, if it has one.
-    fn action_command(
-        &mut self,
-        ty: &str,
-        script: &Script<'a>,
-        action: &Action<'a>,
-        message: Option<&str>,
-    ) -> Result<(), AllocError> {
-        self.begin(ty)?;
-        self.action(script, action)?;
-        if let Some(message) = message {
-            self.json.member("text", message)?;
-        }
-        self.types(action)
-    }
-
-    /// Appends `assert_return` of an action.
-    fn returns(
-        &mut self,
-        script: &Script<'a>,
-        action: &Action<'a>,
-        results: Part,
-    ) -> Result<(), AllocError> {
-        self.begin("assert_return")?;
-        self.action(script, action)?;
-        write_results(&mut self.json, script, results)
-    }
-
-    /// Appends a thread up to its first command.
-    fn thread(
-        &mut self,
-        text: &str,
-        span: Span,
-        id: Id<'a>,
-        shared: Option<Id<'a>>,
-    ) -> Result<(), AllocError> {
-        self.begin("thread")?;
-        self.line(text, span)?;
-        self.id("name", Some(id))?;
-        self.id("shared_module", shared)?;
-        self.json.key("commands")?;
-        self.json.raw("[\n")
-    }
-
-    /// Appends `wait`.
-    fn wait(&mut self, text: &str, span: Span, id: Id<'a>) -> Result<(), AllocError> {
-        self.begin("wait")?;
-        self.line(text, span)?;
-        self.id("thread", Some(id))
     }
 
     /// Appends an assertion about what it runs: of a module it has another type.
@@ -366,7 +159,8 @@ impl<'a> Converter<'a> {
     ) -> Result<(), Refusal<'a>> {
         match execution {
             Execution::Action(action) => {
-                self.action_command(types.0, script, action, message)?;
+                self.written
+                    .action_command(types.0, script, action, message)?;
                 Ok(())
             }
             Execution::Module(module) => {
@@ -385,24 +179,12 @@ impl<'a> Converter<'a> {
     ) -> Result<(), Refusal<'a>> {
         match execution {
             Execution::Action(action) => {
-                self.returns(script, action, results)?;
+                self.written.returns(script, action, results)?;
                 Ok(())
             }
             Execution::Module(module) => {
                 self.started_module("assert_return", script, strings, module, None)
             }
-        }
-    }
-
-    /// Appends a command that runs nothing: `register`, an instance, a thread or `wait`.
-    fn other_command(&mut self, text: &str, command: &Command<'a>) -> Result<(), AllocError> {
-        let span = command.span;
-        match command.kind {
-            CommandKind::Instance(id, of) => self.instance(text, span, id, of),
-            CommandKind::Register(name, module) => self.register(text, span, name, module),
-            CommandKind::Thread(id, shared) => self.thread(text, span, id, shared),
-            CommandKind::Wait(id) => self.wait(text, span, id),
-            _ => self.json.raw("\n  ]"),
         }
     }
 
@@ -430,7 +212,7 @@ impl<'a> Converter<'a> {
                 self.started_module("assert_unlinkable", script, strings, &module, Some(message))
             }
             _ => {
-                self.other_command(script.text, command)?;
+                self.written.other_command(script.text, command)?;
                 Ok(())
             }
         }
@@ -447,7 +229,8 @@ impl<'a> Converter<'a> {
             CommandKind::Module(module) => self.module(script, strings, &module, false),
             CommandKind::Definition(module) => self.module(script, strings, &module, true),
             CommandKind::Action(action) => {
-                self.action_command("action", script, &action, None)?;
+                self.written
+                    .action_command("action", script, &action, None)?;
                 Ok(())
             }
             CommandKind::AssertReturn(execution, results) => {
@@ -458,7 +241,8 @@ impl<'a> Converter<'a> {
                 self.execution_command(types, script, strings, &execution, Some(message))
             }
             CommandKind::AssertExhaustion(action, message) => {
-                self.action_command("assert_exhaustion", script, &action, Some(message))?;
+                self.written
+                    .action_command("assert_exhaustion", script, &action, Some(message))?;
                 Ok(())
             }
             CommandKind::AssertException(execution) => {
@@ -478,28 +262,13 @@ impl<'a> Converter<'a> {
         let mut separator = "";
         for command in script.commands.iter() {
             if !matches!(command.kind, CommandKind::ThreadEnd) {
-                self.json.raw(separator)?;
+                self.written.raw(separator)?;
             }
             self.command(script, strings, command)?;
             let is_thread = matches!(command.kind, CommandKind::Thread(_, _));
-            self.json.raw(if is_thread { "" } else { "}" })?;
+            self.written.raw(if is_thread { "" } else { "}" })?;
             separator = if is_thread { "" } else { ",\n" };
         }
-        Ok(())
-    }
-
-    /// Appends the whole script, from a file of this name.
-    fn script(
-        &mut self,
-        script: &Script<'a>,
-        strings: &'a Strings,
-        source: &str,
-    ) -> Result<(), Refusal<'a>> {
-        self.json.raw("{\"source_filename\": ")?;
-        self.json.string(source)?;
-        self.json.raw(",\n \"commands\": [\n")?;
-        self.commands(script, strings)?;
-        self.json.raw("]}\n")?;
         Ok(())
     }
 }
@@ -514,15 +283,8 @@ pub(crate) fn conversion_of<'a>(
 ) -> Result<Conversion, Refusal<'a>> {
     let mut converter = Converter {
         alloc,
-        json: Json::new(alloc),
-        files: Vec::new(alloc),
-        instances: Instances::new(alloc),
-        lines: Lines::new(),
-        stem: String::from_str(alloc, stem)?,
+        written: ScriptJson::new(alloc, source, stem)?,
     };
-    converter.script(script, strings, source)?;
-    Ok(Conversion {
-        json: converter.json.finish(),
-        files: converter.files,
-    })
+    converter.commands(script, strings)?;
+    Ok(converter.written.finish()?)
 }

@@ -7,23 +7,16 @@
 //! # Modules
 //!
 //! - `options` reads the arguments, and `outputs` names and writes the files.
-//! - `conversions` converts commands. `values` writes arguments and results, `json` strings and members, and `lines` counts lines.
-//! - `instances` knows which modules actions refer to. `interfaces` and `binary` read the exports of a module from its bytes.
+//! - `conversions` encodes modules, and converts commands by `wast_script_json`.
 //! - `refusals` has the errors of a script that is not converted.
 #![tactic(auto)]
 
-mod binary;
 mod conversions;
-mod instances;
-mod interfaces;
-mod json;
-mod lines;
 mod options;
 mod outputs;
 mod refusals;
-mod values;
 
-use conversions::{Conversion, conversion_of};
+use conversions::conversion_of;
 use options::{Options, Request, request_of};
 use outputs::{stem_of_target, target_of, write_outputs};
 use refusals::Refusal;
@@ -31,6 +24,7 @@ use std::alloc::Global;
 use std::process::ExitCode;
 use std::{env, io, str};
 use wast_script::read_script;
+use wast_script_json::Conversion;
 use wat_command::{Failure, read_input, report, report_malformed, shown, text_before, warn};
 use wat_text::Strings;
 

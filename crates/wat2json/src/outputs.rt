@@ -1,9 +1,9 @@
 //! Names and writes the files.
 
-use crate::conversions::Conversion;
 use crate::options::Options;
 use std::alloc::{AllocError, Global};
 use std::io;
+use wast_script_json::Conversion;
 use wat_command::{Escaped, Failure, file_key, is_kept, split_path, write_file};
 
 /// Returns a name without its extension, if there is a name before that.

@@ -1,0 +1,22 @@
+//! Writes the commands of a script of tests as JSON, as `wast2json` of wabt does.
+//!
+//! The program `wat2json` uses this crate. Encoding no module, it is proved beside the crates that do.
+//!
+//! For example, `(assert_return (invoke "f") (i32.const 7))` on line 2 becomes `{"type": "assert_return", "line": 2, "action": {"type":
+//! "invoke", "field": "f", "args": []}, "expected": [{"type": "i32", "value": "7"}]}`.
+//!
+//! # Modules
+//!
+//! - `commands` has [`ScriptJson`]. `values` writes arguments and results, `json` strings and members, and `lines` counts lines.
+//! - `instances` knows which modules actions refer to. `interfaces` and `binary` read the exports of a module from its bytes.
+#![tactic(auto)]
+
+mod binary;
+mod commands;
+mod instances;
+mod interfaces;
+mod json;
+mod lines;
+mod values;
+
+pub use commands::{Contents, Conversion, ModuleFile, ScriptJson};
