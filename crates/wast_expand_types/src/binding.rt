@@ -380,49 +380,48 @@ impl<'a> Bind<'a> for Instruction<'a> {
             | Instruction::local_tee(_)
             | Instruction::global_get(_)
             | Instruction::global_set(_)
-            | Instruction::table_get(_)
-            | Instruction::table_set(_)
-            | Instruction::memory_size(_)
-            | Instruction::memory_grow(_)
             | Instruction::ref_func(_)
             | Instruction::br_on_null(_)
             | Instruction::br_on_non_null(_)
             | Instruction::struct_new(_)
             | Instruction::struct_new_default(_)
-            | Instruction::struct_get(_)
-            | Instruction::struct_get_s(_)
-            | Instruction::struct_get_u(_)
-            | Instruction::struct_set(_)
             | Instruction::array_new(_)
             | Instruction::array_new_default(_)
-            | Instruction::array_new_data(_)
-            | Instruction::array_new_elem(_)
             | Instruction::array_get(_)
             | Instruction::array_get_s(_)
             | Instruction::array_get_u(_)
             | Instruction::array_set(_)
-            | Instruction::array_fill(_)
-            | Instruction::array_copy(_)
-            | Instruction::array_init_data(_)
-            | Instruction::array_init_elem(_)
-            | Instruction::memory_init(_)
             | Instruction::data_drop(_)
-            | Instruction::memory_copy(_)
-            | Instruction::memory_fill(_)
-            | Instruction::table_init(_)
             | Instruction::elem_drop(_)
-            | Instruction::table_copy(_)
-            | Instruction::table_grow(_)
-            | Instruction::table_size(_)
-            | Instruction::table_fill(_)
             | Instruction::struct_new_desc(_)
             | Instruction::struct_new_default_desc(_)
             | Instruction::ref_get_desc(_)
             | Instruction::cont_new(_)
-            | Instruction::cont_bind(_)
-            | Instruction::suspend(_)
-            | Instruction::switch(_)
+            | Instruction::suspend(_) => Ok(()),
+            Instruction::table_get(_)
+            | Instruction::table_set(_)
+            | Instruction::table_grow(_)
+            | Instruction::table_size(_)
+            | Instruction::table_fill(_) => Ok(()),
+            Instruction::memory_size(_)
+            | Instruction::memory_grow(_)
+            | Instruction::memory_fill(_)
             | Instruction::memory_discard(_) => Ok(()),
+            Instruction::struct_get(_)
+            | Instruction::struct_get_s(_)
+            | Instruction::struct_get_u(_)
+            | Instruction::struct_set(_) => Ok(()),
+            Instruction::array_new_data(_) => Ok(()),
+            Instruction::array_new_elem(_) => Ok(()),
+            Instruction::array_fill(_) => Ok(()),
+            Instruction::array_copy(_) => Ok(()),
+            Instruction::array_init_data(_) | Instruction::array_init_elem(_) => Ok(()),
+            Instruction::memory_init(_) => Ok(()),
+            Instruction::memory_copy(_) => Ok(()),
+            Instruction::table_init(_) => Ok(()),
+            Instruction::table_copy(_) => Ok(()),
+            Instruction::cont_bind(_) => Ok(()),
+            Instruction::switch(_) => Ok(()),
             // To here.
         }
     }

@@ -40,7 +40,7 @@ pub(crate) fn is_row(n: u32) -> bool {
 }
 
 /// Returns the result of encoding the row.
-fn answer_of<'a>(rt: &impl Abort, alloc: Global, n: u32) -> Result<Vec<u8>, Error<'a>> {
+pub(crate) fn answer_of<'a>(rt: &impl Abort, alloc: Global, n: u32) -> Result<Vec<u8>, Error<'a>> {
     let mut module = row(rt, alloc, n);
     let answer = EncodeOptions::new().encode_module(alloc, &mut module, &mut Gensym::new(1));
     discard_module(module);
@@ -48,12 +48,7 @@ fn answer_of<'a>(rt: &impl Abort, alloc: Global, n: u32) -> Result<Vec<u8>, Erro
 }
 
 /// Checks that the result is that of encoding the row.
-pub(crate) fn is_of_row(
-    rt: &impl Abort,
-    alloc: Global,
-    n: u32,
-    answer: Result<Vec<u8>, Error<'_>>,
-) {
+fn is_of_row(rt: &impl Abort, alloc: Global, n: u32, answer: Result<Vec<u8>, Error<'_>>) {
     let want = answer_of(rt, alloc, n);
     match answer {
         Ok(bytes) => {
@@ -148,27 +143,15 @@ fn bears(rt: &impl Abort, alloc: Global, pass: Pass, n: u32) {
     assert!(rt; false, "row {n} has no memory");
 }
 
-fn each_row_bears(rt: &impl Abort, alloc: Global, pass: Pass) {
-    for n in 1..66 {
-        if is_row(n) {
-            bears(rt, alloc, pass, n);
+#[test]
+fn passes_survive_failed_allocations(rt: HostRuntime) {
+    for pass in [Pass::Deinline, Pass::Expand, Pass::Names] {
+        for n in 1..66 {
+            if is_row(n) {
+                bears(&rt, rt.alloc(), pass, n);
+            }
         }
     }
-}
-
-#[test]
-fn desugaring_survives_failed_allocations(rt: HostRuntime) {
-    each_row_bears(&rt, rt.alloc(), Pass::Deinline);
-}
-
-#[test]
-fn type_use_resolution_survives_failed_allocations(rt: HostRuntime) {
-    each_row_bears(&rt, rt.alloc(), Pass::Expand);
-}
-
-#[test]
-fn index_resolution_survives_failed_allocations(rt: HostRuntime) {
-    each_row_bears(&rt, rt.alloc(), Pass::Names);
 }
 
 /// Returns the error of resolving the module, if there is one.
