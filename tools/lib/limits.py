@@ -13,6 +13,7 @@ TOLD = r"""
 (module (func i32.store16 offset=2 align=2 i64.store8 offset=2 align=2 i64.store32 offset=18446744073709551615 align=1))	body 3b0102 3c0102 3e00ffffffffffffffffff01
 (module (func call_indirect 7 return_call_indirect 7 br_on_cast 7 funcref funcref br_on_cast_fail 7 funcref funcref))	body 110007 130007 fb1803077070 fb1903077070
 (module (func block loop if end end end try end try_table (catch_all 0) end))	body 0240 0340 0440 0b0b0b 06400b 1f40010200 0b
+(module (func block $l loop $l if $l end end end try $l end try_table $l (catch_all 0) end))	0061736d01000000010401600000030201000a160114000240034004400b0b0b06400b1f400102000b0b0019046e616d65031201000500016c01016c02016c03016c04016c
 (module (func f32.const -0 f32.const 1_0.5 f32.const 3.4028234663852886e38 f32.const 0x1.000001p0 f32.const 0x1.000003p0))	body 4300000080 4300002841 43ffff7f7f 430000803f 430200803f
 (module (func f32.const 0x1p-150 f32.const 0x1.8p-150 f32.const -nan:0x1 f64.const 0.1))	body 4300000000 4301000000 43010080ff 449a9999999999b93f
 (module (func i32.const 0xffff_ffff i32.const -2147483648))	body 417f 418080808078

@@ -15,8 +15,7 @@ use wat_bytes::Refused;
 ///
 /// # Example
 ///
-///     let status = rigyomad_c_fault(rt.alloc(), FAULTY, &mut message, &mut diagnosis);
-///     assert!(rt; status == 2 && diagnosis.number == 4 && diagnosis.offset == 16);
+/// `(module (start $f))` has E4 at the offset 15: line 1, column 16.
 #[repr(C)]
 #[derive(Clone, Copy, Debug)]
 pub struct Diagnosis {

@@ -8,8 +8,8 @@
 //!
 //! # Example
 //!
-//!     let status = rigyomad_c_encode(rt.alloc(), b"(module (func))", &mut out, &mut size);
-//!     assert!(rt; status == 0 && size == 24 && out[1] == b'a' && out[24] == 7);
+//! `bindings/c/facts.c` has the calls with what they return. For example, the bytes of
+//! `(module (func))` are 24.
 //!
 //! # Modules
 //!
@@ -65,8 +65,8 @@ pub extern "C" fn rigyomad_c_version() -> u32
 ///
 /// # Example
 ///
-///     let status = rigyomad_c_encode(rt.alloc(), b"(module (func))", &mut out, &mut size);
-///     assert!(rt; status == 0 && size == 24 && out[1] == b'a' && out[24] == 7);
+/// For `(module (func))` and a slice of 25 bytes the status is 0 and `size` is 24. With a slice of
+/// 23 bytes the status is 1.
 #[unsafe(no_mangle)]
 pub extern "C" fn rigyomad_c_encode(
     alloc: Global,
@@ -87,9 +87,8 @@ pub extern "C" fn rigyomad_c_encode(
 ///
 /// # Example
 ///
-///     let status = rigyomad_c_fault(rt.alloc(), FAULTY, &mut message, &mut diagnosis);
-///     assert!(rt; status == 2 && diagnosis.number == 4 && diagnosis.offset == 16);
-///     assert!(rt; diagnosis.line == 2 && diagnosis.column == 9);
+/// For `(module`, a line feed and ` (start $f))` the status is 2. The error is E4, at the offset
+/// 16: line 2, column 9.
 #[unsafe(no_mangle)]
 pub extern "C" fn rigyomad_c_fault(
     alloc: Global,
@@ -109,7 +108,7 @@ pub extern "C" fn rigyomad_c_fault(
 ///
 /// # Example
 ///
-///     let status = rigyomad_c_resolve(rt.alloc(), NAMED, asked, name, &mut number);
+/// In `(module (func) (func $f))` the name `f` has the index 1 in index space 0, that of functions.
 #[unsafe(no_mangle)]
 pub extern "C" fn rigyomad_c_resolve(
     alloc: Global,

@@ -7,7 +7,7 @@
 //! # Modules
 //!
 //! - `base`: ids, errors, the id counter, lists and boxes. `namespaces` and `labels`: many names.
-//!   `ranges`: ranges of fields.
+//!   `ranges`: ranges of fields. `generated`: many generated ids.
 //! - `ops`, `instrs`, `edges`: numbers, types and instructions as bytes. `kept`: a user-defined sink.
 //! - `sections`: each section of a module. `writing`: a module without a syntax tree, whose contract
 //!   states what its bytes are read as.
@@ -27,6 +27,8 @@ mod edges;
 mod expand;
 #[cfg(test)]
 mod filled;
+#[cfg(test)]
+mod generated;
 #[cfg(test)]
 mod instrs;
 #[cfg(test)]

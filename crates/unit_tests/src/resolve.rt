@@ -123,14 +123,6 @@ fn check_matches_reports_mismatch_and_unknown_type(rt: HostRuntime) {
             "type {number}"
         );
     }
-    discard_function_type(function);
-}
-
-#[test]
-fn type_without_indices_resolves_unchanged(rt: HostRuntime) {
-    let alloc = rt.alloc();
-    let cx = resolver(&rt, alloc);
-    let mut function = FunctionType::empty(alloc);
     assert!(rt; names::TypeReference::resolve(&mut function, &cx) == Ok(()));
     assert!(rt; function.params.is_empty() && function.results.is_empty());
     discard_function_type(function);

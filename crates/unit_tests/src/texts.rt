@@ -70,16 +70,6 @@ fn each_index_space_lists_its_ids(rt: HostRuntime) {
 }
 
 #[test]
-fn generated_ids_are_not_listed(rt: HostRuntime) {
-    let strings = Strings::new(rt.alloc());
-    let text = r#"(module (func (export "a")) (table funcref (elem 0)) (memory (data "")))"#;
-    let names = names_of_text(rt.alloc(), text, &strings).expect(&rt, "names");
-    assert!(rt; names.is_empty());
-    let found = number_in_text(rt.alloc(), text, &strings, Space::Func, "gensym");
-    assert!(rt; found.expect(&rt, "a number").is_none());
-}
-
-#[test]
 fn parsed_module_encodes_as_its_text(rt: HostRuntime) {
     let strings = Strings::new(rt.alloc());
     let text = "(module (func) (func $f))";
@@ -167,14 +157,4 @@ fn unsupported_construct_is_printed_with_token(rt: HostRuntime) {
     let refused = refused.expect(&rt, "it is covered");
     let printed = format!(in rt.alloc(); "{refused}").expect(&rt, "memory");
     assert!(rt; printed.as_str() == "uncovered form: instruction beyond the table: `i64.add128`");
-}
-
-#[test]
-fn name_has_index_in_its_index_space(rt: HostRuntime) {
-    let strings = Strings::new(rt.alloc());
-    let text = "(module (func) (func $f))";
-    let found = number_in_text(rt.alloc(), text, &strings, Space::Func, "f").expect(&rt, "names");
-    assert!(rt; found == Some(1));
-    let found = number_in_text(rt.alloc(), text, &strings, Space::Table, "f").expect(&rt, "names");
-    assert!(rt; found.is_none());
 }

@@ -1,0 +1,147 @@
+/* Calls each function on texts whose answers are known: facts. It ends with status 0 if each call
+ * returns them; else it prints what failed. */
+#include "rigyomad.h"
+
+#include <stdio.h>
+#include <stdlib.h>
+#include <string.h>
+
+/* A text, and its size without the zero after it. */
+#define TEXT(text) text, sizeof text - 1
+
+/* A text with a fault in its second line. */
+#define FAULTY TEXT("(module\n (start $f))")
+
+/* Two items in each index space, of which the second has an id. */
+static const char NAMED[] =
+    "(module (type (func)) (type $t (func)) (func) (func $f) (table 1 funcref)\n"
+    "    (table $x 1 funcref) (memory 1) (memory $m 1) (global i32 (i32.const 0))\n"
+    "    (global $g i32 (i32.const 0)) (tag) (tag $e) (elem func) (elem $s func) (data \"\")\n"
+    "    (data $d \"\"))";
+
+/* The names of these, by the number of their index space. */
+static const char NAMES[] = "fxmgesdt";
+
+static void expect(int is_so, const char *what) {
+    if (!is_so) {
+        fprintf(stderr, "check failed: %s\n", what);
+        exit(1);
+    }
+}
+
+/* Bytes are copied if they fit. */
+static void bytes(void) {
+    uint8_t out[25];
+    size_t size = 0;
+    memset(out, 7, sizeof out);
+    uint32_t status = rigyomad_encode(TEXT("(module (func))"), out, 25, &size);
+    expect(status == RIGYOMAD_DONE && size == 24, "a module has 24 bytes");
+    expect(out[1] == 'a' && out[24] == 7, "only its bytes are written");
+    status = rigyomad_encode(TEXT("(module (func))"), out, 23, &size);
+    expect(status == RIGYOMAD_SHORT && size == 24, "23 bytes are too short");
+    status = rigyomad_encode(FAULTY, out, 25, &size);
+    expect(status == RIGYOMAD_FAULT && size == 0, "a fault has no bytes");
+    status = rigyomad_encode(TEXT("(module) ;; \xff"), out, 25, &size);
+    expect(status == RIGYOMAD_UTF8, "a comment is UTF-8");
+}
+
+/* A fault has its number, its place, and as much of its message as fits. */
+static void faults(void) {
+    struct rigyomad_diagnosis at;
+    char message[64], cut[8] = ".......";
+    memset(message, '.', sizeof message);
+    uint32_t status = rigyomad_fault(FAULTY, message, 64, &at);
+    expect(status == RIGYOMAD_FAULT && at.number == RIGYOMAD_E4_UNKNOWN, "the fault is E4");
+    expect(at.offset == 16 && at.line == 2 && at.column == 9, "it is in the second line");
+    const char *told = "unknown func: failed to find name `$f`.";
+    expect(at.size == 38 && !memcmp(message, told, 39), "the message is whole, and no more");
+    status = rigyomad_fault(TEXT("(module (fun))"), cut, 7, &at);
+    expect(status == RIGYOMAD_FAULT && at.number == 0 && at.column == 10, "it is no module");
+    expect(at.size == 27 && !strcmp(cut, "expecte"), "a message is cut");
+    status = rigyomad_fault(TEXT("(module (type (func)) (type (cont 0)))"), message, 64, &at);
+    expect(status == RIGYOMAD_FAULT && at.number == RIGYOMAD_E11_UNCOVERED, "the fault is E11");
+    status = rigyomad_fault(TEXT("(module)\xff"), message, 64, &at);
+    expect(status == RIGYOMAD_UTF8 && at.offset == 8 && at.line == 0, "a byte has an offset");
+    expect(!memcmp(message, TEXT("malformed UTF-8 encoding")), "it has a message");
+    status = rigyomad_fault(TEXT("(module)"), message, 64, &at);
+    expect(status == RIGYOMAD_DONE && at.number == 0, "a module has no fault");
+    expect(at.line == 0 && at.size == 0, "it has no place and no message");
+}
+
+/* A name is looked up in its index space. */
+static void indices(void) {
+    uint32_t number, status;
+    for (int space = 0; space < 8; space++) {
+        for (int asked = 0; asked < 9; asked++) {
+            number = 9;
+            enum rigyomad_space in = (enum rigyomad_space)asked;
+            status = rigyomad_resolve(NAMED, strlen(NAMED), in, &NAMES[space], 1, &number);
+            int is_there = status == RIGYOMAD_DONE && number == 1;
+            int is_unknown = status == RIGYOMAD_UNKNOWN && number == 9;
+            expect(asked == space ? is_there : is_unknown, "a name is in its index space alone");
+        }
+    }
+    number = 9;
+    status = rigyomad_resolve(NAMED, strlen(NAMED), RIGYOMAD_SPACE_FUNC, "\xff", 1, &number);
+    expect(status == RIGYOMAD_UTF8 && number == 9, "a name is UTF-8");
+    status = rigyomad_resolve(FAULTY, RIGYOMAD_SPACE_FUNC, "f", 1, &number);
+    expect(status == RIGYOMAD_FAULT && number == 9, "a fault has no names");
+    expect(rigyomad_version() == 1, "the version of the declarations is 1");
+}
+
+/* All names are listed, if there is room for them. */
+static void lists(void) {
+    static const size_t small[][2] = {{7, 8}, {8, 7}, {0, 0}};
+    struct rigyomad_name names[9];
+    struct rigyomad_names_room room;
+    char text[10] = ".........";
+    names[0].space = names[8].space = 9;
+    for (int i = 0; i < 3; i++) {
+        uint32_t status = rigyomad_names(NAMED, strlen(NAMED), names, small[i][0], text,
+                                         small[i][1], &room);
+        expect(status == RIGYOMAD_SHORT && room.names == 8 && room.bytes == 8, "8 are needed");
+        expect(names[0].space == 9 && text[0] == '.', "without room nothing is written");
+    }
+    uint32_t status = rigyomad_names(NAMED, strlen(NAMED), names, 9, text, 9, &room);
+    expect(status == RIGYOMAD_DONE && room.names == 8 && room.bytes == 8, "there are 8 names");
+    expect(!strcmp(text, "fxmgesdt.") && names[8].space == 9, "only they are written");
+    for (uint32_t i = 0; i < 8; i++) {
+        expect(names[i].space == i && names[i].number == 1, "they are in order");
+        expect(names[i].start == i && names[i].size == 1, "each has its bytes");
+        expect(NAMED[names[i].offset] == '$', "each is at its id");
+    }
+}
+
+/* Ids that desugaring generates are not listed, and names are without their escapes. */
+static void generated(void) {
+    static const char text[] = "(module (func (export \"a\")) (func $\"a\\20b\" (export \"b\")) "
+                               "(table funcref (elem)))";
+    struct rigyomad_name names[2];
+    struct rigyomad_names_room room;
+    char bytes[5] = "....";
+    uint32_t status = rigyomad_names(text, strlen(text), names, 2, bytes, 4, &room);
+    expect(status == RIGYOMAD_DONE && room.names == 1 && room.bytes == 3, "there is one name");
+    expect(!strcmp(bytes, "a b."), "it is without escapes");
+    expect(names[0].number == 1 && names[0].offset == 34, "it is of the second function");
+    uint32_t number = 9;
+    status = rigyomad_resolve(text, strlen(text), RIGYOMAD_SPACE_FUNC, "gensym", 6, &number);
+    expect(status == RIGYOMAD_UNKNOWN && number == 9, "a generated id has no name");
+    status = rigyomad_names(TEXT("(module (func (export \"a\")) (table funcref (elem 0)) "
+                                 "(memory (data \"\")))"),
+                            names, 2, bytes, 4, &room);
+    expect(status == RIGYOMAD_DONE && room.names == 0 && room.bytes == 0, "there is no name");
+    status = rigyomad_names(FAULTY, names, 2, bytes, 4, &room);
+    expect(status == RIGYOMAD_FAULT && room.names == 0 && room.bytes == 0, "a fault has no names");
+    status = rigyomad_names(TEXT("\xff"), names, 2, bytes, 4, &room);
+    expect(status == RIGYOMAD_UTF8 && room.names == 0, "a byte has no names");
+    expect(!strcmp(bytes, "a b."), "nothing is written");
+}
+
+int main(void) {
+    bytes();
+    faults();
+    indices();
+    lists();
+    generated();
+    return 0;
+}
