@@ -9,11 +9,13 @@ no other line. For example, this one counts labels from the outermost block inst
     new: Some(place as u32)
 """
 
-import pathlib
 import re
+import shutil
 import subprocess
 
-ROOT = pathlib.Path(__file__).resolve().parent.parent.parent
+import entry
+
+ROOT = entry.ROOT
 
 LINE = re.compile(r"(file|old|new): ?(.*)")
 
@@ -68,11 +70,7 @@ def applied(edit):
 
 def copy_of_tree(folder):
     """Copies what git would commit to a folder, as it is in the working tree, and makes a repository of it."""
-    words = ["git", "ls-files", "-z", "--cached", "--others", "--exclude-standard"]
-    listed = subprocess.run(words, cwd=ROOT, stdout=subprocess.PIPE, check=True).stdout
-    for name in sorted(set(listed.decode().split("\0")) - {""}):
-        if (ROOT / name).is_file():
-            (folder / name).parent.mkdir(parents=True, exist_ok=True)
-            (folder / name).write_bytes((ROOT / name).read_bytes())
-            (folder / name).chmod((ROOT / name).stat().st_mode)
+    for name in entry.files_of_clone():
+        (folder / name).parent.mkdir(parents=True, exist_ok=True)
+        shutil.copy(ROOT / name, folder / name)
     subprocess.run(["git", "init", "--quiet"], cwd=folder, check=True)

@@ -9,7 +9,9 @@ import pathlib
 import re
 import subprocess
 
-ROOT = pathlib.Path(__file__).resolve().parent.parent.parent
+import entry
+
+ROOT = entry.ROOT
 
 # The tools of wabt whose tests are a script.
 OF_SCRIPTS = {"wast2json", "run-interp-spec", "run-objdump-spec", "run-gen-spec-js", "run-spec-wasm2c"}
@@ -62,8 +64,13 @@ def is_script(path):
 
 
 def files(folders):
-    """The files of folders that may be texts, in order."""
+    """The files of folders that may be texts, in order; there has to be one."""
+    for folder in folders:
+        if not folder.is_dir():
+            raise entry.Failed(f"{folder} is not found")
     found = {path for folder in folders for path in pathlib.Path(folder).rglob("*") if path.suffix in (".wat", ".wast", ".txt") and path.is_file()}
+    if not found:
+        raise entry.Failed(f"no text is in {' '.join(map(str, folders))}")
     return sorted(found)
 
 

@@ -13,9 +13,11 @@ import subprocess
 import sys
 import tempfile
 
+import entry
 import symbols
+from entry import kit
 
-ROOT = pathlib.Path(__file__).resolve().parent.parent.parent
+ROOT = entry.ROOT
 
 # What `rt try` is made of, which looks for the kit beside itself: copied, so that it finds the folder of links.
 SCRIPTS = ("rt", "rtlib.py")
@@ -61,25 +63,15 @@ mod calls {
 SECONDS = 1_200
 
 
-class NotBuilt(Exception):
+class NotBuilt(entry.Failed):
     """Why a program was not built."""
-
-
-def kit():
-    """The kit that `rt` belongs to."""
-    rt = shutil.which("rt")
-    if rt is None:
-        raise NotBuilt("rt is not found")
-    return pathlib.Path(rt).resolve().parent.parent
 
 
 def copy_of_sources(folder):
     """Copies the files of the working tree that git knows, or would add, to a folder."""
-    listed = subprocess.run(["git", "ls-files", "-z", "--cached", "--others", "--exclude-standard"], cwd=ROOT, check=True, capture_output=True)
-    for name in filter(None, listed.stdout.decode().split("\0")):
-        if (ROOT / name).is_file():
-            (folder / name).parent.mkdir(parents=True, exist_ok=True)
-            shutil.copy2(ROOT / name, folder / name)
+    for name in entry.files_of_clone():
+        (folder / name).parent.mkdir(parents=True, exist_ok=True)
+        shutil.copy2(ROOT / name, folder / name)
 
 
 def script(path, text):

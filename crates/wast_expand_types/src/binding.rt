@@ -365,63 +365,64 @@ impl<'a> Bind<'a> for Instruction<'a> {
             Instruction::resume_throw_ref(_) => Ok(()),
             Instruction::Beyond(_) => Ok(()),
             // Written by tools/ops from here.
-            Instruction::catch(_)
-            | Instruction::throw(_)
-            | Instruction::rethrow(_)
-            | Instruction::br(_)
-            | Instruction::br_if(_)
-            | Instruction::call(_)
-            | Instruction::return_call(_)
-            | Instruction::call_ref(_)
-            | Instruction::return_call_ref(_)
-            | Instruction::delegate(_)
-            | Instruction::local_get(_)
-            | Instruction::local_set(_)
-            | Instruction::local_tee(_)
-            | Instruction::global_get(_)
-            | Instruction::global_set(_)
-            | Instruction::ref_func(_)
-            | Instruction::br_on_null(_)
-            | Instruction::br_on_non_null(_)
-            | Instruction::struct_new(_)
-            | Instruction::struct_new_default(_)
-            | Instruction::array_new(_)
-            | Instruction::array_new_default(_)
-            | Instruction::array_get(_)
-            | Instruction::array_get_s(_)
-            | Instruction::array_get_u(_)
-            | Instruction::array_set(_)
-            | Instruction::data_drop(_)
-            | Instruction::elem_drop(_)
-            | Instruction::struct_new_desc(_)
-            | Instruction::struct_new_default_desc(_)
-            | Instruction::ref_get_desc(_)
-            | Instruction::cont_new(_)
-            | Instruction::suspend(_) => Ok(()),
-            Instruction::table_get(_)
-            | Instruction::table_set(_)
-            | Instruction::table_grow(_)
-            | Instruction::table_size(_)
-            | Instruction::table_fill(_) => Ok(()),
-            Instruction::memory_size(_)
-            | Instruction::memory_grow(_)
-            | Instruction::memory_fill(_)
-            | Instruction::memory_discard(_) => Ok(()),
-            Instruction::struct_get(_)
-            | Instruction::struct_get_s(_)
-            | Instruction::struct_get_u(_)
-            | Instruction::struct_set(_) => Ok(()),
+            Instruction::catch(_) => Ok(()),
+            Instruction::throw(_) => Ok(()),
+            Instruction::rethrow(_) => Ok(()),
+            Instruction::br(_) => Ok(()),
+            Instruction::br_if(_) => Ok(()),
+            Instruction::call(_) => Ok(()),
+            Instruction::return_call(_) => Ok(()),
+            Instruction::call_ref(_) => Ok(()),
+            Instruction::return_call_ref(_) => Ok(()),
+            Instruction::delegate(_) => Ok(()),
+            Instruction::local_get(_) => Ok(()),
+            Instruction::local_set(_) => Ok(()),
+            Instruction::local_tee(_) => Ok(()),
+            Instruction::global_get(_) => Ok(()),
+            Instruction::global_set(_) => Ok(()),
+            Instruction::table_get(_) => Ok(()),
+            Instruction::table_set(_) => Ok(()),
+            Instruction::memory_size(_) => Ok(()),
+            Instruction::memory_grow(_) => Ok(()),
+            Instruction::ref_func(_) => Ok(()),
+            Instruction::br_on_null(_) => Ok(()),
+            Instruction::br_on_non_null(_) => Ok(()),
+            Instruction::struct_new(_) => Ok(()),
+            Instruction::struct_new_default(_) => Ok(()),
+            Instruction::struct_get(_) => Ok(()),
+            Instruction::struct_get_s(_) => Ok(()),
+            Instruction::struct_get_u(_) => Ok(()),
+            Instruction::struct_set(_) => Ok(()),
+            Instruction::array_new(_) => Ok(()),
+            Instruction::array_new_default(_) => Ok(()),
             Instruction::array_new_data(_) => Ok(()),
             Instruction::array_new_elem(_) => Ok(()),
+            Instruction::array_get(_) => Ok(()),
+            Instruction::array_get_s(_) => Ok(()),
+            Instruction::array_get_u(_) => Ok(()),
+            Instruction::array_set(_) => Ok(()),
             Instruction::array_fill(_) => Ok(()),
             Instruction::array_copy(_) => Ok(()),
-            Instruction::array_init_data(_) | Instruction::array_init_elem(_) => Ok(()),
+            Instruction::array_init_data(_) => Ok(()),
+            Instruction::array_init_elem(_) => Ok(()),
             Instruction::memory_init(_) => Ok(()),
+            Instruction::data_drop(_) => Ok(()),
             Instruction::memory_copy(_) => Ok(()),
+            Instruction::memory_fill(_) => Ok(()),
             Instruction::table_init(_) => Ok(()),
+            Instruction::elem_drop(_) => Ok(()),
             Instruction::table_copy(_) => Ok(()),
+            Instruction::table_grow(_) => Ok(()),
+            Instruction::table_size(_) => Ok(()),
+            Instruction::table_fill(_) => Ok(()),
+            Instruction::struct_new_desc(_) => Ok(()),
+            Instruction::struct_new_default_desc(_) => Ok(()),
+            Instruction::ref_get_desc(_) => Ok(()),
+            Instruction::cont_new(_) => Ok(()),
             Instruction::cont_bind(_) => Ok(()),
+            Instruction::suspend(_) => Ok(()),
             Instruction::switch(_) => Ok(()),
+            Instruction::memory_discard(_) => Ok(()),
             // To here.
         }
     }
