@@ -95,13 +95,16 @@ fn type_name(byte: u8) -> &'static str {
     }
 }
 
-/// Reads a type of values, and returns its name (binary format, value types).
+/// Reads a type of values, and returns its name (binary format, value types). References to an abstract heap type that may be null
+/// have the name of the short form, as `anyref` for `63 6e`.
 fn value_type(bytes: &mut Bytes<'_>) -> Option<&'static str> {
     let byte = bytes.byte()?;
-    if byte == 0x63 || byte == 0x64 {
-        bytes.skip_integer()?;
+    if byte != 0x63 && byte != 0x64 {
+        return Some(type_name(byte));
     }
-    Some(type_name(byte))
+    let heap = *bytes.0.first()?;
+    bytes.skip_integer()?;
+    Some(type_name(if byte == 0x63 { heap } else { byte }))
 }
 
 /// Skips the type of a field of a struct or an array.
