@@ -38,13 +38,11 @@ def rows_of_table():
 def figures():
     """Patterns of the docs, with the numbers that their groups must say, and the name of what is counted."""
     faces, rows = len(sources.FACES), rows_of_table()
-    in_ci = {path.parent.parent.name for path in ROOT.glob("crates/*/must-fail/*.edit")}
     return [
         (rf"{NUMBER} rows\b(?= is written once|; instructions)", [rows], "rows of the opcode table"),
         (rf"\btable(?: of instructions)?(?:,\s+which)?\s+has\s+{NUMBER}\s+rows\b", [rows], "rows of the opcode table"),
         (rf"\bcallers meet (?:these )?{NUMBER}\b", [faces], "crates that callers meet"),
         (rf"\b(?:beside|of) the {SEVERAL}\b|\bthe {SEVERAL} crates\b", [faces], "crates that callers meet"),
-        (rf"{NUMBER} crates have (?:wrong bodies|mutants) in", [len(in_ci)], "crates with mutants in CI"),
     ]
 
 

@@ -42,9 +42,9 @@ def replaced(text, right, old, new):
     return text.replace(old, new)
 
 
-def applied(edit):
-    """The texts of the files that an edit changes, by their paths within the crate."""
-    texts, file, old = {}, None, None
+def applied(edit, over=None):
+    """The texts of the files that an edit changes, by their paths within the crate; `over` has those that other edits changed."""
+    texts, file, old = dict(over or {}), None, None
     for line in edit.read_text(encoding="utf-8").rstrip("\n").split("\n"):
         match = LINE.fullmatch(line)
         if match is None:
