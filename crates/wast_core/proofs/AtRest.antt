@@ -19,7 +19,7 @@ use Rattle.wast_resolve_rules.specs.Explicit.{explicit_fields_from, generated_id
 use Rattle.wast_resolve_rules.specs.Finished.{resolved_fields_from}
 use Rattle.wast_resolve_rules.specs.Resolved.{numbered_by, numbered_at}
 use Rattle.wast_resolve_rules.specs.Scopes.{denoted}
-use Rattle.wast_resolve_passes.specs.Resolvers.{KnownNames, known_to}
+use Rattle.wast_resolve_names.specs.Resolvers.{KnownNames, known_to}
 use Rattle.wast_resolve_laws.specs.Laws.{ItemsStay}
 use Rattle.wast_resolve_laws.specs.Rests.{start_fields_of, numbers, with_start_fields, final_names, RestsMet, RestsStill, RestsByPosition, FillsNoMore, StartsStayBelow, StartsAreMet, StartsComeBefore}
 use Rattle.wasm_out.specs.Parts.{Part}

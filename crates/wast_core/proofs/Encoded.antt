@@ -7,7 +7,7 @@ use Rattle.wast_base.specs.declared.faults.Form.{Form}
 use Rattle.wast_tree_nodes.specs.Generations.{greatest_generation}
 use Rattle.wast_tree_nodes.specs.WellFormed.{is_well_formed}
 use Rattle.wast_resolve_rules.specs.Finished.{resolved_fields_from}
-use Rattle.wast_resolve_passes.specs.Resolvers.{KnownNames}
+use Rattle.wast_resolve_names.specs.Resolvers.{KnownNames}
 use Rattle.wast_resolve_laws.specs.Laws.{FinishedStaysWellFormed, FinishedIsResolved, FinishedIsWrittenOut, SamePositions}
 use Rattle.wasm_out.specs.Reads.{Reads}
 use Rattle.wast_core_conv.specs.Encodable.{is_at_rest}

@@ -7,7 +7,7 @@ use Rattle.wast_base.specs.Ids.{Name, Written, Generated}
 use Rattle.wast_base.specs.Order.{key_of, key_cmp}
 use Rattle.wast_base.proofs.Keys.{keys_total}
 use Rattle.wast_resolve_namespace.specs.Namespaces.{number_in}
-use Rattle.wast_resolve_passes.proofs.Trying.{nothing_known}
+use Rattle.wast_resolve_spaces.proofs.Trying.{nothing_known}
 use Rattle.wast_core.specs.WorkedResolving.{ReadyModules, KnownNames27, ResolvedModules, space_of_one}
 
 pub ready_modules : ReadyModules

@@ -16,7 +16,7 @@ use Rattle.wast_resolve_rules.specs.Demands.{IsTooLarge, IsUnresolved}
 use Rattle.wast_resolve_rules.specs.Finished.{resolved_fields_from}
 use Rattle.wast_resolve_rules.specs.Resolved.{numbered_at}
 use Rattle.wast_resolve_rules.specs.Scopes.{denoted}
-use Rattle.wast_resolve_passes.specs.Resolvers.{KnownNames, known_to}
+use Rattle.wast_resolve_names.specs.Resolvers.{KnownNames, known_to}
 use Rattle.wast_resolve_laws.specs.Rests.{start_fields_of, numbers, with_start_fields, final_names}
 use Rattle.wast_core.specs.Tree.{Index, ModuleField}
 use Rattle.wast_core.specs.Tree.space

@@ -21,7 +21,7 @@ use Rattle.wasm_out.specs.Reads.{Reads}
 use Rattle.wast_resolve_rules.specs.Explicit.{explicit_fields, explicit_fields_from, generated_id_count}
 use Rattle.wast_resolve_rules.specs.Demands.{demands, first_unmet, IsUnresolved}
 use Rattle.wast_resolve_rules.specs.Finished.{resolved_fields_from}
-use Rattle.wast_resolve_passes.specs.Resolvers.{KnownNames, known_to}
+use Rattle.wast_resolve_names.specs.Resolvers.{KnownNames, known_to}
 use Rattle.wast_core.specs.Tree.{ModuleField}
 use Rattle.wast_core.specs.declared.module.Module.{Module}
 use Rattle.wast_core.specs.declared.module.ModuleKind.{ModuleKind}

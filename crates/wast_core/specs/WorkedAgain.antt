@@ -10,7 +10,7 @@ use Rattle.wast_resolve_rules.specs.Explicit.{generated_id_count}
 use Rattle.wast_resolve_rules.specs.Finished.{resolved_fields_from}
 use Rattle.wast_resolve_rules.specs.WorkedBodies.{catching}
 use Rattle.wast_resolve_rules.specs.WorkedFields.{reading}
-use Rattle.wast_resolve_passes.specs.Resolvers.{KnownNames, known_to}
+use Rattle.wast_resolve_names.specs.Resolvers.{KnownNames, known_to}
 use Rattle.wast_core.specs.Bounded.{IsBounded}
 use Rattle.wast_core.specs.Headline.{IsMet, Resolves, EncodesKind}
 use Rattle.wast_core.specs.Meaning.{meaning}

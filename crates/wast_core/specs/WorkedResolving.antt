@@ -9,7 +9,7 @@ use Rattle.wast_resolve_namespace.specs.Namespaces.{NameSpace, empty_from, regis
 use Rattle.wast_tree_nodes.specs.Items.{items}
 use Rattle.wast_tree_nodes.specs.Known.{id_context}
 use Rattle.wast_tree_nodes.specs.WorkedModules.{Address, text, place, by_number, export_field, row27_with, row27, row32}
-use Rattle.wast_resolve_passes.specs.Resolvers.{KnownNames, no_names, known_to}
+use Rattle.wast_resolve_names.specs.Resolvers.{KnownNames, no_names, known_to}
 use Rattle.wast_core.specs.Tree.space
 use Rattle.wast_core.specs.Modules.{is_well_formed, generation_bound, IsReady}
 use Rattle.wast_core.specs.Headline.{ResolvesKind, Resolves}

@@ -1,1 +1,2 @@
 pub mod Borne
+pub mod BothPasses

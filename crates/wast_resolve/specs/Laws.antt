@@ -6,7 +6,7 @@ use Rattle.wast_tree_nodes.specs.Items.{items}
 use Rattle.wast_tree_nodes.specs.Known.{id_context}
 use Rattle.wast_resolve.specs.Tree.{Index, Space, ModuleField}
 use Rattle.wast_resolve_rules.specs.Explicit.{explicit_fields_from}
-use Rattle.wast_resolve_passes.specs.LookUps.{IsSettledFor}
+use Rattle.wast_resolve_names.specs.LookUps.{IsSettledFor}
 
 -- A generated id of an item of the fields is known to the names, from any counter.
 abbrev pub SettledStays : Type 0

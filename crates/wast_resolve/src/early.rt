@@ -7,7 +7,7 @@ ghost use Rattle.wast_resolve_rules.specs.Early.{early_demands};
 
 use std::alloc::Global;
 use wast_base::Error;
-use wast_resolve_passes::{check_order, name_spaces};
+use wast_resolve_spaces::{check_order, name_spaces};
 use wast_tree_nodes::ModuleField;
 
 /// Checks the order of imports and duplicate ids of fields, without changing them (text format:

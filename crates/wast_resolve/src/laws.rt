@@ -1,10 +1,10 @@
-//! Theorems for proofs of callers. Those of `wast_resolve_laws` and `wast_resolve_passes` are
+//! Theorems for proofs of callers. Those of `wast_resolve_laws` and `wast_resolve_names` are
 //! re-exported.
 
 ghost use Rattle.wast_resolve.specs.Laws.{SettledStays};
 
 pub use wast_resolve_laws::{early_law, label_law, naming_laws, resolved_laws, resting_laws};
-pub use wast_resolve_passes::core_type_laws;
+pub use wast_resolve_names::core_type_laws;
 
 /// States that an index that qualifies for look-ups before resolving qualifies afterwards (text
 /// format: indices).

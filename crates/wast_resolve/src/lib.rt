@@ -15,7 +15,7 @@
 //!   `wast_resolve_rules`.
 //! - `early`: [`early_fault`], the checks that need no resolving. The rule is `Early` of
 //!   `wast_resolve_rules`.
-//! - [`names`]: the last step of resolving alone. [`laws`]: theorems.
+//! - [`names`]: the last step of resolving alone, which `passes` has. [`laws`]: theorems.
 //! - [`resolve_type`] and the like: the indices in a type, by a user-defined [`ResolveCoreType`].
 //!
 //! # Guarantees
@@ -30,19 +30,22 @@
 
 mod early;
 pub mod laws;
+mod passes;
 mod resolution;
 
 pub use early::early_fault;
 pub use laws::borne_law;
 pub use resolution::{Names, discard_names, resolve};
-pub use wast_resolve_laws::{early_law, label_law, naming_laws, resolved_laws, resting_laws};
-pub use wast_resolve_namespace::{Namespace, resolve_error};
-pub use wast_resolve_passes::{
-    Ns, ResolveCoreType, Resolver, core_type_laws, resolve_heaptype, resolve_reftype,
-    resolve_storagetype, resolve_type, resolve_type_def, resolve_type_func, resolve_valtype,
+pub use wast_resolve_core_types::{
+    ResolveCoreType, resolve_heaptype, resolve_reftype, resolve_storagetype, resolve_type,
+    resolve_type_def, resolve_type_func, resolve_valtype,
 };
+pub use wast_resolve_laws::{early_law, label_law, naming_laws, resolved_laws, resting_laws};
+pub use wast_resolve_names::{Ns, Resolver, core_type_laws};
+pub use wast_resolve_namespace::{Namespace, resolve_error};
 
 /// The last step of resolving, which replaces ids by indices, and the trait for inline types.
 pub mod names {
-    pub use wast_resolve_passes::names::{TypeReference, resolve};
+    pub use crate::passes::resolve;
+    pub use wast_resolve_names::TypeReference;
 }

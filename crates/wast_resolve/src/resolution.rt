@@ -11,15 +11,17 @@ ghost use Rattle.wast_resolve_rules.specs.Explicit.{explicit_fields, explicit_fi
 ghost use Rattle.wast_resolve_rules.specs.Finished.{resolved_fields_from};
 ghost use Rattle.std.specs.FinMap as finmap;
 ghost use Rattle.wast_resolve_namespace.specs.Places.{entries_of};
-ghost use Rattle.wast_resolve_passes.specs.Resolvers.{no_names, known_to, space_in};
-ghost use Rattle.wast_resolve_passes.specs.LookUps.{IsSettledFor, IsMetBy, AnswersFor};
+ghost use Rattle.wast_resolve_names.specs.Resolvers.{no_names, known_to, space_in};
+ghost use Rattle.wast_resolve_names.specs.LookUps.{IsSettledFor, IsMetBy, AnswersFor};
 
+use crate::names;
 use std::alloc::Global;
 use std::marker::Model;
 use wast_base::{Error, Gensym, Id, Index, Seq, Space};
 use wast_expand_inline::deinline;
 use wast_expand_types::types;
-use wast_resolve_passes::{Resolver, in_order, names};
+use wast_resolve_names::Resolver;
+use wast_resolve_spaces::in_order;
 use wast_tree_nodes::ModuleField;
 
 /// The ids of a resolved module with their indices, for indices that a caller keeps outside the
@@ -35,7 +37,7 @@ pub struct Names<'a> {
 }
 
 impl<'a> Model for Names<'a> {
-    ghost use Rattle.wast_resolve_passes.specs.Resolvers.{KnownNames, coded_names};
+    ghost use Rattle.wast_resolve_names.specs.Resolvers.{KnownNames, coded_names};
 
     ghost Value = { KnownNames };
 
@@ -48,7 +50,7 @@ impl<'a> Names<'a> {
     /// Returns names without ids. Does not allocate.
     ///
     /// For example, a look-up of `$f` in them fails with E4.
-    #[tactic(auto, using(wast_resolve_passes::proofs::Trying::nothing_known))]
+    #[tactic(auto, using(wast_resolve_spaces::proofs::Trying::nothing_known))]
     pub fn empty(alloc: Global) -> Self
         ensures names { known_to result ≡ id_context [] }
         ensures value { result ≡ no_names }

@@ -27,8 +27,8 @@ use Rattle.wast_resolve_laws.specs.Tree.custom
 use Rattle.wast_resolve_laws.specs.Tree.dylink
 use Rattle.wast_resolve_laws.specs.Tree.field
 use Rattle.wast_resolve_laws.proofs.OwnLocals.{outer, own, Fixed, fixed_both, fixed_each, fixed_asks, fixed_form, expression_fixed, constant_fixed}
-use Rattle.wast_resolve_rules.proofs.TypeParts.{as_type, both_typed, id_part, list_part}
-use Rattle.wast_resolve_rules.proofs.PartsOfTypes.{ref_part, val_part, type_part}
+use Rattle.wast_resolve_core_types.proofs.TypeParts.{as_type, both_typed, id_part, list_part}
+use Rattle.wast_resolve_core_types.proofs.PartsOfTypes.{ref_part, val_part, type_part}
 
 local_typed : (l : Local) → map as_type (in_local l) ≡ in_local l
 local_typed l = both_typed (in_val l.ty) (if_there in_id l.id) (val_part.typed l.ty) (id_part.typed l.id)

@@ -15,8 +15,8 @@ use Rattle.wast_resolve_laws.specs.Tree.form
 use Rattle.wast_resolve_laws.specs.Tree.handle
 use Rattle.wast_resolve_laws.specs.Tree.target
 use Rattle.wast_resolve_laws.specs.Tree.instr
-use Rattle.wast_resolve_rules.proofs.TypeParts.{as_type, both_typed, index_part, list_part, option_part}
-use Rattle.wast_resolve_rules.proofs.PartsOfTypes.{heap_part, ref_part, val_part, signature_part}
+use Rattle.wast_resolve_core_types.proofs.TypeParts.{as_type, both_typed, index_part, list_part, option_part}
+use Rattle.wast_resolve_core_types.proofs.PartsOfTypes.{heap_part, ref_part, val_part, signature_part}
 
 -- the checks that do not depend on the function
 abbrev pub outer : Check → Check

@@ -1,7 +1,9 @@
 -- The ids of parameters and locals, one after another, and the first duplicate.
-use Rattle.std.proofs.Common.{◌≡◌, ℕ, zero, suc, ◌+◌, ◌<◌, ◌≤◌, Bool, true, false, List, [], ◌∷◌, ◌++◌, map, length, get_or, drop, length-append, length-drop, append_assoc, Option, Some, None, refl, sym, ap, ◌∙◌, subst, arith}
-use Rattle.std.specs.Prelude.{not, cond, codes, slice_index_or}
-use Rattle.std.proofs.Math.Seq.{get_or-append_seam, take-append_seam, drop-cons}
+use Rattle.std.proofs.Common.{◌≡◌, ℕ, zero, suc, ◌+◌, Bool, true, false, List, [], ◌∷◌, ◌++◌, map, length, get_or, length-append, append_assoc, Option, Some, None, refl, sym, ap, ◌∙◌, subst, arith}
+use Rattle.std.specs.Prelude.{not, cond, codes, slice_index_or, ◌||◌, is_some}
+use Rattle.std.specs.List.{list_any}
+use Rattle.std.proofs.lemmas.List.Folds.{list_any-append}
+use Rattle.std.proofs.Math.Seq.{get_or-append_seam, take-append_seam}
 use Rattle.std.proofs.lemmas.List.{map-append, length-map}
 use Rattle.wast_base.specs.Ids.{Name, Mark, mark_of_option}
 use Rattle.wast_base.specs.Faults.{Cause, Duplicate, Diagnostic, At}
@@ -12,11 +14,9 @@ use Rattle.wast_resolve_passes.specs.Tree.func
 use Rattle.wast_resolve_rules.specs.Scopes.{Scope}
 use Rattle.wast_resolve_rules.specs.Demands.{first_unmet, Answers, site_demands, declared_ids}
 use Rattle.wast_resolve_namespace.specs.Filling.{IsClash, IsFirstClash, HasFirstClash}
-use Rattle.wast_resolve_passes.specs.Gathers.{Stops}
 use Rattle.wast_resolve_passes.specs.Locals.{params_in, body_declarations, marks, marks_of, names, said_of, NamesLocals}
 use Rattle.wast_base.specs.declared.faults.Error.{Error}
 use Rattle.std.specs.Prelude.{Result}
-use Rattle.wast_resolve_passes.proofs.Collecting.{stops_more}
 
 -- the first check that fails, from the position of the first duplicate
 abbrev pub by_clash : List (Option Mark) → Option ℕ → Option (Cause × Span)
@@ -90,15 +90,6 @@ module _ (c : Scope) where
   pub first_name : (ms : List (Option Mark)) (p : ℕ) → IsFirstClash (names ms) p → first_unmet (site_demands c (declaration_sites [] ms)) ≡ said_of (slice_index_or ms p None)
   first_name ms p h = let at : p ≡ 0 + p = omega arith in first_after [] ms p (subst (λ q. IsFirstClash (names ms) q) at h)
 
--- the names of a list, at its item at i
-pub stops_at : {T : Type 0} (f : T → Option Name) (t : Diagnostic) (a begun : List (Option Name)) (xs : List T) (i : ℕ) (x : T) (o : Option Name) → i < length xs → x ≡ get_or xs i x → o ≡ f x
-    → a ++ map f (drop i xs) ≡ begun ++ map f xs → Stops t (length a) (length (a ++ o ∷ [])) → Stops t (length begun) (length (begun ++ map f xs))
-stops_at f t a begun xs i x o lt is same whole h =
-    let rest : map f (drop i xs) ≡ f x ∷ map f (drop (suc i) xs) = ap (map f) (drop-cons xs i x lt ∙ ap (λ y. y ∷ drop (suc i) xs) (sym is)) in
-    let long = ap length (ap (λ ns. a ++ ns) (sym rest) ∙ whole) in
-    let early : length begun ≤ length a = omega (arith, ap length whole, length-append a (map f (drop i xs)), length-append begun (map f xs), length-map (drop i xs) f, length-map xs f, length-drop i xs) in
-    stops_more t (length a) (length begun) (length (a ++ o ∷ [])) (length (begun ++ map f xs)) early (omega (arith, long, length-append a (o ∷ []), length-append a (f x ∷ map f (drop (suc i) xs)))) h
-
 -- the names of declarations
 each_name : {X : Type 0} (h : X → Option Mark) (zs : List X) → map (λ x. name_if (h x)) zs ≡ names (map h zs)
 each_name h [] = refl
@@ -107,6 +98,16 @@ each_name h (z ∷ zs) = ap (λ ns. name_if (h z) ∷ ns) (each_name h zs)
 module _ {A B : Type 0} (f : A → Option Mark) (g : B → Option Mark) (xs : List A) (ys : List B) where
   pub names_are : map (λ x. name_if (f x)) xs ++ map (λ y. name_if (g y)) ys ≡ names (marks f g xs ys)
   names_are = ap (λ ns. ns ++ map (λ y. name_if (g y)) ys) (each_name f xs) ∙ (ap (λ ns. names (map f xs) ++ ns) (each_name g ys) ∙ sym (map-append name_if (map f xs) (map g ys)))
+
+-- if no parameter and no local has an id
+pub no_names : {A B : Type 0} (f : A → Option Mark) (g : B → Option Mark) (xs : List A) (ys : List B) → list_any is_some (map (λ x. name_if (f x)) xs) ≡ false → list_any is_some (map (λ y. name_if (g y)) ys) ≡ false
+    → list_any is_some (names (marks f g xs ys)) ≡ false
+no_names f g xs ys h k =
+    ap (list_any is_some) (sym (names_are f g xs ys)) ∙ list_any-append is_some (map (λ x. name_if (f x)) xs) (map (λ y. name_if (g y)) ys) ∙ (λ i. h i || k i)
+
+-- the number of parameters and locals
+pub how_many : {A B : Type 0} (f : A → Option Mark) (g : B → Option Mark) (xs : List A) (ys : List B) → length xs + length ys ≡ length (marks f g xs ys)
+how_many f g xs ys = omega (arith, length-append (map f xs) (map g ys), length-map xs f, length-map ys g)
 
 -- no check fails, or that of the first duplicate
 pub clash_answers : (c : Scope) (ms : List (Option Mark)) (o : Option ℕ) → HasFirstClash (names ms) o → first_unmet (site_demands c (declaration_sites [] ms)) ≡ by_clash ms o

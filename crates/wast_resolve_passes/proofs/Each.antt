@@ -7,7 +7,7 @@ use Rattle.std.proofs.lemmas.List.{append-nil, drop-drop, drop-set-lt, set-get_o
 use Rattle.std.proofs.lemmas.Grind.{flat_map-append}
 use Rattle.wast_base.specs.Faults.{Diagnostic}
 use Rattle.wast_resolve_rules.specs.Demands.{Demand, first_unmet, Answers}
-use Rattle.wast_resolve_passes.proofs.Parts.{both_met, first_fails, second_fails}
+use Rattle.wast_resolve_names.proofs.Parts.{both_met, first_fails, second_fails}
 
 -- the first i items of olds are walked, and nows is the list after that
 pub record IsHalfway {X A : Type 0} (g : A → List Demand) (f : X → List A) (w : X → X) (olds nows : List X) (i : ℕ) : Type 0 where

@@ -21,7 +21,7 @@ use Rattle.wast_resolve_rules.specs.Resolved.{numbered_at, numbered_use}
 use Rattle.wast_resolve_passes.specs.TwoSteps.{in_locals, in_body, with_locals, with_body}
 use Rattle.wast_resolve_rules.proofs.Counted.{many_one, many_left, many_right}
 use Rattle.wast_resolve_rules.proofs.Numbering.{inline_keeps}
-use Rattle.wast_resolve_passes.proofs.Parts.{asking_demands}
+use Rattle.wast_resolve_names.proofs.Parts.{asking_demands}
 
 -- the context of the body of a function
 abbrev pub inside : TypeUse FunctionType → FuncKind → BodyContext

@@ -14,7 +14,7 @@ use Rattle.wast_resolve_rules.specs.Demands.{first_unmet, Answers, site_demand, 
 use Rattle.wast_resolve_passes.specs.Standing.{context_of}
 use Rattle.wast_resolve_rules.proofs.Counted.{many_sites}
 use Rattle.wast_resolve_passes.proofs.Moving.{stands_by}
-use Rattle.wast_resolve_passes.proofs.Parts.{both_met, first_fails, second_fails}
+use Rattle.wast_resolve_names.proofs.Parts.{both_met, first_fails, second_fails}
 
 module _ (f : Change) where
   mapped-append : (h : BodyContext) (xs ys : List Instruction) → mapped_instrs f h (xs ++ ys) ≡ mapped_instrs f h xs ++ mapped_instrs f (after_all h (in_instrs h xs)) ys

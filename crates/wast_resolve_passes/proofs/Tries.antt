@@ -1,46 +1,26 @@
 -- Trials: over indices, labels, memory arguments and blocks.
-use Rattle.std.proofs.Common.{◌≡◌, ℕ, List, [], ◌∷◌, ◌++◌, Bool, true, false, Option, Some, None, is_some, codes, IsTrue, IsFalse, refl, sym, ap, ◌∙◌, subst, append-nil, arith}
+use Rattle.std.proofs.Common.{◌≡◌, List, [], ◌∷◌, ◌++◌, Bool, true, false, Some, None, codes, IsTrue, IsFalse, refl, sym, ap, ◌∙◌, append-nil, arith}
 use Rattle.std.specs.List.{flat_map}
 use Rattle.std.proofs.lemmas.Bool.{eqb-true}
-use Rattle.std.specs.Prelude.{if◌then◌else◌, ◌==◌, length, map}
+use Rattle.std.specs.Prelude.{◌==◌, length, map}
 use Rattle.wast_base.specs.Blocks.{Blocks}
-use Rattle.wast_base.specs.Ids.{Name, mark_of, name_of}
-use Rattle.wast_base.specs.FirstUnmet.{unknown_demand}
 use Rattle.wast_resolve_labels.specs.Asked.{number_among}
 use Rattle.wast_tree_nodes.specs.Sites.{LocalAt, Locals, check_sites, at_label, in_block, in_param, in_select, in_val}
 use Rattle.wast_tree_map.specs.Mapped.{mapped_block, mapped_select, named_param}
 use Rattle.wast_resolve_rules.specs.Demands.{Demand, first_unmet, known_index, site_demands, use_demand}
-use Rattle.wast_resolve_rules.specs.Resolved.{resolved_index, numbered_by, numbering_change}
-use Rattle.wast_resolve_rules.specs.Scopes.{Scope, denoted, local_number}
+use Rattle.wast_resolve_rules.specs.Resolved.{resolved_index, numbering_change}
+use Rattle.wast_resolve_rules.specs.Scopes.{Scope, local_number}
 use Rattle.wast_resolve_passes.specs.Locals.{LocalSpace, local_in, Numbers}
 use Rattle.wast_resolve_passes.specs.Standing.{AreNumbers, HasNoNames, SelectsNumber, OpensBlock}
-use Rattle.wast_resolve_passes.specs.Tree.{Id, Index, ValType, SelectTypes, FunctionType, BlockType}
+use Rattle.wast_resolve_passes.specs.Tree.{Index, ValType, SelectTypes, FunctionType, BlockType}
 use Rattle.wast_resolve_passes.specs.Tree.index
-use Rattle.wast_resolve_passes.specs.Walking.{Tries}
+use Rattle.wast_resolve_names.specs.Walking.{Tries}
 use Rattle.wast_resolve_passes.proofs.Within.{same_known, same_numbered, label_unmet}
 
 -- a trial that fails changes nothing
 pub tries_not : {T : Type 0} (ds : List Demand) (want old new : T) (b : Bool) → Tries ds want old new b → IsFalse b → new ≡ old
 tries_not ds want old new true w h = absurd (cc h)
 tries_not ds want old new false w h = w
-
--- a trial over a part
-pub tries_in : {T U : Type 0} (make : T → U) (ds es : List Demand) (want old new : T) (b : Bool) → first_unmet ds ≡ first_unmet es → Tries ds want old new b → Tries es (make want) (make old) (make new) b
-tries_in make ds es want old new true same w = (sym same ∙ w.0, ap make w.1)
-tries_in make ds es want old new false same w = ap make w
-
--- an index, from the numbers of names
-module _ (f : Name → Option ℕ) (word : List ℕ) where
-  found : (id : Id) (new : Index) (o : Option ℕ) → new ≡ numbered_by o id → Tries (unknown_demand word (mark_of id) (is_some o)) (numbered_by o id) (index.Id id) new (is_some o)
-  found id new None e = e
-  found id new (Some n) e = (refl, e)
-
-  pub tries_index : (old new : Index) (r : Option ℕ) → r ≡ denoted f old → new ≡ resolved_index f old → Tries (known_index f word old) (resolved_index f old) old new (is_some r)
-  tries_index (index.Num n p) new r is e =
-      let none : List Demand = [] in
-      subst (λ (o : Option ℕ). Tries none (index.Num n p) (index.Num n p) new (is_some o)) (sym is) (refl, e)
-  tries_index (index.Id id) new r is e =
-      subst (λ (o : Option ℕ). Tries (unknown_demand word (mark_of id) (is_some (f (name_of id)))) (numbered_by (f (name_of id)) id) (index.Id id) new (is_some o)) (sym is) (found id new (f (name_of id)) e)
 
 -- a local
 pub local_tried : (c : Scope) (l : Locals) (s : LocalSpace) (i new : Index) (b : Bool) → Numbers c l s → Tries (known_index (local_in s) (codes "local") i) (resolved_index (local_in s) i) i new b

@@ -22,10 +22,10 @@ use Rattle.wast_resolve_passes.specs.TwoSteps.{in_handler_tag, in_handler_label,
 use Rattle.wast_resolve_passes.specs.Tree.form
 use Rattle.wast_resolve_rules.specs.Scopes.{Scope}
 use Rattle.wast_resolve_rules.specs.Demands.{first_unmet, Answers, ask_demand, site_demand, site_demands, open_counts_at, open_counts, HasMany}
-use Rattle.wast_resolve_passes.specs.Walking.{Walks}
+use Rattle.wast_resolve_names.specs.Walking.{Walks}
 use Rattle.wast_resolve_passes.specs.TwoSteps.{in_type_of_table, in_init, with_table_type, with_init, in_elem_table, in_elem_offset, with_elem_table, with_elem_offset, in_elements, in_element_type, with_elements, with_element_type, in_data_memory, in_data_offset, with_data_memory, with_data_offset}
 use Rattle.wast_resolve_rules.proofs.Unmet.{first_unmet-append, answers_first, answers_after}
-use Rattle.wast_resolve_passes.proofs.Parts.{all_but_last, all_counts_but_last, walks_as}
+use Rattle.wast_resolve_names.proofs.Parts.{all_but_last, all_counts_but_last, walks_as}
 use Rattle.wast_resolve_rules.proofs.Counted.{many_left, many_right}
 
 -- The sites are those of two parts, with the same enclosing blocks.

@@ -17,7 +17,7 @@ use Rattle.wast_resolve_rules.specs.Scopes.{Scope, local_number}
 use Rattle.wast_resolve_rules.specs.Resolved.{numbered_by, resolved_index}
 use Rattle.wast_resolve_rules.specs.Demands.{first_unmet, known_index, site_demands, repeated_demand}
 use Rattle.wast_resolve_passes.specs.Locals.{LocalSpace, local_in, Numbers}
-use Rattle.wast_resolve_passes.specs.Walking.{Walks}
+use Rattle.wast_resolve_names.specs.Walking.{Walks}
 use Rattle.wast_resolve_rules.proofs.Unmet.{answers_more}
 use Rattle.wast_tree_nodes.specs.Sites.{Locals, LocalAt, Repeated, constant_context}
 

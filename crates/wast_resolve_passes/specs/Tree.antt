@@ -1,8 +1,7 @@
 -- The types of the tree under one roof, as in wast_tree_nodes: each type by its name, the variants of an enum behind a word.
-pub use Rattle.wast_tree_map.specs.Tree.{Span, Id, Index, NameAnnotation, Space, ValType, RefType, StructField, FunctionType, TypeUse, TypeDef, BlockType, BrTableIndices, Instruction, Expression, ItemSig, Elem, ElemKind, ElemPayload, DataKind, TableKind, Global, Local, FuncKind, ModuleField, Handle, SelectTypes}
+pub use Rattle.wast_tree_map.specs.Tree.{Span, Id, Index, NameAnnotation, ValType, RefType, FunctionType, TypeUse, BlockType, BrTableIndices, Instruction, Expression, ItemSig, Elem, ElemKind, ElemPayload, DataKind, TableKind, Global, Local, FuncKind, ModuleField, Handle, SelectTypes}
 pub use Rattle.wast_tree_map.specs.Tree.index
 pub use Rattle.wast_tree_map.specs.Tree.space
-pub use Rattle.wast_tree_map.specs.Tree.ty
 pub use Rattle.wast_tree_map.specs.Tree.instr
 pub use Rattle.wast_tree_map.specs.Tree.import_items
 pub use Rattle.wast_tree_map.specs.Tree.elem

@@ -1,15 +1,15 @@
 //! Walks over fields whose parts do not depend on each other: indices outside of bodies, and type
 //! uses.
-#![tactic(auto, using(crate::proofs::Parts::both_met, crate::proofs::Parts::first_fails, crate::proofs::Parts::second_fails))]
+#![tactic(auto, using(wast_resolve_names::proofs::Parts::both_met, wast_resolve_names::proofs::Parts::first_fails, wast_resolve_names::proofs::Parts::second_fails))]
 
 ghost use Rattle.std.specs.Prelude.{List, map, flat_map};
 ghost use Rattle.wast_tree_nodes.specs.Sites.{OfItem, Site, check_sites, at_index, in_use, in_tag_type, in_item_kind, in_sig, in_import, in_memory_kind};
 ghost use Rattle.wast_tree_map.specs.Mapped.{Change, mapped_tag_type, mapped_item_kind, mapped_sig, mapped_import_items, mapped_import, mapped_memory, mapped_tag};
-ghost use Rattle.wast_resolve_passes.specs.Walking.{WalksSites};
+ghost use Rattle.wast_resolve_names.specs.Walking.{WalksSites};
 
-use crate::resolver::Resolver;
 use crate::walks::{Walk, walk_index, walk_type_use};
 use wast_base::{Error, Index, Seq, Space};
+use wast_resolve_names::Resolver;
 use wast_tree_nodes::{
     FunctionType, ImportItems, Imports, ItemKind, ItemSig, Memory, MemoryKind, Tag, TagType,
     TypeUse,

@@ -1,19 +1,19 @@
 //! Walks over fields with constant expressions.
-#![tactic(auto, using(crate::proofs::Parts::both_met, crate::proofs::Parts::first_fails, crate::proofs::Parts::second_fails))]
+#![tactic(auto, using(wast_resolve_names::proofs::Parts::both_met, wast_resolve_names::proofs::Parts::first_fails, wast_resolve_names::proofs::Parts::second_fails))]
 
 ghost use Rattle.std.specs.Prelude.{List, map, flat_map, option_map};
 ghost use Rattle.wast_tree_nodes.specs.Sites.{Site, at_index, if_there, in_constant, in_table_kind, in_global_kind, in_global, in_elem_kind, in_payload, in_elem, in_data_kind};
 ghost use Rattle.wast_tree_map.specs.Mapped.{Change, mapped_constant, mapped_table_kind, mapped_table, mapped_global_kind, mapped_global, mapped_elem_kind, mapped_payload, mapped_elem, mapped_data_kind, mapped_data};
 ghost use Rattle.wast_resolve_passes.specs.TwoSteps.{in_type_of_table, in_init, with_table_type, with_init, in_elem_table, in_elem_offset, with_elem_table, with_elem_offset, in_elements, in_element_type, with_elements, with_element_type, in_data_memory, in_data_offset, with_data_memory, with_data_offset};
-ghost use Rattle.wast_resolve_passes.specs.Walking.{WalksSites, WalksBodies};
+ghost use Rattle.wast_resolve_names.specs.Walking.{WalksSites, WalksBodies};
 
 use crate::apart::{walk_outside, walk_outside_index};
 use crate::instrs::walk_expression;
 use crate::local_names::LocalNames;
-use crate::resolver::Resolver;
 use crate::walks::{walk_indices, walk_optional};
 use std::alloc;
 use wast_base::{Error, Index, Seq, Space};
+use wast_resolve_names::Resolver;
 use wast_tree_nodes::{
     Data, DataKind, Elem, ElemKind, ElemPayload, Expression, Global, GlobalKind, Table, TableKind,
 };

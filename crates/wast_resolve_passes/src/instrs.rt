@@ -1,6 +1,6 @@
 //! Walks over bodies, with the ids of the module, the parameters and locals, and the enclosing
 //! blocks.
-#![tactic(auto, using(crate::proofs::Parts::both_met, crate::proofs::Parts::first_fails, crate::proofs::Parts::second_fails))]
+#![tactic(auto, using(wast_resolve_names::proofs::Parts::both_met, wast_resolve_names::proofs::Parts::first_fails, wast_resolve_names::proofs::Parts::second_fails))]
 
 ghost use Rattle.std.specs.Prelude.{◌≡◌, ◌++◌, ◌∷◌, [], map, flat_map, IsTrue, IsFalse, IfOk, OnOk};
 ghost use Rattle.wast_base.specs.Blocks.{without_innermost};
@@ -9,19 +9,19 @@ ghost use Rattle.wast_base.specs.Spaces.{name_if};
 ghost use Rattle.wast_tree_map.specs.Mapped.{mapped_access, mapped_block, mapped_br_table, mapped_catch, mapped_caught, mapped_expression, mapped_handle, mapped_handlers, mapped_indirect, mapped_instr, mapped_instrs, mapped_mem_arg, mapped_try_table};
 ghost use Rattle.wast_resolve_passes.specs.Locals.{Numbers};
 ghost use Rattle.wast_resolve_passes.specs.Standing.{context_of, initial_context, Moves, Steps, IsNumericType, AreNumbers, HasNoNames, SelectsNumber, IsSettled, OpensBlock, ClosesBlock};
-ghost use Rattle.wast_resolve_passes.specs.Resolvers.{Resolution, scope_of};
+ghost use Rattle.wast_resolve_names.specs.Resolvers.{Resolution, scope_of};
 ghost use Rattle.wast_resolve_passes.specs.Tree.space;
 ghost use Rattle.wast_resolve_passes.specs.TwoSteps.{in_handler_tag, in_handler_label, with_handler_tag, with_handler_label};
-ghost use Rattle.wast_resolve_passes.specs.Walking.{WalksAsks, WalksSites, WalksBodies, WalksCast, TriesSites};
+ghost use Rattle.wast_resolve_names.specs.Walking.{WalksAsks, WalksSites, WalksBodies, WalksCast, TriesSites};
 ghost use Rattle.wast_tree_nodes.specs.Sites.{Begins, Ends, Repeated, LocalAt, Locals, OfBlock, check_sites, at_index, at_label, in_access, in_block, in_br_table, in_catch, in_caught, in_handle, in_handlers, in_indirect, in_instr, in_instrs, in_mem_arg, in_pair, in_try_table, in_use};
 
 use crate::apart::{walk_outside, walk_outside_index};
 use crate::local_names::LocalNames;
-use crate::resolver::Resolver;
 use crate::walks::{Walk, walk_body_type, walk_index};
 use std::alloc::{AllocError, Global};
 use wast_base::{Boxed, Error, Fault, Id, Index, Seq, Space};
 use wast_resolve_labels::Labels;
+use wast_resolve_names::{Resolver, number_access, number_if_known};
 use wast_tree_nodes::{
     ArrayInit, BlockType, BrOnCast, BrOnCastDescEq, BrOnCastDescEqFail, BrOnCastFail,
     BrTableIndices, CallIndirect, Expression, FunctionType, Handle, Instruction, MemArg,
@@ -245,7 +245,7 @@ fn walk_delegate<'a>(labels: &mut Labels<'a>, label: &mut Index<'a>) -> Result<(
 fn walk_access<'a>(names: &Resolver<'a>, access: &mut StructAccess<'a>) -> Result<(), Error<'a>>
     ensures { WalksBodies names.now in_access mapped_access access.old access.new result }
 {
-    names.number_access(access)
+    number_access(names, access)
 }
 
 /// Resolves an array instruction with a segment: its type, then the segment.
@@ -594,7 +594,7 @@ fn walk_instr<'a>(
 fn try_index<'a>(names: &Resolver<'a>, space: Space, index: &mut Index<'a>) -> bool
     ensures { TriesSites names.now (at_index space) (λ f. f.index space) index.old index.new result }
 {
-    names.try_number(index, space)
+    number_if_known(names, index, space)
 }
 
 /// Resolves the index of a local, and returns whether it is known.

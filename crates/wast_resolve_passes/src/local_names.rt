@@ -7,12 +7,12 @@ ghost use Rattle.wast_resolve_namespace.specs.Namespaces.{empty_from};
 ghost use Rattle.wast_base.specs.Outcomes.{Outcome};
 ghost use Rattle.wast_resolve_rules.specs.Resolved.{resolved_index};
 ghost use Rattle.wast_resolve_passes.specs.Locals.{local_in, AreFew};
-ghost use Rattle.wast_resolve_passes.specs.Walking.{Tries};
+ghost use Rattle.wast_resolve_names.specs.Walking.{Tries};
 
-use crate::guesses::CachedNames;
 use std::alloc::Global;
 use std::marker::Model;
 use wast_base::{Error, Id, Index, Numbering, number_index, try_number};
+use wast_resolve_names::CachedNames;
 
 /// The ids of the parameters and locals of a function, with their numbers (text format, indices:
 /// locals).

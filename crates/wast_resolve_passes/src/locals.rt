@@ -4,19 +4,19 @@ ghost use Rattle.std.specs.Prelude.{◌≡◌, ◌<◌, ◌≤◌, ◌^◌, ◌+
 ghost use Rattle.wast_base.specs.Ids.{mark_of_option};
 ghost use Rattle.wast_base.specs.Faults.{diagnostic_of};
 ghost use Rattle.wast_tree_nodes.specs.Sites.{param_marks, declaration_sites};
-ghost use Rattle.wast_resolve_passes.specs.Resolvers.{scope_of};
+ghost use Rattle.wast_resolve_names.specs.Resolvers.{scope_of};
 ghost use Rattle.wast_resolve_rules.specs.Scopes.{Scope, implicit_param_count as nameless_of};
 ghost use Rattle.wast_resolve_rules.specs.Demands.{declared_ids};
 ghost use Rattle.wast_resolve_namespace.specs.Filling.{FillsSpace};
-ghost use Rattle.wast_resolve_passes.specs.Gathers.{Stops, Gathers};
+ghost use Rattle.wast_resolve_names.specs.Gathers.{Stops, Gathers};
 ghost use Rattle.wast_resolve_passes.specs.Locals.{params_in, body_declarations, marks_of, names as names_of, NumbersFrom, NumbersIn, locals_in, NamesLocals};
 
-use crate::gathers::{count_ids, gather_each, have_ids};
-use crate::guesses::{CachedNames, filled};
 use crate::local_names::LocalNames;
-use crate::resolver::Resolver;
 use std::alloc::Global;
 use wast_base::{Error, Fault, Id, NameAnnotation};
+use wast_resolve_names::{
+    CachedNames, Resolver, count_ids, filled, gather_each, have_ids, unsaid_params,
+};
 use wast_resolve_namespace::NamespaceBuilder;
 use wast_tree_nodes::{FuncKind, FunctionType, Local, TypeUse, ValType};
 
@@ -145,7 +145,7 @@ pub(crate) fn name_locals<'a>(
         FuncKind::Inline { locals, .. } => {
             name_declared(
                 alloc,
-                names.unsaid_params(ty),
+                unsaid_params(names, ty),
                 &ty.inline,
                 locals.as_slice(),
             )

@@ -1,5 +1,5 @@
 //! Walks over the parts of the tree outside of bodies, which replace each id by its index.
-#![tactic(auto, using(crate::proofs::Parts::both_met, crate::proofs::Parts::first_fails, crate::proofs::Parts::second_fails, crate::proofs::Parts::id_met))]
+#![tactic(auto, using(wast_resolve_names::proofs::Parts::both_met, wast_resolve_names::proofs::Parts::first_fails, wast_resolve_names::proofs::Parts::second_fails, wast_resolve_names::proofs::Parts::id_met))]
 
 ghost use Rattle.std.specs.Prelude.{⊤, List, map, flat_map, option_map};
 ghost use Rattle.wast_tree_nodes.specs.Sites.{Check, OfItem, OfCall, OfBlock, Locals, if_there, in_index, in_heap, in_ref, in_val, in_signature, in_type, in_rec, in_type_use, in_mem_arg, in_pair, in_select, in_local, in_func_kind, in_func, in_use, in_table_type, in_global_type, exported_space, in_field, in_module};
@@ -9,25 +9,25 @@ ghost use Rattle.wast_resolve_passes.specs.Locals.{NumbersIn, SaysAsMuch, kind_c
 ghost use Rattle.wast_resolve_passes.specs.Standing.{initial_context};
 ghost use Rattle.wast_base.specs.Outcomes.{Outcome};
 ghost use Rattle.wast_resolve_passes.specs.TwoSteps.{in_locals, in_body, with_locals, with_body};
-ghost use Rattle.wast_resolve_passes.specs.Resolvers.{known_of, scope_of};
-ghost use Rattle.wast_resolve_passes.specs.LookUps.{LooksTypesUp};
+ghost use Rattle.wast_resolve_names.specs.Resolvers.{known_of, scope_of};
+ghost use Rattle.wast_resolve_names.specs.LookUps.{LooksTypesUp};
 ghost use Rattle.wast_resolve_passes.specs.Tree.field;
 ghost use Rattle.wast_resolve_passes.specs.Tree.space;
 ghost use Rattle.wast_resolve_passes.specs.Tree.{FunctionType, TypeUse as Use};
-ghost use Rattle.wast_resolve_passes.specs.Walking.{WalksAsks, WalksSites, WalksFunctions, WalksBodies};
+ghost use Rattle.wast_resolve_names.specs.Walking.{WalksAsks, WalksSites, WalksFunctions, WalksBodies};
 
 use crate::apart::{WalkApart, walk_outside, walk_outside_index};
 use crate::constants::WalkConstants;
-use crate::core_types::{
-    ResolveCoreType, resolve_heaptype, resolve_reftype, resolve_type, resolve_type_func,
-    resolve_valtype,
-};
 use crate::instrs::walk_expression;
 use crate::local_names::LocalNames;
 use crate::locals::name_locals;
-use crate::resolver::Resolver;
 use std::alloc::Global;
 use wast_base::{Error, Index, Seq, Space};
+use wast_resolve_core_types::{
+    ResolveCoreType, resolve_heaptype, resolve_reftype, resolve_type, resolve_type_func,
+    resolve_valtype,
+};
+use wast_resolve_names::{Resolver, check_match};
 use wast_tree_nodes::{
     ArrayCopy, ArrayNewData, ArrayNewElem, ContBind, Export, Func, FuncKind, FunctionType,
     GlobalType, HeapType, LoadOrStoreLane, Local, MemArg, MemArgTarget, MemoryCopy, MemoryInit,
@@ -410,7 +410,7 @@ fn check_type_use<'a>(
     ensures { Outcome ⊥ ⊥ (first_unmet (match_if (scope_of names.now) ty.now.index ty.now.inline)) result }
 {
     match (&ty.index, &ty.inline) {
-        (Some(index), Some(inline)) => names.check_match(index, inline),
+        (Some(index), Some(inline)) => check_match(names, index, inline),
         (Some(_), None) => Ok(()),
         (None, Some(_)) => Ok(()),
         (None, None) => Ok(()),
@@ -528,7 +528,7 @@ fn walk_field<'a>(
 /// Allocates for the ids of parameters and locals, and for enclosing blocks. Fails with E12 if
 /// allocation fails, and with E10 if a function has 2^32 parameters and locals, or an expression as
 /// many enclosing blocks.
-pub(crate) fn walk_fields<'a>(
+pub fn walk_fields<'a>(
     alloc: Global,
     names: &Resolver<'a>,
     fields: &mut Seq<ModuleField<'a>>,

@@ -3,9 +3,7 @@ pub mod CustomsAsk
 pub mod Matching
 pub mod Numbering
 pub mod Orders
-pub mod PartsOfTypes
 pub mod Ranks
-pub mod TypeParts
 pub mod Unmet
 pub mod Unmoved
 pub mod Worked

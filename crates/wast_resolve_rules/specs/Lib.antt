@@ -1,5 +1,4 @@
 -- The definitions of this crate:
---   CoreTypes       resolving the indices in a type by calls of a caller's function
 --   Demands         the checks E1 to E9 as one list, and the conditions for E10
 --   Early           the checks that need no resolving
 --   Explicit        the fields after desugaring
@@ -11,7 +10,6 @@
 --   Stripped        resolved fields without generated ids
 --   Tree            the AST types under short names
 --   Worked..        example modules with their errors and results
-pub mod CoreTypes
 pub mod Demands
 pub mod Early
 pub mod Explicit

@@ -1,12 +1,11 @@
 -- The types of the tree under one roof, as in wast_tree_nodes: each type by its name, the variants of an enum behind a word.
-pub use Rattle.wast_tree_map.specs.Tree.{Span, Id, Index, NameAnnotation, Space, ValType, RefType, HeapType, StorageType, StructField, StructType, ArrayType, FunctionType, TypeUse, InnerTypeKind, TypeDef, BlockType, TryTableCatch, TryTableCatchKind, Instruction, Expression, MemoryType, TableKind, MemoryKind, GlobalKind, TagKind, Local, FuncKind, ModuleField, Handle, ResumeTable, Custom, Dylink0Subsection}
+pub use Rattle.wast_tree_map.specs.Tree.{Span, Id, Index, NameAnnotation, Space, ValType, RefType, HeapType, StructField, FunctionType, TypeUse, InnerTypeKind, BlockType, TryTableCatch, TryTableCatchKind, Instruction, Expression, MemoryType, Local, FuncKind, ModuleField, Handle, ResumeTable, Custom, Dylink0Subsection}
 pub use Rattle.wast_tree_map.specs.Tree.index
 pub use Rattle.wast_tree_map.specs.Tree.space
 pub use Rattle.wast_tree_map.specs.Tree.value
 pub use Rattle.wast_tree_map.specs.Tree.heap
 pub use Rattle.wast_tree_map.specs.Tree.storage
 pub use Rattle.wast_tree_map.specs.Tree.inner
-pub use Rattle.wast_tree_map.specs.Tree.ty
 pub use Rattle.wast_tree_map.specs.Tree.bare
 pub use Rattle.wast_tree_map.specs.Tree.plain
 pub use Rattle.wast_tree_map.specs.Tree.caught
@@ -26,4 +25,3 @@ pub use Rattle.wast_tree_map.specs.Tree.form
 pub use Rattle.wast_tree_map.specs.Tree.handle
 pub use Rattle.wast_tree_map.specs.Tree.custom
 pub use Rattle.wast_tree_map.specs.Tree.dylink
-pub use Rattle.wast_base.specs.declared.faults.Form.{Form}

@@ -18,7 +18,6 @@
 //!   matches (E7).
 //! - `specs/Explicit.antt`: the fields after inline parts are expanded and types appended.
 //! - `specs/Resolved.antt`, `specs/Finished.antt`: the fields after ids are replaced by numbers.
-//! - `specs/CoreTypes.antt`: resolving the indices in a type by calls of a caller's function.
 //! - `specs/Stripped.antt`: resolved fields without generated ids.
 //! - `examples`: example modules that the definitions compute.
 //!

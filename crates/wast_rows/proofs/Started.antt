@@ -23,8 +23,8 @@ use Rattle.wast_resolve_rules.specs.Demands.{IsTooLarge, IsUnresolved, first_unm
 use Rattle.wast_resolve_rules.specs.Explicit.{generated_id_count}
 use Rattle.wast_resolve_rules.specs.Finished.{resolved_fields_from}
 use Rattle.wast_resolve_rules.specs.Resolved.{numbered_at}
-use Rattle.wast_resolve_passes.specs.LookUps.{IsSettledFor, IsMetBy, AnswersFor}
-use Rattle.wast_resolve_passes.specs.Resolvers.{KnownNames, known_to}
+use Rattle.wast_resolve_names.specs.LookUps.{IsSettledFor, IsMetBy, AnswersFor}
+use Rattle.wast_resolve_names.specs.Resolvers.{KnownNames, known_to}
 use Rattle.wast_resolve.specs.Laws.{SettledStays}
 use Rattle.wast_resolve_laws.specs.Rests.{with_start_fields, final_names, RestsStill, FillsNoMore, StartsStayWellFormed, StartsStayBelow}
 use Rattle.wast_core.specs.declared.module.Module.{Module}

@@ -8,7 +8,7 @@ use Rattle.wast_base.specs.declared.spaces.Space.TheVariants as space
 use Rattle.wast_base.specs.Faults.{out_of_memory}
 use Rattle.wast_resolve_rules.specs.Finished.{resolved_fields_from}
 use Rattle.wast_resolve_rules.specs.Resolved.{numbered_at}
-use Rattle.wast_resolve_passes.specs.LookUps.{IsMetBy, AnswersFor}
+use Rattle.wast_resolve_names.specs.LookUps.{IsMetBy, AnswersFor}
 use Rattle.wast_resolve_laws.specs.Rests.{final_names}
 use Rattle.wast_core.specs.declared.module.ModuleKind.{ModuleKind}
 use Rattle.wast_core.specs.declared.module.ModuleKind.TheVariants as kind

@@ -21,7 +21,7 @@ use Rattle.wast_resolve_rules.specs.Demands.{IsTooLarge, IsUnresolved}
 use Rattle.wast_resolve_rules.specs.Explicit.{generated_id_count}
 use Rattle.wast_resolve_rules.specs.Finished.{resolved_fields_from}
 use Rattle.wast_resolve_rules.specs.Resolved.{numbered_at}
-use Rattle.wast_resolve_passes.specs.LookUps.{IsSettledFor, IsMetBy, AnswersFor}
+use Rattle.wast_resolve_names.specs.LookUps.{IsSettledFor, IsMetBy, AnswersFor}
 use Rattle.wast_resolve_laws.specs.Rests.{final_names}
 use Rattle.wast_core.specs.declared.module.ModuleKind.{ModuleKind}
 use Rattle.wast_core.specs.declared.module.ModuleKind.TheVariants as kind

@@ -3,8 +3,8 @@
 ghost use Rattle.std.specs.Prelude.{◌≡◌, ◌≤◌, IfOk, IfErr, OnOk};
 ghost use Rattle.wast_base.specs.declared.spaces.Space.TheVariants as space;
 ghost use Rattle.wast_resolve_rules.specs.Resolved.{numbered_at};
-ghost use Rattle.wast_resolve_passes.specs.LookUps.{IsSettledFor, IsMetBy, AnswersFor};
-ghost use Rattle.wast_resolve_passes.specs.Resolvers.{known_to};
+ghost use Rattle.wast_resolve_names.specs.LookUps.{IsSettledFor, IsMetBy, AnswersFor};
+ghost use Rattle.wast_resolve_names.specs.Resolvers.{known_to};
 ghost use Rattle.wast_core.specs.Headline.{Counts, name_of_module};
 ghost use Rattle.wast_core.specs.Modules.{IsReady};
 ghost use Rattle.wast_rows.specs.Starting.{IsNoBinary, IsSettledStart, AddsStart, CountsStart};

@@ -10,7 +10,7 @@ use Rattle.wast_base.specs.declared.spaces.Space.{Space}
 use Rattle.wast_base.specs.Ids.{Name, Written, Generated, name_of, is_generated}
 use Rattle.wast_base.specs.Order.{Key, key_of}
 use Rattle.wast_resolve_namespace.specs.Places.{entry_of, entries_of}
-use Rattle.wast_resolve_passes.specs.Resolvers.{KnownNames, space_in}
+use Rattle.wast_resolve_names.specs.Resolvers.{KnownNames, space_in}
 use Rattle.wat_bytes.specs.declared.names.Denoted.{Denoted}
 use Rattle.wat_bytes.specs.Names.{AreOfSpace, AreListedIn, BeginsWith, written_in, is_written, is_written_pair, denoted_at, entry_listed}
 

@@ -25,7 +25,7 @@ use Rattle.wast_tree_nodes.specs.Generations.{generation_or_zero}
 use Rattle.wast_tree_nodes.specs.Items.{Item, items}
 use Rattle.wast_tree_nodes.specs.Known.{IdContext, names_in, id_context}
 use Rattle.wast_resolve_namespace.proofs.Called.{position_bears}
-use Rattle.wast_resolve_passes.specs.Resolvers.{KnownNames, known_to, space_in}
+use Rattle.wast_resolve_names.specs.Resolvers.{KnownNames, known_to, space_in}
 use Rattle.wast_resolve_rules.specs.Demands.{first_unmet, demands, IsTooLarge}
 use Rattle.wast_resolve_rules.specs.Explicit.{explicit_fields, explicit_fields_from}
 use Rattle.wast_core.specs.Headline.{ResolvesKind}

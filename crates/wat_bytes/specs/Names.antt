@@ -14,7 +14,7 @@ use Rattle.wast_base.specs.Ids.{Written, name_of, is_generated}
 use Rattle.wast_base.specs.Order.{Key}
 use Rattle.wast_base.specs.Spaces.{spaces}
 use Rattle.wast_resolve_namespace.specs.Places.{entry_of}
-use Rattle.wast_resolve_passes.specs.Resolvers.{KnownNames, known_to, space_in}
+use Rattle.wast_resolve_names.specs.Resolvers.{KnownNames, known_to, space_in}
 use Rattle.wast_core.specs.declared.module.Module.{Module}
 use Rattle.wast_core.specs.declared.module.ModuleKind.{ModuleKind}
 use Rattle.wast_core.specs.Modules.{IsReady}

@@ -3,8 +3,8 @@
 ghost use Rattle.std.specs.Prelude.{◌≡◌, map, IfOk, IfErr};
 ghost use Rattle.std.specs.List.{filter};
 ghost use Rattle.wast_base.specs.Ids.{Written};
-ghost use Rattle.wast_resolve_passes.specs.LookUps.{IsSettledFor};
-ghost use Rattle.wast_resolve_passes.specs.Resolvers.{known_to};
+ghost use Rattle.wast_resolve_names.specs.LookUps.{IsSettledFor};
+ghost use Rattle.wast_resolve_names.specs.Resolvers.{known_to};
 ghost use Rattle.wast_resolve_rules.specs.Resolved.{numbered_at};
 ghost use Rattle.wast_core.specs.Modules.{IsReady};
 ghost use Rattle.wat_bytes.specs.Texts.{IsPlaced, OfText};

@@ -1,6 +1,6 @@
 use Rattle.wast_resolve_rules.specs.Resolved.{numbering_change}
-use Rattle.wast_resolve_passes.specs.Resolvers.{scope_of}
-use Rattle.wast_resolve_passes.proofs.Parts.{walks_asking}
+use Rattle.wast_resolve_names.specs.Resolvers.{scope_of}
+use Rattle.wast_resolve_names.proofs.Parts.{walks_asking}
 use Rattle.wast_resolve_passes.proofs.apart.walk_outside.Goals as goal
 
 pub returns : goal.returns

@@ -1,7 +1,7 @@
 use Rattle.wast_tree_nodes.specs.Sites.{in_index}
 use Rattle.wast_resolve_rules.specs.Resolved.{numbered_at}
-use Rattle.wast_resolve_passes.specs.Resolvers.{known_of, scope_of}
-use Rattle.wast_resolve_passes.proofs.Parts.{walks_asking}
+use Rattle.wast_resolve_names.specs.Resolvers.{known_of, scope_of}
+use Rattle.wast_resolve_names.proofs.Parts.{walks_asking}
 use Rattle.wast_resolve_passes.proofs.apart.walk_outside_index.Goals as goal
 
 pub returns : goal.returns

@@ -1,6 +1,6 @@
 use Rattle.wast_resolve_rules.specs.Demands.{site_demand}
 use Rattle.wast_resolve_rules.specs.Resolved.{numbering_change}
-use Rattle.wast_resolve_passes.specs.Resolvers.{scope_of}
+use Rattle.wast_resolve_names.specs.Resolvers.{scope_of}
 use Rattle.wast_resolve_passes.proofs.Each.{IsHalfway}
 use Rattle.wast_resolve_passes.proofs.constants.walk_each_constants.Given as goal
 

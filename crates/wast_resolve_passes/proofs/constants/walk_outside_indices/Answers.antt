@@ -3,8 +3,8 @@ use Rattle.std.proofs.Common.{ap, sym}
 use Rattle.wast_tree_nodes.specs.Sites.{in_index, at_index}
 use Rattle.wast_resolve_rules.specs.Demands.{first_unmet, ask_demands, site_demands, open_counts, HasMany}
 use Rattle.wast_resolve_rules.specs.Resolved.{numbered_at}
-use Rattle.wast_resolve_passes.specs.Resolvers.{known_of, scope_of}
-use Rattle.wast_resolve_passes.proofs.Parts.{indices_demands, walks_as}
+use Rattle.wast_resolve_names.specs.Resolvers.{known_of, scope_of}
+use Rattle.wast_resolve_names.proofs.Parts.{indices_demands, walks_as}
 use Rattle.wast_resolve_passes.proofs.constants.walk_outside_indices.Goals as goal
 
 pub returns : goal.returns

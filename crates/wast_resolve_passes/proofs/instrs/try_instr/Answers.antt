@@ -2,9 +2,10 @@ use Rattle.std.proofs.Common.{[], ◌∷◌, refl, sym, ap, ◌∙◌}
 use Rattle.wast_tree_nodes.specs.Sites.{LocalAt, at_label}
 use Rattle.wast_resolve_rules.specs.Demands.{site_demands}
 use Rattle.wast_resolve_rules.specs.Resolved.{numbering_change}
-use Rattle.wast_resolve_passes.specs.Resolvers.{scope_of}
+use Rattle.wast_resolve_names.specs.Resolvers.{scope_of}
 use Rattle.wast_resolve_passes.specs.Tree.instr
-use Rattle.wast_resolve_passes.proofs.Tries.{block_tried, select_tried, tries_in, tries_not}
+use Rattle.wast_resolve_passes.proofs.Tries.{block_tried, select_tried, tries_not}
+use Rattle.wast_resolve_names.proofs.Trials.{tries_in}
 use Rattle.wast_resolve_passes.proofs.instrs.try_instr.Goals as goal
 
 pub returns-in-local_get-clause-walks : goal.returns-in-local_get-clause-walks

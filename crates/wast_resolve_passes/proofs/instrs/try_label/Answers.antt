@@ -1,4 +1,4 @@
-use Rattle.wast_resolve_passes.specs.Resolvers.{scope_of}
+use Rattle.wast_resolve_names.specs.Resolvers.{scope_of}
 use Rattle.wast_resolve_passes.proofs.Tries.{label_tried}
 use Rattle.wast_resolve_passes.proofs.instrs.try_label.Goals as goal
 

@@ -2,7 +2,7 @@ use Rattle.std.proofs.Common.{codes}
 use Rattle.wast_resolve_rules.specs.Demands.{known_index}
 use Rattle.wast_resolve_rules.specs.Resolved.{resolved_index}
 use Rattle.wast_resolve_passes.specs.Locals.{local_in}
-use Rattle.wast_resolve_passes.specs.Resolvers.{scope_of}
+use Rattle.wast_resolve_names.specs.Resolvers.{scope_of}
 use Rattle.wast_resolve_passes.proofs.Tries.{local_tried, tries_not}
 use Rattle.wast_resolve_passes.proofs.instrs.try_local.Goals as goal
 

@@ -4,8 +4,8 @@ use Rattle.wast_resolve_rules.specs.Demands.{HasMany, first_unmet, access_demand
 use Rattle.wast_tree_nodes.specs.Sites.{in_access}
 use Rattle.wast_tree_map.specs.Mapped.{mapped_access}
 use Rattle.wast_resolve_rules.specs.Resolved.{numbering_change}
-use Rattle.wast_resolve_passes.specs.Resolvers.{scope_of}
-use Rattle.wast_resolve_passes.proofs.Parts.{walks_as}
+use Rattle.wast_resolve_names.specs.Resolvers.{scope_of}
+use Rattle.wast_resolve_names.proofs.Parts.{walks_as}
 use Rattle.wast_resolve_passes.proofs.instrs.walk_access.Goals as goal
 
 pub returns : goal.returns

@@ -7,8 +7,8 @@ use Rattle.wast_base.specs.Spaces.{name_if}
 use Rattle.wast_tree_nodes.specs.Sites.{OfBlock, Begins, in_block, in_use}
 use Rattle.wast_resolve_passes.specs.Tree.{BlockType}
 use Rattle.wast_resolve_rules.specs.Demands.{HasMany, open_counts, site_demand}
-use Rattle.wast_resolve_passes.specs.Resolvers.{scope_of}
-use Rattle.wast_resolve_passes.proofs.Parts.{both_met, fails_first, fails_second}
+use Rattle.wast_resolve_names.specs.Resolvers.{scope_of}
+use Rattle.wast_resolve_names.proofs.Parts.{both_met, fails_first, fails_second}
 use Rattle.wast_resolve_passes.proofs.instrs.walk_block.Goals as goal
 
 pub returns-in_err-walk_block_type-clause-walks : goal.returns-in_err-walk_block_type-clause-walks

@@ -6,7 +6,7 @@ use Rattle.wast_tree_nodes.specs.Sites.{OfBlock, in_use}
 use Rattle.wast_resolve_passes.specs.Tree.{BlockType}
 use Rattle.wast_resolve_rules.specs.Demands.{first_unmet, site_demands, Answers}
 use Rattle.wast_resolve_rules.specs.Resolved.{numbering_change}
-use Rattle.wast_resolve_passes.specs.Resolvers.{scope_of}
+use Rattle.wast_resolve_names.specs.Resolvers.{scope_of}
 use Rattle.wast_resolve_passes.proofs.instrs.walk_block_type.Goals as goal
 
 pub returns-in_err-walk_body_type : goal.returns-in_err-walk_body_type

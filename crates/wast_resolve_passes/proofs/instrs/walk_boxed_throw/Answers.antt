@@ -3,7 +3,7 @@ use Rattle.std.specs.Prelude.{◌++◌}
 use Rattle.wast_tree_map.specs.Mapped.{Change, mapped_handlers}
 use Rattle.wast_tree_nodes.specs.Sites.{check_sites, in_handlers, in_pair}
 use Rattle.wast_resolve_passes.specs.Tree.space
-use Rattle.wast_resolve_passes.specs.Walking.{WalksBodies}
+use Rattle.wast_resolve_names.specs.Walking.{WalksBodies}
 use Rattle.wast_resolve_passes.proofs.instrs.walk_boxed_throw.Goals as goal
 
 pub returns : goal.returns

@@ -1,5 +1,5 @@
 use Rattle.std.proofs.Common.{subst}
-use Rattle.wast_resolve_passes.specs.Walking.{WalksCast}
+use Rattle.wast_resolve_names.specs.Walking.{WalksCast}
 use Rattle.wast_resolve_passes.proofs.instrs.walk_br_on_cast.Goals as goal
 
 pub returns : goal.returns

@@ -3,8 +3,8 @@ use Rattle.wast_resolve_labels.specs.OpenBlocks.{label_depth}
 use Rattle.wast_tree_nodes.specs.Sites.{at_label}
 use Rattle.wast_resolve_rules.specs.Demands.{HasMany, site_demands}
 use Rattle.wast_resolve_rules.specs.Resolved.{resolved_index}
-use Rattle.wast_resolve_passes.specs.Resolvers.{scope_of}
-use Rattle.wast_resolve_passes.proofs.Parts.{more_refused}
+use Rattle.wast_resolve_names.specs.Resolvers.{scope_of}
+use Rattle.wast_resolve_names.proofs.Parts.{more_refused}
 use Rattle.wast_resolve_passes.proofs.instrs.walk_branch.Goals as goal
 
 pub returns : goal.returns

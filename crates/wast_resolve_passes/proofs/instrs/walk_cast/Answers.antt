@@ -4,8 +4,8 @@ use Rattle.std.proofs.lemmas.Result.{err_from_is_err_and}
 use Rattle.wast_base.specs.Faults.{diagnostic_of}
 use Rattle.wast_tree_nodes.specs.Sites.{Site, check_sites, at_label, in_ref}
 use Rattle.wast_resolve_rules.specs.Demands.{first_unmet, site_demand, site_demands, Answers}
-use Rattle.wast_resolve_passes.specs.Resolvers.{scope_of}
-use Rattle.wast_resolve_passes.proofs.Parts.{both_met, fails_first, fails_behind, cast_sites}
+use Rattle.wast_resolve_names.specs.Resolvers.{scope_of}
+use Rattle.wast_resolve_names.proofs.Parts.{both_met, fails_first, fails_behind, cast_sites}
 use Rattle.wast_resolve_passes.proofs.instrs.walk_cast.Goals as goal
 
 pub returns-in_err-walk_label : goal.returns-in_err-walk_label

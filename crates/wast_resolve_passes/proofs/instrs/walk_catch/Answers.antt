@@ -3,8 +3,8 @@ use Rattle.std.proofs.lemmas.Result.{err_from_is_err_and}
 use Rattle.wast_base.specs.Faults.{diagnostic_of}
 use Rattle.wast_tree_nodes.specs.Sites.{check_sites, at_label, in_caught}
 use Rattle.wast_resolve_rules.specs.Demands.{first_unmet, site_demand, Answers}
-use Rattle.wast_resolve_passes.specs.Resolvers.{scope_of}
-use Rattle.wast_resolve_passes.proofs.Parts.{asking_demands, both_met, fails_first, fails_behind}
+use Rattle.wast_resolve_names.specs.Resolvers.{scope_of}
+use Rattle.wast_resolve_names.proofs.Parts.{asking_demands, both_met, fails_first, fails_behind}
 use Rattle.wast_resolve_passes.proofs.instrs.walk_catch.Goals as goal
 
 pub returns-in_err-walk_caught : goal.returns-in_err-walk_caught

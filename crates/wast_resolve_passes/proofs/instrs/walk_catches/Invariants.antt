@@ -2,7 +2,7 @@ use Rattle.wast_tree_nodes.specs.Sites.{in_catch}
 use Rattle.wast_tree_map.specs.Mapped.{mapped_catch}
 use Rattle.wast_resolve_rules.specs.Demands.{site_demand}
 use Rattle.wast_resolve_rules.specs.Resolved.{numbering_change}
-use Rattle.wast_resolve_passes.specs.Resolvers.{scope_of}
+use Rattle.wast_resolve_names.specs.Resolvers.{scope_of}
 use Rattle.wast_resolve_passes.proofs.Each.{IsHalfway}
 use Rattle.wast_resolve_passes.proofs.instrs.walk_catches.Given as goal
 

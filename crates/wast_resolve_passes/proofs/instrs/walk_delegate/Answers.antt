@@ -6,7 +6,7 @@ use Rattle.wast_resolve_labels.specs.OpenBlocks.{label_depth}
 use Rattle.wast_tree_nodes.specs.Sites.{at_label}
 use Rattle.wast_resolve_rules.specs.Demands.{first_unmet, site_demands, Answers}
 use Rattle.wast_resolve_rules.specs.Resolved.{resolved_index}
-use Rattle.wast_resolve_passes.specs.Resolvers.{scope_of}
+use Rattle.wast_resolve_names.specs.Resolvers.{scope_of}
 use Rattle.wast_resolve_rules.proofs.Unmet.{answers_more}
 use Rattle.wast_resolve_passes.proofs.instrs.walk_delegate.Goals as goal
 

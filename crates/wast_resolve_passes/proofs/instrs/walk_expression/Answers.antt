@@ -9,7 +9,7 @@ use Rattle.wast_resolve_passes.specs.Tree.{Instruction}
 use Rattle.wast_resolve_rules.specs.Demands.{first_unmet, site_demands, open_counts, HasMany, Answers}
 use Rattle.wast_resolve_passes.specs.Standing.{initial_context}
 use Rattle.wast_resolve_rules.specs.Resolved.{numbering_change}
-use Rattle.wast_resolve_passes.specs.Resolvers.{scope_of}
+use Rattle.wast_resolve_names.specs.Resolvers.{scope_of}
 use Rattle.wast_resolve_passes.proofs.instrs.walk_expression.Goals as goal
 
 pub returns-in_err-walk_instrs : goal.returns-in_err-walk_instrs

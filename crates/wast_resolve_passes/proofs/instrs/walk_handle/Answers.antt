@@ -4,10 +4,10 @@ use Rattle.wast_base.specs.Faults.{diagnostic_of}
 use Rattle.wast_tree_nodes.specs.Sites.{Site}
 use Rattle.wast_resolve_rules.specs.Demands.{first_unmet, site_demand, site_demands, Answers}
 use Rattle.wast_resolve_rules.specs.Resolved.{numbering_change}
-use Rattle.wast_resolve_passes.specs.Resolvers.{scope_of}
+use Rattle.wast_resolve_names.specs.Resolvers.{scope_of}
 use Rattle.wast_resolve_passes.specs.Tree.{Handle}
 use Rattle.wast_resolve_passes.specs.TwoSteps.{in_handler_tag, in_handler_label, with_handler_label}
-use Rattle.wast_resolve_passes.proofs.Parts.{both_met, fails_first, fails_behind}
+use Rattle.wast_resolve_names.proofs.Parts.{both_met, fails_first, fails_behind}
 use Rattle.wast_resolve_passes.proofs.TwoSteps.{handle_sites, handle_stays, handle_becomes}
 use Rattle.wast_resolve_passes.proofs.instrs.walk_handle.Goals as goal
 

@@ -1,10 +1,10 @@
 use Rattle.wast_tree_nodes.specs.Sites.{at_label}
 use Rattle.wast_resolve_rules.specs.Demands.{site_demands}
 use Rattle.wast_resolve_rules.specs.Resolved.{numbering_change}
-use Rattle.wast_resolve_passes.specs.Resolvers.{scope_of}
+use Rattle.wast_resolve_names.specs.Resolvers.{scope_of}
 use Rattle.wast_resolve_passes.specs.Tree.{Index}
 use Rattle.wast_resolve_passes.specs.Tree.handle
-use Rattle.wast_resolve_passes.proofs.Parts.{walks_in}
+use Rattle.wast_resolve_names.proofs.Parts.{walks_in}
 use Rattle.wast_resolve_passes.proofs.instrs.walk_handler_label.Goals as goal
 
 pub returns-in-OnLabel : goal.returns-in-OnLabel

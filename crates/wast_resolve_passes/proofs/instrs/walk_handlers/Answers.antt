@@ -5,8 +5,8 @@ use Rattle.wast_base.specs.Faults.{diagnostic_of}
 use Rattle.wast_tree_nodes.specs.Sites.{Covered, in_handle}
 use Rattle.wast_resolve_passes.specs.Tree.form
 use Rattle.wast_resolve_rules.specs.Demands.{first_unmet, Answers}
-use Rattle.wast_resolve_passes.specs.Resolvers.{scope_of}
-use Rattle.wast_resolve_passes.proofs.Parts.{all_but_last}
+use Rattle.wast_resolve_names.specs.Resolvers.{scope_of}
+use Rattle.wast_resolve_names.proofs.Parts.{all_but_last}
 use Rattle.wast_resolve_passes.proofs.instrs.walk_handlers.Goals as goal
 
 pub returns-in_err-walk_handles : goal.returns-in_err-walk_handles

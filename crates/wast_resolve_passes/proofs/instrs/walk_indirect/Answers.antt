@@ -4,8 +4,8 @@ use Rattle.wast_base.specs.Faults.{diagnostic_of}
 use Rattle.wast_tree_nodes.specs.Sites.{OfCall, at_index, in_use}
 use Rattle.wast_resolve_passes.specs.Tree.space
 use Rattle.wast_resolve_rules.specs.Demands.{HasMany, site_demand}
-use Rattle.wast_resolve_passes.specs.Resolvers.{scope_of}
-use Rattle.wast_resolve_passes.proofs.Parts.{both_met, fails_first, fails_behind}
+use Rattle.wast_resolve_names.specs.Resolvers.{scope_of}
+use Rattle.wast_resolve_names.proofs.Parts.{both_met, fails_first, fails_behind}
 use Rattle.wast_resolve_passes.proofs.instrs.walk_indirect.Goals as goal
 
 pub returns-in_err-walk_outside_index : goal.returns-in_err-walk_outside_index

@@ -10,10 +10,10 @@ use Rattle.wast_resolve_passes.specs.Tree.instr
 use Rattle.wast_resolve_passes.specs.Standing.{context_of}
 use Rattle.wast_resolve_rules.specs.Demands.{HasMany, open_counts, site_demands}
 use Rattle.wast_resolve_rules.specs.Resolved.{numbering_change}
-use Rattle.wast_resolve_passes.specs.Resolvers.{scope_of}
+use Rattle.wast_resolve_names.specs.Resolvers.{scope_of}
 use Rattle.wast_resolve_passes.proofs.Moving.{asking_moves, br_table_moves, still_moves}
 use Rattle.wast_resolve_rules.proofs.Unmoved.{behind_stays, cast_stays, handlers_stay}
-use Rattle.wast_resolve_passes.proofs.Parts.{walks_in, walks_made_in, walks_before}
+use Rattle.wast_resolve_names.proofs.Parts.{walks_in, walks_made_in, walks_before}
 use Rattle.wast_resolve_passes.proofs.instrs.walk_instr.Goals as goal
 
 pub returns-in-block-clause-blocks : goal.returns-in-block-clause-blocks

@@ -7,9 +7,9 @@ use Rattle.wast_tree_nodes.specs.Sites.{BodyContext, in_instr, in_instrs}
 use Rattle.wast_resolve_rules.specs.Demands.{first_unmet, site_demands, open_counts, HasMany, Answers}
 use Rattle.wast_resolve_passes.specs.Standing.{context_of}
 use Rattle.wast_resolve_rules.specs.Resolved.{numbering_change}
-use Rattle.wast_resolve_passes.specs.Resolvers.{scope_of}
+use Rattle.wast_resolve_names.specs.Resolvers.{scope_of}
 use Rattle.wast_resolve_passes.proofs.Moving.{stands_by}
-use Rattle.wast_resolve_passes.proofs.Parts.{more_answers}
+use Rattle.wast_resolve_names.proofs.Parts.{more_answers}
 use Rattle.wast_resolve_passes.proofs.Stepping.{along_more, along_tried, partway_more, partway_tried, partway_stops, partway_many, all_met, all_become}
 use Rattle.wast_resolve_passes.proofs.instrs.walk_instrs.Goals as goal
 

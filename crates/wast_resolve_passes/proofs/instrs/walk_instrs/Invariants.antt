@@ -2,7 +2,7 @@ use Rattle.wast_tree_nodes.specs.Sites.{Locals}
 use Rattle.wast_resolve_passes.specs.Locals.{Numbers}
 use Rattle.wast_resolve_passes.specs.Standing.{context_of}
 use Rattle.wast_resolve_rules.specs.Resolved.{numbering_change}
-use Rattle.wast_resolve_passes.specs.Resolvers.{scope_of}
+use Rattle.wast_resolve_names.specs.Resolvers.{scope_of}
 use Rattle.wast_resolve_passes.proofs.Stepping.{IsAlong, IsPartway}
 use Rattle.wast_resolve_passes.proofs.instrs.walk_instrs.Given as goal
 

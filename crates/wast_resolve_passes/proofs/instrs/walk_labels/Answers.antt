@@ -1,7 +1,7 @@
 use Rattle.std.proofs.Common.{arith, [], ◌≤◌, length}
 use Rattle.std.proofs.lemmas.Result.{err_from_is_err_and}
 use Rattle.wast_base.specs.Faults.{diagnostic_of}
-use Rattle.wast_resolve_passes.specs.Resolvers.{without_types}
+use Rattle.wast_resolve_names.specs.Resolvers.{without_types}
 use Rattle.wast_resolve_passes.proofs.Each.{stops, goes_on, tried, all_met, all_become}
 use Rattle.wast_resolve_passes.proofs.instrs.walk_labels.Goals as goal
 

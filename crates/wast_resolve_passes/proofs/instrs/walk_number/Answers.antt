@@ -2,8 +2,8 @@ use Rattle.std.specs.Prelude.{⊤, []}
 use Rattle.wast_tree_nodes.specs.Sites.{at_index}
 use Rattle.wast_resolve_rules.specs.Demands.{HasMany, site_demands}
 use Rattle.wast_resolve_rules.specs.Resolved.{numbered_at}
-use Rattle.wast_resolve_passes.specs.Resolvers.{known_of, scope_of}
-use Rattle.wast_resolve_passes.proofs.Parts.{more_refused}
+use Rattle.wast_resolve_names.specs.Resolvers.{known_of, scope_of}
+use Rattle.wast_resolve_names.proofs.Parts.{more_refused}
 use Rattle.wast_resolve_passes.proofs.instrs.walk_number.Goals as goal
 
 pub returns : goal.returns

@@ -2,8 +2,8 @@ use Rattle.std.specs.Prelude.{⊤}
 use Rattle.wast_tree_nodes.specs.Sites.{check_sites}
 use Rattle.wast_resolve_rules.specs.Demands.{HasMany, open_counts, site_demands}
 use Rattle.wast_resolve_rules.specs.Resolved.{numbering_change}
-use Rattle.wast_resolve_passes.specs.Resolvers.{scope_of}
-use Rattle.wast_resolve_passes.proofs.Parts.{more_refused}
+use Rattle.wast_resolve_names.specs.Resolvers.{scope_of}
+use Rattle.wast_resolve_names.proofs.Parts.{more_refused}
 use Rattle.wast_resolve_passes.proofs.instrs.walk_part.Goals as goal
 
 pub returns : goal.returns

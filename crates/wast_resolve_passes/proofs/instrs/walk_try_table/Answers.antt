@@ -10,10 +10,10 @@ use Rattle.wast_tree_nodes.proofs.Behind.{after-append}
 use Rattle.wast_resolve_passes.specs.Tree.{BlockType}
 use Rattle.wast_resolve_rules.specs.Demands.{HasMany, open_counts_at, open_counts, site_demand}
 use Rattle.wast_resolve_passes.specs.Standing.{context_of}
-use Rattle.wast_resolve_passes.specs.Resolvers.{scope_of}
+use Rattle.wast_resolve_names.specs.Resolvers.{scope_of}
 use Rattle.wast_resolve_rules.proofs.Counted.{many_right}
 use Rattle.wast_resolve_rules.proofs.Unmoved.{catches_stay}
-use Rattle.wast_resolve_passes.proofs.Parts.{both_met, fails_first, fails_second, more_answers}
+use Rattle.wast_resolve_names.proofs.Parts.{both_met, fails_first, fails_second, more_answers}
 use Rattle.wast_resolve_passes.proofs.instrs.walk_try_table.Goals as goal
 
 pub returns-in_err-walk_block_type-clause-walks : goal.returns-in_err-walk_block_type-clause-walks

@@ -3,7 +3,8 @@ use Rattle.std.proofs.lemmas.List.{length-map}
 use Rattle.wast_base.specs.Ids.{mark_of_option}
 use Rattle.wast_base.specs.Spaces.{name_if}
 use Rattle.wast_resolve_passes.specs.Locals.{marks_of, names}
-use Rattle.wast_resolve_passes.proofs.NoNames.{no_names, empty_filled, how_many}
+use Rattle.wast_resolve_passes.proofs.Declaring.{no_names, how_many}
+use Rattle.wast_resolve_names.proofs.NoIds.{empty_filled}
 use Rattle.wast_resolve_passes.proofs.locals.try_names.Goals as goal
 
 pub returns-then-not-have_ids-2-clause-found : goal.returns-then-not-have_ids-2-clause-found

@@ -9,8 +9,8 @@ use Rattle.wast_resolve_rules.specs.Demands.{HasMany, first_unmet, open_counts, 
 use Rattle.wast_resolve_passes.specs.Locals.{NumbersIn}
 use Rattle.wast_resolve_passes.specs.Standing.{initial_context}
 use Rattle.wast_resolve_rules.specs.Resolved.{numbering_change}
-use Rattle.wast_resolve_passes.specs.Resolvers.{scope_of}
-use Rattle.wast_resolve_passes.proofs.Parts.{all_but_last, all_counts_but_last, walks_as}
+use Rattle.wast_resolve_names.specs.Resolvers.{scope_of}
+use Rattle.wast_resolve_names.proofs.Parts.{all_but_last, all_counts_but_last, walks_as}
 use Rattle.wast_resolve_passes.proofs.walks.walk_body.Goals as goal
 
 -- branch hints have no checks

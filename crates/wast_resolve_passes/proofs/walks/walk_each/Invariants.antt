@@ -1,6 +1,6 @@
 use Rattle.wast_resolve_rules.specs.Demands.{ask_demand}
 use Rattle.wast_resolve_rules.specs.Resolved.{numbering_change}
-use Rattle.wast_resolve_passes.specs.Resolvers.{known_of, scope_of}
+use Rattle.wast_resolve_names.specs.Resolvers.{known_of, scope_of}
 use Rattle.wast_resolve_passes.proofs.Each.{IsHalfway}
 use Rattle.wast_resolve_passes.proofs.walks.walk_each.Given as goal
 

@@ -6,9 +6,9 @@ use Rattle.wast_resolve_passes.specs.Tree.space
 use Rattle.wast_resolve_rules.specs.Demands.{HasMany, body_counts_in, site_demands, first_unmet}
 use Rattle.wast_tree_map.specs.Mapped.{mapped_type, mapped_rec, mapped_import, mapped_func, mapped_table, mapped_memory, mapped_global, mapped_export, mapped_elem, mapped_data, mapped_tag}
 use Rattle.wast_resolve_rules.specs.Resolved.{numbered_at, numbering_change}
-use Rattle.wast_resolve_passes.specs.Resolvers.{scope_of}
+use Rattle.wast_resolve_names.specs.Resolvers.{scope_of}
 use Rattle.wast_resolve_rules.proofs.CustomsAsk.{custom_asks}
-use Rattle.wast_resolve_passes.proofs.Parts.{walks_in}
+use Rattle.wast_resolve_names.proofs.Parts.{walks_in}
 use Rattle.wast_resolve_passes.proofs.TwoSteps.{of_field}
 use Rattle.wast_resolve_passes.proofs.walks.walk_field.Goals as goal
 

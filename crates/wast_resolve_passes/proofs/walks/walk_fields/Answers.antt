@@ -5,7 +5,7 @@ use Rattle.wast_resolve_passes.proofs.Each.{stops_with, split, goes_on}
 use Rattle.wast_resolve_rules.proofs.Counted.{many_at}
 use Rattle.wast_resolve_rules.proofs.Unmet.{answers_more}
 use Rattle.wast_resolve_rules.specs.Demands.{body_counts_in}
-use Rattle.wast_resolve_passes.specs.Resolvers.{scope_of}
+use Rattle.wast_resolve_names.specs.Resolvers.{scope_of}
 use Rattle.wast_resolve_passes.proofs.walks.walk_fields.Goals as goal
 
 pub returns-in_err-walk_field : goal.returns-in_err-walk_field

@@ -4,9 +4,9 @@ use Rattle.wast_base.specs.Faults.{diagnostic_of}
 use Rattle.wast_tree_nodes.specs.Sites.{OfItem, in_use, in_func_kind}
 use Rattle.wast_resolve_passes.specs.Tree.field
 use Rattle.wast_resolve_rules.specs.Demands.{site_demand, body_counts_in, HasMany}
-use Rattle.wast_resolve_passes.specs.Resolvers.{scope_of}
+use Rattle.wast_resolve_names.specs.Resolvers.{scope_of}
 use Rattle.wast_resolve_passes.proofs.Functions.{numbered_says}
-use Rattle.wast_resolve_passes.proofs.Parts.{both_met, fails_first, fails_second}
+use Rattle.wast_resolve_names.proofs.Parts.{both_met, fails_first, fails_second}
 use Rattle.wast_resolve_passes.proofs.walks.walk_func.Goals as goal
 
 pub returns-in_err-walk_type_use : goal.returns-in_err-walk_type_use

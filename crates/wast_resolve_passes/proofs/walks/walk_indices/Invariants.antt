@@ -1,7 +1,7 @@
 use Rattle.wast_tree_nodes.specs.Sites.{in_index}
 use Rattle.wast_resolve_rules.specs.Demands.{ask_demand}
 use Rattle.wast_resolve_rules.specs.Resolved.{numbered_at}
-use Rattle.wast_resolve_passes.specs.Resolvers.{known_of}
+use Rattle.wast_resolve_names.specs.Resolvers.{known_of}
 use Rattle.wast_resolve_passes.proofs.Each.{IsHalfway}
 use Rattle.wast_resolve_passes.proofs.walks.walk_indices.Given as goal
 

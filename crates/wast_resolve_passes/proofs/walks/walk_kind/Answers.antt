@@ -7,7 +7,7 @@ use Rattle.wast_resolve_passes.specs.Tree.{FuncKind}
 use Rattle.wast_resolve_rules.specs.Demands.{first_unmet, Answers, ask_demands, site_demands, declared_ids, kind_marks, open_counts, HasMany}
 use Rattle.wast_resolve_passes.specs.Locals.{body_declarations, names, locals_in, kind_counts}
 use Rattle.wast_resolve_rules.specs.Resolved.{numbering_change}
-use Rattle.wast_resolve_passes.specs.Resolvers.{scope_of}
+use Rattle.wast_resolve_names.specs.Resolvers.{scope_of}
 use Rattle.wast_resolve_rules.specs.Scopes.{implicit_param_count}
 use Rattle.wast_resolve_passes.specs.TwoSteps.{in_locals, in_body, with_body}
 use Rattle.wast_resolve_rules.proofs.Numbering.{numbering_keeps}

@@ -4,7 +4,7 @@ use Rattle.wast_base.specs.Faults.{diagnostic_of}
 use Rattle.wast_tree_nodes.specs.Sites.{in_type_use}
 use Rattle.wast_resolve_passes.specs.Tree.{FunctionType, TypeUse}
 use Rattle.wast_resolve_rules.specs.Demands.{first_unmet, Answers, ask_demands, match_if, use_demand}
-use Rattle.wast_resolve_passes.specs.Resolvers.{scope_of}
+use Rattle.wast_resolve_names.specs.Resolvers.{scope_of}
 use Rattle.wast_resolve_rules.proofs.Unmet.{answers_first, answers_after, first_unmet-append}
 use Rattle.wast_resolve_rules.proofs.Matching.{matched_still}
 use Rattle.wast_resolve_passes.proofs.walks.walk_type_use.Goals as goal

@@ -8,9 +8,9 @@ use Rattle.wast_tree_map.specs.Mapped.{mapped_item_kind, mapped_sig}
 use Rattle.wast_tree_map.proofs.Alone.{shared_id_stays}
 use Rattle.wast_resolve_rules.specs.Demands.{site_demands}
 use Rattle.wast_resolve_rules.specs.Resolved.{numbering_change}
-use Rattle.wast_resolve_passes.specs.Resolvers.{scope_of}
-use Rattle.wast_resolve_passes.specs.Walking.{Walks}
-use Rattle.wast_resolve_passes.proofs.Parts.{walks_before, walks_before_asks, shared_id_met}
+use Rattle.wast_resolve_names.specs.Resolvers.{scope_of}
+use Rattle.wast_resolve_names.specs.Walking.{Walks}
+use Rattle.wast_resolve_names.proofs.Parts.{walks_before, walks_before_asks, shared_id_met}
 use Rattle.wast_resolve_passes.proofs.apart.ImportItemsWalkApart.walk_apart.Goals as goal
 
 pub returns-in-Group1 : goal.returns-in-Group1

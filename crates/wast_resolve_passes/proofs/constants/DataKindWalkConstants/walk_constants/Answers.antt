@@ -2,7 +2,7 @@ use Rattle.std.proofs.Common.{ap, ◌∙◌}
 use Rattle.std.proofs.lemmas.Result.{err_from_is_err_and}
 use Rattle.wast_base.specs.Faults.{diagnostic_of}
 use Rattle.wast_resolve_rules.specs.Resolved.{numbering_change}
-use Rattle.wast_resolve_passes.specs.Resolvers.{scope_of}
+use Rattle.wast_resolve_names.specs.Resolvers.{scope_of}
 use Rattle.wast_resolve_passes.specs.TwoSteps.{in_data_offset, with_data_offset}
 use Rattle.wast_resolve_passes.proofs.TwoSteps.{first_fails, second_stops, both_met, data_parts, data_stays, data_becomes}
 use Rattle.wast_resolve_passes.proofs.constants.DataKindWalkConstants.walk_constants.Goals as goal

@@ -2,7 +2,7 @@ use Rattle.std.proofs.Common.{ap, ◌∙◌}
 use Rattle.std.proofs.lemmas.Result.{err_from_is_err_and}
 use Rattle.wast_base.specs.Faults.{diagnostic_of}
 use Rattle.wast_resolve_rules.specs.Resolved.{numbering_change}
-use Rattle.wast_resolve_passes.specs.Resolvers.{scope_of}
+use Rattle.wast_resolve_names.specs.Resolvers.{scope_of}
 use Rattle.wast_resolve_passes.specs.TwoSteps.{in_element_type, with_element_type}
 use Rattle.wast_resolve_passes.proofs.TwoSteps.{first_stops, second_fails, both_met, payload_parts, payload_stays, payload_becomes}
 use Rattle.wast_resolve_passes.proofs.constants.ElemPayloadWalkConstants.walk_constants.Goals as goal

@@ -6,8 +6,8 @@ use Rattle.wast_base.specs.Faults.{diagnostic_of}
 use Rattle.wast_tree_nodes.specs.Instrs.{block_effects}
 use Rattle.wast_tree_nodes.specs.Sites.{Clause, constant_context, in_constant, in_instrs}
 use Rattle.wast_resolve_rules.specs.Demands.{first_unmet, site_demands, open_counts, HasMany, Answers}
-use Rattle.wast_resolve_passes.specs.Resolvers.{scope_of}
-use Rattle.wast_resolve_passes.proofs.Parts.{all_but_last, all_counts_but_last}
+use Rattle.wast_resolve_names.specs.Resolvers.{scope_of}
+use Rattle.wast_resolve_names.proofs.Parts.{all_but_last, all_counts_but_last}
 use Rattle.wast_resolve_passes.proofs.Within.{none_numbers}
 use Rattle.wast_resolve_passes.proofs.constants.ExpressionWalkConstants.walk_constants.Goals as goal
 

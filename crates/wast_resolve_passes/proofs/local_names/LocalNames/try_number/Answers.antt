@@ -2,8 +2,8 @@ use Rattle.std.proofs.Common.{Bool, codes, sym, subst}
 use Rattle.wast_resolve_rules.specs.Demands.{known_index}
 use Rattle.wast_resolve_rules.specs.Resolved.{resolved_index}
 use Rattle.wast_resolve_passes.specs.Locals.{local_in}
-use Rattle.wast_resolve_passes.specs.Walking.{Tries}
-use Rattle.wast_resolve_passes.proofs.Tries.{tries_index}
+use Rattle.wast_resolve_names.specs.Walking.{Tries}
+use Rattle.wast_resolve_names.proofs.Trials.{tries_index}
 use Rattle.wast_resolve_passes.proofs.local_names.LocalNames.try_number.Goals as goal
 
 pub returns : goal.returns

@@ -1,8 +1,8 @@
 use Rattle.std.proofs.Common.{Ok, Err}
 use Rattle.std.proofs.lemmas.Result.{err_from_is_err_and}
-use Rattle.wast_resolve_passes.specs.Resolvers.{known_of}
-use Rattle.wast_resolve_rules.proofs.PartsOfTypes.{ref_part}
-use Rattle.wast_resolve_passes.proofs.CallingNames.{calls_walk}
+use Rattle.wast_resolve_names.specs.Resolvers.{known_of}
+use Rattle.wast_resolve_core_types.proofs.PartsOfTypes.{ref_part}
+use Rattle.wast_resolve_names.proofs.CallingNames.{calls_walk}
 use Rattle.wast_resolve_passes.proofs.walks.RefTypeWalk.walk.Goals as goal
 
 pub returns-in_err-resolve_reftype : goal.returns-in_err-resolve_reftype

@@ -1,0 +1,94 @@
+//! Collects the ids of all items of the fields, and then replaces each id by its index.
+
+ghost use Rattle.std.specs.Prelude.{◌≡◌, None, IfOk, IfErr, OnOk};
+ghost use Rattle.wast_tree_nodes.specs.Items.{items};
+ghost use Rattle.wast_tree_nodes.specs.Known.{id_context};
+ghost use Rattle.wast_resolve_rules.specs.Demands.{first_unmet, name_demands, IsUnnumbered};
+ghost use Rattle.wast_resolve_rules.specs.Resolved.{resolved_fields};
+ghost use Rattle.wast_resolve_names.specs.Resolvers.{known_of, scope_of};
+ghost use Rattle.wast_resolve_rules.specs.Scopes.{module_scope};
+
+use std::alloc::Global;
+use wast_base::{Error, Seq};
+use wast_resolve_names::{Resolver, with_types};
+use wast_resolve_passes::walk_fields;
+use wast_resolve_spaces::{name_spaces, type_shapes};
+use wast_tree_nodes::{ModuleField, discard_fields};
+
+/// Replaces each id in the fields by its index, and returns the ids with their indices (text
+/// format: indices).
+///
+/// The new indices keep the positions of the ids. Any fields are accepted. Inline exports, imports,
+/// elements and data are unchanged. A type use without an index stays without one, because
+/// `types::expand` of `wast_expand_types` adds them.
+///
+/// # Example
+///
+///     let (fields, resolver) = names::resolve(alloc, fields).expect(rt, "memory");
+///     discard_fields(fields);
+///
+/// # Errors
+///
+/// The first check that fails, with its position. First, in the order of the items:
+///
+/// - E2: two items of an index space have the same id. After each struct, E3: two of its fields do.
+///
+/// Then, field by field:
+///
+/// - E4: an id is not defined, also one of a label, a local or a struct field.
+/// - E9: a field is named of a type that is not a struct with named fields.
+/// - E5, E6, E7: an inline type does not match the index beside it.
+/// - E2: two parameters or locals of a function have the same id.
+/// - E8: the label at an `else` or `end` is not that of its block.
+///
+/// Two errors have no position:
+///
+/// - E10: an index space has 2^32 items or more, or a struct as many fields. If no two items have
+///   the same id, also: a function has as many parameters and locals, or a body as many enclosing
+///   blocks.
+/// - E12: allocation failed.
+///
+/// After an error the fields are dropped.
+///
+/// # Guarantees
+///
+/// - `met`: on success all these checks pass. `list`: the fields are `resolved_fields`.
+/// - `names`, `scope`: the resolver has exactly the ids and types of the fields.
+/// - `refusal`: the errors are those above.
+pub fn resolve<'a>(
+    alloc: Global,
+    fields: Seq<ModuleField<'a>>,
+) -> Result<(Seq<ModuleField<'a>>, Resolver<'a>), Error<'a>>
+    ensures met { OnOk result (first_unmet (name_demands fields.entry) ≡ None) }
+    ensures list { IfOk result (λ r. r.0 ≡ resolved_fields fields.entry) }
+    ensures names { IfOk result (λ r. known_of r.1 ≡ id_context (items fields.entry)) }
+    ensures scope { IfOk result (λ r. scope_of r.1 ≡ module_scope fields.entry) }
+    ensures refusal { IfErr result (IsUnnumbered fields.entry) }
+{
+    let mut fields = fields;
+    match resolve_fields(alloc, &mut fields) {
+        Ok(names) => Ok((fields, names)),
+        Err(e) => {
+            discard_fields(fields);
+            Err(e)
+        }
+    }
+}
+
+/// Resolves the fields in their list.
+fn resolve_fields<'a>(
+    alloc: Global,
+    fields: &mut Seq<ModuleField<'a>>,
+) -> Result<Resolver<'a>, Error<'a>>
+    ensures met { OnOk result (first_unmet (name_demands fields.old) ≡ None) }
+    ensures list { OnOk result (fields.new ≡ resolved_fields fields.old) }
+    ensures names { IfOk result (λ r. known_of r ≡ id_context (items fields.old)) }
+    ensures scope { IfOk result (λ r. scope_of r ≡ module_scope fields.old) }
+    ensures refusal { IfErr result (IsUnnumbered fields.old) }
+{
+    let spaces = name_spaces(alloc, fields.as_slice())?;
+    let types = type_shapes(alloc, fields.as_slice())?;
+    let names = with_types(spaces, types);
+    walk_fields(alloc, &names, fields)?;
+    Ok(names)
+}

@@ -1,0 +1,4 @@
+pub mod Calling
+pub mod CallingEach
+pub mod PartsOfTypes
+pub mod TypeParts

@@ -1,5 +1,0 @@
-use Rattle.wast_resolve_passes.proofs.Accesses.{fields_seen}
-use Rattle.wast_resolve_passes.proofs.resolver.TypeShape.fields.Goals as goal
-
-pub returns-in-None : goal.returns-in-None
-returns-in-None c = fields_seen c.args.self.now.signature c.args.self.now.fields c.as_ref.result c.in-None.is c.as_ref.ensures.value

@@ -1,0 +1,7 @@
+pub mod Collecting
+pub mod Countdowns
+pub mod FieldClashes
+pub mod FoundClashes
+pub mod NoNames
+pub mod Shaping
+pub mod Trying
