@@ -112,6 +112,8 @@ fn check_matches_reports_mismatch_and_unknown_type(rt: HostRuntime) {
     let alloc = rt.alloc();
     let cx = resolver(&rt, alloc);
     let mut function = FunctionType::empty(alloc);
+    assert!(rt; names::TypeReference::resolve(&mut function, &cx) == Ok(()));
+    assert!(rt; function.params.is_empty() && function.results.is_empty());
     for (number, answer) in [
         (0, Ok(())),
         (1, Err(Error::new(at(3), Fault::NoMatch))),
@@ -123,8 +125,6 @@ fn check_matches_reports_mismatch_and_unknown_type(rt: HostRuntime) {
             "type {number}"
         );
     }
-    assert!(rt; names::TypeReference::resolve(&mut function, &cx) == Ok(()));
-    assert!(rt; function.params.is_empty() && function.results.is_empty());
     discard_function_type(function);
 }
 
