@@ -16,7 +16,7 @@ import sys
 import tempfile
 
 import edits
-import unproved
+import entry
 
 FN = re.compile(r"( *)(?:pub(?:\([a-z]+\))? )?(?:const )?(?:unsafe )?(?:extern \"C\" )?fn (\w+)")
 SCOPE = re.compile(r"( *)(?:pub(?:\([a-z]+\))? )?(?:(?:mod|trait) (\w+)|impl\b)")
@@ -177,10 +177,6 @@ PLACED = re.compile(r"(?:note: )?(?:\./)?((?:src|specs|proofs)/\S+?):(\d+):\d+: 
 NAME_GONE = re.compile(r"has no field|is not in scope|has no `|was not admitted")
 
 
-class NotTried(Exception):
-    """Why mutants of a crate cannot be tried."""
-
-
 def owner(name):
     """The function that the prover's name of it, or of a closure in it, belongs to, without the crate: `m::fn::f::map` is of m::f."""
     names = name.split("::")[1:]
@@ -222,14 +218,14 @@ class Checks:
     """Checks of copies of one crate, each over what those before it proved."""
 
     def __init__(self, crate, room, log):
-        sys.path.insert(0, str(unproved.kit() / "bin"))
+        sys.path.insert(0, str(entry.kit() / "bin"))
         import rtlib
 
         self.crate, self.room, self.log, self.misfits, self.count = crate, room, log, {}, 0
         made = rtlib.Crate(str(edits.ROOT / "crates" / crate), str(edits.ROOT), {})
         lacking = [below.name for below in made.below() if not below.is_built()]
         if lacking:
-            raise NotTried(f"crates below are not proved: {' '.join(lacking)}: run `rt check` in crates/{crate}")
+            raise entry.Failed(f"crates below are not proved: {' '.join(lacking)}: run `rt check` in crates/{crate}")
         self.words = [rtlib.RATTLE, "check", *made.words(["--jobs", "1"], keeps=False), "--incremental", str(room / "incremental")]
         if os.path.isdir(f"{made.folder}/out/incremental"):
             shutil.copytree(f"{made.folder}/out/incremental", room / "incremental")
@@ -252,7 +248,7 @@ class Checks:
                 os.makedirs(self.log, exist_ok=True)
                 pathlib.Path(self.log, f"{self.crate}-{self.count}.log").write_text("\n".join([*only, said]), encoding="utf-8")
             if ran.returncode < 0:
-                raise NotTried(f"a check was killed: {-ran.returncode}")
+                raise entry.Failed(f"a check was killed: {-ran.returncode}")
             unknown = re.search(r"error: `\w+` has no function `([^`]+)`", said)
             if not unknown or unknown.group(1) not in wanted or unknown.group(1) in self.misfits:
                 return said
