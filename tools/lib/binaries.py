@@ -1,7 +1,7 @@
 """What binary modules say, for `tools/suite`: two are compared but for what a text leaves open.
 
 RULES names what a writer may choose: each is a way to write one thing, and where two modules differ, `difference` tells the rules by
-which they do, or that there is none. Custom sections are passed over.
+which they do, or that there is none. Of custom sections only names are compared: `names` has those of a module.
 """
 
 RULES = {
@@ -235,6 +235,49 @@ class Module:
         if 84 <= row[1] <= 91:
             return *row, self.memory_argument(body), body.byte()
         return (*row, body.byte()) if 21 <= row[1] <= 34 else row
+
+
+# Subsections of the name section that are not compared: `wat2wasm` writes no labels (3), and tags with the number that is now that of fields (10, 11).
+UNNAMED = {3, 10, 11}
+
+
+def names(data):
+    """What the name section of a module says, by its subsections, but for those that are left out by wabt. For example, `{1: {0: b"f"}}` names function 0."""
+    reader, found = Bytes(data), {}
+    reader.take(8)
+    while reader.left():
+        kind, size = reader.byte(), reader.number()
+        content = Bytes(reader.take(size))
+        if kind or content.take(content.number()) != b"name":
+            continue
+        while content.left():
+            kind, size = content.byte(), content.number()
+            part = Bytes(content.take(size))
+            name = lambda: part.take(part.number())
+            each = lambda: dict(part.many(lambda: (part.number(), name())))
+            if kind == 0:
+                found[kind] = name()
+            elif kind == 2:
+                # a function without names of locals may be there, with none
+                found[kind] = {index: of for index, of in part.many(lambda: (part.number(), each())) if of}
+            elif kind not in UNNAMED:
+                found[kind] = each()
+    return {kind: said for kind, said in found.items() if said}
+
+
+def fault(ours, theirs, is_text, source):
+    """What is wrong with a file of a module, beside that of wabt; nothing if they say the same, or differ by a rule. wabt does not read
+    annotations, so names are compared only if their source has none."""
+    if ours == theirs:
+        return ""
+    if is_text:
+        return "the text differs"
+    if difference(ours, theirs) is None:
+        return "the bytes differ by no rule"
+    try:
+        return "" if b"(@" in source or names(ours) == names(theirs) else "the names differ"
+    except IndexError:
+        return "a name section cannot be read"
 
 
 def difference(one, other):

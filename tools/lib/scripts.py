@@ -48,8 +48,8 @@ def converted(program, path, folder, words=()):
 
 
 def by_wabt(path, folder):
-    """Converts a script by `wast2json`, which is not to look whether modules are valid."""
-    return converted("wast2json", path, folder, ["--enable-all", "--no-check"])
+    """Converts a script by `wast2json`, which writes names, and is not to look whether modules are valid."""
+    return converted("wast2json", path, folder, ["--enable-all", "--no-check", "--debug-names"])
 
 
 def is_script(path):
@@ -79,6 +79,19 @@ def inner(commands):
     for command in commands:
         yield command
         yield from inner(command.get("commands", []))
+
+
+def has_to_be_read(path, theirs):
+    """Whether a script has to be read: by its name, and unless `wast2json`, if it is there, rejects it too."""
+    return not path.name.endswith(".fail.wast") and (theirs is None or theirs.commands is not None)
+
+
+def files_of(ours, theirs):
+    """The files of two conversions whose commands are the same: the line of each, its content in both, and whether it is a text."""
+    for mine, other in zip(ours.commands, theirs.commands):
+        name = mine.get("filename", "")
+        if name and difference(mine, other) == "":
+            yield mine["line"], (ours.folder / name).read_bytes(), (theirs.folder / other["filename"]).read_bytes(), not name.endswith(".wasm")
 
 
 def difference(ours, theirs):
