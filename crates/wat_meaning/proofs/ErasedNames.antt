@@ -56,19 +56,15 @@ names_same (field.Func f) = λ i. (space.Func, given_same f.name f.id i) ∷ []
 names_same (field.Table t) = λ i. (space.Table, given_same t.name t.id i) ∷ []
 names_same (field.Memory m) = λ i. (space.Memory, given_same m.name m.id i) ∷ []
 names_same (field.Global g) = λ i. (space.Global, given_same g.name g.id i) ∷ []
-names_same (field.Export e) = refl
-names_same (field.Start x) = refl
 names_same (field.Elem e) = λ i. (space.Elem, given_same e.name e.id i) ∷ []
 names_same (field.Data d) = λ i. (space.Data, given_same d.name d.id i) ∷ []
 names_same (field.Tag t) = λ i. (space.Tag, given_same t.name t.id i) ∷ []
-names_same (field.Custom c) = refl
+names_same x = refl
 
 -- the number of parameters of the type at an index
 arity_same : (k : InnerTypeKind) → arity (named_inner erased.own erased.index k) ≡ arity k
 arity_same (inner.Func t) = ap Some (length-map t.params (named_param erased.own erased.index))
-arity_same (inner.Struct t) = refl
-arity_same (inner.Array t) = refl
-arity_same (inner.Cont t) = refl
+arity_same x = refl
 
 arities_in : (x : ModuleField) → map arity_in (types_within (mapped_field erased x)) ≡ map arity_in (types_within x)
 arities_in (field.Ty t) = λ i. arity_same t.def.kind i ∷ []
@@ -89,16 +85,12 @@ params_same : (ps : List Param) → map param_name (map (named_param erased.own 
 params_same ps = each_alike (named_param erased.own erased.index) param_name (λ p. given_same p.1 p.0) ps
 
 fields_named : (k : InnerTypeKind) → field_names_of (named_inner erased.own erased.index k) ≡ field_names_of k
-fields_named (inner.Func t) = refl
 fields_named (inner.Struct t) = each_alike (named_struct_field erased.own erased.index) field_name (λ f. given_same f.name f.id) t.fields
-fields_named (inner.Array t) = refl
-fields_named (inner.Cont t) = refl
+fields_named x = refl
 
 params_named : (k : InnerTypeKind) → param_names_of (named_inner erased.own erased.index k) ≡ param_names_of k
 params_named (inner.Func t) = params_same t.params
-params_named (inner.Struct t) = refl
-params_named (inner.Array t) = refl
-params_named (inner.Cont t) = refl
+params_named x = refl
 
 in_type : (xs : List ModuleField) (t : ty.«Type») → SameLists (all_mapped erased xs) xs (field.Ty (mapped_type erased t)) (field.Ty t)
 in_type xs t w = grind (arith, common_steps, fields_named, params_named)

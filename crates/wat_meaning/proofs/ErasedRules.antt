@@ -9,7 +9,7 @@ use Rattle.wast_base.specs.Ids.{Name, Mark, generation_of, is_generated}
 use Rattle.wast_tree_nodes.specs.Generations.{max_of, generation_in, greatest_item, greatest_generation}
 use Rattle.wast_tree_nodes.specs.Items.{items}
 use Rattle.wast_tree_nodes.specs.Known.{IdContext, id_context}
-use Rattle.wast_tree_nodes.specs.Sites.{Check, ItemIndex, InnerIndex, PlainId, Clause, Covered, Site, Asked, Used, Declared, LocalAt, FieldAt, LabelAt, Repeated, Begins, Ends, in_type_use, mark_asked, asked_in, checks_of, in_module}
+use Rattle.wast_tree_nodes.specs.Sites.{Check, ItemIndex, InnerIndex, Site, Asked, Used, Declared, LocalAt, FieldAt, LabelAt, Repeated, Begins, Ends, in_type_use, mark_asked, asked_in, checks_of, in_module}
 use Rattle.wast_tree_nodes.specs.WellFormed.{is_kept, are_kept, is_well_formed}
 use Rattle.wast_tree_map.specs.Mapped.{Change}
 use Rattle.wast_tree_map.specs.Named.{renamed_mark, named_ask, named_site}
@@ -45,10 +45,7 @@ record Ignores {A : Type 0} (p : Check → A) : Type 0 where
 module _ {A : Type 0} (p : Check → A) (ignores : Ignores p) where
   check_same : (a : Check) → p (named_ask erasing.name change.index a) ≡ p a
   check_same (ItemIndex s i) = ignores.item s i
-  check_same (InnerIndex i) = refl
-  check_same (PlainId m) = refl
-  check_same (Clause k holds) = refl
-  check_same (Covered form holds) = refl
+  check_same x = refl
 
   asks_same : (asks : List Check) → map p (map (named_ask erasing.name change.index) asks) ≡ map p asks
   asks_same [] = refl

@@ -105,10 +105,8 @@ tag_alike t = λ i. record (bare_tag t) { name = names_alike t.name i; exports =
 item_kind_alike : (k : ItemKind) → bare_item_kind (seen_item_kind k) ≡ bare_item_kind k
 item_kind_alike (kind.Func u) = λ i. kind.Func (use_alike u i)
 item_kind_alike (kind.FuncExact u) = λ i. kind.FuncExact (use_alike u i)
-item_kind_alike (kind.Table t) = refl
-item_kind_alike (kind.Memory t) = refl
-item_kind_alike (kind.Global t) = refl
 item_kind_alike (kind.Tag t) = λ i. kind.Tag (tag_type_alike t i)
+item_kind_alike x = refl
 
 sig_alike : (s : ItemSig) → bare_item_sig (seen_item_sig s) ≡ bare_item_sig s
 sig_alike s = λ i. record (bare_item_sig s) { name = names_alike s.name i; kind = item_kind_alike s.kind i }

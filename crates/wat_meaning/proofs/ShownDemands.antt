@@ -49,15 +49,9 @@ module _ (c : Scope) where
   local_shown l = ap (λ (n : ℕ). λ name. option_map (λ p. n + p) (position_of name l.names)) (implicit_shown c l.owner)
 
   site_shown : (s : Site) → site_demand c (shown_site s) ≡ site_demand c s
-  site_shown (Asked a) = refl
   site_shown (Used w u) = use_shown u
-  site_shown (Declared before m) = refl
   site_shown (LocalAt locals i) = ap (λ (number : Name → Option ℕ). known_index number (codes "local") i) (local_shown locals)
-  site_shown (FieldAt owner i) = refl
-  site_shown (LabelAt blocks i) = refl
-  site_shown (Repeated blocks m) = refl
-  site_shown (Begins blocks m) = refl
-  site_shown Ends = refl
+  site_shown x = refl
 
   all_sites_shown : (ss : List Site) → site_demands c (map shown_site ss) ≡ site_demands c ss
   all_sites_shown ss = flat_same shown_site (site_demand c) site_shown ss
@@ -75,19 +69,12 @@ name_demands_shown xs = λ i. item_demands_shown xs i ++ site_demands_shown xs i
 
 -- The order of imports.
 pub import_shown : (x : ModuleField) → import_place (shown_field x) ≡ import_place x
-import_shown (field.Ty t) = refl
-import_shown (field.Rec r) = refl
-import_shown (field.Import m) = refl
 import_shown (field.Func f) = ap (λ b. imported_at f.span (Some b)) (func_imported f.kind)
 import_shown (field.Table t) = ap (λ b. imported_at t.span (Some b)) (table_imported t.kind)
 import_shown (field.Memory m) = ap (λ b. imported_at m.span (Some b)) (memory_imported m.kind)
 import_shown (field.Global g) = ap (λ b. imported_at g.span (Some b)) (global_imported g.kind)
-import_shown (field.Export e) = refl
-import_shown (field.Start i) = refl
-import_shown (field.Elem e) = refl
-import_shown (field.Data d) = refl
 import_shown (field.Tag t) = ap (λ b. imported_at t.span (Some b)) (tag_imported t.kind)
-import_shown (field.Custom c) = refl
+import_shown x = refl
 
 pub last_shown : (xs : List ModuleField) → last_defined (shown_fields xs) ≡ last_defined xs
 last_shown [] = refl
@@ -143,18 +130,7 @@ open_shown x = ap open_counts (field_shown x) ∙ flat_same shown_site open_coun
 module _ (c : Scope) where
   local_counts_shown : (x : ModuleField) → local_counts_in c (shown_field x) ≡ local_counts_in c x
   local_counts_shown (field.Func f) = λ i. (implicit_shown c (Some f.ty) i + length (declared_same f.ty.inline f.kind i)) ∷ []
-  local_counts_shown (field.Ty t) = refl
-  local_counts_shown (field.Rec r) = refl
-  local_counts_shown (field.Import m) = refl
-  local_counts_shown (field.Table t) = refl
-  local_counts_shown (field.Memory m) = refl
-  local_counts_shown (field.Global g) = refl
-  local_counts_shown (field.Export e) = refl
-  local_counts_shown (field.Start i) = refl
-  local_counts_shown (field.Elem e) = refl
-  local_counts_shown (field.Data d) = refl
-  local_counts_shown (field.Tag t) = refl
-  local_counts_shown (field.Custom k) = refl
+  local_counts_shown x = refl
 
   body_shown : (x : ModuleField) → body_counts_in c (shown_field x) ≡ body_counts_in c x
   body_shown x = λ i. local_counts_shown x i ++ open_shown x i

@@ -62,16 +62,7 @@ items_of_shown (field.Ty t) = type_lone t
     type_lone t = λ i. type_items t i ++ []
 items_of_shown (field.Rec r) = flat_same seen_type items_of_type type_items r.types
 items_of_shown (field.Import m) = import_items_same m.items
-items_of_shown (field.Func f) = refl
-items_of_shown (field.Table t) = refl
-items_of_shown (field.Memory m) = refl
-items_of_shown (field.Global g) = refl
-items_of_shown (field.Export e) = refl
-items_of_shown (field.Start i) = refl
-items_of_shown (field.Elem e) = refl
-items_of_shown (field.Data d) = refl
-items_of_shown (field.Tag t) = refl
-items_of_shown (field.Custom c) = refl
+items_of_shown x = refl
 
 pub items_shown : (xs : List ModuleField) → items (shown_fields xs) ≡ items xs
 items_shown xs = flat_same shown_field items_in items_of_shown xs

@@ -64,34 +64,20 @@ names_same (field.Func f) = λ i. (space.Func, given_same f.name f.id i) ∷ []
 names_same (field.Table t) = λ i. (space.Table, given_same t.name t.id i) ∷ []
 names_same (field.Memory m) = λ i. (space.Memory, given_same m.name m.id i) ∷ []
 names_same (field.Global g) = λ i. (space.Global, given_same g.name g.id i) ∷ []
-names_same (field.Export e) = refl
-names_same (field.Start x) = refl
 names_same (field.Elem e) = λ i. (space.Elem, given_same e.name e.id i) ∷ []
 names_same (field.Data d) = λ i. (space.Data, given_same d.name d.id i) ∷ []
 names_same (field.Tag t) = λ i. (space.Tag, given_same t.name t.id i) ∷ []
-names_same (field.Custom c) = refl
+names_same x = refl
 
 -- the number of parameters of the type at an index
 arity_same : (k : InnerTypeKind) → arity (seen_composite k) ≡ arity k
 arity_same (inner.Func t) = ap Some (length-map t.params seen_param)
-arity_same (inner.Struct t) = refl
-arity_same (inner.Array t) = refl
-arity_same (inner.Cont t) = refl
+arity_same x = refl
 
 arities_in : (x : ModuleField) → map arity_in (types_within (shown_field x)) ≡ map arity_in (types_within x)
 arities_in (field.Ty t) = λ i. arity_same t.def.kind i ∷ []
 arities_in (field.Rec r) = each_alike seen_type arity_in (λ t. arity_same t.def.kind) r.types
-arities_in (field.Import x) = refl
-arities_in (field.Func f) = refl
-arities_in (field.Table t) = refl
-arities_in (field.Memory m) = refl
-arities_in (field.Global g) = refl
-arities_in (field.Export e) = refl
-arities_in (field.Start x) = refl
-arities_in (field.Elem e) = refl
-arities_in (field.Data d) = refl
-arities_in (field.Tag t) = refl
-arities_in (field.Custom c) = refl
+arities_in x = refl
 
 arity_stays : (xs : List ModuleField) (i : Option Index) → arity_at (types_of (shown_fields xs)) i ≡ arity_at (types_of xs) i
 arity_stays xs None = refl
@@ -106,16 +92,12 @@ params_same : (ps : List Param) → map param_name (map seen_param ps) ≡ map p
 params_same ps = each_alike seen_param param_name (λ p. given_same p.1 p.0) ps
 
 fields_named : (k : InnerTypeKind) → field_names_of (seen_composite k) ≡ field_names_of k
-fields_named (inner.Func t) = refl
 fields_named (inner.Struct t) = each_alike seen_struct_field field_name (λ f. given_same f.name f.id) t.fields
-fields_named (inner.Array t) = refl
-fields_named (inner.Cont t) = refl
+fields_named x = refl
 
 params_named : (k : InnerTypeKind) → param_names_of (seen_composite k) ≡ param_names_of k
 params_named (inner.Func t) = params_same t.params
-params_named (inner.Struct t) = refl
-params_named (inner.Array t) = refl
-params_named (inner.Cont t) = refl
+params_named x = refl
 
 in_type : (xs : List ModuleField) (t : ty.«Type») → SameLists (shown_fields xs) xs (field.Ty (seen_type t)) (field.Ty t)
 in_type xs t w = grind (arith, common_steps, fields_named, params_named)

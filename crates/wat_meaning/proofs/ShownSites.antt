@@ -205,12 +205,10 @@ tag_shown : (t : TagType) → in_tag_type (seen_tag_type t) ≡ map shown_site (
 tag_shown (tag.Exception u) = refl
 
 item_kind_shown : (k : ItemKind) → in_item_kind (seen_item_kind k) ≡ map shown_site (in_item_kind k)
-item_kind_shown (kind.Func u) = refl
-item_kind_shown (kind.FuncExact u) = refl
 item_kind_shown (kind.Table t) = asked_shown (in_table_type t)
-item_kind_shown (kind.Memory t) = refl
 item_kind_shown (kind.Global t) = asked_shown (in_global_type t)
 item_kind_shown (kind.Tag t) = tag_shown t
+item_kind_shown x = refl
 
 shared_id_shown : (names : List (Bor (List ℕ))) (id : Option Id) → in_shared_id (map seen_text names) id ≡ in_shared_id names id
 shared_id_shown [] id = refl
@@ -320,15 +318,8 @@ sites_shown xs = flat_changed shown_field in_field shown_site field_shown xs
 
 -- The checks of a site, and of all fields, are the same.
 asked_same : (s : Site) → asked_in (shown_site s) ≡ asked_in s
-asked_same (Asked a) = refl
 asked_same (Used w u) = use_asks u
-asked_same (Declared before m) = refl
-asked_same (LocalAt locals i) = refl
-asked_same (FieldAt owner i) = refl
-asked_same (LabelAt blocks i) = refl
-asked_same (Repeated blocks m) = refl
-asked_same (Begins blocks m) = refl
-asked_same Ends = refl
+asked_same x = refl
 
 pub checks_same : (ss : List Site) → checks_of (map shown_site ss) ≡ checks_of ss
 checks_same ss = flat_same shown_site asked_in asked_same ss

@@ -33,10 +33,8 @@ pub field_ids_shown : (fs : List StructField) → field_ids (map seen_struct_fie
 field_ids_shown fs = map_same seen_struct_field (λ f. mark_of_option f.id) (λ f. refl) fs
 
 pub fields_shown : (k : InnerTypeKind) → field_ids (fields_of (seen_composite k)) ≡ field_ids (fields_of k)
-fields_shown (inner.Func t) = refl
 fields_shown (inner.Struct t) = field_ids_shown t.fields
-fields_shown (inner.Array t) = refl
-fields_shown (inner.Cont t) = refl
+fields_shown x = refl
 
 -- the checks of a composite type
 inner_asks : (k : InnerTypeKind) → in_inner (seen_composite k) ≡ in_inner k

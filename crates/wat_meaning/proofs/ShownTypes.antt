@@ -10,7 +10,7 @@ use Rattle.std.proofs.Common.{◌≡◌, ℕ, ◌+◌, false, not, ◌&&◌, len
 use Rattle.std.proofs.lemmas.List.{length-map}
 use Rattle.wast_base.specs.Filling.{with_ids_from, missing_id_count}
 use Rattle.wast_tree_nodes.specs.Known.{id_context}
-use Rattle.wast_tree_nodes.specs.Sites.{if_there, Where, OfItem, OfCall, OfBlock, Site, Asked, Used, Declared, LocalAt, FieldAt, LabelAt, Repeated, Begins, Ends, in_module}
+use Rattle.wast_tree_nodes.specs.Sites.{if_there, Where, OfItem, OfCall, OfBlock, Site, Used, in_module}
 use Rattle.wast_tree_nodes.specs.Types.{is_short}
 use Rattle.wast_expand_keys.specs.Signatures.{Signature, type_of_param, signature_of}
 use Rattle.wast_expand_keys.specs.NeedingUses.{inline_signature, needs_type, needed_if, needed_without, needed_at, needed_in, needed_signatures}
@@ -61,15 +61,8 @@ without_shown w None t = λ i. needed_if (needs_shown w t i) (inline_shown t i)
 without_shown w (Some i) t = refl
 
 site_shown : (s : Site) → needed_at (shown_site s) ≡ needed_at s
-site_shown (Asked a) = refl
 site_shown (Used w u) = without_shown w u.index u.inline
-site_shown (Declared before m) = refl
-site_shown (LocalAt locals i) = refl
-site_shown (FieldAt owner i) = refl
-site_shown (LabelAt blocks i) = refl
-site_shown (Repeated blocks m) = refl
-site_shown (Begins blocks m) = refl
-site_shown Ends = refl
+site_shown x = refl
 
 pub needed_shown : (xs : List ModuleField) → needed_signatures (shown_fields xs) ≡ needed_signatures xs
 needed_shown xs = ap needed_in (sites_shown xs) ∙ flat_same shown_site needed_at site_shown (in_module xs)
@@ -81,9 +74,7 @@ type_names_shown xs = ap (λ its. (id_context its).number space.Ty) (items_shown
 -- The signatures of eligible types.
 kind_shown : (t : InnerTypeKind) → kind_signature (seen_composite t) ≡ kind_signature t
 kind_shown (inner.Func t) = ap Some (signature_shown t)
-kind_shown (inner.Struct t) = refl
-kind_shown (inner.Array t) = refl
-kind_shown (inner.Cont t) = refl
+kind_shown x = refl
 
 module _ (k : TypeNames) where
   taken_shown : (d : TypeDef) → taken_by k (seen_type_def d) ≡ taken_by k d

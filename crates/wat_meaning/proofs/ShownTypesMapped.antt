@@ -120,10 +120,8 @@ module _ (f : Change) (is : IgnoresNames f) where
   item_kind_shown : (k : ItemKind) → mapped_item_kind f (seen_item_kind k) ≡ seen_item_kind (mapped_item_kind f k)
   item_kind_shown (kind.Func u) = ap kind.Func (is.used OfItem u)
   item_kind_shown (kind.FuncExact u) = ap kind.FuncExact (is.used OfItem u)
-  item_kind_shown (kind.Table t) = refl
-  item_kind_shown (kind.Memory t) = refl
-  item_kind_shown (kind.Global t) = refl
   item_kind_shown (kind.Tag t) = ap kind.Tag (tag_type_shown t)
+  item_kind_shown x = refl
 
   sig_shown : (s : ItemSig) → mapped_sig f (seen_item_sig s) ≡ seen_item_sig (mapped_sig f s)
   sig_shown s = ap (λ (k : ItemKind). record (seen_item_sig (mapped_sig f s)) { kind = k }) (item_kind_shown s.kind)
