@@ -9,6 +9,7 @@ use Rattle.wast_tree_nodes.specs.Known.{name_in, names_in}
 use Rattle.wast_tree_visit.specs.Visits.{TellsEach, Visits}
 use Rattle.wast_resolve_spaces.specs.Tree.{Space}
 use Rattle.wast_resolve_names.specs.Gathers.{Gathers, GathersItem, gathered_of}
+use Rattle.wast_resolve_names.proofs.Stopping.{stops_more}
 
 gathers_none : (r : Result (List (Option Name)) Error) → Gathers r [] r
 gathers_none (Ok names) = sym (append-nil names)
