@@ -8,6 +8,7 @@ use Rattle.hex.specs.Hex.{encode_lower}
 use Rattle.wat_bytes.specs.declared.names.Denoted.{Denoted}
 use Rattle.wat_bytes.specs.Names.{ListsText}
 use Rattle.wat_bytes.specs.Texts.{EncodesText, OfText}
+use Rattle.wat_command.specs.Fronts.{AppendsFront}
 use Rattle.wat.specs.declared.options.Options.{Options}
 use Rattle.wat.specs.declared.options.Output.{Output}
 use Rattle.wat.specs.declared.options.Output.TheVariants as output
@@ -57,12 +58,13 @@ pub record Converts (o : Options) (text : List ℕ) (is_printed : Bool) (old new
   pub writes : Writes o text out
   pub gets : Gets is_printed old new out
 
--- A text that has an output.
-pub record HasOutput (o : Options) (text : List ℕ) : Type 0 where
+-- A text that has an output, of which standard output gets a front.
+pub record StopsWithin (o : Options) (text : List ℕ) (old new : Option (List ℕ)) : Type 0 where
   pub out : List ℕ
   pub writes : Writes o text out
+  pub front : AppendsFront old new out
 
--- A text that is not converted: standard output gets nothing, or the text has an output and writing it failed.
+-- A text that is not converted: standard output gets nothing, or a front of the output.
 abbrev pub Stops : Options → List ℕ → Bool → Option (List ℕ) → Option (List ℕ) → Type 0
-Stops o text true old new = Keeps old new ⊎ HasOutput o text
+Stops o text true old new = Keeps old new ⊎ StopsWithin o text old new
 Stops o text false old new = Keeps old new

@@ -4,8 +4,9 @@
 //! writer whose bytes are known, because the contracts of the library do not say what bytes a
 //! stream of the system has. That files get the same bytes is tested.
 
-ghost use Rattle.std.specs.Prelude.{◌≡◌, false, Ok, IfOk, OnOk, OnErr};
+ghost use Rattle.std.specs.Prelude.{◌≡◌, true, false, Ok, IfOk, OnOk, OnErr};
 ghost use Rattle.std.specs.Io.KnownBytes.{Appends, Keeps};
+ghost use Rattle.wat_command.specs.Fronts.{AppendsFront};
 ghost use Rattle.wat.specs.Outputs.{HasNames, IsOutput, OutputBy, Writes, Gets, Converts, Stops, hex_line as hex_line_of};
 
 use crate::names::name_lines;
@@ -130,7 +131,8 @@ fn output_of(
 
 /// Writes to standard output, or reports why that failed.
 fn print_output<W: Write>(rt: &HostRuntime, output: &[u8], stdout: &mut W) -> Result<(), Failure>
-    ensures { OnOk result (Appends (W.contents stdout.old) (W.contents stdout.new) output.now) }
+    ensures whole { OnOk result (Appends (W.contents stdout.old) (W.contents stdout.new) output.now) }
+    ensures front { OnErr result (AppendsFront (W.contents stdout.old) (W.contents stdout.new) output.now) }
 {
     match write_bytes(stdout, output) {
         Ok(()) => Ok(()),
@@ -169,6 +171,7 @@ fn write_output<W: Write>(
     stdout: &mut W,
 ) -> Result<(), Failure>
     ensures whole { OnOk result (Gets is_printed (W.contents stdout.old) (W.contents stdout.new) output.now) }
+    ensures front { is_printed ≡ true → OnErr result (AppendsFront (W.contents stdout.old) (W.contents stdout.new) output.now) }
     ensures stored { is_printed ≡ false → Keeps (W.contents stdout.old) (W.contents stdout.new) }
 {
     if is_printed {
@@ -182,8 +185,8 @@ fn write_output<W: Write>(
 /// # Guarantees
 ///
 /// - `whole`: after success, standard output has the output for the text, whole, if it goes there.
-/// - `nothing`: after a failure, nothing was written to standard output; or the text has an
-///   output, and writing it failed.
+/// - `nothing`: after a failure, nothing was written to standard output; or the text has an output,
+///   and a front of it was written.
 fn convert_bytes<W: Write>(
     rt: &HostRuntime,
     options: &Options,

@@ -1,7 +1,8 @@
 //! Reads files, and writes files whole or not at all.
 
-ghost use Rattle.std.specs.Prelude.{OnOk};
-ghost use Rattle.std.specs.Io.KnownBytes.{Appends};
+ghost use Rattle.std.specs.Prelude.{◌+◌, ◌≤◌, ◌-◌, IfOk, OnOk, OnErr, length, take, drop};
+ghost use Rattle.std.specs.Io.KnownBytes.{Appends, Keeps};
+ghost use Rattle.wat_command.specs.Fronts.{AppendsFront};
 
 use crate::escapes::Escaped;
 use std::alloc::AllocError;
@@ -93,16 +94,47 @@ pub fn text_before(bytes: &[u8], offset: usize) -> &str {
     }
 }
 
-/// Writes all bytes to a writer, for example to standard output.
+/// Writes bytes from an offset on, as many as the writer takes, and returns the offset after them.
+fn write_from<W: Write>(writer: &mut W, bytes: &[u8], at: usize) -> io::Result<usize>
+    requires { at ≤ length bytes.now }
+    ensures within { IfOk result (λ end. (at ≤ end) × (end ≤ length bytes.now)) }
+    ensures ok { IfOk result (λ end. Appends (W.contents writer.old) (W.contents writer.new) (take (end - at) (drop at bytes.now))) }
+    ensures err { OnErr result (Keeps (W.contents writer.old) (W.contents writer.new)) }
+{
+    match writer.write(&bytes[at..]) {
+        Ok(count) => Ok(at + count),
+        Err(error) => Err(error),
+    }
+}
+
+/// Writes all bytes to a writer, for example to standard output. It calls `write` itself, because
+/// the contract of `write_all` does not say what a writer has after an error.
 ///
 /// # Guarantees
 ///
 /// - `whole`: after success the writer has the bytes, whole.
+/// - `front`: after an error it has a front of the bytes.
+#[tactic(auto, using(crate::proofs::Fronts::nothing, crate::proofs::Fronts::further, crate::proofs::Fronts::stayed, crate::proofs::Fronts::front, crate::proofs::Fronts::all_of))]
 pub fn write_bytes<W: Write>(writer: &mut W, bytes: &[u8]) -> io::Result<()>
     ensures whole { OnOk result (Appends (W.contents writer.old) (W.contents writer.new) bytes.now) }
+    ensures front { OnErr result (AppendsFront (W.contents writer.old) (W.contents writer.new) bytes.now) }
 {
-    writer.write_all(bytes)?;
-    writer.flush()
+    let mut at = 0;
+    for _ in 0..u64::MAX {
+        if at == bytes.len() {
+            return writer.flush();
+        }
+        match write_from(writer, bytes, at) {
+            Ok(end) if end > at => at = end,
+            Ok(_) => return Err(io::Error::from(ErrorKind::WriteZero)),
+            Err(error) => {
+                if error.kind() != ErrorKind::Interrupted {
+                    return Err(error);
+                }
+            }
+        }
+    }
+    Err(io::Error::from(ErrorKind::Interrupted))
 }
 
 /// Creates a file with these permissions, less those that the user masks. It never opens one that is
