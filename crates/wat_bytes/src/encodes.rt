@@ -95,7 +95,8 @@ pub fn encoded_text<'a>(alloc: Global, text: TextModule<'a>) -> Result<Vec<u8>, 
 }
 
 /// Returns the bytes of the module of this text, which is well formed. An unsupported construct has
-/// its token.
+/// its token, or the error is E12.
+#[tactic(auto, using(crate::proofs::OutOfMemory::memory_instead))]
 fn encoded_in<'a>(
     alloc: Global,
     text: &'a str,
@@ -106,10 +107,10 @@ fn encoded_in<'a>(
     ensures { EncodesText «module».entry result }
 {
     match encoded_module(alloc, module, true) {
-        Err(Refused::Uncovered(found)) => {
-            let written = as_written(alloc, text, strings, found);
-            Err(Refused::Uncovered(written))
-        }
+        Err(Refused::Uncovered(found)) => match as_written(alloc, text, strings, found) {
+            Ok(written) => Err(Refused::Uncovered(written)),
+            Err(_) => Err(Refused::Module(Error::refusal(Fault::Memory))),
+        },
         answer => answer,
     }
 }

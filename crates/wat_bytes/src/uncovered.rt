@@ -1,6 +1,6 @@
 //! Finds the token of an unsupported construct in a text.
 
-ghost use Rattle.std.specs.Prelude.{◌≡◌, option_map};
+ghost use Rattle.std.specs.Prelude.{◌≡◌, option_map, IfOk};
 ghost use Rattle.wat_bytes.specs.Texts.{first_form};
 
 use crate::modules::module_of;
@@ -9,7 +9,7 @@ use std::alloc::Global;
 use wast_core::{Module, ModuleKind, discard_module};
 use wast_tree::{Form, Span, Uncovered, first_uncovered};
 use wat_text::{Strings, TextModule, read};
-use wat_tokens::{Key, OwnOp, PairOp, Placed, Token, UncoveredOp, Word, tokens_of};
+use wat_tokens::{Key, OwnOp, PairOp, Placed, TextError, Token, UncoveredOp, Word, tokens_of};
 
 /// Returns the first unsupported construct of a module. It takes `&mut` and changes nothing,
 /// because for a `&` the prover would compare the type of the whole tree with itself.
@@ -36,17 +36,15 @@ fn place_in(text: TextModule<'_>, form: Form) -> Option<Span> {
 
 /// Returns the position of the first unsupported construct in the fields before resolving, if it is
 /// this one. Resolving adds positions, for example the start of the text for an index that the text
-/// leaves out.
+/// leaves out. The text was read before, so it fails only if an allocation does.
 fn written_place<'a>(
     alloc: Global,
     text: &'a str,
     strings: &'a Strings,
     form: Form,
-) -> Option<Span> {
-    match read(alloc, text, strings) {
-        Ok(module) => place_in(module, form),
-        Err(_) => None,
-    }
+) -> Result<Option<Span>, TextError> {
+    let module = read(alloc, text, strings)?;
+    Ok(place_in(module, form))
 }
 
 /// Returns whether a word is an instruction or a type of stack switching.
@@ -194,18 +192,18 @@ fn at_word<'a>(tokens: &[Placed<'a>], form: Form, from: Span) -> UncoveredForm<'
 }
 
 /// Returns an unsupported construct that was found in resolved fields, with its token. It reads the
-/// text again, because E11 is rare and has neither position nor token.
+/// text again, because E11 is rare and has neither position nor token. So it fails only if an
+/// allocation does.
 pub(crate) fn as_written<'a>(
     alloc: Global,
     text: &'a str,
     strings: &'a Strings,
     found: UncoveredForm<'a>,
-) -> UncoveredForm<'a>
-    ensures { result.form ≡ found.entry.form }
+) -> Result<UncoveredForm<'a>, TextError>
+    ensures { IfOk result (λ u. u.form ≡ found.entry.form) }
 {
-    let from = written_place(alloc, text, strings, found.form).unwrap_or(found.span);
-    match tokens_of(alloc, text, strings) {
-        Ok(tokens) => at_word(tokens.as_slice(), found.form, from),
-        Err(_) => found,
-    }
+    let written = written_place(alloc, text, strings, found.form)?;
+    let tokens = tokens_of(alloc, text, strings)?;
+    let from = written.unwrap_or(found.span);
+    Ok(at_word(tokens.as_slice(), found.form, from))
 }
