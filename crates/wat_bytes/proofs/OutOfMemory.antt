@@ -1,6 +1,5 @@
 -- Encoding a module that was parsed from a text may fail with E12 whenever it may fail.
 use Rattle.std.proofs.Common.{◌⊎◌, inl, List, ℕ, Option, Err, refl}
-use Rattle.std.specs.Prelude.{tt}
 use Rattle.wast_base.specs.declared.faults.Error.{Error}
 use Rattle.wast_base.specs.Faults.{out_of_memory}
 use Rattle.wast_core.specs.declared.module.ModuleKind.{ModuleKind}
@@ -11,7 +10,7 @@ use Rattle.wat_text.specs.declared.modules.TextKind.TheVariants as held
 use Rattle.wat_text.specs.declared.modules.TextModule.{TextModule}
 use Rattle.wat_bytes.specs.Texts.{EncodesReady, kind_of, module_of}
 
-left_of : TextKind → ModuleKind
+abbrev left_of : TextKind → ModuleKind
 left_of (held.Fields fields) = kind.Refused out_of_memory
 left_of (held.Binary pieces) = kind.Binary pieces
 
