@@ -7,6 +7,7 @@ use Rattle.wat_bytes.specs.declared.names.Denoted.{Denoted}
 use Rattle.wat_bytes.specs.Names.{ListsText}
 use Rattle.wat_bytes.specs.Texts.{EncodesText, OfText}
 use Rattle.wat.specs.declared.options.Options.{Options}
+use Rattle.wat.specs.Lines.{lines_of}
 use Rattle.wat.specs.Outputs.{OutputBy, IsOutput, HasNames}
 
 -- `made` is the output for the bytes, and `r` is that or an error.
@@ -18,7 +19,11 @@ module_written o text bytes (Ok x) (Ok out) encoded made same =
 module_written o text bytes (Err d) (Ok out) encoded made same = absurd (cc same)
 module_written o text bytes made (Err e) encoded is same = same
 
--- `r` is the output for the list of ids, or an error.
-pub names_written : {E : Type 0} (text : List ℕ) (all : Vec Denoted) (r : Result (Vec ℕ) E) → OfText ListsText text (Ok all) → IfOk r (λ out. HasNames text)
-names_written text all (Ok out) listed = record { all = all; listed = listed }
-names_written text all (Err e) listed = tt
+-- `made` is the lines for the list of ids, and `r` is these or an error.
+pub names_written : {D E : Type 0} (text : List ℕ) (all : Vec Denoted) (ids : List Denoted) (made : Result (Vec ℕ) D) (r : Result (Vec ℕ) E) → OfText ListsText text (Ok all) → ids ≡ all.items
+    → IfOk made (λ out. out.items ≡ lines_of ids) → IfOk r (λ out. made ≡ Ok out) → IfOk r (λ out. HasNames text out.items)
+names_written text all ids (Ok x) (Ok out) listed same made is =
+    let e : x ≡ out = cc is in
+    record { all = all; listed = listed; written = subst (λ (v : Vec ℕ). v.items ≡ lines_of all.items) e (subst (λ ds. x.items ≡ lines_of ds) same made) }
+names_written text all ids (Err d) (Ok out) listed same made is = absurd (cc is)
+names_written text all ids made (Err e) listed same is refused = refused

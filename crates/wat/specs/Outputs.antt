@@ -1,4 +1,4 @@
--- What the command writes for a text: the bytes of its module, or their hexadecimal digits.
+-- What the command writes for a text: the bytes of its module, or their hexadecimal digits, or the lines of its ids.
 --
 --   wat --hex of `(module)`      0061736d01000000 and a line feed
 use Rattle.std.specs.Prelude.{◌≡◌, ◌⊎◌, ℕ, Bool, true, false, List, [], ◌∷◌, ◌++◌, Option, Ok, ⊤}
@@ -9,6 +9,7 @@ use Rattle.wat_bytes.specs.declared.names.Denoted.{Denoted}
 use Rattle.wat_bytes.specs.Names.{ListsText}
 use Rattle.wat_bytes.specs.Texts.{EncodesText, OfText}
 use Rattle.wat_command.specs.Fronts.{AppendsFront}
+use Rattle.wat.specs.Lines.{lines_of}
 use Rattle.wat.specs.declared.options.Options.{Options}
 use Rattle.wat.specs.declared.options.Output.{Output}
 use Rattle.wat.specs.declared.options.Output.TheVariants as output
@@ -33,16 +34,17 @@ pub record IsOutput (o : Options) (text out : List ℕ) : Type 0 where
   pub encoded : OfText EncodesText text (Ok bytes)
   pub written : OutputBy o bytes.items out
 
--- A text whose ids are listed: `names_of_text` returns a list. Of the lines that are written for it nothing is said.
-pub record HasNames (text : List ℕ) : Type 0 where
+-- The lines for a text: `names_of_text` returns a list for it, and the lines are those of this list.
+pub record HasNames (text out : List ℕ) : Type 0 where
   pub all : Vec Denoted
   pub listed : OfText ListsText text (Ok all)
+  pub written : out ≡ lines_of all.items
 
 -- The output for a text, by its kind.
 abbrev pub WritesAs : Output → Options → List ℕ → List ℕ → Type 0
 WritesAs output.Bytes o text out = IsOutput o text out
 WritesAs output.Hex o text out = IsOutput o text out
-WritesAs output.Names o text out = HasNames text
+WritesAs output.Names o text out = HasNames text out
 
 abbrev pub Writes : Options → List ℕ → List ℕ → Type 0
 Writes o text out = WritesAs o.output o text out

@@ -86,7 +86,7 @@ fn names_output<'a>(
     text: &'a str,
     strings: &'a Strings,
 ) -> Result<Vec<u8>, Failure>
-    ensures { IfOk result (λ out. HasNames text.now) }
+    ensures { IfOk result (λ out. HasNames text.now out.items) }
 {
     match names_of_text(rt.alloc(), text, strings) {
         Ok(names) => allocated(rt, name_lines(rt.alloc(), names.as_slice())),
