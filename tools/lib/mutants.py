@@ -206,6 +206,8 @@ def verdict_of(here, is_alone):
             return REFUSED, name, " ".join(re.findall(r"`([^`]+)`", goals.group(1)))
         for it in places if status.startswith("not proved") else []:
             if is_alone or not NAME_GONE.search(it.group(3)):
+                if NAME_GONE.search(it.group(3)):
+                    return REFUSED if it.group(1).startswith("proofs/") else BROKEN, name, f"{it.group(1)}: {it.group(3)}"[:120]
                 goal = re.search(r"^error: `([^`]+)`: |\(`([^`]+)`\)", it.group(3))
                 return REFUSED, name, (goal.group(1) or goal.group(2)) if goal else f"{it.group(1)}: {it.group(3)}"[:120]
     for name, status, _ in here if is_alone else []:
