@@ -43,8 +43,8 @@ enum rigyomad_space {
     RIGYOMAD_SPACE_TYPE = 7
 };
 
-/* The faults that have a number. E1 to E9 and E11 have a place. No text has E13, because the reader
- * refuses a component: number 0. */
+/* The faults that have a number. E1 to E9 have a place, and E11 that of the construct or the closest
+ * one that is known. No text has E13, because the reader refuses a component: number 0. */
 enum rigyomad_fault_kind {
     /* E1: an import comes after a definition. */
     RIGYOMAD_E1_IMPORT_AFTER = 1,
@@ -137,8 +137,8 @@ static inline const char *rigyomad_fault_text(uint32_t number) {
 struct rigyomad_diagnosis {
     uint32_t number; /* One of rigyomad_fault_kind; 0 if it is no module, or nothing is wrong. */
     size_t offset;   /* Bytes before the place; 0 if there is no place. */
-    size_t line;     /* From 1; 0 if there is no place. */
-    size_t column;   /* In bytes, from 1; 0 if there is no place. */
+    size_t line;     /* From 1; 0 if there is no place, or the text is not UTF-8. */
+    size_t column;   /* In bytes, from 1; 0 where line is 0. */
     size_t size;     /* How many bytes the whole message has. */
 };
 
