@@ -1,1 +1,4 @@
 pub mod Escapes
+pub mod Kept
+pub mod Numbers
+pub mod Written

@@ -1,2 +1,4 @@
 pub mod Lines
 pub mod Outputs
+pub mod Sections
+pub mod WorkedSections

@@ -10,6 +10,7 @@ use Rattle.wat_bytes.specs.Names.{ListsText}
 use Rattle.wat_bytes.specs.Texts.{EncodesText, OfText}
 use Rattle.wat_command.specs.Fronts.{AppendsFront}
 use Rattle.wat.specs.Lines.{lines_of}
+use Rattle.wat.specs.Sections.{without_names}
 use Rattle.wat.specs.declared.options.Options.{Options}
 use Rattle.wat.specs.declared.options.Output.{Output}
 use Rattle.wat.specs.declared.options.Output.TheVariants as output
@@ -18,11 +19,16 @@ use Rattle.wat.specs.declared.options.Output.TheVariants as output
 abbrev pub hex_line : List ℕ → List ℕ
 hex_line bytes = encode_lower bytes ++ 0x0a ∷ []
 
--- The output for the bytes of a module. Of an output without the name section nothing is said.
+-- The bytes of a module, without its name section if `--no-names` is given.
+abbrev pub selected : Bool → List ℕ → List ℕ
+selected true bytes = without_names bytes
+selected false bytes = bytes
+
+-- The output for the bytes of a module. With `--names` there is none.
 abbrev pub OutputOf : Output → Bool → List ℕ → List ℕ → Type 0
-OutputOf output.Bytes false bytes out = out ≡ bytes
-OutputOf output.Hex false bytes out = out ≡ hex_line bytes
-OutputOf kind omits_names bytes out = ⊤
+OutputOf output.Bytes omits_names bytes out = out ≡ selected omits_names bytes
+OutputOf output.Hex omits_names bytes out = out ≡ hex_line (selected omits_names bytes)
+OutputOf output.Names omits_names bytes out = ⊤
 
 -- The output for the bytes of a module with these options.
 abbrev pub OutputBy : Options → List ℕ → List ℕ → Type 0

@@ -7,7 +7,7 @@
 ghost use Rattle.std.specs.Prelude.{◌≡◌, true, false, Ok, IfOk, OnOk, OnErr};
 ghost use Rattle.std.specs.Io.KnownBytes.{Appends, Keeps};
 ghost use Rattle.wat_command.specs.Fronts.{AppendsFront};
-ghost use Rattle.wat.specs.Outputs.{HasNames, IsOutput, OutputBy, Writes, Gets, Converts, Stops, hex_line as hex_line_of};
+ghost use Rattle.wat.specs.Outputs.{HasNames, IsOutput, OutputBy, Writes, Gets, Converts, Stops, hex_line as hex_line_of, selected as selected_bytes};
 
 use crate::names::name_lines;
 use crate::options::{Options, Output};
@@ -25,7 +25,7 @@ use wat_text::Strings;
 
 /// Removes the name section, if the options have `--no-names`.
 fn selected(alloc: Global, options: &Options, bytes: Vec<u8>) -> Result<Vec<u8>, AllocError>
-    ensures { options.now.omits_names ≡ false → result ≡ Ok bytes }
+    ensures { IfOk result (λ out. out.items ≡ selected_bytes options.now.omits_names bytes.items) }
 {
     if options.omits_names {
         return without_names(alloc, bytes.as_slice());

@@ -9,12 +9,13 @@
 //!
 //! - `options` reads the arguments, and `help` prints the help.
 //! - `conversions` converts one file, `outputs` names its output, and `names` and `sections` make
-//!   what `--names` and `--no-names` print.
+//!   what `--names` and `--no-names` print. `examples` has results that the prover computes.
 //! - `wat_command`, which `wat2json` uses too, has what reads and writes files, the diagnostics and
 //!   the exit statuses.
 #![tactic(auto)]
 
 mod conversions;
+mod examples;
 mod help;
 mod names;
 mod options;

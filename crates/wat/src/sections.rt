@@ -1,78 +1,102 @@
 //! The sections of a binary module (binary format: modules).
 
+ghost use Rattle.std.specs.Prelude.{◌≡◌, ◌<◌, ◌≤◌, ◌++◌, IfOk, IfSome, OnOk, length, drop};
+ghost use Rattle.wat.specs.Sections.{number_at, bound_of, section_length, contents, is_name_section, is_called_name, kept_of, without_names};
+
 use std::alloc::{AllocError, Global};
 
 /// The bytes of the header of a module: the magic number and the version.
 const HEADER: usize = 8;
 
-/// The id of custom sections.
-const CUSTOM: u8 = 0;
-
-/// The name of the name section.
-const NAME: &[u8] = b"name";
-
 /// A 32-bit number is encoded in at most this many bytes.
 const LONGEST: usize = 5;
 
-/// A section at the start of bytes.
-#[derive(Clone, Copy)]
-struct Section<'a> {
-    /// Its id.
-    id: u8,
-    /// Its contents.
-    contents: &'a [u8],
-    /// All its bytes.
-    whole: &'a [u8],
-    /// The bytes after it.
-    rest: &'a [u8],
-}
-
-/// Returns the LEB128 number at the start of bytes, and the bytes after it. A number that is too
-/// large for a length saturates.
-fn number_at(bytes: &[u8]) -> Option<(usize, &[u8])> {
-    let mut number = 0usize;
-    let mut scale = 1usize;
-    for (index, byte) in bytes.iter().take(LONGEST).enumerate() {
-        let digit = usize::from(*byte & 0x7f);
-        number = number.saturating_add(scale.saturating_mul(digit));
-        scale = scale.saturating_mul(0x80);
-        if *byte < 0x80 {
-            let rest = bytes.get(index.saturating_add(1)..)?;
-            return Some((number, rest));
-        }
+/// Returns the number at the start of bytes, and how many bytes it has: at most `most`.
+#[tactic(auto, using(crate::proofs::Numbers::none, crate::proofs::Numbers::last, crate::proofs::Numbers::more, crate::proofs::Numbers::no_more, crate::proofs::Numbers::bounded, crate::proofs::Numbers::last_small, crate::proofs::Numbers::more_small))]
+fn number_at(bytes: &[u8], most: usize) -> Option<(usize, usize)>
+    requires { most ≤ 5 }
+    ensures number { result ≡ number_at most bytes.now }
+    ensures small { IfSome result (λ r. r.0 < bound_of most) }
+    ensures within { IfSome result (λ r. r.1 ≤ most) }
+{
+    if most == 0 {
+        return None;
     }
-    None
+    let (byte, after) = bytes.split_first()?;
+    if *byte < 0x80 {
+        return Some((usize::from(*byte), 1));
+    }
+    let (number, count) = number_at(after, most - 1)?;
+    Some((usize::from(*byte % 0x80) + 0x80 * number, 1 + count))
 }
 
-/// Returns the section at the start of bytes.
-fn first_section(bytes: &[u8]) -> Option<Section<'_>> {
-    let (id, after) = bytes.split_first()?;
-    let (size, after) = number_at(after)?;
-    let (contents, rest) = after.split_at_checked(size)?;
-    let length = bytes.len().saturating_sub(rest.len());
-    let whole = bytes.get(..length)?;
-    Some(Section {
-        id: *id,
-        contents,
-        whole,
-        rest,
-    })
+/// Returns the bytes from an offset on, or none if there are not so many.
+fn tail(bytes: &[u8], start: usize) -> &[u8]
+    ensures { result.now ≡ drop start bytes.now }
+{
+    if start > bytes.len() {
+        return &[];
+    }
+    &bytes[start..]
 }
 
-/// Returns whether the contents of a custom section are those of the name section.
-fn begins_with_name(contents: &[u8]) -> bool {
-    let Some((length, after)) = number_at(contents) else {
-        return false;
-    };
-    match after.get(..length) {
-        Some(name) => name == NAME,
+/// Returns how many bytes the section at the start of bytes has.
+fn section_length(bytes: &[u8]) -> Option<usize>
+    ensures length { result ≡ section_length bytes.now }
+    ensures within { IfSome result (λ n. n ≤ length bytes.now) }
+{
+    let (size, count) = number_at(tail(bytes, 1), LONGEST)?;
+    let length = 1 + count + size;
+    if length > bytes.len() {
+        return None;
+    }
+    Some(length)
+}
+
+/// Returns whether contents begin with the name `name`.
+fn is_called_name(contents: &[u8]) -> bool
+    ensures { result ≡ is_called_name contents.now (number_at 5 contents.now) }
+{
+    match number_at(contents, LONGEST) {
+        Some((length, count)) => {
+            length == 4 && tail(contents, count).starts_with(&[b'n', b'a', b'm', b'e'])
+        }
         None => false,
     }
 }
 
+/// Returns the contents of a section.
+fn contents(section: &[u8]) -> &[u8]
+    ensures { result.now ≡ contents section.now }
+{
+    match number_at(tail(section, 1), LONGEST) {
+        Some((_, count)) => tail(section, 1 + count),
+        None => &[],
+    }
+}
+
+/// Returns whether a section is a custom section called `name`.
+fn is_name_section(section: &[u8]) -> bool
+    ensures { result ≡ is_name_section section.now }
+{
+    section.starts_with(&[0]) && is_called_name(contents(section))
+}
+
+/// Copies a section, unless it is a custom section called `name`.
+fn keep_section(kept: &mut Vec<u8>, section: &[u8]) -> Result<(), AllocError>
+    ensures { OnOk result (kept.new.items ≡ kept.old.items ++ kept_of section.now) }
+{
+    if is_name_section(section) {
+        return Ok(());
+    }
+    kept.extend_from_slice(section)
+}
+
 /// Copies a module without its custom sections called `name`. Bytes that are not sections, which
 /// only `(module binary "..")` can have, are copied unchanged.
-pub(crate) fn without_names(alloc: Global, bytes: &[u8]) -> Result<Vec<u8>, AllocError> {
+pub(crate) fn without_names(alloc: Global, bytes: &[u8]) -> Result<Vec<u8>, AllocError>
+    ensures { IfOk result (λ out. out.items ≡ without_names bytes.now) }
+{
     let Some((header, sections)) = bytes.split_at_checked(HEADER) else {
         return Vec::from_slice(alloc, bytes);
     };
@@ -80,13 +104,12 @@ pub(crate) fn without_names(alloc: Global, bytes: &[u8]) -> Result<Vec<u8>, Allo
     kept.extend_from_slice(header)?;
     let mut rest = sections;
     for _ in 0..sections.len() {
-        let Some(section) = first_section(rest) else {
+        let Some(length) = section_length(rest) else {
             break;
         };
-        if section.id != CUSTOM || !begins_with_name(section.contents) {
-            kept.extend_from_slice(section.whole)?;
-        }
-        rest = section.rest;
+        let (section, after) = rest.split_at(length);
+        keep_section(&mut kept, section)?;
+        rest = after;
     }
     kept.extend_from_slice(rest)?;
     Ok(kept)
