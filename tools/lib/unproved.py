@@ -22,9 +22,16 @@ ROOT = entry.ROOT
 # What `rt try` is made of, which looks for the kit beside itself: copied, so that it finds the folder of links.
 SCRIPTS = ("rt", "rtlib.py")
 
-# The script in place of the compiler: it keeps the module that is to have checks of addresses, which is the program, and then
-# fails, so that nothing is run. Another module, of settings, is compiled.
-KEEPER = """case " $* " in
+# The script in place of the compiler, of `rt lib`: it keeps the module, and compiles it.
+KEEPER = """for word in "$@"; do
+    case "$word" in *.bc) cp "$word" '{module}' ;; esac
+done
+exec '{compiler}' "$@"
+"""
+
+# That of `rt try`: it keeps the module that is to have checks of addresses, which is the program, and then fails, so that nothing is
+# run. Another module, of settings, is compiled.
+KEEPER_OF_TRY = """case " $* " in
     *" -fsanitize=address "*)
         for word in "$@"; do
             case "$word" in *.bc) cp "$word" '{module}' ;; esac
@@ -80,8 +87,8 @@ def script(path, text):
     path.chmod(path.stat().st_mode | stat.S_IXUSR)
 
 
-def linked_kit(folder, module):
-    """A folder of links to the kit, whose compiler keeps the module that it is handed at this path."""
+def linked_kit(folder, module, is_proving=False):
+    """A folder of links to the kit, whose compiler keeps the module that it is handed at this path. Without the prover, it is for `rt try`."""
     for part in kit().iterdir():
         if part.name not in ("bin", "toolchain"):
             (folder / part.name).symlink_to(part)
@@ -91,12 +98,13 @@ def linked_kit(folder, module):
             place = folder / inner / part.name
             if inner == "bin" and part.name in SCRIPTS:
                 shutil.copy2(part, place)
-            elif inner == "bin" and part.name == "rattle":
+            elif inner == "bin" and part.name == "rattle" and not is_proving:
                 # `rt try` asks the prover beside it for hints, which take as long as the program.
                 script(place, "exit 1")
             elif part.name not in ("bin", "clang") or inner == "bin":
                 place.symlink_to(part)
-    script(folder / "toolchain/bin/clang", KEEPER.format(module=module, compiler=kit() / "toolchain/bin/clang"))
+    keeper = KEEPER if is_proving else KEEPER_OF_TRY
+    script(folder / "toolchain/bin/clang", keeper.format(module=module, compiler=kit() / "toolchain/bin/clang"))
 
 
 def module(crate, room, is_test=False):
@@ -135,10 +143,16 @@ def program(crate, out, room, is_test=False, level=2):
     called("bin/rattle-link", words)
 
 
-def exported(path, crate):
-    """Gives the functions of a crate that C calls their own names in a module, and takes `main` away, so that they alone are left."""
+def printed(path):
+    """The text of a module, beside it."""
     text = path.with_suffix(".ll")
     called("toolchain/bin/clang", ["-S", "-emit-llvm", "-Xclang", "-disable-llvm-passes", "-x", "ir", path, "-o", text])
+    return text
+
+
+def exported(path, crate):
+    """Gives the functions of a crate that C calls their own names in a module, and takes `main` away, so that they alone are left."""
+    text = printed(path)
     source = (crate / "src/lib.rt").read_text(encoding="utf-8")
     names = re.findall(r"#\[unsafe\(no_mangle\)\]\npub extern \"C\" fn (\w+)", source)
     lines = text.read_text(encoding="utf-8")
@@ -149,11 +163,16 @@ def exported(path, crate):
     return text
 
 
-def archive(crate, out, room, version, level=2):
-    """Builds the archive of a crate of functions for C."""
+def archive_module(crate, room):
+    """The text of the module of a crate of functions for C."""
     source = crate / "src/lib.rt"
     source.write_text(source.read_text(encoding="utf-8") + CALLS, encoding="utf-8")
-    together([compiled(exported(module(crate, room, is_test=True), crate), level)], out, version)
+    return exported(module(crate, room, is_test=True), crate)
+
+
+def archive(crate, out, room, version, level=2):
+    """Builds the archive of a crate of functions for C."""
+    together([compiled(archive_module(crate, room), level)], out, version)
 
 
 def together(objects, out, version):

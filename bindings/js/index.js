@@ -1,0 +1,292 @@
+// Calls of the archive in WebAssembly. docs/BINDINGS.md, "From JavaScript", has what they return.
+
+/** The number of the declarations of the archive that this file calls. */
+const DECLARATIONS = 1;
+
+// What a call of the archive returns (enum rigyomad_status of bindings/c/rigyomad.h).
+const DONE = 0, SHORT = 1, FAULT = 2, UTF8 = 3, MEMORY = 4, UNKNOWN = 5;
+
+const SPACES = ["func", "table", "memory", "global", "tag", "elem", "data", "type"];
+
+// The kinds of errors by their number, as the crate for Rust names them.
+const KINDS = [
+  "Malformed", "ImportAfter", "Duplicate", "DuplicateField", "Unknown", "NotFunc", "OutOfBounds", "NoMatch", "Labels",
+  "NoNamedFields", "TooLarge", "Uncovered", "Memory", "Component",
+];
+
+/** A memory never shrinks, so an instance with more bytes than this is dropped after a call. */
+const MOST_KEPT = 64 << 20;
+
+/** At most so many characters of a line are shown on each side of an error. */
+const HALF_LINE = 60;
+
+/** What could send a command to a terminal, begin a line of a log, or change the order of a line. */
+const CONTROLS = /[\0-\x08\x0a-\x1f\x7f-\x9f\u061c\u200e\u200f\u2028-\u202e\u2066-\u2069]/g;
+
+const encoder = new TextEncoder();
+// A byte order mark is part of a text.
+const decoder = new TextDecoder("utf-8", { ignoreBOM: true });
+
+/** Why a text has no bytes. index.d.ts describes the fields. */
+export class WatError extends Error {
+  constructor(message, fields) {
+    super(message);
+    this.name = "WatError";
+    Object.assign(this, { number: 0, line: 0, column: 0, start: 0, end: 0, snippet: "" }, fields);
+    this.kind = KINDS[this.number];
+  }
+}
+
+let compiled, starting, instance;
+
+async function compile(source) {
+  source = await source;
+  if (typeof source === "string" || source instanceof URL) {
+    const url = new URL(source, import.meta.url);
+    // `fetch` of node reads no files.
+    const files = url.protocol === "file:" && globalThis.process?.getBuiltinModule?.("node:fs");
+    source = files ? files.readFileSync(url) : await fetch(url);
+  }
+  if (typeof Response !== "undefined" && source instanceof Response) {
+    if (!source.ok) throw new Error(`${source.url}: status ${source.status}`);
+    source = await source.arrayBuffer();
+  }
+  return source instanceof WebAssembly.Module ? source : WebAssembly.compile(source);
+}
+
+/** Compiles the module. The first call decides which; a call after a failure tries again. */
+export function init(source = new URL("./rigyomad.wasm", import.meta.url)) {
+  starting ??= compile(source).then((module) => {
+    compiled = module;
+    called(() => undefined);
+  }).catch((error) => {
+    compiled = instance = starting = undefined;
+    throw error;
+  });
+  return starting;
+}
+
+/** Calls of one instance, and the buffers that a call takes from its memory. */
+class Calls {
+  constructor() {
+    this.taken = [];
+    this.exports = instance.exports;
+  }
+
+  take(size) {
+    const at = BigInt.asUintN(64, this.exports.rigyomad_take(BigInt(size)));
+    if (at === 0n) throw outOfMemory();
+    this.taken.push(at);
+    return at;
+  }
+
+  lend(bytes) {
+    const at = this.take(bytes.length);
+    this.bytes(at, bytes.length).set(bytes);
+    return at;
+  }
+
+  bytes(at, size) {
+    return new Uint8Array(this.exports.memory.buffer, Number(at), size);
+  }
+
+  /** The number of 32 or 64 bits in so many bytes from an address on. */
+  word(at, offset, width = 8) {
+    const view = new DataView(this.exports.memory.buffer, Number(at) + offset, width);
+    return width === 4 ? view.getUint32(0, true) : Number(view.getBigUint64(0, true));
+  }
+}
+
+const outOfMemory = () => new WatError("allocation failed", { number: 12 });
+
+/** What `work` returns, which calls an instance. After a trap the state of an instance is unknown, so the next call makes a new one. */
+function called(work) {
+  if (!compiled) throw new Error("rigyomad: await init() before the first call");
+  if (!instance) {
+    instance = new WebAssembly.Instance(compiled);
+    if (instance.exports.rigyomad_c_version?.() !== DECLARATIONS) throw new Error(`rigyomad: the module has other declarations than number ${DECLARATIONS}`);
+  }
+  const calls = new Calls();
+  let isWhole = false;
+  try {
+    const result = work(calls);
+    isWhole = true;
+    return result;
+  } catch (error) {
+    isWhole = error instanceof WatError;
+    throw isWhole ? error : new Error(`rigyomad: internal error: ${error.message}`, { cause: error });
+  } finally {
+    if (isWhole) for (const at of calls.taken) calls.exports.rigyomad_give(at);
+    if (!isWhole || calls.exports.memory.buffer.byteLength > MOST_KEPT) instance = undefined;
+  }
+}
+
+/** The UTF-16 units before each of these offsets of bytes, which are sorted. */
+function unitsBefore(bytes, offsets) {
+  let at = 0, units = 0;
+  return offsets.map((offset) => {
+    // A character has two units if it has four bytes, and one otherwise.
+    for (; at < offset; at += 1) units += ((bytes[at] & 0xc0) !== 0x80) + (bytes[at] >= 0xf0);
+    return units;
+  });
+}
+
+/** The end of the token that begins at a place of a line: the place itself at the end of the line. */
+function tokenSize(line) {
+  return /^(?:"(?:[^"\\]|\\.)*"?|[$@]"(?:[^"\\]|\\.)*"?|\(@?|\)|[^\s()";]+|.)/u.exec(line)?.[0].length ?? 0;
+}
+
+/** The line of an error and a caret below it, as the command `wat` prints them. */
+function snippetOf(before, after, line, column) {
+  const shown = (text) => text.replace(CONTROLS, (it) => ({ "\n": "\\n", "\r": "\\r" })[it] ?? `\\u{${it.codePointAt(0).toString(16)}}`);
+  const left = [...before], right = [...after];
+  const head = (left.length > HALF_LINE ? "..." : "") + shown(left.slice(-HALF_LINE).join(""));
+  const tail = shown(right.slice(0, HALF_LINE).join("")) + (right.length > HALF_LINE ? "..." : "");
+  const margin = " ".repeat(String(line).length);
+  return `${margin}--> ${line}:${column}\n${margin} |\n${line} | ${head}${tail}\n${margin} | ${head.replace(/[^\t]/gu, " ")}^`;
+}
+
+/** An error at an offset of the bytes of a text. Lines end at a line feed. */
+function errorAt(text, bytes, offset, line, fields, message) {
+  const start = offset === 0 ? 0 : bytes.lastIndexOf(10, offset - 1) + 1;
+  const feed = bytes.indexOf(10, offset), end = feed < 0 ? bytes.length : feed;
+  const before = decoder.decode(bytes.subarray(start, offset));
+  const after = decoder.decode(bytes.subarray(offset, end)).replace(/\r$/, "");
+  const token = after.slice(0, tokenSize(after));
+  const isString = typeof text === "string";
+  const size = (part) => (isString ? part.length : encoder.encode(part).length);
+  const at = isString ? unitsBefore(bytes, [offset])[0] : offset;
+  const column = (isString ? before.length : offset - start) + 1;
+  return new WatError(message, { ...fields, line, column, start: at, end: at + size(token), snippet: snippetOf(before, after, line, column) });
+}
+
+/** The bytes of a text. `TextEncoder` writes another character for a lone surrogate, so that is an error here. */
+function bytesOf(text) {
+  if (typeof text !== "string") return text instanceof Uint8Array ? text : new Uint8Array(text);
+  const at = text.isWellFormed?.() ? -1 : text.search(/\p{Surrogate}/u);
+  const bytes = encoder.encode(text);
+  if (at < 0) return bytes;
+  const before = text.slice(0, at);
+  throw errorAt(text, bytes, encoder.encode(before).length, before.split("\n").length, {}, "lone surrogate in a string");
+}
+
+/** Why a call with this status has no result. `rigyomad_c_fault` reads the text again, so it is called only then. */
+function errorOf(calls, status, text, bytes, at) {
+  if (status === MEMORY) return outOfMemory();
+  if (status !== FAULT && status !== UTF8) return new Error(`status ${status}`);
+  const diagnosis = calls.take(40), size = BigInt(bytes.length);
+  let room = 256, message, needed;
+  do {
+    room = needed ?? room;
+    message = calls.take(room);
+    if (calls.exports.rigyomad_c_fault(at, size, message, BigInt(room), diagnosis) === MEMORY) return outOfMemory();
+    needed = calls.word(diagnosis, 32);
+  } while (needed > room);
+  const words = decoder.decode(calls.bytes(message, needed));
+  const number = calls.word(diagnosis, 0, 4), offset = calls.word(diagnosis, 8), line = calls.word(diagnosis, 16);
+  if (line > 0) return errorAt(text, bytes, offset, line, { number }, words);
+  // Bytes that are not UTF-8 have an offset alone.
+  return new WatError(words, { number, start: offset, end: offset });
+}
+
+/** The bytes of the module of a text. */
+export function parse(text, { names = true } = {}) {
+  const bytes = bytesOf(text);
+  const result = called((calls) => {
+    const at = calls.lend(bytes), size = calls.take(8), encode = calls.exports.rigyomad_c_encode;
+    // A module seldom has more bytes than its text.
+    let room = bytes.length + 64, out = calls.take(room);
+    let status = encode(at, BigInt(bytes.length), out, BigInt(room), size);
+    if (status === SHORT) {
+      room = calls.word(size, 0);
+      out = calls.take(room);
+      status = encode(at, BigInt(bytes.length), out, BigInt(room), size);
+    }
+    if (status !== DONE) throw errorOf(calls, status, text, bytes, at);
+    return calls.bytes(out, calls.word(size, 0)).slice();
+  });
+  return names ? result : withoutNames(result);
+}
+
+/** All names of the index spaces of a text. */
+export function names(text) {
+  const bytes = bytesOf(text);
+  const found = called((calls) => {
+    // A text has at most one name for each eight bytes, and names have no more bytes than the text.
+    const most = Math.floor(bytes.length / 8), size = BigInt(bytes.length);
+    const at = calls.lend(bytes), records = calls.take(most * 32), letters = calls.take(bytes.length), room = calls.take(16);
+    const status = calls.exports.rigyomad_c_names(at, size, records, BigInt(most), letters, size, room);
+    if (status !== DONE) throw errorOf(calls, status, text, bytes, at);
+    return Array.from({ length: calls.word(room, 0) }, (_, index) => {
+      const word = (offset, width) => calls.word(records, index * 32 + offset, width);
+      const name = decoder.decode(calls.bytes(letters + BigInt(word(16)), word(24)));
+      return { space: SPACES[word(0, 4)], index: word(4, 4), name, offset: word(8) };
+    });
+  });
+  if (typeof text === "string" && bytes.length !== text.length) {
+    const sorted = [...found].sort((one, other) => one.offset - other.offset);
+    const units = unitsBefore(bytes, sorted.map((it) => it.offset));
+    sorted.forEach((it, index) => { it.offset = units[index]; });
+  }
+  return found;
+}
+
+/** The index of what a name, without its `$`, denotes in an index space of a text, or undefined. */
+export function resolve(text, space, name) {
+  const bytes = bytesOf(text), id = bytesOf(name), number = SPACES.indexOf(space);
+  if (number < 0) throw new TypeError(`rigyomad: no such index space: ${space}`);
+  return called((calls) => {
+    const at = calls.lend(bytes), given = calls.lend(id), index = calls.take(4);
+    const status = calls.exports.rigyomad_c_resolve(at, BigInt(bytes.length), number, given, BigInt(id.length), index);
+    if (status === UNKNOWN) return undefined;
+    if (status !== DONE) throw errorOf(calls, status, text, bytes, at);
+    return calls.word(index, 0, 4);
+  });
+}
+
+/** The sections of a binary module: `bytes.subarray(start, end)` is one, and its content begins at `content`. */
+export function sections(bytes) {
+  const found = [];
+  let at = 8;
+  const number = () => {
+    let value = 0;
+    for (let scale = 1; ; scale *= 128) {
+      const byte = bytes[at++];
+      value += (byte & 127) * scale;
+      if (!(byte & 128)) return value;
+    }
+  };
+  while (at < bytes.length) {
+    const start = at++, id = bytes[start], size = number(), content = at, end = content + size;
+    const section = { id, start, content, end };
+    if (id === 0) {
+      const length = number();
+      section.name = decoder.decode(bytes.subarray(at, at + length));
+    }
+    found.push(section);
+    at = end;
+  }
+  return found;
+}
+
+/** A module without its sections of names. */
+function withoutNames(bytes) {
+  let end = 8;
+  for (const section of sections(bytes)) {
+    if (section.name === "name") continue;
+    bytes.copyWithin(end, section.start, section.end);
+    end += section.end - section.start;
+  }
+  return bytes.slice(0, end);
+}
+
+/** The version of the module: `0.1.0`, or `0.1.0 (UNPROVED)` if it was built without proofs. */
+export function version() {
+  return called((calls) => {
+    const at = Number(calls.exports.rigyomad_version_text()), bytes = new Uint8Array(calls.exports.memory.buffer);
+    return decoder.decode(bytes.subarray(at, bytes.indexOf(0, at)));
+  });
+}
+
+/** How many bytes the memory of the instance has: 0 if there is none. */
+export const memorySize = () => instance?.exports.memory.buffer.byteLength ?? 0;

@@ -1,0 +1,233 @@
+// Tests the package in node: `node test/node.mjs MODULE`. The last line is 'N passed, M failed'.
+import assert from "node:assert/strict";
+import { readFileSync } from "node:fs";
+import { init, memorySize, names, parse, resolve, sections, version, WatError } from "../index.js";
+
+const [, , file] = process.argv;
+const module = readFileSync(file);
+const encoder = new TextEncoder();
+const hex = (bytes) => Buffer.from(bytes).toString("hex");
+let passed = 0, failed = 0;
+
+async function test(name, body) {
+  try {
+    await body();
+    passed += 1;
+  } catch (error) {
+    failed += 1;
+    console.log(`FAILED ${name}: ${error.stack}`);
+  }
+}
+
+function errorOf(call) {
+  try {
+    call();
+  } catch (error) {
+    assert.ok(error instanceof WatError, error);
+    return error;
+  }
+  return assert.fail("no error");
+}
+
+const fieldsOf = ({ number, kind, message, line, column, start, end }) => ({ number, kind, message, line, column, start, end });
+
+const DEEP = `(module (func ${"block ".repeat(1e5)}${"end ".repeat(1e5)}))`;
+
+await test("a call before init fails", () => assert.throws(() => parse("(module)"), /await init/));
+await test("a module of others is refused", () => assert.rejects(init(Uint8Array.of(0, 97, 115, 109, 1, 0, 0, 0)), /other declarations/));
+await test("what is no module is refused", () => assert.rejects(init(Uint8Array.of(1)), WebAssembly.CompileError));
+await test("a missing file is refused", () => assert.rejects(init("./no_such.wasm"), /no_such/));
+await test("init takes bytes, once and again", async () => {
+  await init(module);
+  await init("./no_such.wasm");
+});
+
+/** The text of a line of crates/wat_golden/stdin, which may have escapes (its src/main.rt). */
+function textOf(line) {
+  const plain = { n: 10, r: 13, t: 9, "\\": 92 };
+  if (!line.startsWith("\\")) return encoder.encode(line);
+  const parts = line.slice(1).match(/\\([nrt\\]|[0-9a-f]{2})|[^\\]+/g);
+  return Buffer.concat(parts.map((it) => (it[0] === "\\" ? Buffer.of(plain[it[1]] ?? parseInt(it.slice(1), 16)) : Buffer.from(it))));
+}
+
+/** The line that crates/wat_golden writes of a text. */
+function answerOf(text) {
+  try {
+    return hex(parse(text));
+  } catch ({ number, message, start, line }) {
+    if (number === 0 && line === 0) return "the text of this line is not UTF-8";
+    if (number === 11) return `refused: ${message.replace(/: `.*`$/s, "")}`;
+    if (line === 0) return `refused: ${message}`;
+    return `${number === 0 ? "not read" : "fault"} at ${start}: ${message}`;
+  }
+}
+
+await test("init takes what is fetched, and compiled", async () => {
+  const of = async (name, source) => {
+    const other = await import(`../index.js?${name}`);
+    await other.init(source);
+    return hex(other.parse("(module)"));
+  };
+  const there = new Response(module, { headers: { "content-type": "text/plain" } });
+  assert.equal(await of("response", Promise.resolve(there)), "0061736d01000000");
+  assert.equal(await of("url", `data:application/wasm;base64,${module.toString("base64")}`), "0061736d01000000");
+  assert.equal(await of("module", new WebAssembly.Module(module)), "0061736d01000000");
+  await assert.rejects(of("missing", new Response("", { status: 404 })), /status 404/);
+});
+
+await test("bytes and errors of all stored texts", () => {
+  const [texts, answers] = ["stdin", "stdout"].map((name) => (
+    readFileSync(new URL(`../../../crates/wat_golden/${name}`, import.meta.url), "utf8").trimEnd().split("\n")));
+  texts.forEach((line, index) => assert.equal(answerOf(textOf(line)), answers[index], line));
+  assert.ok(texts.length === answers.length && texts.length > 2000);
+});
+
+await test("a text is a string or bytes", () => {
+  const text = '(module (func $"é") (start $"é"))', bytes = encoder.encode(text);
+  assert.deepEqual(parse(bytes), parse(text));
+  assert.deepEqual(parse(bytes.buffer), parse(text));
+  assert.deepEqual(parse(Buffer.from(text)), parse(text));
+});
+
+await test("a module may be longer than its text", () => {
+  assert.equal(parse(`(module (memory 1) (data (i64${" 1".repeat(4000)})))`).length, 32022);
+});
+
+await test("the bytes are of the caller", () => {
+  const first = parse("(module (func))"), kept = hex(first);
+  parse("(module (memory 3))");
+  assert.equal(hex(first), kept);
+});
+
+await test("names may be left out", () => {
+  const text = '(module $m (func $f) (@custom "a" "b"))';
+  assert.equal(hex(parse(text, { names: false })), hex(parse('(module (func) (@custom "a" "b"))')));
+  assert.deepEqual(sections(parse(text)).map(({ id, name }) => name ?? id), [1, 3, 10, "a", "name"]);
+});
+
+await test("names of items", () => {
+  assert.deepEqual(names('(module (type $t (func)) (func) (func $"\\c3\\a9 b"))'), [
+    { space: "func", index: 1, name: "é b", offset: 38 },
+    { space: "type", index: 0, name: "t", offset: 14 },
+  ]);
+  assert.deepEqual(names("(module)"), []);
+  const wide = "(module (;€🎉;) (type $t (func)) (;🎉;) (func $f))";
+  for (const { name, offset } of names(wide)) assert.equal(wide.slice(offset, offset + 2), `$${name}`);
+  for (const { name, offset } of names(encoder.encode(wide))) assert.equal(Buffer.from(wide).toString("utf8", offset, offset + 2), `$${name}`);
+});
+
+await test("one name", () => {
+  const text = "(module (func) (func $f) (type $f (func)))";
+  assert.equal(resolve(text, "func", "f"), 1);
+  assert.equal(resolve(text, "type", "f"), 0);
+  assert.equal(resolve(text, "table", "f"), undefined);
+  assert.throws(() => resolve(text, "no_such", "f"), TypeError);
+  assert.equal(errorOf(() => resolve("(module", "func", "f")).number, 0);
+});
+
+await test("errors", () => {
+  const of = (text) => fieldsOf(errorOf(() => parse(text)));
+  assert.deepEqual(of("(module (start $f))"), {
+    number: 4, kind: "Unknown", message: "unknown func: failed to find name `$f`", line: 1, column: 16, start: 15, end: 17,
+  });
+  assert.deepEqual(of("(module (type (func)) (type (cont 0)))"), {
+    number: 11, kind: "Uncovered", message: "uncovered form: stack switching: `cont`", line: 1, column: 30, start: 29, end: 33,
+  });
+  assert.deepEqual(of("(module\n  (fun))"), { number: 0, kind: "Malformed", message: "expected valid module field", line: 2, column: 4, start: 11, end: 14 });
+  assert.deepEqual(of(Uint8Array.of(40, 109, 255)), { number: 0, kind: "Malformed", message: "malformed UTF-8 encoding", line: 0, column: 0, start: 2, end: 2 });
+  const long = "n".repeat(300);
+  assert.equal(of(`(module (start $${long}))`).message, `unknown func: failed to find name \`$${long}\``);
+});
+
+await test("positions count units of a string, and bytes otherwise", () => {
+  const text = '(module\r\n (func $"🎉€" (call $"nö")))\r\n';
+  const ofString = errorOf(() => parse(text)), ofBytes = errorOf(() => parse(encoder.encode(text)));
+  assert.equal(text.slice(ofString.start, ofString.end), '$"nö"');
+  assert.deepEqual([ofString.line, ofString.column], [2, 21]);
+  assert.equal(Buffer.from(text).toString("utf8", ofBytes.start, ofBytes.end), '$"nö"');
+  assert.deepEqual([ofBytes.line, ofBytes.column], [2, 25]);
+  assert.equal(ofString.snippet, ' --> 2:21\n  |\n2 |  (func $"🎉€" (call $"nö")))\n  |                    ^');
+});
+
+await test("the line of an error is cut, and has no controls", () => {
+  const { snippet } = errorOf(() => parse(`(module (func (;${"x".repeat(200)};) call $f (;\u001b\u202e${"y".repeat(200)};)))`));
+  const [, , line, caret] = snippet.split("\n");
+  assert.match(line, /^1 \| \.\.\.x+;\) call \$f \(;\\u\{1b\}\\u\{202e\}y+\.\.\.$/);
+  assert.equal(line[caret.indexOf("^")], "$");
+});
+
+await test("a lone surrogate is an error", () => {
+  const text = '(module\n (data "é\ud800"))', error = errorOf(() => parse(text));
+  assert.deepEqual([error.number, error.line, error.column, error.start], [0, 2, 10, text.indexOf("\ud800")]);
+  errorOf(() => names(text));
+  assert.ok(parse('(module (data "\ud83c\udf89"))').length > 8);
+});
+
+await test("an instance is usable after each failure", () => {
+  const text = "(module (func $f call $f))", wanted = hex(parse(text));
+  for (const wrong of ["(module (start $g))", "(", '"', Uint8Array.of(255)]) {
+    for (const call of [parse, names]) errorOf(() => call(wrong));
+    assert.equal(hex(parse(text)), wanted);
+  }
+});
+
+await test("blocks may be nested deeply", () => assert.equal(parse(DEEP).length, 300028));
+
+await test("10,000 calls hold memory level", () => {
+  parse("(module)");
+  const before = memorySize();
+  assert.ok(before > 0);
+  for (let count = 0; count < 10_000; count += 1) {
+    parse("(module (func $f call $f))");
+    names("(module (func $f))");
+    errorOf(() => parse("(module (start $g))"));
+  }
+  assert.equal(memorySize(), before);
+});
+
+await test("a large memory is dropped", () => {
+  const size = parse(`(module (memory 1) (data "${"x".repeat(40 << 20)}"))`).length;
+  assert.ok(size > 40 << 20);
+  assert.equal(memorySize(), 0);
+  assert.equal(parse("(module)").length, 8);
+});
+
+await test("memory that cannot be had is told", () => {
+  const { memory, rigyomad_take: take, rigyomad_c_encode: encode } = new WebAssembly.Instance(new WebAssembly.Module(module)).exports;
+  for (const size of [(1n << 32n) - 100n, 1n << 33n, 1n << 47n, 1n << 62n, -1n]) assert.equal(take(size), 0n);
+  const text = encoder.encode("(module (func $f))"), [at, out, size] = [text.length, 100, 8].map((it) => take(BigInt(it)));
+  new Uint8Array(memory.buffer).set(text, Number(at));
+  const status = () => encode(at, BigInt(text.length), out, 100n, size);
+  assert.equal(status(), 0);
+  for (let part = 1n << 29n; part > 8n; part >>= 1n) while (take(part));
+  assert.ok(memory.buffer.byteLength > 0xf0000000);
+  assert.equal(status(), 4);
+});
+
+// A module in place of the archive: `parse` returns as many bytes as the instance was called times, a text of one byte traps, and there are
+// 1,000 bytes of memory.
+const COUNTING = `(module (memory (export "memory") 1) (global $calls (mut i64) (i64.const 0))
+  (func (export "rigyomad_c_version") (result i32) (i32.const 1))
+  (func (export "rigyomad_take") (param i64) (result i64) (select (i64.const 0) (i64.const 8) (i64.gt_u (local.get 0) (i64.const 1000))))
+  (func (export "rigyomad_give") (param i64))
+  (func (export "rigyomad_c_encode") (param i64 i64 i64 i64 i64) (result i32)
+    (if (i64.eq (local.get 1) (i64.const 1)) (then unreachable))
+    (global.set $calls (i64.add (global.get $calls) (i64.const 1)))
+    (i64.store (i32.wrap_i64 (local.get 4)) (global.get $calls))
+    (i32.const 0)))`;
+
+await test("an instance is dropped after a trap alone", async () => {
+  const other = await import("../index.js?counting");
+  await other.init(parse(COUNTING));
+  const calls = () => other.parse("ab").length;
+  assert.deepEqual([calls(), calls()], [1, 2]);
+  assert.throws(() => other.parse("x".repeat(2000)), { number: 12, kind: "Memory", message: "allocation failed", line: 0 });
+  assert.equal(calls(), 3);
+  assert.throws(() => other.parse("!"), /^Error: rigyomad: internal error: unreachable$/);
+  assert.equal(calls(), 1);
+});
+
+await test("the version tells of proofs", () => assert.match(version(), /^\d+\.\d+\.\d+( \(UNPROVED\))?$/));
+
+console.log(`${passed} passed, ${failed} failed`);
+process.exit(failed ? 1 : 0);

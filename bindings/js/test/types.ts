@@ -1,0 +1,37 @@
+// What `tsc` has to take, and what it has to refuse, of the types of the package. Nothing of it runs.
+import { init, memorySize, names, parse, resolve, sections, version, WatError } from "../index.js";
+import type { Kind, Name, Section, Space } from "../index.js";
+
+await init();
+await init(new URL("https://example.org/rigyomad.wasm"));
+await init(fetch("rigyomad.wasm"));
+await init(new Uint8Array(8));
+await init(await WebAssembly.compile(new Uint8Array(8)));
+
+const bytes: Uint8Array = parse("(module)");
+await WebAssembly.instantiate(parse(bytes, { names: false }));
+const first: Name | undefined = names(new ArrayBuffer(8))[0];
+const space: Space = first?.space ?? "func";
+const index: number | undefined = resolve("(module)", space, "f");
+const found: Section[] = sections(bytes);
+const told: [string, number] = [version(), memorySize()];
+
+try {
+  parse("");
+} catch (error) {
+  if (error instanceof WatError) {
+    const kind: Kind = error.kind, offsets: number[] = [error.number, error.line, error.column, error.start, error.end], shown: string = error.snippet;
+    console.log(kind, offsets, shown, error.message, index, found, told);
+    // @ts-expect-error: fields are not changed
+    error.line = 1;
+  }
+}
+
+// @ts-expect-error: a text is a string or bytes
+parse(1);
+// @ts-expect-error: there is no such option
+parse("", { name: true });
+// @ts-expect-error: there is no such index space
+resolve("", "functions", "f");
+// @ts-expect-error: errors are made by the package alone
+new WatError();
