@@ -5,6 +5,8 @@
 #include "escapes.h"
 #include "rigyomad.h"
 
+#include <stdlib.h>
+
 static uint32_t print_fault(const char *text) {
     struct rigyomad_diagnosis at;
     char message[256];
@@ -17,14 +19,23 @@ static uint32_t print_fault(const char *text) {
     return status;
 }
 
+/* Prints the module of a text. A first call without a buffer returns how many bytes it has. */
 static uint32_t convert(const char *text) {
-    uint8_t bytes[4096];
     size_t size = 0;
-    uint32_t status = rigyomad_encode(text, strlen(text), bytes, sizeof bytes, &size);
+    uint32_t status = rigyomad_encode(text, strlen(text), NULL, 0, &size);
+    if (status != RIGYOMAD_SHORT) {
+        return status == RIGYOMAD_FAULT ? print_fault(text) : status;
+    }
+    uint8_t *bytes = (uint8_t *)malloc(size);
+    if (!bytes) {
+        return RIGYOMAD_MEMORY;
+    }
+    status = rigyomad_encode(text, strlen(text), bytes, size, &size);
     for (size_t i = 0; status == RIGYOMAD_DONE && i < size; i++) {
         printf("%02x%s", bytes[i], i + 1 < size ? "" : "\n");
     }
-    return status == RIGYOMAD_FAULT ? print_fault(text) : status;
+    free(bytes);
+    return status;
 }
 
 int main(int count, char **words) {

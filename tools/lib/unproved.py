@@ -46,6 +46,16 @@ COMPILED = """--target=x86_64-unknown-linux-gnu -march=x86-64 -mllvm -no-trap-af
 -mllvm -trap-unreachable -mllvm -no-x86-call-frame-opt -mllvm -disable-machine-licm -mllvm -disable-postra-machine-licm
 -mllvm -sink-common-insts=false --no-default-config -no-canonical-prefixes -fintegrated-cc1 -fno-crash-diagnostics""".split()
 
+# The target of the kit's own archives of C, and one for which C is compiled by Debian's cross compiler.
+HOST, ARM = "x86_64-unknown-linux-gnu", "aarch64-unknown-linux-gnu"
+CROSS = "aarch64-linux-gnu-gcc"
+
+# Words of the kit's compiler for arm64. Modules for x86-64 serve: both have the same layout of data, and the kit asks C for the same things.
+COMPILED_FOR_ARM = f"--target={ARM} -Wno-override-module -fPIC -ffunction-sections -fdata-sections -mno-outline-atomics -c".split()
+
+# What the kit has compiled for x86-64 alone, in C: memory, and what programs ask the system.
+HEAP, SYSTEM = ROOT / "tools/lib/heap.c", ROOT / "tools/lib/system.c"
+
 # A test that calls each function of the archive: `rt try` compiles what a test reaches.
 CALLS = """
 #[cfg(test)]
@@ -122,22 +132,33 @@ def module(crate, room, is_test=False):
     return path
 
 
+def run(words, **how):
+    """Runs a program that builds something."""
+    ran = subprocess.run([str(word) for word in words], capture_output=True, **how)
+    if ran.returncode:
+        raise NotBuilt(f"{words[0]}: {ran.stderr.decode(errors='replace').strip()}")
+
+
 def called(tool, words, **how):
     """Runs a tool of the kit."""
-    ran = subprocess.run([str(word) for word in (kit() / tool, *words)], capture_output=True, **how)
-    if ran.returncode:
-        raise NotBuilt(f"{tool}: {ran.stderr.decode(errors='replace').strip()}")
+    run([kit() / tool, *words], **how)
 
 
-def compiled(path, level):
+def compiled(path, level, target=HOST):
     """The object file of a module, beside it, optimized at a level."""
     out = path.with_suffix(".o")
+    if target == ARM:
+        called("toolchain/bin/clang", [*COMPILED_FOR_ARM, f"-O{level}", "-x", "ir", path, "-o", out])
+        return out
     called("toolchain/bin/clang", [*COMPILED, f"-O{level}", f"--sysroot={kit() / 'toolchain'}", "-c", "-x", "ir", path, "-o", out, "-fPIE"])
     return out
 
 
-def program(crate, out, room, is_test=False, level=2):
+def program(crate, out, room, is_test=False, level=2, target=HOST):
     """Builds a program, or the tests of a crate, as the file `out`."""
+    if target == ARM:
+        run([CROSS, "-O2", "-Wall", "-Werror", "-o", out, compiled(module(crate, room, is_test), level, ARM), SYSTEM, HEAP])
+        return
     words = ["--target", "x86_64-unknown-linux-gnu", "--toolchain", kit() / "toolchain", "-o", out]
     words += [compiled(module(crate, room, is_test), level), kit() / "c/libos_c.a", kit() / "c/liblibc_c.a"]
     called("bin/rattle-link", words)
@@ -170,20 +191,23 @@ def archive_module(crate, room):
     return exported(module(crate, room, is_test=True), crate)
 
 
-def archive(crate, out, room, version, level=2):
+def archive(crate, out, room, version, level=2, target=HOST):
     """Builds the archive of a crate of functions for C."""
-    together([compiled(archive_module(crate, room), level)], out, version)
+    together([compiled(archive_module(crate, room), level, target)], out, version, target)
 
 
-def together(objects, out, version):
+def together(objects, out, version, target=HOST):
     """Puts object files, what they want of the kit beside `malloc`, `realloc` and `free`, and the text of the version into one
     archive. Only the names that the header declares are global, so that a program may have any others of its own."""
     with tempfile.TemporaryDirectory() as room:
         room = pathlib.Path(room)
         told, whole = room / "version.ll", room / "rigyomad.o"
         told.write_text(f'@rigyomad_c_version_text = constant [{len(version) + 1} x i8] c"{version}\\00"\n', encoding="utf-8")
-        called("toolchain/bin/clang", ["--target=x86_64-unknown-linux-gnu", "-c", "-x", "ir", told, "-o", told.with_suffix(".o")])
-        called("toolchain/bin/llvm-ar", ["x", kit() / "c/liblibc_c.a"], cwd=room)
+        called("toolchain/bin/clang", [f"--target={target}", "-c", "-x", "ir", told, "-o", told.with_suffix(".o")])
+        if target == HOST:
+            called("toolchain/bin/llvm-ar", ["x", kit() / "c/liblibc_c.a"], cwd=room)
+        else:
+            called("toolchain/bin/clang", [*COMPILED_FOR_ARM, "-O2", "-ffreestanding", HEAP, "-o", room / "heap.o"])
         called("toolchain/bin/ld.lld", ["-r", *objects, *sorted(room.glob("*.o")), "-o", whole])
         symbols.localize(whole, "rigyomad_c_")
         out.unlink(missing_ok=True)

@@ -1,5 +1,10 @@
 //! Turns modules in the text format of WebAssembly into the bytes of the binary format.
 //!
+//! A program that calls this crate needs `librigyomad.a`, which the crate does not contain. In a clone
+//! of Rigyomad, `tools/build archive ~/rigyomad` writes it; then set `RIGYOMAD_LIB=~/rigyomad` for
+//! cargo. After `tools/install ~/.local`, pkg-config finds it. Without it `cargo check` and `cargo doc`
+//! work, and `cargo build` ends with one line that says so.
+//!
 //! # Example
 //!
 //! ```
@@ -12,8 +17,10 @@
 //! # }
 //! ```
 //!
-//! [`parse_str`], [`parse_bytes`] and [`parse_file`] have the signatures of the crate `wat`. Below
-//! them, [`encode`] returns the [`Fault`] of a text alone. [`names`] and [`resolve`] return what the
+//! [`parse_str`], [`parse_bytes`], [`parse_file`] and [`Result`] have the signatures of the crate
+//! `wat`. Of its other names, `Parser` is missing because its one option asks for DWARF, which is not
+//! generated, and [`Error::set_path`] sets its path; and `Detect`, because it needs the tokens of a
+//! text, which no call of the archive returns: [`parse_bytes`] accepts text and binary. Below them, [`encode`] returns the [`Fault`] of a text alone. [`names`] and [`resolve`] return what the
 //! names of a text denote, and [`names_within`] the names of locals, labels and fields.
 //!
 //! The encoder is an archive whose code is proved; this crate declares its calls and lends them
@@ -33,7 +40,7 @@ mod within;
 
 pub use faults::{Fault, Kind, Place};
 pub use names::{names, resolve, Name, Space};
-pub use parse::{parse_bytes, parse_file, parse_str, Error};
+pub use parse::{parse_bytes, parse_file, parse_str, Error, Result};
 pub use within::{names_within, NameWithin, Within};
 
 /// The number of the declarations that this crate has of the calls of the archive. The first call

@@ -6,6 +6,7 @@ use std::fmt;
 
 /// An index space of a module (text format, indices).
 #[derive(Clone, Copy, Debug, PartialEq, Eq, Hash)]
+#[non_exhaustive]
 pub enum Space {
     /// Functions.
     Func,
@@ -61,6 +62,7 @@ impl fmt::Display for Space {
 
 /// A name of a text, and what it denotes (text format, indices).
 #[derive(Clone, Debug, PartialEq, Eq, Hash)]
+#[non_exhaustive]
 pub struct Name {
     /// The index space.
     pub space: Space,

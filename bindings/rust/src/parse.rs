@@ -36,6 +36,9 @@ pub struct Error {
     cause: Cause,
 }
 
+/// What [`parse_str`], [`parse_bytes`] and [`parse_file`] return. The other calls return a [`Fault`].
+pub type Result<T, E = Error> = std::result::Result<T, E>;
+
 impl Error {
     /// Returns the fault of the text. Returns `None` if a file cannot be read.
     pub fn fault(&self) -> Option<&Fault> {
@@ -92,8 +95,15 @@ impl fmt::Display for Error {
     }
 }
 
-// What an I/O error says is printed already, so it is not a source.
-impl error::Error for Error {}
+impl error::Error for Error {
+    /// Returns why a file cannot be read, which is printed already.
+    fn source(&self) -> Option<&(dyn error::Error + 'static)> {
+        match &self.cause {
+            Cause::Fault(_) => None,
+            Cause::Read(error) => Some(error),
+        }
+    }
+}
 
 /// Whether bytes are a module in the binary format.
 fn is_binary(bytes: &[u8]) -> bool {
@@ -129,7 +139,7 @@ fn encode_bytes(bytes: &[u8]) -> Result<Vec<u8>, Fault> {
 /// # Panics
 ///
 /// If the archive is another than this crate needs ([`VERSION`](crate::VERSION)).
-pub fn parse_str<S: AsRef<str>>(text: S) -> Result<Vec<u8>, Error> {
+pub fn parse_str<S: AsRef<str>>(text: S) -> Result<Vec<u8>> {
     Ok(encode(text.as_ref())?)
 }
 
@@ -154,7 +164,7 @@ pub fn parse_str<S: AsRef<str>>(text: S) -> Result<Vec<u8>, Error> {
 /// # Panics
 ///
 /// As [`parse_str`].
-pub fn parse_bytes(bytes: &[u8]) -> Result<Cow<'_, [u8]>, Error> {
+pub fn parse_bytes(bytes: &[u8]) -> Result<Cow<'_, [u8]>> {
     if is_binary(bytes) {
         return Ok(Cow::Borrowed(bytes));
     }
@@ -177,7 +187,7 @@ pub fn parse_bytes(bytes: &[u8]) -> Result<Cow<'_, [u8]>, Error> {
 /// # Panics
 ///
 /// As [`parse_str`].
-pub fn parse_file<P: AsRef<Path>>(file: P) -> Result<Vec<u8>, Error> {
+pub fn parse_file<P: AsRef<Path>>(file: P) -> Result<Vec<u8>> {
     let file = file.as_ref();
     let bytes = fs::read(file).map_err(|error| Error::of_file(file, Cause::Read(error)))?;
     if is_binary(&bytes) {

@@ -12,6 +12,7 @@ const CUSTOM: u8 = 0;
 
 /// What has a name within a function or a type.
 #[derive(Clone, Copy, Debug, PartialEq, Eq, Hash)]
+#[non_exhaustive]
 pub enum Within {
     /// A parameter or a local of a function. The number is its index.
     Local,
@@ -54,6 +55,7 @@ impl fmt::Display for Within {
 
 /// A name within a function or a type.
 #[derive(Clone, Debug, PartialEq, Eq, Hash)]
+#[non_exhaustive]
 pub struct NameWithin {
     /// What has the name.
     pub kind: Within,

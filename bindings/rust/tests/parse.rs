@@ -2,6 +2,7 @@
 
 use rigyomad::{encode, parse_bytes, parse_file, parse_str, Kind, Place};
 use std::borrow::Cow;
+use std::error::Error;
 use std::fs;
 use std::path::{Path, PathBuf};
 
@@ -14,6 +15,12 @@ fn file(name: &str, bytes: &[u8]) -> PathBuf {
     let path = Path::new(env!("CARGO_TARGET_TMPDIR")).join(name);
     fs::write(&path, bytes).unwrap();
     path
+}
+
+#[test]
+fn results_have_a_name() -> rigyomad::Result<()> {
+    let bytes: rigyomad::Result<Vec<u8>> = parse_str("(module)");
+    bytes.map(|_| ())
 }
 
 #[test]
@@ -53,6 +60,8 @@ fn file_that_cannot_be_read_is_an_error() {
     assert_eq!(error.path(), Some(Path::new("no/such/file.wat")));
     let reason = error.io_error().unwrap();
     assert_eq!(error.to_string(), format!("cannot read no/such/file.wat: {reason}"));
+    assert_eq!(error.source().unwrap().to_string(), reason.to_string());
+    assert!(parse_str(WRONG).unwrap_err().source().is_none());
 }
 
 #[test]

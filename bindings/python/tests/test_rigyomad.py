@@ -1,0 +1,88 @@
+"""Tests the package that is installed: python3 -m unittest discover tests"""
+
+import concurrent.futures
+import doctest
+import pickle
+import unittest
+
+import rigyomad
+
+EMPTY = b"\0asm\x01\0\0\0"
+
+
+def error_of(text):
+    """The fields of the error of a text."""
+    try:
+        rigyomad.parse(text)
+    except rigyomad.WatError as error:
+        return error.number, error.kind, error.message, error.line, error.column, error.start, error.end
+    return None
+
+
+class Tests(unittest.TestCase):
+    def test_texts_and_bytes_are_encoded(self):
+        for text in ("(module)", b"(module)", bytearray(b"(module)"), memoryview(b"(module)")):
+            self.assertEqual(rigyomad.parse(text), EMPTY)
+
+    def test_module_may_be_longer_than_its_text(self):
+        text = f"(module (memory 1) (data (i64{' 1' * 400})))"
+        self.assertIn(b"\1\0\0\0\0\0\0\0" * 400, rigyomad.parse(text))
+
+    def test_binary_module_is_passed_through(self):
+        self.assertEqual(rigyomad.parse(EMPTY + b"rest"), EMPTY + b"rest")
+        self.assertEqual(error_of("\0asm")[:2], (0, "Malformed"))
+
+    def test_error_has_fields(self):
+        wanted = (4, "Unknown", "unknown func: failed to find name `$f`", 2, 9, 16, 18)
+        self.assertEqual(error_of("(module\n (start $f))"), wanted)
+        self.assertEqual(error_of(b"(module\n (start $f))"), wanted)
+
+    def test_offsets_count_what_the_text_has(self):
+        text = '(module (;\U0001f389\u00e9;)\n (;\U0001f389\u00e9;) (start $"\u00e9"))'
+        message = "unknown func: failed to find name `$\u00e9`"
+        self.assertEqual(error_of(text), (4, "Unknown", message, 2, 16, 30, 34))
+        self.assertEqual(error_of(text.encode()), (4, "Unknown", message, 2, 20, 38, 43))
+
+    def test_bytes_that_are_not_utf8_have_a_position(self):
+        self.assertEqual(error_of(b"(module\n  ;;\xff\n)"), (0, "Malformed", "malformed UTF-8 encoding", 2, 5, 12, 13))
+
+    def test_lone_surrogate_is_an_error(self):
+        self.assertEqual(error_of("(module)\n;; \ud800"), (0, "Malformed", "lone surrogate in a string", 2, 4, 12, 13))
+
+    def test_control_characters_are_printed_as_escapes(self):
+        with self.assertRaises(rigyomad.WatError) as caught:
+            rigyomad.parse('(module (start $"\\1b[31m\\n"))')
+        self.assertEqual(str(caught.exception), r"1:16: unknown func: failed to find name `$\u{1b}[31m\n`")
+
+    def test_message_may_be_long(self):
+        self.assertEqual(len(error_of(f"(module (start ${'n' * 3000}))")[2]), len("unknown func: failed to find name `$`") + 3000)
+
+    def test_names_are_listed(self):
+        text = '(module (;\u00e9;) (func) (func $"a b") (type $t (func)))'
+        self.assertEqual(rigyomad.names(text), [("func", 1, "a b", 27), ("type", 0, "t", 41)])
+        self.assertEqual([it.offset for it in rigyomad.names(text.encode())], [28, 42])
+        with self.assertRaises(rigyomad.WatError):
+            rigyomad.names("(module (start $f))")
+
+    def test_error_can_be_pickled(self):
+        error = rigyomad.WatError(4, "unknown", 1, 2, 3, 4)
+        again = pickle.loads(pickle.dumps(error))
+        self.assertEqual((again.kind, again.end, str(again)), ("Unknown", 4, "1:2: unknown"))
+
+    def test_threads_may_call(self):
+        with concurrent.futures.ThreadPoolExecutor(8) as pool:
+            self.assertEqual(set(pool.map(rigyomad.parse, ["(module)"] * 1000)), {EMPTY})
+
+    def test_other_types_are_refused(self):
+        for other in (None, 5, ["(module)"]):
+            with self.assertRaises(TypeError):
+                rigyomad.parse(other)
+
+
+def load_tests(loader, tests, pattern):
+    tests.addTests(doctest.DocTestSuite(rigyomad))
+    return tests
+
+
+if __name__ == "__main__":
+    unittest.main()
