@@ -53,12 +53,10 @@ tag_fixed : (t : TagType) → Fixed None (in_tag_type t)
 tag_fixed (tag.Exception u) = refl
 
 item_kind_fixed : (k : ItemKind) → Fixed None (in_item_kind k)
-item_kind_fixed (kind.Func u) = refl
-item_kind_fixed (kind.FuncExact u) = refl
 item_kind_fixed (kind.Table t) = fixed_form None (in_ref t.elem) (Covered form.Shared (not t.shared)) (ref_part.typed t.elem) refl
-item_kind_fixed (kind.Memory t) = refl
 item_kind_fixed (kind.Global t) = fixed_form None (in_val t.ty) (Covered form.Shared (not t.shared)) (val_part.typed t.ty) refl
 item_kind_fixed (kind.Tag t) = tag_fixed t
+item_kind_fixed x = refl
 
 shared_fixed : {N : Type 0} (names : List N) (id : Option Id) → Fixed None (check_sites (in_shared_id names id ++ uncovered_check form.CompactImports))
 shared_fixed [] None = refl
@@ -91,8 +89,7 @@ table_fixed (table.Inline ty is64 shared elements) =
 
 memory_fixed : (k : MemoryKind) → Fixed None (in_memory_kind k)
 memory_fixed (memory.Import import ty) = refl
-memory_fixed (memory.Normal ty) = refl
-memory_fixed (memory.Inline is64 pieces exponent) = refl
+memory_fixed x = refl
 
 global_fixed : (k : GlobalKind) → Fixed None (in_global_kind k)
 global_fixed (global.Import import) = refl
@@ -160,7 +157,6 @@ ask_or d s = d
 
 one_outer : (o : Option (TypeUse FunctionType)) (s : Site) → own o s ≡ s → IsOuter s
 one_outer o (Asked a) h = ap (ask_or a) h
-one_outer o (LocalAt locals i) h = tt
 one_outer o s h = tt
 
 each_outer : (o : Option (TypeUse FunctionType)) (ss : List Site) → Fixed o ss → Each IsOuter ss

@@ -7,7 +7,7 @@ use Rattle.wast_base.specs.Ids.{Name, name_of, generation_of}
 use Rattle.wast_base.specs.Filling.{one_if, given_if, with_ids_from, missing_id_count}
 use Rattle.wast_tree_nodes.specs.Items.{items}
 use Rattle.wast_tree_nodes.specs.Known.{IdContext, id_context}
-use Rattle.wast_tree_nodes.specs.Sites.{Check, ItemIndex, InnerIndex, PlainId, Clause, Covered, checks_of, in_module}
+use Rattle.wast_tree_nodes.specs.Sites.{Check, ItemIndex, checks_of, in_module}
 use Rattle.wast_tree_nodes.specs.Generations.{generation_in, greatest_asked, greatest_generation}
 use Rattle.wast_tree_map.specs.Mapped.{mapped_field, mapped_def}
 use Rattle.wast_tree_map.specs.Laws.{all_mapped}
@@ -85,10 +85,7 @@ module _ (c d : Scope) (n : ℕ) (alike : (q : Name) (s : Space) → generation_
   ask_alike : (a : Check) → generation_in a < n → SameAsk c d a
   ask_alike (ItemIndex s (index.Num m p)) lt = refl
   ask_alike (ItemIndex s (index.Id id)) lt = ap (λ o. numbered_by o id) (alike (name_of id) s lt)
-  ask_alike (InnerIndex i) lt = tt
-  ask_alike (PlainId m) lt = tt
-  ask_alike (Clause m holds) lt = tt
-  ask_alike (Covered form holds) lt = tt
+  ask_alike x lt = tt
 
   pub asks_alike : (asks : List Check) → greatest_asked asks < n → Same c d asks
   asks_alike [] lt = tt

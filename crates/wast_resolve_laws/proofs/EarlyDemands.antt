@@ -55,13 +55,11 @@ module _ (last : Option Space) (ys : List ModuleField) where
 
   table_orders : (t : Table) (k : TableKind) (i : Index) → orders_from last ((elem_in k t.span i ++ table_alone t k ∷ []) ++ ys) ≡ orders_at (imported_at t.span (Some (is_imported_table k))) space.Table last ys
   table_orders t (table.Import source ty) i = refl
-  table_orders t (table.Normal ty init) i = refl
-  table_orders t (table.Inline ty is64 shared p) i = refl
+  table_orders t x i = refl
 
   memory_orders : (m : Memory) (k : MemoryKind) (i : Index) → orders_from last ((data_in k m.span i ++ memory_alone m k ∷ []) ++ ys) ≡ orders_at (imported_at m.span (Some (is_imported_memory k))) space.Memory last ys
   memory_orders m (memory.Import source ty) i = refl
-  memory_orders m (memory.Normal ty) i = refl
-  memory_orders m (memory.Inline is64 pieces exponent) i = refl
+  memory_orders m x i = refl
 
   global_orders : (g : Global) (k : GlobalKind) → orders_from last (global_alone g k ∷ ys) ≡ orders_at (imported_at g.span (Some (is_imported_global k))) space.Global last ys
   global_orders g (global.Import source) = refl

@@ -3,7 +3,7 @@
 use Rattle.std.proofs.Common.{◌≡◌, ℕ, ◌+◌, Bool, true, false, List, [], ◌∷◌, ◌++◌, map, append_assoc, Option, Some, None, refl, sym, ap, ◌∙◌}
 use Rattle.std.proofs.lemmas.Grind.{flat_map-append}
 use Rattle.wast_base.specs.Filling.{one_if, given_if, with_ids_from, missing_id_count}
-use Rattle.wast_tree_nodes.specs.Sites.{Check, ItemIndex, Where, OfItem, OfCall, OfBlock, Site, Asked, Used, if_there, in_index, in_signature, in_type_use, asked_in, checks_of, in_field, in_module}
+use Rattle.wast_tree_nodes.specs.Sites.{Check, ItemIndex, Where, OfBlock, Site, Asked, Used, if_there, in_index, in_signature, in_type_use, asked_in, checks_of, in_field, in_module}
 use Rattle.wast_tree_map.specs.Mapped.{mapped_ask, mapped_site}
 use Rattle.wast_tree_map.proofs.Laws.{stands}
 use Rattle.wast_expand_keys.specs.Signatures.{Signature}
@@ -44,11 +44,10 @@ module _ {M : Type 0} (find : LookUp) (measure : List Check → M) (each : (a : 
 
   -- the empty inline type of a block has no check
   given_asks : (w : Where) (i : Option Index) (inline : Option FunctionType) → if_there in_signature (bound_inline w i inline) ≡ if_there in_signature inline
-  given_asks OfItem i inline = refl
-  given_asks OfCall i inline = refl
   given_asks OfBlock (Some i) inline = refl
   given_asks OfBlock None (Some t) = refl
   given_asks OfBlock None None = refl
+  given_asks x i inline = refl
 
   use_measure : (w : Where) (u : TypeUse FunctionType) (ps qs : List Check) → measure ps ≡ measure qs → measure (in_type_use (bound_use find w u) ++ ps) ≡ measure (in_type_use u ++ qs)
   use_measure w u ps qs h =

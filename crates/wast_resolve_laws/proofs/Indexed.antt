@@ -64,11 +64,10 @@ module _ (c : Scope) where
   has_fields xs none = ap needed_in (stands (numbering_change c) (numbering_keeps c) xs) ∙ sites_have (in_module xs) none
 
   use_says : (w : Where) (i : Option Index) (t : Option FunctionType) → says (Used w (record { index = i; inline = t })) ≡ true → says (Used w (resolved_use c.known w (record { index = i; inline = t }))) ≡ true
-  use_says OfItem i t h = refl
-  use_says OfCall i t h = refl
   use_says OfBlock (Some i) t h = refl
   use_says OfBlock None (Some t) h = refl
   use_says OfBlock None None h = absurd (cc h)
+  use_says x i t h = refl
 
   site_says : (s : Site) → says s ≡ true → says (mapped_site (numbering_change c) s) ≡ true
   site_says (Used w u) h = use_says w u.index u.inline h

@@ -7,7 +7,7 @@ use Rattle.wast_base.specs.Ids.{Name, name_of}
 use Rattle.wast_base.specs.Spaces.{word_of}
 use Rattle.wast_base.proofs.Numbered.{denoted_still}
 use Rattle.wast_tree_nodes.specs.Known.{IdContext}
-use Rattle.wast_tree_nodes.specs.Sites.{Check, ItemIndex, InnerIndex, PlainId, Clause, Covered, if_there, in_index, in_signature}
+use Rattle.wast_tree_nodes.specs.Sites.{Check, ItemIndex, if_there, in_index, in_signature}
 use Rattle.wast_tree_map.specs.Mapped.{mapped_ask, mapped_val, mapped_signature}
 use Rattle.wast_tree_map.proofs.Kept.{stands_in}
 use Rattle.wast_tree_map.proofs.Ways.{option_at}
@@ -67,10 +67,7 @@ module _ (k : IdContext) where
   -- Checks that pass.
   pub ask_rests : (a : Check) → first_unmet (ask_demand k a) ≡ None → ask_demand k (mapped_ask (numbered_at k) a) ≡ []
   ask_rests (ItemIndex s i) h = met_index (k.number s) (k.number s) (word_of s) i h
-  ask_rests (InnerIndex i) h = refl
-  ask_rests (PlainId m) h = refl
-  ask_rests (Clause n holds) h = refl
-  ask_rests (Covered form holds) h = refl
+  ask_rests x h = refl
 
   asks_rest : (asks : List Check) → first_unmet (ask_demands k asks) ≡ None → ask_demands k (map (mapped_ask (numbered_at k)) asks) ≡ []
   asks_rest [] h = refl

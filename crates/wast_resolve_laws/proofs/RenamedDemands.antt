@@ -13,7 +13,7 @@ use Rattle.wast_base.specs.Blocks.{Blocks}
 use Rattle.wast_resolve_labels.specs.OpenBlocks.{label_depth}
 use Rattle.wast_tree_nodes.specs.Items.{Item, items}
 use Rattle.wast_tree_nodes.specs.Known.{names_in}
-use Rattle.wast_tree_nodes.specs.Sites.{Check, ItemIndex, InnerIndex, PlainId, Clause, Covered, Locals, Site, Asked, Used, Declared, LocalAt, FieldAt, LabelAt, Repeated, Begins, Ends, in_type_use, asked_in, checks_of, in_module}
+use Rattle.wast_tree_nodes.specs.Sites.{Check, ItemIndex, Locals, Site, Asked, Used, Declared, LocalAt, FieldAt, LabelAt, Repeated, Begins, Ends, in_type_use, asked_in, checks_of, in_module}
 use Rattle.wast_tree_map.specs.Mapped.{mapped_func_kind, mapped_table_kind, mapped_global_kind, mapped_field}
 use Rattle.wast_tree_map.specs.Named.{Naming, renamed, renamed_mark, renamed_item, named_locals, named_ask, named_site}
 use Rattle.wast_tree_map.proofs.Ways.{option_at, index_in, both_at}
@@ -95,10 +95,7 @@ module _ (r : Renaming) (is : IsRenaming r) where
   module _ (c d : Scope) (numbers : (s : Space) (q : Name) → d.known.number s (n q) ≡ c.known.number s q) (types : ShapesAlike r c.types d.types) where
     ask_told : (a : Check) → AllAlike n (ask_marks a) (ask_demand c.known a) (ask_demand d.known (named_ask n (renaming r).index a))
     ask_told (ItemIndex s i) = index_told (c.known.number s) (d.known.number s) (numbers s) (word_of s) i
-    ask_told (InnerIndex i) = tt
-    ask_told (PlainId m) = tt
-    ask_told (Clause k holds) = tt
-    ask_told (Covered form holds) = tt
+    ask_told x = tt
 
     asks_told : (asks : List Check) → AllAlike n (asks_marks asks) (ask_demands c.known asks) (ask_demands d.known (map (named_ask n (renaming r).index) asks))
     asks_told [] = tt
@@ -222,8 +219,7 @@ module _ (r : Renaming) (is : IsRenaming r) where
 
   table_kept : (span : Span) (k : TableKind) → imported_at span (Some (is_imported_table (mapped_table_kind (renaming r) k))) ≡ imported_at span (Some (is_imported_table k))
   table_kept span (table.Import source ty) = refl
-  table_kept span (table.Normal ty init) = refl
-  table_kept span (table.Inline ty is64 shared elements) = refl
+  table_kept span x = refl
 
   global_kept : (span : Span) (k : GlobalKind) → imported_at span (Some (is_imported_global (mapped_global_kind (renaming r) k))) ≡ imported_at span (Some (is_imported_global k))
   global_kept span (global.Import source) = refl

@@ -3,7 +3,7 @@ use Rattle.std.proofs.Common.{◌≡◌, ℕ, List, [], ◌∷◌, map, Option, 
 use Rattle.wast_base.specs.Denoted.{numbered_by, resolved_index}
 use Rattle.wast_base.specs.Ids.{Name, name_of, Mark}
 use Rattle.wast_resolve_labels.specs.OpenBlocks.{label_depth}
-use Rattle.wast_tree_nodes.specs.Sites.{Check, ItemIndex, InnerIndex, PlainId, Clause, Covered, Where, OfItem, OfCall, OfBlock, Site, Asked, Used, Declared, LocalAt, FieldAt, LabelAt, Repeated, Begins, Ends, in_module}
+use Rattle.wast_tree_nodes.specs.Sites.{Check, ItemIndex, Where, OfItem, OfCall, OfBlock, Site, Asked, Used, LocalAt, FieldAt, LabelAt, in_module}
 use Rattle.wast_tree_nodes.specs.Types.{said_once}
 use Rattle.wast_tree_map.specs.Mapped.{Indices, Change, JoinsAsk, Joins, mapped_heap, mapped_val, mapped_param, named_param, mapped_signature, mapped_field}
 use Rattle.wast_tree_map.specs.Named.{renamed, named_locals, NamedJoins}
@@ -91,40 +91,28 @@ module _ (r : Renaming) (is : IsRenaming r) where
 
     asks_named : (a : Check) → JoinsAsk (renaming r).index (numbering_change d).index both.index a
     asks_named (ItemIndex s i) = refl
-    asks_named (InnerIndex i) = tt
-    asks_named (PlainId m) = tt
-    asks_named (Clause k holds) = tt
-    asks_named (Covered form holds) = tt
+    asks_named x = tt
 
     named : (s : Site) → NamedJoins r.name (renaming r) (numbering_change d) both s
     named (Asked a) = asks_named a
     named (Used w u) = refl
-    named (Declared before m) = tt
     named (LocalAt locals i) = refl
     named (FieldAt owner i) = (refl, refl)
     named (LabelAt blocks i) = refl
-    named (Repeated blocks m) = tt
-    named (Begins blocks m) = tt
-    named Ends = tt
+    named x = tt
 
     -- numbers first
     asks_numbered : (a : Check) → JoinsAsk (numbering_change c).index (renaming r).index both.index a
     asks_numbered (ItemIndex s i) = sym (index_numbered s i)
-    asks_numbered (InnerIndex i) = tt
-    asks_numbered (PlainId m) = tt
-    asks_numbered (Clause k holds) = tt
-    asks_numbered (Covered form holds) = tt
+    asks_numbered x = tt
 
     site_numbered : (s : Site) → Joins (numbering_change c) (renaming r) both s
     site_numbered (Asked a) = asks_numbered a
     site_numbered (Used w u) = sym (use_resolved w u)
-    site_numbered (Declared before m) = tt
     site_numbered (LocalAt locals i) = sym (number_same (local_number c locals) (local_number d (named_locals r.name (renaming r) locals)) (local_same r is c d numbers types locals) i)
     site_numbered (FieldAt owner i) = (sym (index_numbered space.Ty owner), sym (number_same (field_number c owner) (field_number d (renamed_index r owner)) (field_same r is c d numbers types owner) i))
     site_numbered (LabelAt blocks i) = sym (number_same (λ name. label_depth name blocks) (λ name. label_depth name (renamed r.name blocks)) (λ q. position_same r.name is.injective q blocks) i)
-    site_numbered (Repeated blocks m) = tt
-    site_numbered (Begins blocks m) = tt
-    site_numbered Ends = tt
+    site_numbered x = tt
 
     all_numbered : (xs : List ModuleField) → map (mapped_field (numbering_change d)) (renamed_fields r xs) ≡ renamed_fields r (map (mapped_field (numbering_change c)) xs)
     all_numbered xs =

@@ -37,8 +37,7 @@ module _ (r : Renaming) (is : IsRenaming r) where
 
   elements_same : (k : TableKind) → has_elements (mapped_table_kind (renaming r) k) ≡ has_elements k
   elements_same (table.Import source ty) = refl
-  elements_same (table.Normal ty init) = refl
-  elements_same (table.Inline ty is64 shared elements) = refl
+  elements_same x = refl
 
   wants_same : (x : ModuleField) → wants_id (mapped_field (renaming r) x) ≡ wants_id x
   wants_same (field.Func x) = ap (λ b. exports_some x.exports && b) (none_same x.id)

@@ -4,7 +4,7 @@ use Rattle.std.specs.List.{position, position_or_len, flat_map}
 use Rattle.std.proofs.Common.{◌≡◌, ℕ, ◌+◌, Bool, true, false, not, cond, ◌||◌, ◌&&◌, length, List, [], ◌∷◌, ◌++◌, map, Option, Some, None, option_map, refl, sym, ap, ◌∙◌}
 use Rattle.std.proofs.lemmas.List.{length-map, map-append}
 use Rattle.wast_base.specs.Ids.{Name, same_index}
-use Rattle.wast_tree_nodes.specs.Sites.{if_there, Check, ItemIndex, InnerIndex, PlainId, Clause, Covered, Where, OfItem, OfCall, OfBlock, Site, Asked, Used, Declared, LocalAt, FieldAt, LabelAt, Repeated, Begins, Ends, in_module}
+use Rattle.wast_tree_nodes.specs.Sites.{if_there, Check, ItemIndex, Where, OfBlock, Site, Asked, Used, LocalAt, FieldAt, LabelAt, in_module}
 use Rattle.wast_tree_nodes.specs.Types.{is_short}
 use Rattle.wast_tree_map.specs.Mapped.{Ids, Change, JoinsAsk, Joins, named_param, named_inner, named_def, mapped_val, mapped_type, mapped_field}
 use Rattle.wast_tree_map.specs.Named.{NamedJoins, named_site}
@@ -60,10 +60,9 @@ module _ (r : Renaming) (is : IsRenaming r) where
   short_told t = λ i. (length-map t.params (named_param given (λ t. renamed_index r)) i) == 0 && nat_lt (length-map t.results (mapped_val (λ t. renamed_index r)) i) 2
 
   needs_told : (w : Where) (t : Option FunctionType) → needs_type w (option_map (renamed_type r) t) ≡ needs_type w t
-  needs_told OfItem t = refl
-  needs_told OfCall t = refl
   needs_told OfBlock None = refl
   needs_told OfBlock (Some t) = ap not (short_told t)
+  needs_told x t = refl
 
   needed_told : (b : Bool) (s : Signature) → needed_if b (told s) ≡ map told (needed_if b s)
   needed_told true s = refl
@@ -74,15 +73,8 @@ module _ (r : Renaming) (is : IsRenaming r) where
   use_told w (Some i) t = refl
 
   site_told : (s : Site) → needed_at (named_site r.name (renaming r) s) ≡ map told (needed_at s)
-  site_told (Asked a) = refl
   site_told (Used w u) = use_told w u.index u.inline
-  site_told (Declared before m) = refl
-  site_told (LocalAt locals i) = refl
-  site_told (FieldAt owner i) = refl
-  site_told (LabelAt blocks i) = refl
-  site_told (Repeated blocks m) = refl
-  site_told (Begins blocks m) = refl
-  site_told Ends = refl
+  site_told x = refl
 
   sites_told : (ss : List Site) → needed_in (map (named_site r.name (renaming r)) ss) ≡ map told (needed_in ss)
   sites_told [] = refl
@@ -116,9 +108,7 @@ module _ (r : Renaming) (is : IsRenaming r) where
 
     kind_told : (t : InnerTypeKind) → kind_signature (named_inner given (λ t. renamed_index r) t) ≡ option_map told (kind_signature t)
     kind_told (inner.Func t) = ap Some (signature_changed given (λ t. renamed_index r) t)
-    kind_told (inner.Struct t) = refl
-    kind_told (inner.Array t) = refl
-    kind_told (inner.Cont t) = refl
+    kind_told x = refl
 
     some_told : (o : Option Signature) → option_map (numbered_signature l) (option_map told o) ≡ option_map told (option_map (numbered_signature k) o)
     some_told None = refl
@@ -237,50 +227,37 @@ module _ (r : Renaming) (is : IsRenaming r) where
     bound_told w (Some i) t = refl
 
     inline_bound : (w : Where) (o : Option Index) (t : Option FunctionType) → bound_inline w (option_map (renamed_index r) o) (option_map (renamed_type r) t) ≡ option_map (renamed_type r) (bound_inline w o t)
-    inline_bound OfItem o t = refl
-    inline_bound OfCall o t = refl
     inline_bound OfBlock (Some i) t = refl
     inline_bound OfBlock None (Some t) = refl
     inline_bound OfBlock None None = refl
+    inline_bound x o t = refl
 
     abbrev both : Change
     both = record (renaming r) { used = λ w u. bound_use other w (renamed_use r u) }
 
     asks_named : (a : Check) → JoinsAsk (renaming r).index (binding_change other).index both.index a
     asks_named (ItemIndex s i) = refl
-    asks_named (InnerIndex i) = tt
-    asks_named (PlainId m) = tt
-    asks_named (Clause k holds) = tt
-    asks_named (Covered form holds) = tt
+    asks_named x = tt
 
     binds_named : (s : Site) → NamedJoins r.name (renaming r) (binding_change other) both s
     binds_named (Asked a) = asks_named a
     binds_named (Used w u) = refl
-    binds_named (Declared before m) = tt
     binds_named (LocalAt locals i) = refl
     binds_named (FieldAt owner i) = (refl, refl)
     binds_named (LabelAt blocks i) = refl
-    binds_named (Repeated blocks m) = tt
-    binds_named (Begins blocks m) = tt
-    binds_named Ends = tt
+    binds_named x = tt
 
     asks_kept : (a : Check) → JoinsAsk (binding_change find).index (renaming r).index both.index a
     asks_kept (ItemIndex s i) = refl
-    asks_kept (InnerIndex i) = tt
-    asks_kept (PlainId m) = tt
-    asks_kept (Clause k holds) = tt
-    asks_kept (Covered form holds) = tt
+    asks_kept x = tt
 
     binds_kept : (s : Site) → Joins (binding_change find) (renaming r) both s
     binds_kept (Asked a) = asks_kept a
     binds_kept (Used w u) = λ i. record { index = sym (bound_told w u.index u.inline) i; inline = sym (inline_bound w u.index u.inline) i }
-    binds_kept (Declared before m) = tt
     binds_kept (LocalAt locals i) = refl
     binds_kept (FieldAt owner i) = (refl, refl)
     binds_kept (LabelAt blocks i) = refl
-    binds_kept (Repeated blocks m) = tt
-    binds_kept (Begins blocks m) = tt
-    binds_kept Ends = tt
+    binds_kept x = tt
 
     all_bound : (xs : List ModuleField) → map (bound_field other) (renamed_fields r xs) ≡ renamed_fields r (map (bound_field find) xs)
     all_bound xs =

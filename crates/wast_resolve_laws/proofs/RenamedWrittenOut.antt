@@ -41,16 +41,14 @@ module _ (r : Renaming) (is : IsRenaming r) where
   exports_same span kind k place (text ∷ texts) = ap (λ fs. export_of span kind (index.Num k place) text ∷ fs) (exports_same span kind k place texts)
 
   data_same : (kind : MemoryKind) (span : Span) (k : ℕ) (place : Span) → data_in kind span (index.Num k place) ≡ map (mapped_field (renaming r)) (data_in kind span (index.Num k place))
-  data_same (memory.Import source ty) span k place = refl
-  data_same (memory.Normal ty) span k place = refl
   data_same (memory.Inline false pieces exponent) span k place = refl
   data_same (memory.Inline true pieces exponent) span k place = refl
+  data_same x span k place = refl
 
   elem_same : (kind : TableKind) (span : Span) (k : ℕ) (place : Span) → elem_in (mapped_table_kind (renaming r) kind) span (index.Num k place) ≡ map (mapped_field (renaming r)) (elem_in kind span (index.Num k place))
-  elem_same (table.Import source ty) span k place = refl
-  elem_same (table.Normal ty init) span k place = refl
   elem_same (table.Inline ty false shared elements) span k place = refl
   elem_same (table.Inline ty true shared elements) span k place = refl
+  elem_same x span k place = refl
 
   -- the field alone
   func_same : (x : Func) (k : FuncKind) → func_alone (mapped_func (renaming r) x) (mapped_func_kind (renaming r) x.ty k) ≡ mapped_field (renaming r) (func_alone x k)
@@ -69,8 +67,7 @@ module _ (r : Renaming) (is : IsRenaming r) where
 
   memory_same : (x : Memory) (k : MemoryKind) → memory_alone (mapped_memory (renaming r) x) k ≡ mapped_field (renaming r) (memory_alone x k)
   memory_same x (memory.Import source ty) = refl
-  memory_same x (memory.Normal ty) = refl
-  memory_same x (memory.Inline is64 pieces exponent) = refl
+  memory_same x y = refl
 
   global_same : (x : Global) (k : GlobalKind) → global_alone (mapped_global (renaming r) x) (mapped_global_kind (renaming r) k) ≡ mapped_field (renaming r) (global_alone x k)
   global_same x (global.Import source) = refl

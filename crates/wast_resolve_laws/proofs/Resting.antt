@@ -74,8 +74,7 @@ module _ (c : Scope) where
 
   table_kept : (span : Span) (t : TableKind) → imported_at span (Some (is_imported_table (mapped_table_kind (numbering_change c) t))) ≡ imported_at span (Some (is_imported_table t))
   table_kept span (table.Import source ty) = refl
-  table_kept span (table.Normal ty init) = refl
-  table_kept span (table.Inline ty is64 shared elements) = refl
+  table_kept span x = refl
 
   global_kept : (span : Span) (g : GlobalKind) → imported_at span (Some (is_imported_global (mapped_global_kind (numbering_change c) g))) ≡ imported_at span (Some (is_imported_global g))
   global_kept span (global.Import source) = refl
@@ -85,7 +84,6 @@ module _ (c : Scope) where
   place_kept (field.Func f) = func_kept f.span f.ty f.kind
   place_kept (field.Table t) = table_kept t.span t.kind
   place_kept (field.Global g) = global_kept g.span g.kind
-  place_kept (field.Ty t) = refl
   place_kept x = refl
 
   starts_order : (last : Option Space) (ks : List (ℕ × Span)) → orders_from last (start_fields_of (numbers ks)) ≡ []

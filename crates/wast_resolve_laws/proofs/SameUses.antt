@@ -3,7 +3,7 @@
 use Rattle.std.proofs.Common.{◌≡◌, ℕ, ◌+◌, Bool, true, false, List, [], ◌∷◌, Option, Some, None, option_map, refl, sym, ap, ◌∙◌}
 use Rattle.wast_base.specs.Ids.{Name}
 use Rattle.wast_base.specs.Spaces.{position_of}
-use Rattle.wast_tree_nodes.specs.Sites.{Check, ItemIndex, InnerIndex, PlainId, Clause, Covered, Where, OfItem, OfCall, OfBlock, Site, Asked, Used, Declared, LocalAt, FieldAt, LabelAt, Repeated, Begins, Ends, if_there, in_index, in_signature, in_type_use, in_module, asked_in, checks_of}
+use Rattle.wast_tree_nodes.specs.Sites.{Check, ItemIndex, InnerIndex, PlainId, Clause, Covered, Where, OfItem, OfCall, OfBlock, Site, Asked, Used, LocalAt, FieldAt, LabelAt, if_there, in_index, in_signature, in_type_use, in_module, asked_in, checks_of}
 use Rattle.wast_tree_nodes.specs.Known.{IdContext}
 use Rattle.wast_tree_nodes.specs.Types.{inline_alone}
 use Rattle.wast_tree_map.specs.Mapped.{Change, no_change, compose, mapped_signature, JoinsAsk, Joins, Each}
@@ -117,10 +117,7 @@ module _ (c d : Scope) where
       site_alike (LocalAt locals i) h o = ap (behind_nameless locals.names i) (nameless_alike locals.owner o)
       site_alike (FieldAt owner i) h o = (h.0, field_alike owner i h.0)
       site_alike (LabelAt blocks i) h o = refl
-      site_alike (Declared before m) h o = tt
-      site_alike (Repeated blocks m) h o = tt
-      site_alike (Begins blocks m) h o = tt
-      site_alike Ends h o = tt
+      site_alike x h o = tt
 
       sites_alike : (ss : List Site) → Same (checks_of ss) → Each (Stands SameAsk) ss → Each (Joins no_change (telling c find) (telling d other)) ss
       sites_alike [] h o = tt

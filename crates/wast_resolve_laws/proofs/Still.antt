@@ -7,7 +7,7 @@ use Rattle.wast_base.specs.Spaces.{position_of}
 use Rattle.wast_resolve_labels.specs.OpenBlocks.{label_depth}
 use Rattle.wast_tree_nodes.specs.Types.{said_once}
 use Rattle.wast_tree_nodes.specs.Known.{IdContext}
-use Rattle.wast_tree_nodes.specs.Sites.{Check, ItemIndex, InnerIndex, PlainId, Clause, Covered, Where, OfItem, OfCall, OfBlock, Locals, Site, Asked, Used, Declared, LocalAt, FieldAt, LabelAt, Repeated, Begins, Ends, in_module}
+use Rattle.wast_tree_nodes.specs.Sites.{Check, ItemIndex, Where, OfItem, OfCall, OfBlock, Locals, Site, Asked, Used, LocalAt, FieldAt, LabelAt, in_module}
 use Rattle.wast_base.proofs.Numbered.{denoted_still, resolved_twice}
 use Rattle.wast_tree_map.specs.Mapped.{Change, JoinsAsk, Joins, mapped_locals, mapped_val, mapped_signature, mapped_field}
 use Rattle.wast_tree_map.proofs.Ways.{In, index_in, option_at}
@@ -86,21 +86,15 @@ module _ (c : Scope) where
 
   asks_join : (a : Check) → JoinsAsk (numbering_change c).index (numbering_change (rested c)).index (numbering_change c).index a
   asks_join (ItemIndex s i) = resolved_twice (k.number s) (k.number s) (λ q. refl) i
-  asks_join (InnerIndex i) = tt
-  asks_join (PlainId m) = tt
-  asks_join (Clause n holds) = tt
-  asks_join (Covered form holds) = tt
+  asks_join x = tt
 
   site_joins : (s : Site) → Joins (numbering_change c) (numbering_change (rested c)) (numbering_change c) s
   site_joins (Asked a) = asks_join a
   site_joins (Used w u) = use_twice k w u
-  site_joins (Declared before m) = tt
   site_joins (LocalAt locals i) = resolved_twice (local_number c locals) (local_number (rested c) (mapped_locals (numbering_change c) locals)) (local_still locals) i
   site_joins (FieldAt owner i) = (resolved_twice (k.number space.Ty) (k.number space.Ty) (λ q. refl) owner, resolved_twice (field_number c owner) (field_number (rested c) (numbered_at k space.Ty owner)) (owner_still owner) i)
   site_joins (LabelAt blocks i) = resolved_twice (λ name. label_depth name blocks) (λ name. label_depth name blocks) (λ q. refl) i
-  site_joins (Repeated blocks m) = tt
-  site_joins (Begins blocks m) = tt
-  site_joins Ends = tt
+  site_joins x = tt
 
   again : (xs : List ModuleField) → map (mapped_field (numbering_change (rested c))) (map (mapped_field (numbering_change c)) xs) ≡ map (mapped_field (numbering_change c)) xs
   again xs =
