@@ -11,19 +11,13 @@ use Rattle.wat_laws.specs.AtZero.{Table, annotation_named, word_or_other, at_zer
 
 annotation_same : (a : Annotation) → annotation_named (id_of a) ≡ Some a
 annotation_same annotation.Name = refl
-annotation_same annotation.Custom = refl
-annotation_same annotation.Producers = refl
-annotation_same annotation.Dylink0 = refl
-annotation_same annotation.BranchHint = refl
+annotation_same x = refl
 
 one_at_zero : (table : Table) (t : Token) → IsOfTable table t → at_zero table (seen t) ≡ Some (bare_token t)
-one_at_zero table token.Open is = refl
-one_at_zero table token.Close is = refl
 one_at_zero table (token.Annotation a) is = ap (λ o. o >>= λ x. Some (token.Annotation x)) (annotation_same a)
 one_at_zero table (token.Word w text) is = ap (λ o. Some (word_or_other o text.now)) is
 one_at_zero table (token.Other text) is = ap (λ o. Some (word_or_other o text.now)) is
-one_at_zero table (token.Id name) is = refl
-one_at_zero table (token.String bytes) is = refl
+one_at_zero table x is = refl
 
 pub tokens_at_zero : TokensAtZero
 tokens_at_zero table [] is = refl

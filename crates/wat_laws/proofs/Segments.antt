@@ -69,8 +69,7 @@ of_optional_number_index toks = choose (of_is_number 0 toks) (bind _ (of_index t
 
 func_bare : (t : HeapType) → is_func (bare_heap t) ≡ is_func t
 func_bare (heap.Abstract shared t) = refl
-func_bare (heap.Concrete x) = refl
-func_bare (heap.Exact x) = refl
+func_bare x = refl
 
 pub funcref_bare : (t : RefType) → is_funcref (bare_ref t) ≡ is_funcref t
 funcref_bare t = ap (λ b. t.nullable && b) (func_bare t.heap)

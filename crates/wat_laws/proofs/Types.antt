@@ -19,10 +19,6 @@ use Rattle.wat_laws.proofs.Values.{of_u64, of_is_number, of_id, of_name_annotati
 -- keywords
 number_type_bare : (k : Key) → numtype_or_vectype k ≡ option_map bare_val (numtype_or_vectype k)
 number_type_bare key.I32 = refl
-number_type_bare key.I64 = refl
-number_type_bare key.F32 = refl
-number_type_bare key.F64 = refl
-number_type_bare key.V128 = refl
 number_type_bare k = refl
 
 pub of_numtype : Kept bare_val (keyword_in numtype_or_vectype)
