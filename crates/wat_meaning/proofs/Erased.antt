@@ -404,8 +404,7 @@ table_is t = ap (λ (k : TableKind). record (bare_table t) { kind = k }) (table_
 
 memory_kind_is : (k : MemoryKind) → bare_memory_kind k ≡ shown_memory_kind k
 memory_kind_is (memory.Import source t) = refl
-memory_kind_is (memory.Normal t) = refl
-memory_kind_is (memory.Inline is64 xs page) = refl
+memory_kind_is x = refl
 
 memory_is : (m : Memory) → bare_memory m ≡ shown_memory (mapped_memory erased m)
 memory_is m = ap (λ (k : MemoryKind). record (bare_memory m) { kind = k }) (memory_kind_is m.kind)
@@ -426,8 +425,7 @@ export_is e = ap (λ (x : Index). record (bare_export e) { item = x }) (index_is
 -- custom sections
 custom_is : (c : Custom) → bare_custom c ≡ shown_custom c
 custom_is (custom.Raw s) = refl
-custom_is (custom.Producers p) = refl
-custom_is (custom.Dylink0 d) = refl
+custom_is x = refl
 
 -- fields
 field_is : (x : ModuleField) → bare_field x ≡ shown_field (mapped_field erased x)

@@ -142,10 +142,7 @@ tag_same (tag.Exception u) = inline_same u.inline
 kind_same : (k : ItemKind) → SameInKind (mapped_item_kind erased k) k
 kind_same (kind.Func u) = λ w. in_imported_func w (renamed_use erasing u) u (inline_same u.inline)
 kind_same (kind.FuncExact u) = λ w. in_imported_func w (renamed_use erasing u) u (inline_same u.inline)
-kind_same (kind.Table t) = λ w. refl
-kind_same (kind.Memory t) = λ w. refl
-kind_same (kind.Global t) = λ w. refl
-kind_same (kind.Tag t) = λ w. refl
+kind_same x = λ w. refl
 
 import_same : (x : ImportItems) → SameInImport (mapped_import_items erased x) x
 import_same x = in_import (mapped_sig erased) x (mapped_import_items erased x) (sigs_changed erased x) (λ s. kind_same s.kind)

@@ -161,8 +161,7 @@ table_alike t = λ i. record (bare_table t) { name = names_alike t.name i; expor
 
 memory_kind_alike : (k : MemoryKind) → bare_memory_kind (seen_memory_kind k) ≡ bare_memory_kind k
 memory_kind_alike (memory.Import i t) = refl
-memory_kind_alike (memory.Normal t) = refl
-memory_kind_alike (memory.Inline is64 xs page) = refl
+memory_kind_alike x = refl
 
 memory_alike : (m : Memory) → bare_memory (seen_memory m) ≡ bare_memory m
 memory_alike m = λ i. record (bare_memory m) { name = names_alike m.name i; exports = exports_alike m.exports i; kind = memory_kind_alike m.kind i }

@@ -7,7 +7,6 @@ use Rattle.std.specs.Borrow.{Bor}
 use Rattle.std.specs.Prelude.{ℕ, codes, if◌then◌else◌}
 use Rattle.wasm_ops.specs.Spelling.{Encoding, u32, list_of}
 use Rattle.wasm_out.specs.Parts as parts
-use Rattle.wasm_out.specs.Parts.{CustomPart, Part}
 use Rattle.wasm_out.specs.Producers.{producers}
 use Rattle.wast_tree_nodes.specs.Customs.{custom_name, subsection_id, stands_at, customs_in, customs_at, is_custom_called}
 use Rattle.wast_core_conv.specs.Customs.{as_producer_value, as_producer_field, export_flags, import_flags, listed_name, subsection_content, subsection, custom_bytes, custom_part}
@@ -32,11 +31,7 @@ list_same f item same xs = λ i. (u32 (length-map xs f i)).bytes ++ each_like f 
 -- subsections of dylink.0
 id_same : (s : Dylink0Subsection) → subsection_id (seen_subsection s) ≡ subsection_id s
 id_same (dylink.MemInfo memory_size memory_align table_size table_align) = refl
-id_same (dylink.Needed names) = refl
-id_same (dylink.ExportInfo items) = refl
-id_same (dylink.ImportInfo items) = refl
-id_same (dylink.RuntimePath names) = refl
-id_same (dylink.TargetArch name) = refl
+id_same x = refl
 
 content_same : (s : Dylink0Subsection) → (subsection_content (seen_subsection s)).bytes ≡ (subsection_content s).bytes
 content_same (dylink.MemInfo memory_size memory_align table_size table_align) = refl
@@ -56,8 +51,7 @@ producer_same f = λ i. (f.0.now, each_alike seen_version as_producer_value (λ 
 -- a custom section as a part of a module
 name_same : (c : Custom) → custom_name (shown_custom c) ≡ custom_name c
 name_same (custom.Raw s) = refl
-name_same (custom.Producers p) = refl
-name_same (custom.Dylink0 d) = refl
+name_same x = refl
 
 bytes_same : (c : Custom) → (custom_bytes (shown_custom c)).bytes ≡ (custom_bytes c).bytes
 bytes_same (custom.Raw s) = each_like seen_text (λ (t : Bor (List ℕ)). t.now) (λ (t : Bor (List ℕ)). t.now) (λ t. refl) s.bytes

@@ -9,7 +9,7 @@ use Rattle.std.proofs.lemmas.List.{map-append}
 use Rattle.wast_base.specs.Ids.{Name, span_of_index}
 use Rattle.wast_base.specs.Spaces.{position_of}
 use Rattle.wast_tree_nodes.specs.Items.{items}
-use Rattle.wast_tree_nodes.specs.Sites.{Locals, Site, Asked, Used, Declared, LocalAt, FieldAt, LabelAt, Repeated, Begins, Ends, in_field, in_module}
+use Rattle.wast_tree_nodes.specs.Sites.{Locals, Site, Asked, Used, LocalAt, in_field, in_module}
 use Rattle.wast_expand_keys.specs.Signatures.{Signature, same_signature_by}
 use Rattle.wast_resolve_rules.specs.Scopes.{Scope, module_scope, denoted, type_at, local_number}
 use Rattle.wast_resolve_rules.specs.Matches.{same_type}
@@ -115,14 +115,7 @@ declared_same t k = λ i. params_shown t i ++ kind_marks_shown k i
 
 open_same : (s : Site) → open_counts_at (shown_site s) ≡ open_counts_at s
 open_same (Asked a) = refl
-open_same (Used w u) = refl
-open_same (Declared before m) = refl
-open_same (LocalAt locals i) = refl
-open_same (FieldAt owner i) = refl
-open_same (LabelAt blocks i) = refl
-open_same (Repeated blocks m) = refl
-open_same (Begins blocks m) = refl
-open_same Ends = refl
+open_same x = refl
 
 open_shown : (x : ModuleField) → open_counts (in_field (shown_field x)) ≡ open_counts (in_field x)
 open_shown x = ap open_counts (field_shown x) ∙ flat_same shown_site open_counts_at open_same (in_field x)

@@ -81,9 +81,6 @@ instr_same (instr.loop_ b) = grind (arith, common_steps, block_same)
 instr_same (instr.if_ b) = grind (arith, common_steps, block_same)
 instr_same (instr.try_ b) = grind (arith, common_steps, block_same)
 instr_same (instr.try_table t) = grind (arith, common_steps, block_same)
-instr_same (instr.call_indirect c) = refl
-instr_same (instr.return_call_indirect c) = refl
-instr_same (instr.Beyond name) = refl
 instr_same i = refl
 
 instrs_same : (is : List Instruction) → map as_instr (map shown_instr is) ≡ map as_instr is
@@ -108,8 +105,7 @@ table_same k = grind (arith, common_steps, init_same)
 
 memory_same : (k : MemoryKind) → memory_of (shown_memory_kind k) ≡ memory_of k
 memory_same (memory.Import source t) = refl
-memory_same (memory.Normal t) = refl
-memory_same (memory.Inline is64 xs page) = refl
+memory_same x = refl
 
 value_same : (k : GlobalKind) → value_of (shown_global_kind k) ≡ value_of k
 value_same (global.Import source) = refl

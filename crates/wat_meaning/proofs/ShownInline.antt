@@ -38,22 +38,19 @@ exports_shown : (span : Span) (kind : ExportKind) (item : Index) (exports : Inli
 exports_shown span kind item exports = map_changed seen_text shown_field (export_of span kind item) (λ text. refl) exports.names
 
 data_shown : (k : MemoryKind) (span : Span) (item : Index) → data_in (shown_memory_kind k) span item ≡ shown_fields (data_in k span item)
-data_shown (memory.Import source ty) span item = refl
-data_shown (memory.Normal ty) span item = refl
 data_shown (memory.Inline false pieces exponent) span item = refl
 data_shown (memory.Inline true pieces exponent) span item = refl
+data_shown x span item = refl
 
 elem_shown : (k : TableKind) (span : Span) (item : Index) → elem_in (shown_table_kind k) span item ≡ shown_fields (elem_in k span item)
-elem_shown (table.Import source ty) span item = refl
-elem_shown (table.Normal ty init) span item = refl
 elem_shown (table.Inline ty false shared p) span item = refl
 elem_shown (table.Inline ty true shared p) span item = refl
+elem_shown x span item = refl
 
 -- The field without inline parts, or its import. The sizes of a table and a memory do not depend on addresses.
 func_shown : (f : Func) (k : FuncKind) → func_alone (shown_func f) (shown_func_kind k) ≡ shown_field (func_alone f k)
 func_shown f (func.Import source true) = refl
-func_shown f (func.Import source false) = refl
-func_shown f (func.Inline locals e) = refl
+func_shown f x = refl
 
 count_shown : (p : ElemPayload) → element_count (shown_payload p) ≡ element_count p
 count_shown (payload.Indices xs) = refl
@@ -141,13 +138,11 @@ some_exported e = ap (λ (n : ℕ). not (n == 0)) (length-map e.names seen_text)
 
 with_bytes : (k : MemoryKind) → has_bytes (shown_memory_kind k) ≡ has_bytes k
 with_bytes (memory.Import source ty) = refl
-with_bytes (memory.Normal ty) = refl
-with_bytes (memory.Inline is64 pieces exponent) = refl
+with_bytes x = refl
 
 with_elements : (k : TableKind) → has_elements (shown_table_kind k) ≡ has_elements k
 with_elements (table.Import source ty) = refl
-with_elements (table.Normal ty init) = refl
-with_elements (table.Inline ty is64 shared p) = refl
+with_elements x = refl
 
 wants_shown : (x : ModuleField) → wants_id (shown_field x) ≡ wants_id x
 wants_shown (field.Func x) = ap (λ b. b && is_none x.id) (some_exported x.exports)

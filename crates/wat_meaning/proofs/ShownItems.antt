@@ -9,7 +9,7 @@ use Rattle.wast_tree_nodes.specs.Imports.{defined_space}
 use Rattle.wast_tree_nodes.specs.Items.{space_of_kind, item_of_sig, items_of_type, items_of_import, items_in, items}
 use Rattle.wast_tree_nodes.specs.Profiles.{is_imported_func, is_imported_table, is_imported_memory, is_imported_global, is_imported_tag}
 use Rattle.wat_syntax.specs.Seen.{seen_text, seen_type, seen_item_kind, seen_item_sig, seen_item, seen_items, seen_tag_kind}
-use Rattle.wat_syntax.specs.Tree.{FuncKind, TableKind, MemoryKind, GlobalKind, TagKind, ItemKind, ItemSig, ImportItems, Custom, ModuleField}
+use Rattle.wat_syntax.specs.Tree.{FuncKind, TableKind, MemoryKind, GlobalKind, TagKind, ItemKind, ItemSig, ImportItems, ModuleField}
 use Rattle.wat_syntax.specs.Tree.space
 use Rattle.wat_syntax.specs.Tree.ty
 use Rattle.wat_syntax.specs.Tree.func
@@ -19,7 +19,6 @@ use Rattle.wat_syntax.specs.Tree.global
 use Rattle.wat_syntax.specs.Tree.tag_kind
 use Rattle.wat_syntax.specs.Tree.kind
 use Rattle.wat_syntax.specs.Tree.import_items
-use Rattle.wat_syntax.specs.Tree.custom
 use Rattle.wat_syntax.specs.Tree.field
 use Rattle.wat_meaning.specs.Shown.{shown_func_kind, shown_table_kind, shown_memory_kind, shown_global_kind, shown_field, shown_fields}
 use Rattle.wat_meaning.proofs.ShownLists.{flat_same}
@@ -32,11 +31,7 @@ type_items t = λ i. record { space = space.Ty; id = mark_of_option t.id; fields
 -- imported items
 pub kind_space : (k : ItemKind) → space_of_kind (seen_item_kind k) ≡ space_of_kind k
 kind_space (kind.Func u) = refl
-kind_space (kind.FuncExact u) = refl
-kind_space (kind.Table t) = refl
-kind_space (kind.Memory t) = refl
-kind_space (kind.Global t) = refl
-kind_space (kind.Tag t) = refl
+kind_space x = refl
 
 sig_item : (s : ItemSig) → item_of_sig (seen_item_sig s) ≡ item_of_sig s
 sig_item s = λ i. record { space = kind_space s.kind i; id = mark_of_option s.id; fields = [] }
@@ -70,18 +65,7 @@ items_shown xs = flat_same shown_field items_in items_of_shown xs
 -- the index space in which a field defines an item that could be imported
 pub defined_shown : (x : ModuleField) → defined_space (shown_field x) ≡ defined_space x
 defined_shown (field.Ty t) = refl
-defined_shown (field.Rec r) = refl
-defined_shown (field.Import m) = refl
-defined_shown (field.Func f) = refl
-defined_shown (field.Table t) = refl
-defined_shown (field.Memory m) = refl
-defined_shown (field.Global g) = refl
-defined_shown (field.Export e) = refl
-defined_shown (field.Start i) = refl
-defined_shown (field.Elem e) = refl
-defined_shown (field.Data d) = refl
-defined_shown (field.Tag t) = refl
-defined_shown (field.Custom c) = refl
+defined_shown x = refl
 
 -- whether a field has an inline import
 pub func_imported : (k : FuncKind) → is_imported_func (shown_func_kind k) ≡ is_imported_func k
@@ -90,13 +74,11 @@ func_imported (func.Inline locals e) = refl
 
 pub table_imported : (k : TableKind) → is_imported_table (shown_table_kind k) ≡ is_imported_table k
 table_imported (table.Import source ty) = refl
-table_imported (table.Normal ty init) = refl
-table_imported (table.Inline ty is64 shared elements) = refl
+table_imported x = refl
 
 pub memory_imported : (k : MemoryKind) → is_imported_memory (shown_memory_kind k) ≡ is_imported_memory k
 memory_imported (memory.Import source ty) = refl
-memory_imported (memory.Normal ty) = refl
-memory_imported (memory.Inline is64 pieces exponent) = refl
+memory_imported x = refl
 
 pub global_imported : (k : GlobalKind) → is_imported_global (shown_global_kind k) ≡ is_imported_global k
 global_imported (global.Import source) = refl

@@ -126,9 +126,6 @@ label_kept (instr.loop_ b) = λ t. label_same b t ∷ []
 label_kept (instr.if_ b) = λ t. label_same b t ∷ []
 label_kept (instr.try_ b) = λ t. label_same b t ∷ []
 label_kept (instr.try_table x) = λ t. label_same x.block t ∷ []
-label_kept (instr.call_indirect c) = refl
-label_kept (instr.return_call_indirect c) = refl
-label_kept (instr.Beyond name) = refl
 label_kept i = refl
 
 labels_same : (k : FuncKind) → labels_in (shown_func_kind k) ≡ labels_in k
@@ -146,10 +143,7 @@ tag_same (tag.Exception u) = inline_same u.inline
 kind_same : (k : ItemKind) → SameInKind (seen_item_kind k) k
 kind_same (kind.Func u) = λ w. in_imported_func w (seen_type_use u) u (inline_same u.inline)
 kind_same (kind.FuncExact u) = λ w. in_imported_func w (seen_type_use u) u (inline_same u.inline)
-kind_same (kind.Table t) = λ w. refl
-kind_same (kind.Memory t) = λ w. refl
-kind_same (kind.Global t) = λ w. refl
-kind_same (kind.Tag t) = λ w. refl
+kind_same x = λ w. refl
 
 import_same : (x : ImportItems) → SameInImport (seen_items x) x
 import_same x = in_import seen_item_sig x (seen_items x) (sigs_shown x) (λ s. kind_same s.kind)
@@ -161,15 +155,8 @@ lists_same xs (field.Rec r) = λ w. each_like seen_type (lists_in_type w) (lists
 lists_same xs (field.Import x) = import_same x.items
 lists_same xs (field.Func f) =
     λ w. in_func w (types_of (shown_fields xs)) (types_of xs) (shown_func f) f (locals_same xs f) (labels_same f.kind)
-lists_same xs (field.Table t) = λ w. refl
-lists_same xs (field.Memory m) = λ w. refl
-lists_same xs (field.Global g) = λ w. refl
-lists_same xs (field.Export e) = λ w. refl
-lists_same xs (field.Start x) = λ w. refl
-lists_same xs (field.Elem e) = λ w. refl
-lists_same xs (field.Data d) = λ w. refl
 lists_same xs (field.Tag t) = λ w. in_tag w (seen_tag_type t.ty) t.ty (tag_same t.ty)
-lists_same xs (field.Custom c) = λ w. refl
+lists_same xs x = λ w. refl
 
 pub keeps_names : KeepsNames shown_field
 keeps_names = record { items = names_same; lists = lists_same }

@@ -12,7 +12,7 @@ use Rattle.wast_base.specs.Blocks.{Blocks, is_balanced}
 use Rattle.wast_base.specs.Spaces.{name_if}
 use Rattle.wast_tree_nodes.specs.Clauses.{hints_stand, stand_from, is_segment_type_allowed}
 use Rattle.wast_tree_nodes.specs.Instrs.{turn_of, block_effects}
-use Rattle.wast_tree_nodes.specs.Sites.{Check, Clause, Covered, BodyContext, constant_context, Where, OfItem, OfBlock, Site, Asked, Used, Declared, LocalAt, FieldAt, LabelAt, Repeated, Begins, Ends, context_after_site, after_all, check_sites, if_there, uncovered_check, at_index, at_label, in_heap, in_ref, in_pair, in_mem_arg, in_select, in_cast, in_handlers, in_use, in_caught, in_catch, in_handle, in_try_table, in_br_table, in_instr, context_after, in_instrs, in_expression, in_constant, in_local, param_marks, local_marks, declaration_sites, body_here, in_func_kind, in_func, in_table_type, in_global_type, in_tag_type, in_item_kind, in_sig, in_shared_id, in_import, in_payload, in_table_kind, in_memory_kind, in_global_kind, in_global, in_elem_kind, in_elem, in_type, in_rec, in_data_kind, in_subsection, in_custom, in_field, in_module, asked_in, checks_of}
+use Rattle.wast_tree_nodes.specs.Sites.{Check, Clause, Covered, BodyContext, constant_context, Where, OfItem, OfBlock, Site, Asked, Used, Declared, LabelAt, Begins, context_after_site, after_all, check_sites, if_there, uncovered_check, at_index, at_label, in_heap, in_ref, in_pair, in_mem_arg, in_select, in_cast, in_handlers, in_use, in_caught, in_catch, in_handle, in_try_table, in_br_table, in_instr, context_after, in_instrs, in_expression, in_constant, in_local, param_marks, local_marks, declaration_sites, body_here, in_func_kind, in_func, in_table_type, in_global_type, in_tag_type, in_item_kind, in_sig, in_shared_id, in_import, in_payload, in_table_kind, in_memory_kind, in_global_kind, in_global, in_elem_kind, in_elem, in_type, in_rec, in_data_kind, in_subsection, in_custom, in_field, in_module, asked_in, checks_of}
 use Rattle.wat_syntax.specs.Seen.{seen_text, seen_type_use, seen_type, seen_rec, seen_try_table, seen_local, seen_tag_type, seen_item_kind, seen_item, seen_items}
 use Rattle.wat_syntax.specs.SeenCustoms.{seen_subsection}
 use Rattle.wat_syntax.specs.Tree.{Id, TryTable, TryTableCatch, BrTableIndices, Handle, ResumeTable, RefType, Index, TypeUse, FunctionType, Instruction, Expression, Local, FuncKind, Func, ItemKind, ItemSig, ImportItems, TagType, TableKind, MemoryKind, GlobalKind, Global, ElemKind, ElemPayload, Elem, DataKind, Custom, Dylink0Subsection, ModuleField}
@@ -127,14 +127,7 @@ instr_shown h i = refl
 after_site_shown : (h : BodyContext) (s : Site)
     → context_after_site (shown_context h) (shown_site s) ≡ shown_context (context_after_site h s)
 after_site_shown h (Asked a) = refl
-after_site_shown h (Used w u) = refl
-after_site_shown h (Declared before m) = refl
-after_site_shown h (LocalAt locals i) = refl
-after_site_shown h (FieldAt owner i) = refl
-after_site_shown h (LabelAt blocks i) = refl
-after_site_shown h (Repeated blocks m) = refl
-after_site_shown h (Begins blocks m) = refl
-after_site_shown h Ends = refl
+after_site_shown h x = refl
 
 after_shown : (h : BodyContext) (ss : List Site) → after_all (shown_context h) (map shown_site ss) ≡ shown_context (after_all h ss)
 after_shown h [] = refl
@@ -245,8 +238,7 @@ table_shown (table.Inline ty is64 shared p) =
 
 memory_shown : (k : MemoryKind) → in_memory_kind (shown_memory_kind k) ≡ map shown_site (in_memory_kind k)
 memory_shown (memory.Import source ty) = refl
-memory_shown (memory.Normal ty) = refl
-memory_shown (memory.Inline is64 pieces exponent) = refl
+memory_shown x = refl
 
 global_kind_shown : (k : GlobalKind) → in_global_kind (shown_global_kind k) ≡ map shown_site (in_global_kind k)
 global_kind_shown (global.Import source) = refl
@@ -260,10 +252,9 @@ global_shown g =
 -- Segments.
 allowed_shown : (k : ElemKind) (p : ElemPayload)
     → is_segment_type_allowed (shown_elem_kind k) (shown_payload p) ≡ is_segment_type_allowed k p
-allowed_shown elem.Passive p = refl
-allowed_shown elem.Declared p = refl
 allowed_shown (elem.Active table offset) (payload.Indices is) = refl
 allowed_shown (elem.Active table offset) (payload.Exprs ty es) = refl
+allowed_shown x p = refl
 
 elem_kind_shown : (k : ElemKind) → in_elem_kind (shown_elem_kind k) ≡ map shown_site (in_elem_kind k)
 elem_kind_shown elem.Passive = refl
@@ -284,11 +275,7 @@ data_kind_shown (data_kind.Active x e) = λ i. at_index space.Memory x ++ consta
 -- Custom sections: a subsection is supported or not as before.
 subsection_shown : (s : Dylink0Subsection) → in_subsection (seen_subsection s) ≡ in_subsection s
 subsection_shown (dylink.MemInfo memory_size memory_align table_size table_align) = refl
-subsection_shown (dylink.Needed names) = refl
-subsection_shown (dylink.ExportInfo flags) = refl
-subsection_shown (dylink.ImportInfo flags) = refl
-subsection_shown (dylink.RuntimePath names) = refl
-subsection_shown (dylink.TargetArch name) = refl
+subsection_shown x = refl
 
 custom_shown : (c : Custom) → in_custom (shown_custom c) ≡ map shown_site (in_custom c)
 custom_shown (custom.Raw section) = refl

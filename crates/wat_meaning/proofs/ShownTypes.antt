@@ -10,7 +10,7 @@ use Rattle.std.proofs.Common.{◌≡◌, ℕ, ◌+◌, false, not, ◌&&◌, len
 use Rattle.std.proofs.lemmas.List.{length-map}
 use Rattle.wast_base.specs.Filling.{with_ids_from, missing_id_count}
 use Rattle.wast_tree_nodes.specs.Known.{id_context}
-use Rattle.wast_tree_nodes.specs.Sites.{if_there, Where, OfItem, OfCall, OfBlock, Site, Used, in_module}
+use Rattle.wast_tree_nodes.specs.Sites.{if_there, Where, OfBlock, Site, Used, in_module}
 use Rattle.wast_tree_nodes.specs.Types.{is_short}
 use Rattle.wast_expand_keys.specs.Signatures.{Signature, type_of_param, signature_of}
 use Rattle.wast_expand_keys.specs.NeedingUses.{inline_signature, needs_type, needed_if, needed_without, needed_at, needed_in, needed_signatures}
@@ -49,10 +49,9 @@ short_shown : (t : FunctionType) → is_short (seen_function_type t) ≡ is_shor
 short_shown t = ap (λ (n : ℕ). n == 0 && nat_lt (length t.results) 2) (length-map t.params seen_param)
 
 needs_shown : (w : Where) (t : Option FunctionType) → needs_type w (option_map seen_function_type t) ≡ needs_type w t
-needs_shown OfItem t = refl
-needs_shown OfCall t = refl
 needs_shown OfBlock None = refl
 needs_shown OfBlock (Some t) = ap not (short_shown t)
+needs_shown x t = refl
 
 -- The signatures that type uses need.
 without_shown : (w : Where) (o : Option Index) (t : Option FunctionType)
@@ -151,11 +150,10 @@ module _ (find : LookUp) where
 
   inline_bound : (w : Where) (o : Option Index) (t : Option FunctionType)
       → bound_inline w o (option_map seen_function_type t) ≡ option_map seen_function_type (bound_inline w o t)
-  inline_bound OfItem o t = refl
-  inline_bound OfCall o t = refl
   inline_bound OfBlock (Some i) t = refl
   inline_bound OfBlock None (Some t) = refl
   inline_bound OfBlock None None = refl
+  inline_bound x o t = refl
 
   pub binding_ignores : IgnoresNames (binding_change find)
   binding_ignores = record {

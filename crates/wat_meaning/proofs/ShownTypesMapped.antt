@@ -178,18 +178,15 @@ module _ (f : Change) (is : IgnoresNames f) where
   field_shown (field.Func x) = ap field.Func (func_shown x)
   field_shown (field.Table x) =
       ap (λ (k : TableKind). field.Table (record (shown_table (mapped_table f x)) { kind = k })) (table_kind_shown x.kind)
-  field_shown (field.Memory x) = refl
   field_shown (field.Global x) =
       ap (λ (k : GlobalKind). field.Global (record (shown_global (mapped_global f x)) { kind = k })) (global_kind_shown x.kind)
-  field_shown (field.Export x) = refl
-  field_shown (field.Start x) = refl
   field_shown (field.Elem x) =
       λ i. field.Elem (record (shown_elem (mapped_elem f x)) { kind = elem_kind_shown x.kind i; payload = payload_shown x.payload i })
   field_shown (field.Data x) =
       ap (λ (k : DataKind). field.Data (record (shown_data (mapped_data f x)) { kind = k })) (data_kind_shown x.kind)
   field_shown (field.Tag x) =
       ap (λ (t : TagType). field.Tag (record (seen_tag (mapped_tag f x)) { ty = t })) (tag_type_shown x.ty)
-  field_shown (field.Custom x) = refl
+  field_shown x = refl
 
   pub shown_mapped : (xs : List ModuleField) → all_mapped f (shown_fields xs) ≡ shown_fields (all_mapped f xs)
   shown_mapped xs = map_changed shown_field shown_field (mapped_field f) field_shown xs
