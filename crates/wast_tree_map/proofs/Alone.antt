@@ -37,8 +37,7 @@ module _ (f : Change) where
 
   table_alone : (k : TableKind) → is_written_table (mapped_table_kind f k) ≡ is_written_table k
   table_alone (table.Import import ty) = refl
-  table_alone (table.Normal ty init) = refl
-  table_alone (table.Inline ty is64 shared elements) = refl
+  table_alone x = refl
 
   global_alone : (k : GlobalKind) → not (is_imported_global (mapped_global_kind f k)) ≡ not (is_imported_global k)
   global_alone (global.Import import) = refl
@@ -48,7 +47,6 @@ module _ (f : Change) where
   field_alone (field.Func x) = ap (λ b. exports_nothing x.exports && b) (func_alone _ x.kind)
   field_alone (field.Table x) = ap (λ b. exports_nothing x.exports && b) (table_alone x.kind)
   field_alone (field.Global x) = ap (λ b. exports_nothing x.exports && b) (global_alone x.kind)
-  field_alone (field.Memory x) = refl
   field_alone x = refl
 
   -- A list is desugared if and only if the mapped one is.
@@ -68,10 +66,8 @@ module _ (n : Naming) (f : Change) (ids : NamesItems n f) (names : RenamesIds n 
   struct_named (x ∷ xs) = λ i. names.owns x.id i ∷ struct_named xs i
 
   inner_named : (t : InnerTypeKind) → field_ids (fields_of (named_inner f.own f.index t)) ≡ map (renamed_mark n) (field_ids (fields_of t))
-  inner_named (inner.Func t) = refl
   inner_named (inner.Struct t) = struct_named t.fields
-  inner_named (inner.Array t) = refl
-  inner_named (inner.Cont t) = refl
+  inner_named x = refl
 
   type_named : (t : ty.«Type») → items_of_type (mapped_type f t) ≡ map (renamed_item n) (items_of_type t)
   type_named t = λ i. record { space = space.Ty; id = ids t.id i; fields = inner_named t.def.kind i } ∷ []
@@ -82,11 +78,7 @@ module _ (n : Naming) (f : Change) (ids : NamesItems n f) (names : RenamesIds n 
 
   kind_alone : (k : ItemKind) → space_of_kind (mapped_item_kind f k) ≡ space_of_kind k
   kind_alone (kind.Func u) = refl
-  kind_alone (kind.FuncExact u) = refl
-  kind_alone (kind.Table t) = refl
-  kind_alone (kind.Memory t) = refl
-  kind_alone (kind.Global t) = refl
-  kind_alone (kind.Tag t) = refl
+  kind_alone x = refl
 
   sig_named : (s : ItemSig) → item_of_sig (mapped_sig f s) ≡ renamed_item n (item_of_sig s)
   sig_named s = λ i. record { space = kind_alone s.kind i; id = ids s.id i; fields = [] }

@@ -32,7 +32,7 @@ use Rattle.wast_tree_map.specs.Tree.custom
 use Rattle.wast_tree_map.specs.Tree.dylink
 use Rattle.wast_tree_nodes.specs.Clauses.{is_func_heap, hints_stand, stand_from, is_segment_type_allowed}
 use Rattle.wast_tree_nodes.specs.Instrs.{turn_of, block_effects}
-use Rattle.wast_tree_nodes.specs.Sites.{BodyContext, constant_context, OfItem, OfCall, OfBlock, Site, Asked, Used, Declared, LocalAt, FieldAt, LabelAt, Repeated, Begins, Ends, Clause, Covered, uncovered_check, context_after_site, after_all, check_sites, at_index, in_heap, in_block, in_caught, in_catch, in_try_table, in_br_table, in_ref, in_pair, in_cast, in_handle, in_handlers, in_target, in_mem_arg, in_select, in_indirect, in_instr, context_after, in_instrs, in_expression, in_constant, in_local, local_marks, param_marks, declaration_sites, body_here, in_func_kind, in_use, in_func, in_item_kind, in_sig, in_shared_id, in_import, exported_space, in_payload, in_table_kind, in_memory_kind, in_global_kind, in_elem_kind, in_elem, in_data_kind, in_subsection, in_custom, in_field}
+use Rattle.wast_tree_nodes.specs.Sites.{BodyContext, constant_context, OfItem, OfCall, OfBlock, Site, Asked, Declared, LabelAt, Repeated, Begins, Ends, Clause, Covered, uncovered_check, context_after_site, after_all, check_sites, at_index, in_heap, in_block, in_caught, in_catch, in_try_table, in_br_table, in_ref, in_pair, in_cast, in_handle, in_handlers, in_target, in_mem_arg, in_select, in_indirect, in_instr, context_after, in_instrs, in_expression, in_constant, in_local, local_marks, param_marks, declaration_sites, body_here, in_func_kind, in_use, in_func, in_item_kind, in_sig, in_import, exported_space, in_payload, in_table_kind, in_memory_kind, in_global_kind, in_elem_kind, in_elem, in_data_kind, in_subsection, in_custom, in_field}
 use Rattle.wast_tree_map.specs.Mapped.{Change, no_change, KeepsMarks, Each, mapped_heap, mapped_ref, mapped_handle, mapped_handlers, mapped_block, mapped_caught, mapped_catch, mapped_try_table, mapped_br_table, mapped_target, mapped_mem_arg, mapped_select, mapped_indirect, mapped_instr, mapped_instrs, mapped_expression, mapped_constant, mapped_local, mapped_func_kind, mapped_func, mapped_item_kind, mapped_sig, mapped_import_items, mapped_payload, mapped_table_kind, mapped_global_kind, mapped_elem_kind, mapped_elem, mapped_data_kind, mapped_field}
 use Rattle.wast_tree_map.specs.Named.{Naming, RenamesIds, renamed, renamed_mark, named_locals, named_here, named_site, NamedJoins, AreNamedJoint}
 use Rattle.wast_tree_map.proofs.Ways.{In, At, Among, begins_at, each_first, each_rest, index_in, index_at, mark_in, label_at, asked_at, item_id_at, use_at, fixed_at, both_at, made_at, made_among, tested_at, option_at, list_at}
@@ -225,15 +225,9 @@ named_if n None = refl
 named_if n (Some m) = refl
 
 after_site : (n : Naming) (f : Change) (h : BodyContext) (s : Site) → context_after_site (named_here n f h) (named_site n f s) ≡ named_here n f (context_after_site h s)
-after_site n f h (Asked a) = refl
-after_site n f h (Used w u) = refl
-after_site n f h (Declared before m) = refl
-after_site n f h (LocalAt locals i) = refl
-after_site n f h (FieldAt owner i) = refl
-after_site n f h (LabelAt blocks i) = refl
-after_site n f h (Repeated blocks m) = refl
 after_site n f h (Begins blocks m) = ap (λ (name : Option Name). record { locals = named_locals n f h.locals; blocks = name ∷ renamed n h.blocks }) (named_if n m)
 after_site n f h Ends = ap (λ (blocks : Blocks). record { locals = named_locals n f h.locals; blocks = blocks }) (closed_named n h.blocks)
+after_site n f h x = refl
 
 after_mapped : (n : Naming) (f : Change) (h : BodyContext) (ss : List Site) → after_all (named_here n f h) (map (named_site n f) ss) ≡ named_here n f (after_all h ss)
 after_mapped n f h [] = refl
@@ -428,8 +422,7 @@ table_kind_at (table.Inline ty is64 shared elements) =
 
 memory_kind_still : (n : Naming) (f : Change) (k : MemoryKind) → map (named_site n f) (in_memory_kind k) ≡ in_memory_kind k
 memory_kind_still n f (memory.Import import ty) = refl
-memory_kind_still n f (memory.Normal ty) = refl
-memory_kind_still n f (memory.Inline is64 pieces exponent) = refl
+memory_kind_still n f x = refl
 
 global_kind_at : (g : GlobalKind) → At in_global_kind mapped_global_kind g
 global_kind_at (global.Import import) = fixed_at (global.Import import) (λ f. refl) (λ n f. refl)
@@ -442,16 +435,14 @@ elem_kind_at e = fixed_at e (λ f. refl) (λ n f. refl)
 
 -- Whether a segment has its table or contains functions.
 suits_still : (f : Change) (e : ElemKind) (p : ElemPayload) → is_segment_type_allowed (mapped_elem_kind f e) (mapped_payload f p) ≡ is_segment_type_allowed e p
-suits_still f elem.Passive p = refl
-suits_still f elem.Declared p = refl
 suits_still f (elem.Active (Some i) offset) p = refl
 suits_still f (elem.Active None offset) (payload.Indices is) = refl
 suits_still f (elem.Active None offset) (payload.Exprs ty es) = ap (λ b. ty.nullable && b) (func_heap ty.heap)
   where
     func_heap : (t : HeapType) → is_func_heap (mapped_heap f.index t) ≡ is_func_heap t
     func_heap (heap.Abstract shared ty) = refl
-    func_heap (heap.Concrete i) = refl
-    func_heap (heap.Exact i) = refl
+    func_heap x = refl
+suits_still f x p = refl
 
 elem_at : (e : Elem) → At in_elem mapped_elem e
 elem_at e =

@@ -2,7 +2,7 @@
 -- in its indices alone, for example a type.
 use Rattle.std.proofs.Common.{◌≡◌, List, [], ◌∷◌, refl, sym, ap, ◌∙◌}
 use Rattle.wast_tree_map.specs.Tree.{Index, Space}
-use Rattle.wast_tree_nodes.specs.Sites.{Check, ItemIndex, InnerIndex, PlainId, Clause, Covered}
+use Rattle.wast_tree_nodes.specs.Sites.{Check, ItemIndex}
 use Rattle.wast_tree_map.specs.Mapped.{Indices, Change, no_change, JoinsAsk, Each}
 use Rattle.wast_tree_map.proofs.Ways.{In}
 use Rattle.wast_tree_map.proofs.Kept.{joins_in}
@@ -13,10 +13,7 @@ of_indices f = record no_change { index = f }
 module _ (h g f : Indices) (join : (s : Space) (i : Index) → g s (h s i) ≡ f s i) where
   ask_joins : (a : Check) → JoinsAsk h g f a
   ask_joins (ItemIndex s i) = join s i
-  ask_joins (InnerIndex i) = tt
-  ask_joins (PlainId m) = tt
-  ask_joins (Clause n holds) = tt
-  ask_joins (Covered form holds) = tt
+  ask_joins x = tt
 
   asks_join : (cs : List Check) → Each (JoinsAsk h g f) cs
   asks_join [] = tt

@@ -3,7 +3,7 @@ use Rattle.std.specs.Prelude.{Option, Some, None, option_map}
 use Rattle.std.proofs.Common.{◌≡◌, List, [], ◌∷◌, refl, sym, ap, ◌∙◌, map}
 use Rattle.wast_base.specs.Ids.{Name, Mark, mark_of_option}
 use Rattle.wast_tree_nodes.specs.Items.{Item}
-use Rattle.wast_tree_nodes.specs.Sites.{Check, ItemIndex, InnerIndex, PlainId, Clause, Covered, Locals, Site, Asked, Used, Declared, LocalAt, FieldAt, LabelAt, Repeated, Begins, Ends}
+use Rattle.wast_tree_nodes.specs.Sites.{Check, ItemIndex, Locals, Site, Asked, Used, Declared, LocalAt, FieldAt, LabelAt, Repeated, Begins, Ends}
 use Rattle.wast_tree_map.specs.Mapped.{Indices, Change, mapped_locals, mapped_ask, mapped_site, KeepsMarks, JoinsAsk, Joins, AreJoint, Each}
 use Rattle.wast_tree_map.specs.Named.{identity_naming, RenamesIds, renamed, renamed_mark, renamed_item, named_locals, named_ask, named_site, NamedJoins, AreNamedJoint}
 use Rattle.wast_tree_map.proofs.Ways.{In, At}
@@ -34,21 +34,16 @@ locals_kept f l = ap (λ (names : List (Option Name)). record (mapped_locals f l
 -- Checks and sites.
 ask_kept : (f : Indices) (a : Check) → named_ask identity_naming f a ≡ mapped_ask f a
 ask_kept f (ItemIndex s i) = refl
-ask_kept f (InnerIndex i) = refl
-ask_kept f (PlainId m) = refl
-ask_kept f (Clause n holds) = refl
-ask_kept f (Covered form holds) = refl
+ask_kept f x = refl
 
 site_kept : (f : Change) (s : Site) → named_site identity_naming f s ≡ mapped_site f s
 site_kept f (Asked a) = ap Asked (ask_kept f.index a)
-site_kept f (Used w u) = refl
 site_kept f (Declared before m) = λ t. Declared (names_kept before t) (mark_kept m t)
 site_kept f (LocalAt locals i) = ap (λ l. LocalAt l (f.local locals i)) (locals_kept f locals)
-site_kept f (FieldAt owner i) = refl
 site_kept f (LabelAt blocks i) = ap (λ b. LabelAt b (f.label blocks i)) (names_kept blocks)
 site_kept f (Repeated blocks m) = λ t. Repeated (names_kept blocks t) (mark_kept m t)
 site_kept f (Begins blocks m) = λ t. Begins (names_kept blocks t) (mark_kept m t)
-site_kept f Ends = refl
+site_kept f x = refl
 
 asks_kept : (f : Indices) (asks : List Check) → map (named_ask identity_naming f) asks ≡ map (mapped_ask f) asks
 asks_kept f [] = refl

@@ -2,7 +2,7 @@
 use Rattle.std.specs.Prelude.{Option}
 use Rattle.std.proofs.Common.{◌≡◌, List, [], ◌∷◌, refl, sym, ap, ◌∙◌, map}
 use Rattle.wast_tree_map.specs.Tree.{Id, ModuleField}
-use Rattle.wast_tree_nodes.specs.Sites.{Site, Asked, ItemIndex, InnerIndex, PlainId, Clause, Covered, Used, Declared, LocalAt, FieldAt, LabelAt, Repeated, Begins, Ends, in_module}
+use Rattle.wast_tree_nodes.specs.Sites.{Site, Asked, ItemIndex, Used, LocalAt, FieldAt, LabelAt, in_module}
 use Rattle.wast_tree_map.specs.Mapped.{Change, no_change, compose, mapped_field, mapped_site, KeepsMarks, Joins, AreJoint, Each}
 use Rattle.wast_tree_map.specs.Named.{Naming, RenamesIds, named_site, NamedJoins, AreNamedJoint}
 use Rattle.wast_tree_map.proofs.Ways.{At, list_at}
@@ -36,18 +36,11 @@ joins h g f j xs e = joins_at xs (fields_at xs) h g f j e
 
 joins_then : (h g : Change) (s : Site) → Joins h g (compose h g) s
 joins_then h g (Asked (ItemIndex s i)) = refl
-joins_then h g (Asked (InnerIndex i)) = tt
-joins_then h g (Asked (PlainId m)) = tt
-joins_then h g (Asked (Clause n holds)) = tt
-joins_then h g (Asked (Covered form holds)) = tt
 joins_then h g (Used w u) = refl
-joins_then h g (Declared before m) = tt
 joins_then h g (LocalAt locals i) = refl
 joins_then h g (FieldAt owner i) = (refl, refl)
 joins_then h g (LabelAt blocks i) = refl
-joins_then h g (Repeated blocks m) = tt
-joins_then h g (Begins blocks m) = tt
-joins_then h g Ends = tt
+joins_then h g x = tt
 
 -- Two maps one after another are their composition.
 pub twice : (h g : Change) → KeepsMarks h → (xs : List ModuleField) → map (mapped_field g) (map (mapped_field h) xs) ≡ map (mapped_field (compose h g)) xs
