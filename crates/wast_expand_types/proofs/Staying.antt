@@ -4,7 +4,7 @@ use Rattle.std.proofs.Common.{◌≡◌, List, [], ◌∷◌, ◌++◌, map, ref
 use Rattle.std.specs.List.{list_all}
 use Rattle.std.specs.Cmp.{first_so, second_so}
 use Rattle.std.proofs.lemmas.List.Folds.{list_all-append}
-use Rattle.wast_tree_nodes.specs.Sites.{Where, OfItem, OfCall, OfBlock, Check, ItemIndex, InnerIndex, PlainId, Clause, Covered, Site, Asked, Used, Declared, LocalAt, FieldAt, LabelAt, Repeated, Begins, Ends, check_sites, in_type, in_rec, in_field, in_module}
+use Rattle.wast_tree_nodes.specs.Sites.{Where, OfItem, OfCall, OfBlock, Check, ItemIndex, Site, Asked, Used, LocalAt, FieldAt, LabelAt, check_sites, in_type, in_rec, in_field, in_module}
 use Rattle.wast_tree_nodes.specs.Types.{is_short}
 use Rattle.wast_expand_types.specs.Tree.{Index, FunctionType, Rec, ModuleField}
 use Rattle.wast_expand_types.specs.Tree.ty
@@ -35,14 +35,7 @@ is_said OfBlock i inline = is_some i || is_some inline
 
 abbrev pub says : Site → Bool
 says (Used w u) = is_said w u.index u.inline
-says (Asked a) = true
-says (Declared before m) = true
-says (LocalAt locals i) = true
-says (FieldAt owner i) = true
-says (LabelAt blocks i) = true
-says (Repeated blocks m) = true
-says (Begins blocks m) = true
-says Ends = true
+says x = true
 
 pub asking_says : (asks : List Check) → list_all says (check_sites asks) ≡ true
 asking_says [] = refl
@@ -63,26 +56,18 @@ module _ (find : LookUp) where
       unneeded false s h = refl
 
   inline_stays : (w : Where) (i : Option Index) (inline : Option FunctionType) → is_said w i inline ≡ true → bound_inline w i inline ≡ inline
-  inline_stays OfItem i inline h = refl
-  inline_stays OfCall i inline h = refl
   inline_stays OfBlock (Some i) inline h = refl
   inline_stays OfBlock None (Some t) h = refl
   inline_stays OfBlock None None h = absurd cc
+  inline_stays x i inline h = refl
 
   site_stays : (s : Site) → needed_at s ≡ [] → says s ≡ true → Joins no_change (binding_change find) no_change s
   site_stays (Used w u) h e = λ t. record { index = index_stays w u.index u.inline h t; inline = inline_stays w u.index u.inline e t }
   site_stays (Asked (ItemIndex s i)) h e = refl
-  site_stays (Asked (InnerIndex i)) h e = tt
-  site_stays (Asked (PlainId m)) h e = tt
-  site_stays (Asked (Clause n holds)) h e = tt
-  site_stays (Asked (Covered form holds)) h e = tt
-  site_stays (Declared before m) h e = tt
   site_stays (LocalAt locals i) h e = refl
   site_stays (FieldAt owner i) h e = (refl, refl)
   site_stays (LabelAt blocks i) h e = refl
-  site_stays (Repeated blocks m) h e = tt
-  site_stays (Begins blocks m) h e = tt
-  site_stays Ends h e = tt
+  site_stays x h e = tt
 
   sites_stay : (ss : List Site) → needed_in ss ≡ [] → list_all says ss ≡ true → Each (Joins no_change (binding_change find) no_change) ss
   sites_stay [] h e = tt
@@ -133,15 +118,8 @@ module _ (find : LookUp) where
       by_length false e h = some_bound OfBlock (Some t) (find (signature_of t)) h
 
   site_bound : (s : Site) → found (needed_at s) ≡ true → needed_at (mapped_site (binding_change find) s) ≡ []
-  site_bound (Asked a) h = refl
   site_bound (Used w u) h = index_bound w u.index u.inline h
-  site_bound (Declared before m) h = refl
-  site_bound (LocalAt locals i) h = refl
-  site_bound (FieldAt owner i) h = refl
-  site_bound (LabelAt blocks i) h = refl
-  site_bound (Repeated blocks m) h = refl
-  site_bound (Begins blocks m) h = refl
-  site_bound Ends h = refl
+  site_bound x h = refl
 
   sites_bound : (ss : List Site) → found (needed_in ss) ≡ true → needed_in (map (mapped_site (binding_change find)) ss) ≡ []
   sites_bound [] h = refl
@@ -155,8 +133,6 @@ module _ (find : LookUp) where
 -- Once type uses are resolved, each type use of a block has an index or an inline type.
 module _ (find : LookUp) where
   use_says : (w : Where) (i : Option Index) (inline : Option FunctionType) → is_said w (bound_index find w i inline) (bound_inline w i inline) ≡ true
-  use_says OfItem i inline = refl
-  use_says OfCall i inline = refl
   use_says OfBlock (Some i) inline = refl
   use_says OfBlock None None = refl
   use_says OfBlock None (Some t) = or_true (is_some (bound_index find OfBlock None (Some t)))
@@ -164,17 +140,11 @@ module _ (find : LookUp) where
       or_true : (b : Bool) → (b || true) ≡ true
       or_true true = refl
       or_true false = refl
+  use_says x i inline = refl
 
   bound_says : (s : Site) → says (mapped_site (binding_change find) s) ≡ true
   bound_says (Used w u) = use_says w u.index u.inline
-  bound_says (Asked a) = refl
-  bound_says (Declared before m) = refl
-  bound_says (LocalAt locals i) = refl
-  bound_says (FieldAt owner i) = refl
-  bound_says (LabelAt blocks i) = refl
-  bound_says (Repeated blocks m) = refl
-  bound_says (Begins blocks m) = refl
-  bound_says Ends = refl
+  bound_says x = refl
 
   sites_say : (ss : List Site) → list_all says (map (mapped_site (binding_change find)) ss) ≡ true
   sites_say [] = refl

@@ -27,11 +27,7 @@ member_names (m ∷ ms) = ap (λ ns. name_if (mark_of_option m.id) ∷ ns) (memb
 
 kind_names : (k : ItemKind) (id : Option Id) → name_in space.Ty (item (space_of_kind k) id []) ≡ []
 kind_names (kind.Func u) id = refl
-kind_names (kind.FuncExact u) id = refl
-kind_names (kind.Table t) id = refl
-kind_names (kind.Memory t) id = refl
-kind_names (kind.Global t) id = refl
-kind_names (kind.Tag t) id = refl
+kind_names x id = refl
 
 sig_names : {A : Type 0} (sig : A → ItemSig) (xs : List A) → names_in space.Ty (flat_map (λ x. item_of_sig (sig x) ∷ []) xs) ≡ []
 sig_names sig [] = refl
