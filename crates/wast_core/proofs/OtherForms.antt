@@ -1,5 +1,5 @@
 -- Renaming keeps the unsupported constructs, because none depends on a name.
-use Rattle.std.proofs.Common.{◌≡◌, ◌<◌, ℕ, List, [], ◌∷◌, ◌++◌, map, Option, Some, None, option_map, refl, sym, ap, ◌∙◌}
+use Rattle.std.proofs.Common.{◌≡◌, ◌<◌, List, [], ◌∷◌, ◌++◌, map, Option, Some, None, option_map, refl, sym, ap, ◌∙◌}
 use Rattle.std.specs.List.{flat_map}
 use Rattle.std.specs.Prelude.{if◌then◌else◌}
 use Rattle.std.proofs.lemmas.Grind.{flat_map-append}
@@ -7,8 +7,7 @@ use Rattle.wast_base.specs.declared.ids.Span.{Span}
 use Rattle.wast_base.specs.Ids.{Mark}
 use Rattle.wast_base.specs.Faults.{Cause}
 use Rattle.wast_base.specs.declared.faults.Form.{Form}
-use Rattle.wast_tree_nodes.specs.Generations.{greatest_generation}
-use Rattle.wast_tree_nodes.specs.Sites.{Check, ItemIndex, InnerIndex, PlainId, Clause, Covered, Where, Site, Asked, Used, Declared, LocalAt, FieldAt, LabelAt, Repeated, Begins, Ends, if_there, in_index, in_signature, in_type_use, mark_asked, asked_in, checks_of, in_module}
+use Rattle.wast_tree_nodes.specs.Sites.{Check, ItemIndex, Site, Asked, Used, Repeated, Begins, if_there, in_index, in_signature, in_type_use, mark_asked, asked_in, checks_of, in_module}
 use Rattle.wast_tree_nodes.specs.Uncovered.{uncovered_in, uncovered_forms}
 use Rattle.wast_tree_map.specs.Mapped.{KeepsMarks, mapped_site}
 use Rattle.wast_tree_map.specs.Laws.{all_mapped}
@@ -26,7 +25,6 @@ use Rattle.wast_resolve_laws.specs.Laws.{SamePositions}
 use Rattle.wast_resolve_laws.specs.Renaming.{Renaming, IsRenaming, renaming, renamed_use, renamed_fields, told_marks, RenamesFault, RenamedAnswer, RenamedPositions, WrittenAnswer, WrittenPositions}
 use Rattle.wast_resolve_laws.proofs.OtherNames.{names}
 use Rattle.wast_core.specs.Tree.{Index, FunctionType, TypeUse, ModuleField}
-use Rattle.wast_core.specs.Tree.index
 use Rattle.wast_core.specs.Tree.space
 use Rattle.wast_core.specs.Headline.{IsMet}
 use Rattle.wast_core.specs.OtherForms.{SameForms, RenamedForms, WrittenForms}
@@ -50,21 +48,12 @@ use_stripped (Some i) t = refl
 
 ask_stripped : (a : Check) → forms (asked_in (mapped_site stripping (Asked a))) ≡ forms (asked_in (Asked a))
 ask_stripped (ItemIndex s i) = refl
-ask_stripped (InnerIndex i) = refl
-ask_stripped (PlainId m) = refl
-ask_stripped (Clause n holds) = refl
-ask_stripped (Covered form holds) = refl
+ask_stripped x = refl
 
 site_stripped : (s : Site) → forms (asked_in (mapped_site stripping s)) ≡ forms (asked_in s)
 site_stripped (Asked a) = ask_stripped a
 site_stripped (Used w u) = use_stripped u.index u.inline
-site_stripped (Declared before m) = refl
-site_stripped (LocalAt locals i) = refl
-site_stripped (FieldAt owner i) = refl
-site_stripped (LabelAt blocks i) = refl
-site_stripped (Repeated blocks m) = refl
-site_stripped (Begins blocks m) = refl
-site_stripped Ends = refl
+site_stripped x = refl
 
 stripping_keeps : KeepsMarks stripping
 stripping_keeps = record { params = λ u. refl; owns = λ o. refl }
@@ -82,10 +71,7 @@ module _ (r : Renaming) (is : IsRenaming r) where
 
   ask_named : (a : Check) → uncovered_in (named_ask n (renaming r).index a) ≡ uncovered_in a
   ask_named (ItemIndex s i) = refl
-  ask_named (InnerIndex i) = refl
-  ask_named (PlainId m) = refl
-  ask_named (Clause k holds) = refl
-  ask_named (Covered form holds) = refl
+  ask_named x = refl
 
   asks_named : (asks : List Check) → forms (map (named_ask n (renaming r).index) asks) ≡ forms asks
   asks_named [] = refl
@@ -103,13 +89,9 @@ module _ (r : Renaming) (is : IsRenaming r) where
   site_named : (s : Site) → forms (asked_in (named_site n (renaming r) s)) ≡ forms (asked_in s)
   site_named (Asked a) = ap (λ fs. fs ++ []) (ask_named a)
   site_named (Used w u) = use_named u
-  site_named (Declared before m) = refl
-  site_named (LocalAt locals i) = refl
-  site_named (FieldAt owner i) = refl
-  site_named (LabelAt blocks i) = refl
   site_named (Repeated blocks m) = mark_named m
   site_named (Begins blocks m) = mark_named m
-  site_named Ends = refl
+  site_named x = refl
 
   named_forms : (xs : List ModuleField) → uncovered_forms (renamed_fields r xs) ≡ uncovered_forms xs
   named_forms xs = ap (λ ss. forms (checks_of ss)) (stands_named n (renaming r) (names r is) xs) ∙ sites_keep (named_site n (renaming r)) site_named (in_module xs)

@@ -6,7 +6,7 @@ use Rattle.std.proofs.lemmas.Grind.{flat_map-append}
 use Rattle.std.proofs.lemmas.List.Folds.{list_any-append}
 use mathlib.Core.Path.{fun_ext}
 use Rattle.wast_tree_nodes.specs.Customs.{customs_in, is_custom_called}
-use Rattle.wasm_out.specs.Parts.{SectionKind, Types, Imports, Functions, Tables, Memories, Tags, Globals, Exports, Elements, Code, Data, Part}
+use Rattle.wasm_out.specs.Parts.{SectionKind, Types, Data, Part}
 use Rattle.wast_resolve_laws.specs.Rests.{start_fields_of}
 use Rattle.wast_resolve_laws.proofs.StartsBehind.{among, behind_all}
 use Rattle.wast_core_conv.specs.Customs.{custom_part}
@@ -28,16 +28,7 @@ use Rattle.wast_core_sections.specs.Slots.{section_kind, order}
 -- A start field has no entry in a list.
 no_entries : (kind : SectionKind) (i : Index) → of_kind kind (of_start i) ≡ []
 no_entries Types i = refl
-no_entries Imports i = refl
-no_entries Functions i = refl
-no_entries Tables i = refl
-no_entries Memories i = refl
-no_entries Tags i = refl
-no_entries Globals i = refl
-no_entries Exports i = refl
-no_entries Elements i = refl
-no_entries Code i = refl
-no_entries Data i = refl
+no_entries x i = refl
 
 -- A test that no start field passes.
 module _ (t : ModuleField → Bool) (none : (i : Index) → t (field.Start i) ≡ false) where

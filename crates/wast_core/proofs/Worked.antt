@@ -60,11 +60,9 @@ each_place name fields h customs hints names = all_both (λ s. All InRangePart (
   where
     held : (s : Slot) → InRangeHeld name fields s
     held (slot.Custom place) = customs place
-    held (slot.Section kind) = tt
-    held slot.Start = tt
-    held slot.DataCount = tt
     held slot.Hints = hints
     held slot.Names = names
+    held x = tt
 
 pub row1 : Row1
 row1 = (record { spaces = not_crowded [] refl refl; counter = omega arith; writable = record { in_range = each_place None [] (All-nil InRangePart) (λ place. All-nil (λ x. (custom_bytes x).in_range)) (none InRangeHinted) (All-nil (λ x. (name_subsection x).in_range)); length = omega arith } }, refl)
