@@ -19,40 +19,18 @@ apart n c small = ne_eqb n (12 + place_rank (custom_place c)) (λ same. omega (a
 
 -- A field has one entry in a section of its kind.
 pub entries_told : (k : SectionKind) (f : ModuleField) → length (entries_in k f) ≡ one_if (can_contribute k f)
-entries_told Types (field.Ty t) = refl
-entries_told Types (field.Rec r) = refl
 entries_told Types (field.Custom c) = sym (ap one_if (ap (λ b. b || (1 == 12 + place_rank (custom_place c))) (apart 0 c (omega arith)) ∙ apart 1 c (omega arith)))
-entries_told Types f = refl
-entries_told Imports (field.Import i) = refl
 entries_told Imports (field.Custom c) = sym (ap one_if (apart 2 c (omega arith)))
-entries_told Imports f = refl
-entries_told Functions (field.Func x) = refl
 entries_told Functions (field.Custom c) = sym (ap one_if (apart 3 c (omega arith)))
-entries_told Functions f = refl
-entries_told Tables (field.Table t) = refl
 entries_told Tables (field.Custom c) = sym (ap one_if (apart 4 c (omega arith)))
-entries_told Tables f = refl
-entries_told Memories (field.Memory m) = refl
 entries_told Memories (field.Custom c) = sym (ap one_if (apart 5 c (omega arith)))
-entries_told Memories f = refl
-entries_told Tags (field.Tag t) = refl
 entries_told Tags (field.Custom c) = sym (ap one_if (apart 11 c (omega arith)))
-entries_told Tags f = refl
-entries_told Globals (field.Global g) = refl
 entries_told Globals (field.Custom c) = sym (ap one_if (apart 6 c (omega arith)))
-entries_told Globals f = refl
-entries_told Exports (field.Export e) = refl
 entries_told Exports (field.Custom c) = sym (ap one_if (apart 7 c (omega arith)))
-entries_told Exports f = refl
-entries_told Elements (field.Elem e) = refl
 entries_told Elements (field.Custom c) = sym (ap one_if (apart 9 c (omega arith)))
-entries_told Elements f = refl
-entries_told Code (field.Func x) = refl
 entries_told Code (field.Custom c) = sym (ap one_if (apart 3 c (omega arith)))
-entries_told Code f = refl
-entries_told Data (field.Data d) = refl
 entries_told Data (field.Custom c) = sym (ap one_if (apart 10 c (omega arith)))
-entries_told Data f = refl
+entries_told k f = refl
 
 no_entry : {A : Type 0} (es : List A) → length es ≡ 0 → es ≡ []
 no_entry [] none = refl
