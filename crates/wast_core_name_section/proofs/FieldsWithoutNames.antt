@@ -42,35 +42,28 @@ pub no_items_elsewhere : (s : Space) (f : ModuleField) → has_items s f ≡ fal
 no_items_elsewhere space.Func (field.Import i) h = cc
 no_items_elsewhere space.Func (field.Func x) h = cc
 no_items_elsewhere space.Func (field.Rec r) h = other_space space.Func r.types refl
-no_items_elsewhere space.Func f h = refl
 no_items_elsewhere space.Table (field.Import i) h = cc
 no_items_elsewhere space.Table (field.Table x) h = cc
 no_items_elsewhere space.Table (field.Rec r) h = other_space space.Table r.types refl
-no_items_elsewhere space.Table f h = refl
 no_items_elsewhere space.Memory (field.Import i) h = cc
 no_items_elsewhere space.Memory (field.Memory x) h = cc
 no_items_elsewhere space.Memory (field.Rec r) h = other_space space.Memory r.types refl
-no_items_elsewhere space.Memory f h = refl
 no_items_elsewhere space.Global (field.Import i) h = cc
 no_items_elsewhere space.Global (field.Global x) h = cc
 no_items_elsewhere space.Global (field.Rec r) h = other_space space.Global r.types refl
-no_items_elsewhere space.Global f h = refl
 no_items_elsewhere space.Tag (field.Import i) h = cc
 no_items_elsewhere space.Tag (field.Tag x) h = cc
 no_items_elsewhere space.Tag (field.Rec r) h = other_space space.Tag r.types refl
-no_items_elsewhere space.Tag f h = refl
 no_items_elsewhere space.Elem (field.Import i) h = none_imported space.Elem no_elem (item_sigs i.items)
 no_items_elsewhere space.Elem (field.Elem x) h = cc
 no_items_elsewhere space.Elem (field.Rec r) h = other_space space.Elem r.types refl
-no_items_elsewhere space.Elem f h = refl
 no_items_elsewhere space.Data (field.Import i) h = none_imported space.Data no_data (item_sigs i.items)
 no_items_elsewhere space.Data (field.Data x) h = cc
 no_items_elsewhere space.Data (field.Rec r) h = other_space space.Data r.types refl
-no_items_elsewhere space.Data f h = refl
 no_items_elsewhere space.Ty (field.Import i) h = none_imported space.Ty no_type (item_sigs i.items)
 no_items_elsewhere space.Ty (field.Ty t) h = cc
 no_items_elsewhere space.Ty (field.Rec r) h = cc
-no_items_elsewhere space.Ty f h = refl
+no_items_elsewhere s f h = refl
 
 -- Types have no locals, no labels, and no parameters of tags.
 no_locals_in : (types : List ty.«Type») → flat_map (lists_in_type within.Locals) types ≡ []
@@ -102,23 +95,19 @@ pub no_lists_elsewhere : (types : List ty.«Type») (w : Within) (f : ModuleFiel
 no_lists_elsewhere types within.Locals (field.Import i) h = cc
 no_lists_elsewhere types within.Locals (field.Func x) h = cc
 no_lists_elsewhere types within.Locals (field.Rec r) h = no_locals_in r.types
-no_lists_elsewhere types within.Locals f h = refl
 no_lists_elsewhere types within.Labels (field.Import i) h = cc
 no_lists_elsewhere types within.Labels (field.Func x) h = cc
 no_lists_elsewhere types within.Labels (field.Rec r) h = no_labels_in r.types
-no_lists_elsewhere types within.Labels f h = refl
 no_lists_elsewhere types within.Fields (field.Ty t) h = cc
 no_lists_elsewhere types within.Fields (field.Rec r) h = cc
 no_lists_elsewhere types within.Fields (field.Import i) h = no_lists_imported within.Fields no_fields_in (item_sigs i.items)
-no_lists_elsewhere types within.Fields f h = refl
 no_lists_elsewhere types within.Parameters (field.Ty t) h = cc
 no_lists_elsewhere types within.Parameters (field.Rec r) h = cc
 no_lists_elsewhere types within.Parameters (field.Import i) h = no_lists_imported within.Parameters no_params_in (item_sigs i.items)
-no_lists_elsewhere types within.Parameters f h = refl
 no_lists_elsewhere types within.TagParameters (field.Import i) h = cc
 no_lists_elsewhere types within.TagParameters (field.Tag t) h = cc
 no_lists_elsewhere types within.TagParameters (field.Rec r) h = no_tag_params_in r.types
-no_lists_elsewhere types within.TagParameters f h = refl
+no_lists_elsewhere types w f h = refl
 
 -- Fields of other kinds have no types.
 no_types_elsewhere : (f : ModuleField) → is_either knd.Ty knd.Rec f ≡ false → types_within f ≡ []

@@ -85,32 +85,22 @@ module _ (f : ModuleField → ModuleField) (alike : (x : ModuleField) → map ar
 
 -- The lists inside parts that have the same names.
 pub in_type : (w : Within) (s t : ty.«Type») → s.def ≡ t.def → lists_in_type w s ≡ lists_in_type w t
-in_type within.Locals s t is = refl
-in_type within.Labels s t is = refl
 in_type within.Fields s t is = ap (λ d. lists_in_type within.Fields (record t { def = d })) is
 in_type within.Parameters s t is = ap (λ d. lists_in_type within.Parameters (record t { def = d })) is
-in_type within.TagParameters s t is = refl
+in_type x s t is = refl
 
 pub in_func : (w : Within) (xs ys : List ty.«Type») (f g : Func) → locals_of xs f ≡ locals_of ys g → labels_in f.kind ≡ labels_in g.kind → lists_in_func xs w f ≡ lists_in_func ys w g
 in_func within.Labels xs ys f g is also = ap (λ (names : List (Option (List ℕ))). list_of names ∷ []) also
 in_func within.Locals xs ys f g is also = ap (λ (names : List (Option (List ℕ))). list_of names ∷ []) is
-in_func within.Fields xs ys f g is also = refl
-in_func within.Parameters xs ys f g is also = refl
-in_func within.TagParameters xs ys f g is also = refl
+in_func x xs ys f g is also = refl
 
 pub in_tag : (w : Within) (s t : TagType) → tag_params s ≡ tag_params t → lists_in_tag w s ≡ lists_in_tag w t
-in_tag within.Locals s t is = refl
-in_tag within.Labels s t is = refl
-in_tag within.Fields s t is = refl
-in_tag within.Parameters s t is = refl
 in_tag within.TagParameters s t is = ap (λ (names : List (Option (List ℕ))). list_of names ∷ []) is
+in_tag x s t is = refl
 
 pub in_imported_func : (w : Within) (u v : TypeUse FunctionType) → inline_params u ≡ inline_params v → lists_in_imported_func w u ≡ lists_in_imported_func w v
 in_imported_func within.Locals u v is = ap (λ (names : List (Option (List ℕ))). list_of names ∷ []) is
-in_imported_func within.Labels u v is = refl
-in_imported_func within.Fields u v is = refl
-in_imported_func within.Parameters u v is = refl
-in_imported_func within.TagParameters u v is = refl
+in_imported_func x u v is = refl
 
 -- What an import has, if each of its signatures is changed so that it has the same.
 module _ (f : ItemSig → ItemSig) (i j : ImportItems) (changed : item_sigs j ≡ map f (item_sigs i)) where
