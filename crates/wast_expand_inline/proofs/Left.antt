@@ -23,13 +23,11 @@ func_written f (func.Inline locals e) = refl
 
 table_written : (t : Table) (k : TableKind) (item : Index) → is_written_out (elem_in k t.span item ++ table_alone t k ∷ []) ≡ true
 table_written t (table.Import source ty) item = refl
-table_written t (table.Normal ty init) item = refl
-table_written t (table.Inline ty is64 shared p) item = refl
+table_written t x item = refl
 
 memory_written : (m : Memory) (k : MemoryKind) (item : Index) → is_written_out (data_in k m.span item ++ memory_alone m k ∷ []) ≡ true
 memory_written m (memory.Import source ty) item = refl
-memory_written m (memory.Normal ty) item = refl
-memory_written m (memory.Inline is64 pieces exponent) item = refl
+memory_written m x item = refl
 
 global_written : (g : Global) (k : GlobalKind) → is_written_out (global_alone g k ∷ []) ≡ true
 global_written g (global.Import source) = refl

@@ -30,13 +30,8 @@ use Rattle.wast_expand_inline.proofs.Exported.{both_pass, behind_exports}
 
 -- generated ids change no check
 asked_given : (b : Bool) (n : ℕ) (x : ModuleField) → in_field (given_if b with_item_id n x) ≡ in_field x
-asked_given false n x = refl
 asked_given true n (field.Func f) = refl
-asked_given true n (field.Table t) = refl
-asked_given true n (field.Memory m) = refl
-asked_given true n (field.Global g) = refl
-asked_given true n (field.Tag t) = refl
-asked_given true n x = refl
+asked_given b n x = refl
 
 asked_referable : (n : ℕ) (xs : List ModuleField) → in_module (with_referred_ids n xs) ≡ in_module xs
 asked_referable n [] = refl

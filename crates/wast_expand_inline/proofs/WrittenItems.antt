@@ -30,8 +30,7 @@ exported span k i (name ∷ names) ys = exported span k i names ys
 
 func_items : (f : Func) (k : FuncKind) → items (func_alone f k ∷ []) ≡ item space.Func f.id [] ∷ []
 func_items f (func.Import source true) = refl
-func_items f (func.Import source false) = refl
-func_items f (func.Inline locals e) = refl
+func_items f x = refl
 
 global_items : (g : Global) (k : GlobalKind) → items (global_alone g k ∷ []) ≡ item space.Global g.id [] ∷ []
 global_items g (global.Import source) = refl
@@ -59,13 +58,11 @@ segments x = []
 
 table_items : (t : Table) (k : TableKind) (i : Index) → items (elem_in k t.span i ++ table_alone t k ∷ []) ≡ segment_if space.Elem (has_elements k) ++ item space.Table t.id [] ∷ []
 table_items t (table.Import source ty) i = refl
-table_items t (table.Normal ty init) i = refl
-table_items t (table.Inline ty is64 shared p) i = refl
+table_items t x i = refl
 
 memory_items : (m : Memory) (k : MemoryKind) (i : Index) → items (data_in k m.span i ++ memory_alone m k ∷ []) ≡ segment_if space.Data (has_bytes k) ++ item space.Memory m.id [] ∷ []
 memory_items m (memory.Import source ty) i = refl
-memory_items m (memory.Normal ty) i = refl
-memory_items m (memory.Inline is64 pieces exponent) i = refl
+memory_items m x i = refl
 
 pub field_items : (r : Reference) (x : ModuleField) → items (desugar_field r x) ≡ segments x ++ items_in x
 field_items r (field.Func g) = exported _ _ _ g.exports.names _ ∙ func_items g g.kind
