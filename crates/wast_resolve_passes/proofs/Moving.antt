@@ -3,7 +3,7 @@ use Rattle.std.proofs.Common.{◌≡◌, List, [], ◌∷◌, Result, Ok, Err, O
 use Rattle.std.specs.List.{flat_map}
 use Rattle.wast_base.specs.Blocks.{Blocks}
 use Rattle.wast_base.specs.declared.faults.Error.{Error}
-use Rattle.wast_tree_nodes.specs.Sites.{Check, Site, Asked, Used, Declared, LocalAt, FieldAt, LabelAt, Repeated, Begins, Ends, BodyContext, Locals, context_after_site, after_all, check_sites, at_label, in_br_table}
+use Rattle.wast_tree_nodes.specs.Sites.{Check, Site, Asked, BodyContext, Locals, context_after_site, after_all, check_sites, at_label, in_br_table}
 use Rattle.wast_tree_nodes.proofs.Behind.{after-append}
 use Rattle.wast_resolve_rules.proofs.Unmoved.{asking_stays, labels_stay}
 use Rattle.wast_resolve_passes.specs.Tree.{BrTableIndices}
@@ -12,14 +12,7 @@ use Rattle.wast_resolve_passes.specs.Standing.{context_of}
 -- the parameters and locals do not change
 locals_after : (h : BodyContext) (s : Site) → (context_after_site h s).locals ≡ h.locals
 locals_after h (Asked a) = refl
-locals_after h (Used w u) = refl
-locals_after h (Declared before m) = refl
-locals_after h (LocalAt locals i) = refl
-locals_after h (FieldAt owner i) = refl
-locals_after h (LabelAt blocks i) = refl
-locals_after h (Repeated blocks m) = refl
-locals_after h (Begins blocks m) = refl
-locals_after h Ends = refl
+locals_after h x = refl
 
 pub locals_stay : (h : BodyContext) (ss : List Site) → (after_all h ss).locals ≡ h.locals
 locals_stay h [] = refl

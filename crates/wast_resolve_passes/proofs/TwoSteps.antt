@@ -101,8 +101,7 @@ module _ (c : Scope) where
 
   elem_sites : (e : ElemKind) → in_elem_kind e ≡ in_elem_table e ++ in_elem_offset e
   elem_sites elem.Passive = refl
-  elem_sites elem.Declared = refl
-  elem_sites (elem.Active table offset) = refl
+  elem_sites x = refl
 
   pub elem_parts : (e : ElemKind) → IsBoth c (in_elem_kind e) (in_elem_table e) (in_elem_offset e)
   elem_parts e = as_both (in_elem_kind e) (in_elem_table e) (in_elem_offset e) (elem_sites e)
@@ -128,23 +127,19 @@ module _ (c : Scope) where
 module _ (f : Change) where
   pub table_stays : (t : TableKind) → in_init (with_table_type f t) ≡ in_init t
   table_stays (table.Import import ty) = refl
-  table_stays (table.Normal ty init) = refl
-  table_stays (table.Inline ty is64 shared elements) = refl
+  table_stays x = refl
 
   pub table_becomes : (t : TableKind) → with_init f (with_table_type f t) ≡ mapped_table_kind f t
   table_becomes (table.Import import ty) = refl
-  table_becomes (table.Normal ty init) = refl
-  table_becomes (table.Inline ty is64 shared elements) = refl
+  table_becomes x = refl
 
   pub elem_stays : (e : ElemKind) → in_elem_offset (with_elem_table f e) ≡ in_elem_offset e
   elem_stays elem.Passive = refl
-  elem_stays elem.Declared = refl
-  elem_stays (elem.Active table offset) = refl
+  elem_stays x = refl
 
   pub elem_becomes : (e : ElemKind) → with_elem_offset f (with_elem_table f e) ≡ mapped_elem_kind f e
   elem_becomes elem.Passive = refl
-  elem_becomes elem.Declared = refl
-  elem_becomes (elem.Active table offset) = refl
+  elem_becomes x = refl
 
   pub payload_stays : (p : ElemPayload) → in_element_type (with_elements f p) ≡ in_element_type p
   payload_stays (payload.Indices is) = refl
