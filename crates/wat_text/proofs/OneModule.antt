@@ -105,13 +105,9 @@ of_inner_module h toks = bind _ (of_opening toks) (λ o.
 
 -- tokens that have the words of their texts are those of the table
 is_of_table : (t : Token) → IsNamed t → IsOfTable word_named t
-is_of_table token.Open h = tt
-is_of_table token.Close h = tt
-is_of_table (token.Annotation a) h = tt
 is_of_table (token.Word w text) h = h
 is_of_table (token.Other text) h = h
-is_of_table (token.Id name) h = tt
-is_of_table (token.String bytes) h = tt
+is_of_table x h = tt
 
 fits : (found : List Placed) → All (λ p. IsNamed p.token) found → AreOfTable word_named found
 fits [] h = tt

@@ -10,17 +10,6 @@ use Rattle.wat_syntax.specs.Instructions.{is_plaininstr, plaininstr, instruction
 pub not_opener : (w : Word) (name : Bor (List ℕ)) (toks : Toks) → is_plaininstr w ≡ true → instruction_of (Some (token.Word w name)) toks ≡ plaininstr w name toks
 not_opener (word.Key k) name toks h = absurd cc
 not_opener (word.Block op) name toks h = absurd cc
-not_opener (word.Plain op) name toks h = refl
 not_opener (word.Mem op N) name toks h = refl
-not_opener (word.Lane op) name toks h = refl
 not_opener (word.MemLane op N) name toks h = refl
-not_opener (word.Index op) name toks h = refl
-not_opener (word.IndexOrZero op) name toks h = refl
-not_opener (word.Uncovered op) name toks h = refl
-not_opener (word.UncoveredOrZero op) name toks h = refl
-not_opener (word.Pair op) name toks h = refl
-not_opener (word.OneOrTwo op) name toks h = refl
-not_opener (word.NoneOrTwo op) name toks h = refl
-not_opener (word.Own op) name toks h = refl
-not_opener (word.Atomic op) name toks h = refl
-not_opener word.Beyond name toks h = refl
+not_opener x name toks h = refl
