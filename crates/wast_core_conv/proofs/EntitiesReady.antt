@@ -23,9 +23,7 @@ global_covered t e =
     both_true (not t.shared) _ (both_pass (not t.shared) true both.1).0 (val_covered t.ty both.0)
 
 pub kind_covered : (k : ItemKind) → are_entered (in_item_kind k) ≡ true → (entity_type (meaning.as_entity_type k)).is_covered ≡ true
-kind_covered (kind.Func u) e = refl
 kind_covered (kind.FuncExact u) e = (both_pass (is_resolved_site (Used OfItem u)) false e).1
 kind_covered (kind.Table t) e = table_covered t (sym (asking_entered (in_table_type t)) ∙ e)
-kind_covered (kind.Memory t) e = refl
 kind_covered (kind.Global t) e = global_covered t (sym (asking_entered (in_global_type t)) ∙ e)
-kind_covered (kind.Tag t) e = refl
+kind_covered x e = refl

@@ -95,9 +95,7 @@ fields_ready fields rest none =
 ask_numbered : (a : Check) → is_encodable_ask a ≡ true → is_numbered a ≡ true
 ask_numbered (ItemIndex s i) h = h
 ask_numbered (InnerIndex i) h = h
-ask_numbered (PlainId m) h = refl
-ask_numbered (Clause n holds) h = refl
-ask_numbered (Covered form holds) h = refl
+ask_numbered x h = refl
 
 pub asks_numbered : (asks : List Check) → are_encodable asks ≡ true → are_numbered asks ≡ true
 asks_numbered asks h = each_then is_encodable_ask is_numbered ask_numbered asks h

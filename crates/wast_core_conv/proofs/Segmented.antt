@@ -27,7 +27,6 @@ use Rattle.wasm_out.specs.declared.elements.SegmentMode.{SegmentMode}
 use Rattle.wasm_out.specs.declared.elements.SegmentMode.TheVariants as mode
 use Rattle.wast_core_conv.specs.Tree as types
 use Rattle.wast_core_conv.specs.Tree.{Expression, HeapType, ElemKind, ElemPayload}
-use Rattle.wast_core_conv.specs.Tree.heap
 use Rattle.wast_core_conv.specs.Tree.elem
 use Rattle.wast_core_conv.specs.Tree.payload
 use Rattle.wast_core_conv.specs.Encodable.{are_encodable}
@@ -56,8 +55,7 @@ payload_refused ty xs es e same r = elim r [ inl m ↦ inl m | inr l ↦ inr (l.
 
 pub mode_bytes : {O : Type 0} (f : O → List Instr) (m : SegmentMode O) (k : ElementKind) (list : List ℕ) → segment_bytes (λ o. (expression (f o)).bytes) m k list ≡ element_bytes (seen_mode f m) k list
 mode_bytes f mode.Passive k list = refl
-mode_bytes f mode.Declared k list = refl
-mode_bytes f (mode.Active table offset) k list = refl
+mode_bytes f x k list = refl
 
 pub mode_in_range : {O : Type 0} (f : O → List Instr) (m : SegmentMode O) → InRangeMode (λ o. (expression (f o)).in_range) m → (element_place (seen_mode f m)).in_range
 mode_in_range f mode.Passive h = h
@@ -71,8 +69,7 @@ range_of_mode f (mode.Active table offset) h = h
 
 pub mode_form : {O : Type 0} (f : O → List Instr) (m : SegmentMode O) (k : ElementKind) → is_form m k ≡ has_form (seen_mode f m) k
 mode_form f mode.Passive k = refl
-mode_form f mode.Declared k = refl
-mode_form f (mode.Active table offset) k = refl
+mode_form f x k = refl
 
 -- `funcref` becomes `funcref`.
 heap_form : (h : HeapType) → tree.is_func_heap h ≡ true → is_func (meaning.as_heap_type h) ≡ true
@@ -83,11 +80,10 @@ funcref_form true h e = heap_form h e
 funcref_form false h e = absurd cc
 
 pub suits_form : (k : ElemKind) (p : ElemPayload) → tree.is_segment_type_allowed k p ≡ true → has_form (meaning.as_element_mode k) (kind_of (meaning.as_element_items p)) ≡ true
-suits_form elem.Passive p e = refl
-suits_form elem.Declared p e = refl
 suits_form (elem.Active (Some table) offset) p e = refl
 suits_form (elem.Active None offset) (payload.Indices is) e = refl
 suits_form (elem.Active None offset) (payload.Exprs ty es) e = funcref_form ty.nullable ty.heap e
+suits_form x p e = refl
 
 -- A segment, by its mode, its kind and the bytes of its list.
 pub segment_written : {S A O : Type 0} (rules : SinkRules S) (a b : S) (f : O → List Instr) (m : SegmentMode O) (k : ElemKind) (p : ElemPayload) (kind : ElementKind) (InList : Type 0) (list : List ℕ) (r : Result A Refusal)

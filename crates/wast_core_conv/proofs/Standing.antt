@@ -112,7 +112,6 @@ handlers_anywhere h g t = handlers_tell h.blocks t ∙ sym (handlers_tell g.bloc
 
 -- An instruction, in any context.
 pub anywhere : (h g : BodyContext) (i : Instruction) → encodable (in_instr h i) ≡ encodable (in_instr g i)
-anywhere h g (instruction.Plain op) = refl
 anywhere h g (instruction.br_table t) = br_table_tells h.blocks t ∙ sym (br_table_tells g.blocks t)
 anywhere h g (instruction.try_table t) = try_table_tells h.blocks t ∙ sym (try_table_tells g.blocks t)
 anywhere h g (instruction.resume a) = ap (λ b. is_number a.type_index && b) (handlers_anywhere h g a.table)

@@ -68,7 +68,6 @@ heap_covered (heap.Concrete i) e = refl
 heap_covered (heap.Exact i) e = (both_pass (is_number i) false e).1
 
 pub val_covered : (t : ValType) → are_encodable (in_val t) ≡ true → (val_type (meaning.as_val_type t)).is_covered ≡ true
-val_covered val.I32 e = refl
 val_covered (val.Ref r) e = heap_covered r.heap e
 val_covered t e = refl
 
@@ -111,7 +110,6 @@ block_covered b e =
     use_covered b.ty.index b.ty.inline (both_lists is_encodable_ask (if_there (in_index space.Ty) b.ty.index) _ asks).1
 
 pub storage_covered : (t : StorageType) → are_encodable (in_storage t) ≡ true → (storage_type (meaning.as_storage_type t)).is_covered ≡ true
-storage_covered storage.I8 e = refl
 storage_covered (storage.Val t) e = val_covered t e
 storage_covered t e = refl
 
