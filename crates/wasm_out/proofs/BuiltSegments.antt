@@ -10,8 +10,7 @@ use Rattle.wasm_out.specs.ElementSegments.{element_type}
 
 mode_ready : {O : Type 0} (m : SegmentMode O) → is_ready_mode (λ x. true) m ≡ true
 mode_ready mode.Passive = refl
-mode_ready mode.Declared = refl
-mode_ready (mode.Active table offset) = refl
+mode_ready x = refl
 
 pub segment_ready : {O X : Type 0} (m : SegmentMode O) (kind : ElementKind) (xs : List X) → is_form m kind ≡ true → (element_type kind).is_covered ≡ true
     → (is_form m kind && ((element_type kind).is_covered && (is_ready_mode (λ x. true) m && list_all (λ x. true) xs))) ≡ true

@@ -57,6 +57,5 @@ own_ref : (m : Bool) (h : HeapType) → (is_same_flag m m && is_same_heap_type h
 own_ref m h = rw (own_flag m) (own_heap h)
 
 pub own_type : (t : ValType) → is_same_type t t ≡ true
-own_type val.I32 = refl
 own_type (val.Ref r) = own_ref r.nullable r.heap_type
 own_type t = refl

@@ -57,12 +57,7 @@ funcref_is t u p q = by_parts t.nullable u.nullable t.heap_type u.heap_type p q
     func_is (heap.Abstract false a) (heap.Abstract false b) p q =
         let f : AbstractHeapType → HeapType = λ t. heap.Abstract false t in
         ap f (abstract_is a b (eqb-true (abstract_byte a) 0x70 p ∙ sym (eqb-true (abstract_byte b) 0x70 q)))
-    func_is (heap.Abstract true a) k p q = absurd cc
-    func_is (heap.Concrete n) k p q = absurd cc
-    func_is (heap.Exact n) k p q = absurd cc
-    func_is h (heap.Abstract true b) p q = absurd cc
-    func_is h (heap.Concrete n) p q = absurd cc
-    func_is h (heap.Exact n) p q = absurd cc
+    func_is h k p q = absurd cc
 
     by_parts : (m n : Bool) (h k : HeapType) → (m && is_func h) ≡ true → (n && is_func k) ≡ true → reference m h ≡ reference n k
     by_parts true true h k p q = ap (reference true) (func_is h k p q)
