@@ -12,9 +12,7 @@ use Rattle.wast_resolve_rules.specs.Tree.form
 -- a catch clause and its label open and close no block
 catch_stays : (h : BodyContext) (blocks : Blocks) (k : TryTableCatchKind) (l : Index) → after_all h (in_catch blocks (record { kind = k; label = l })) ≡ h
 catch_stays h blocks (caught.Catch e) l = refl
-catch_stays h blocks (caught.CatchRef e) l = refl
-catch_stays h blocks caught.CatchAll l = refl
-catch_stays h blocks caught.CatchAllRef l = refl
+catch_stays h blocks x l = refl
 
 pub catches_stay : (h : BodyContext) (blocks : Blocks) (cs : List TryTableCatch) → after_all h (flat_map (in_catch blocks) cs) ≡ h
 catches_stay h blocks [] = refl
