@@ -126,10 +126,8 @@ composite_type_code = record {
 }
 
 composite_front : (i : CompositeInnerType) (r : List ℕ) → IsTrue (composite_inner_type i).is_covered → 0x50 < front ((composite_inner_type i).bytes ++ r)
-composite_front (inner.Func f) r h = omega arith
-composite_front (inner.Struct t) r h = omega arith
-composite_front (inner.Array t) r h = omega arith
 composite_front (inner.Cont c) r h = not_true h
+composite_front x r h = omega arith
 
 -- the types above it and the composite type, behind a byte
 abbrev Below : Type 0
