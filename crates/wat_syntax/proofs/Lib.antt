@@ -1,4 +1,3 @@
-pub mod Keys
 pub mod Numbers
 pub mod WorkedBodies
 pub mod WorkedCustoms

@@ -10,7 +10,6 @@
 ghost use Rattle.std.specs.Prelude.{◌≡◌, ◌≢◌, true, false, None, Some, Ok, Err, option_map, IfSome};
 ghost use Rattle.wat_syntax.specs.Tokens.{peek, after, position, position_in, count, is_lparen, is_end, word_of, key_of, is_key, is_form, lparen, rparen, keyword, form};
 ghost use Rattle.wat_tokens.specs.declared.faults.TextFault.TheVariants as fault;
-ghost use Rattle.wat_syntax.specs.Keywords.{number_of_key};
 ghost use Rattle.wat_syntax.specs.Values.{number_text, u32, is_number, is_string, is_index, string, name, id, name_annotation, index, optional_index, index_or_zero};
 ghost use Rattle.wat_syntax.specs.Seen.{seen_text, seen_name};
 ghost use Rattle.wat_text.specs.Readers.{left, IsClean, IsRefused, Decides, Expects, Accepts, Finds, Fails, Pushes};
@@ -31,13 +30,6 @@ pub(crate) struct Reader<'a> {
     /// The position after the last token.
     end: Span,
     fault: Option<TextError>,
-}
-
-/// Returns the number of a keyword, by which keywords are compared.
-fn number_of(key: Key) -> u8
-    ensures { result ≡ number_of_key key }
-{
-    key as u8
 }
 
 impl<'a> Reader<'a> {
@@ -173,7 +165,7 @@ impl<'a> Reader<'a> {
         ensures { result ≡ is_key key (key_of (peek ahead (left self.now))) }
     {
         match self.key(ahead) {
-            Some(found) => number_of(found) == number_of(key),
+            Some(found) => found == key,
             None => false,
         }
     }

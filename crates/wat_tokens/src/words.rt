@@ -226,7 +226,7 @@ pub enum AtomicOp {
 
 /// A word that is no instruction.
 #[allow(non_camel_case_types)]
-#[derive(Clone, Copy)]
+#[derive(Clone, Copy, PartialEq, Eq)]
 pub enum Key {
     /// `module`
     Module,
