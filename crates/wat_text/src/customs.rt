@@ -4,7 +4,7 @@
 ghost use Rattle.std.specs.Prelude.{◌≡◌, true, false, None, Some, ◌++◌, map};
 ghost use Rattle.wat_syntax.specs.Seen.{seen_text};
 ghost use Rattle.wat_syntax.specs.SeenCustoms.{seen_version, seen_producers_field, seen_exported, seen_imported, seen_subsection, seen_custom};
-ghost use Rattle.wat_syntax.specs.Customs.{section_of, section, place_of, customfield, known_field, producer_open, producer, all_producers, named_field, fields_of, producersfield, flag_of, again, exported, imported, exports_info, imports_info, memory_info, subsection_form, subsections, dylinkfield};
+ghost use Rattle.wat_syntax.specs.Customs.{section_of, section, place_of, customplace, customfield, known_field, producer_open, producer, all_producers, named_field, fields_of, producersfield, flag_of, again, exported, imported, exports_info, imports_info, memory_info, subsection_form, subsections, dylinkfield};
 ghost use Rattle.wat_syntax.specs.Customs.{version as version_rule, flag as flag_rule, flags as flags_rule, names as names_rule, size_and_align as size_rule, subsection as subsection_rule};
 ghost use Rattle.wat_text.specs.Readers.{left, Reads, Decides, Accepts, Refuses, ReadsOnto, Pushes, Builds};
 ghost use Rattle.wat_text.specs.MadeProducers.{seen_tool, seen_value, PushesValue, ReadsProducers};
@@ -117,23 +117,28 @@ impl<'a> Reader<'a> {
         CustomPlace::After(self.anchor())
     }
 
+    /// Reads the position of a custom section, if there is one (text format: custom annotations).
+    /// Without one, it is after all other sections.
+    fn optional_place(&mut self) -> CustomPlace
+        ensures { Decides customplace self.old self.new result }
+    {
+        if !self.is_open(0) {
+            return CustomPlace::AfterLast;
+        }
+        self.skip();
+        let place = self.custom_place();
+        self.close();
+        place
+    }
+
     /// Reads the annotation `(@custom ..)`, without its `)` (text format: custom annotations).
-    /// Without a position, the custom section is after all other sections.
     pub fn custom_field(&mut self) -> Custom<'a>
         ensures { Reads customfield self.old self.new (seen_custom result) }
     {
         let span = self.place();
         self.skip();
         let name = self.text();
-        let place = match self.is_open(0) {
-            true => {
-                self.skip();
-                let place = self.custom_place();
-                self.close();
-                place
-            }
-            false => CustomPlace::AfterLast,
-        };
+        let place = self.optional_place();
         let bytes = self.pieces();
         Custom::Raw(RawCustomSection {
             span,
