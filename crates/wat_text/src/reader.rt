@@ -36,7 +36,7 @@ impl<'a> Reader<'a> {
     /// Makes a reader that has read no token. `end` is the position after the last token.
     #[tactic(auto, unfolding(crate::specs::Readers::left))]
     pub(crate) fn new(alloc: Global, tokens: Vec<Placed<'a>>, end: Span) -> Reader<'a>
-        ensures left { left result ≡ record { before = position_in (map bare_placed tokens.entry.items) end; left = map bare_placed tokens.entry.items; end = end } }
+        ensures left { left result ≡ all_bare tokens.entry.items end }
         ensures clean { IsClean result }
     {
         Reader {
@@ -62,7 +62,7 @@ impl<'a> Reader<'a> {
     }
 
     /// Returns how many tokens are left.
-    #[tactic(auto, unfolding(crate::specs::Readers::left, wat_syntax::specs::Tokens::count))]
+    #[tactic(auto, unfolding(crate::specs::Readers::left, wat_syntax::specs::Tokens::count), using(crate::proofs::Lefts::counted))]
     pub(crate) fn left(&self) -> usize
         ensures { result ≡ count (left self.now) }
     {
@@ -70,7 +70,7 @@ impl<'a> Reader<'a> {
     }
 
     /// Returns the token after `ahead` others. Returns `None` at the end, and after an error.
-    #[tactic(auto, unfolding(crate::specs::Readers::left, wat_syntax::specs::Tokens::peek))]
+    #[tactic(auto, unfolding(crate::specs::Readers::left, wat_syntax::specs::Tokens::peek), using(crate::proofs::Lefts::peeked, crate::proofs::Lefts::none_peeked))]
     pub(crate) fn look(&self, ahead: usize) -> Option<Token<'a>>
         ensures { option_map bare_token result ≡ peek ahead (left self.now) }
     {
@@ -81,7 +81,7 @@ impl<'a> Reader<'a> {
     }
 
     /// Returns the position of the next token, or the end if no token is left.
-    #[tactic(auto, unfolding(crate::specs::Readers::left, wat_syntax::specs::Tokens::position))]
+    #[tactic(auto, unfolding(crate::specs::Readers::left, wat_syntax::specs::Tokens::position), using(crate::proofs::Lefts::placed, crate::proofs::Lefts::none_placed))]
     pub(crate) fn place(&self) -> Span
         ensures { result ≡ position (left self.now) }
     {
@@ -92,7 +92,7 @@ impl<'a> Reader<'a> {
     }
 
     /// Returns the position of the token that was read last.
-    #[tactic(auto, unfolding(crate::specs::Readers::left))]
+    #[tactic(auto, unfolding(crate::specs::Readers::left), using(crate::proofs::Lefts::placed, crate::proofs::Lefts::none_placed))]
     pub(crate) fn place_before(&self) -> Span
         ensures { result ≡ (left self.now).before }
     {

@@ -1,6 +1,6 @@
 -- The goal of `module_of_tokens` that tactics leave open, closed by lemmas of Opened.
 use Rattle.std.proofs.Common.{rules}
-use Rattle.wat_text.specs.Denotes.{Fields, bare_opening, all_bare, module_after}
+use Rattle.wat_text.specs.Denotes.{Fields, all_bare, module_after, bare_opening}
 use Rattle.wat_text.proofs.Opened.{opened, means_as, means_err, fields_as}
 use Rattle.wat_text.proofs.modules.module_of_tokens.Goals as goal
 
