@@ -7,12 +7,13 @@
 //! The next token is the first one that is left. A form is `(`, a keyword, and all up to the
 //! closing `)`, such as `(result i32 i64)`.
 
-ghost use Rattle.std.specs.Prelude.{◌≡◌, ◌≢◌, true, false, None, Some, Ok, Err, option_map, IfSome, map};
-ghost use Rattle.wat_syntax.specs.Tokens.{peek, after, position, position_in, count, is_lparen, is_end, word_of, key_of, is_key, is_form, lparen, rparen, keyword, form};
+ghost use Rattle.std.specs.Prelude.{◌≡◌, ◌≢◌, true, false, None, Some, Ok, Err, option_map, IfSome};
+ghost use Rattle.wat_syntax.specs.Tokens.{peek, after, position, count, is_lparen, is_end, word_of, key_of, is_key, is_form, lparen, rparen, keyword, form};
 ghost use Rattle.wat_tokens.specs.declared.faults.TextFault.TheVariants as fault;
 ghost use Rattle.wat_syntax.specs.Values.{number_text, u32, is_number, is_string, is_index, string, name, id, name_annotation, index, optional_index, index_or_zero};
 ghost use Rattle.wat_text.specs.Readers.{left, IsClean, IsRefused, Decides, Expects, Accepts, Finds, Fails, Pushes};
-ghost use Rattle.wat_syntax.specs.Bare.{bare_id_option, bare_index, bare_index_option, bare_name_option, bare_placed, bare_text, bare_token};
+ghost use Rattle.wat_text.specs.Denotes.{all_bare};
+ghost use Rattle.wat_syntax.specs.Bare.{bare_id_option, bare_index, bare_index_option, bare_name_option, bare_text, bare_token};
 
 use std::alloc::{AllocError, Global};
 use wast_tree::{Id, Index, NameAnnotation, Seq, Span, TreeBuilder};
