@@ -40,11 +40,11 @@ Addresses = (bare_token (token.Id (text_at 7 (codes "f"))) ≡ token.Id (text_of
     × (made (index (toks (bare_token (token.Id (text_at 7 (codes "f"))) ∷ []))) ≡ Some (bare_index (id_at 8), 0))
     × (made (instruction (toks (bare_token (word_at 7) ∷ []))) ≡ Some (bare_instr (instr.Beyond (text_at 8 (codes "wide"))), 0))
 
--- The text `(start 0)` has four tokens, of which one is a word with a meaning. `(@name "a")` begins with an annotation with a meaning, and
--- `(@note)` is skipped. `a[` has no tokens.
+-- The text `(start 0)` has four tokens, of which one is a word with a meaning. `(@name)` begins with an annotation with a meaning, whose
+-- position is that of its `@`. `a[` has no tokens.
 abbrev pub Texts : Type 0
 Texts = (tokens_at_zero (codes "(start 0)")
     ≡ Some (placed token.Open 0 ∷ (placed (token.Word (word.Key key.Start) (text_of (codes "start"))) 1
     ∷ (placed (token.Other (text_of (codes "0"))) 7 ∷ (placed token.Close 8 ∷ [])))))
-    × (tokens_at_zero (codes "(@name)(@note)") ≡ Some (placed (token.Annotation annotation.Name) 0 ∷ (placed token.Close 6 ∷ [])))
+    × (tokens_at_zero (codes "(@name)") ≡ Some (placed (token.Annotation annotation.Name) 1 ∷ (placed token.Close 6 ∷ [])))
     × (tokens_at_zero (codes "a[") ≡ None)
