@@ -1,6 +1,5 @@
 -- The tokens that are left, without addresses, by the tokens of the code: the next ones, and those after the next one.
-use Rattle.std.proofs.Common.{◌≡◌, ◌∙◌, ℕ, zero, suc, ◌+◌, ◌-◌, ◌<◌, ◌≤◌, List, [], ◌∷◌, length, map, drop, None, Some, refl, sym, ap, arith, add-one}
-use Rattle.std.specs.Prelude.{slice_get}
+use Rattle.std.proofs.Common.{◌≡◌, ◌∙◌, ℕ, zero, suc, ◌+◌, ◌-◌, ◌<◌, ◌≤◌, List, [], ◌∷◌, length, map, drop, get_or, None, Some, refl, sym, ap, arith, add-one}
 use Rattle.wast_base.specs.declared.ids.Span.{Span}
 use Rattle.wat_tokens.specs.declared.tokens.Placed.{Placed}
 use Rattle.wat_syntax.specs.Tokens.{Toks, first, position_in, after_first}
@@ -8,15 +7,15 @@ use Rattle.wat_syntax.specs.Bare.{bare_token, bare_placed}
 use Rattle.wat_text.specs.Readers.{left_of}
 
 -- the token after so many others
-pub peeked : (at ahead : ℕ) (found : List Placed) (p : Placed) → slice_get found (at + ahead) ≡ Some p
-    → first (drop ahead (drop at (map bare_placed found))) ≡ Some (bare_token p.token)
-peeked at ahead [] p h = absurd cc
-peeked zero zero (x ∷ xs) p h = ap (λ (q : Placed). Some (bare_token q.token)) (the_same h)
-  where
-    the_same : {A : Type 0} {x y : A} → Some x ≡ Some y → x ≡ y
-    the_same e = cc
-peeked zero (suc ahead) (x ∷ xs) p h = peeked zero ahead xs p h
-peeked (suc at) ahead (x ∷ xs) p h = peeked at ahead xs p h
+pub peeked : (at ahead k : ℕ) (found : List Placed) (p : Placed) → k ≡ at + ahead → k < length found → p ≡ get_or found k p
+    → Some (bare_token p.token) ≡ first (drop ahead (drop at (map bare_placed found)))
+peeked at ahead k [] p e few h = absurd (omega (arith, few))
+peeked zero zero zero (x ∷ xs) p e few h = ap (λ (q : Placed). Some (bare_token q.token)) h
+peeked zero zero (suc k) (x ∷ xs) p e few h = absurd (omega (arith, e))
+peeked zero (suc ahead) zero (x ∷ xs) p e few h = absurd (omega (arith, e))
+peeked zero (suc ahead) (suc k) (x ∷ xs) p e few h = peeked zero ahead k xs p (omega (arith, e)) (omega (arith, few)) h
+peeked (suc at) ahead zero (x ∷ xs) p e few h = absurd (omega (arith, e))
+peeked (suc at) ahead (suc k) (x ∷ xs) p e few h = peeked at ahead k xs p (omega (arith, e)) (omega (arith, few)) h
 
 pub none_peeked : (at ahead : ℕ) (found : List Placed) → length found ≤ at + ahead → first (drop ahead (drop at (map bare_placed found))) ≡ None
 none_peeked zero zero [] h = refl
@@ -28,13 +27,10 @@ none_peeked zero (suc ahead) (x ∷ xs) h = none_peeked zero ahead xs (omega (ar
 none_peeked (suc at) ahead (x ∷ xs) h = none_peeked at ahead xs (omega (arith, h))
 
 -- the position of the next token
-pub placed : (at : ℕ) (found : List Placed) (end : Span) (p : Placed) → slice_get found at ≡ Some p → position_in (drop at (map bare_placed found)) end ≡ p.span
-placed at [] end p h = absurd cc
-placed zero (x ∷ xs) end p h = ap (λ (q : Placed). q.span) (the_same h)
-  where
-    the_same : {A : Type 0} {x y : A} → Some x ≡ Some y → x ≡ y
-    the_same e = cc
-placed (suc at) (x ∷ xs) end p h = placed at xs end p h
+pub placed : (at : ℕ) (found : List Placed) (end : Span) (p : Placed) → at < length found → p ≡ get_or found at p → p.span ≡ position_in (drop at (map bare_placed found)) end
+placed at [] end p few h = absurd (omega (arith, few))
+placed zero (x ∷ xs) end p few h = ap (λ (q : Placed). q.span) h
+placed (suc at) (x ∷ xs) end p few h = placed at xs end p (omega (arith, few)) h
 
 pub none_placed : (at : ℕ) (found : List Placed) (end : Span) → length found ≤ at → position_in (drop at (map bare_placed found)) end ≡ end
 none_placed zero [] end h = refl
@@ -45,9 +41,9 @@ none_placed (suc at) (x ∷ xs) end h = none_placed at xs end (omega (arith, h))
 -- how many tokens are left
 pub counted : (at : ℕ) (found : List Placed) → length (drop at (map bare_placed found)) ≡ length found - at
 counted zero [] = refl
-counted (suc at) [] = refl
-counted zero (x ∷ xs) = ap suc (counted zero xs)
-counted (suc at) (x ∷ xs) = counted at xs
+counted (suc at) [] = omega arith
+counted zero (x ∷ xs) = omega (arith, counted zero xs)
+counted (suc at) (x ∷ xs) = omega (arith, counted at xs)
 
 -- the tokens that are left after one more token is read
 pub skipped : (n : ℕ) (found : List Placed) (end : Span) → n < length found → left_of (n + 1) (map bare_placed found) end ≡ after_first (drop n (map bare_placed found)) (left_of n (map bare_placed found) end)
