@@ -258,16 +258,17 @@ module _ (laws : Laws) where
         subst (λ o. OfModule is_answer o r) (sym denotes) (subst IsTrue (sym (well_bare t.kind)) well, to_bare t r well x)
 
     of_either : (bytes : List ℕ) (r : Result A Refused) → OfModule is_answer (denoted bytes) r → OfText is_answer bytes r
+    unfolding OfText
     of_either bytes (Ok x) h = h
     of_either bytes (Err e) h = inl h
 
     pub of_parsed : (bytes : List ℕ) (t : TextModule) (r : Result A Refused) → IsRead bytes (Ok t) → is_answer t r → OfText is_answer bytes r
-    unfolding IsRead
+    unfolding OfText IsRead
     of_parsed bytes t r read x = of_either bytes r (of_module bytes t r read.0 read.1 x)
 
     ill : (bytes : List ℕ) → DenotesIllFormed bytes → IsIllFormedIn (denoted bytes)
     ill bytes i = subst IsIllFormedIn (sym i.denotes) (well_bare i.part.kind ∙ i.ill)
 
     pub of_error : (bytes : List ℕ) (e : TextError) → IsRead bytes (Err e) → OfText is_answer bytes (Err (answer.Text e))
-    unfolding IsRead
+    unfolding OfText IsRead
     of_error bytes e read = inr (explains_map (DenotesNothing bytes) (DenotesIllFormed bytes) (denoted bytes ≡ None) (IsIllFormedIn (denoted bytes)) e.fault (λ n. n) (ill bytes) read.0)

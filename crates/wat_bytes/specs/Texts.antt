@@ -90,7 +90,7 @@ RefusesText m (answer.Module e) = ⊥
 RefusesText m (answer.Uncovered u) = ⊥
 
 -- The result for a text: that of the module that the text denotes, or an error of the text.
-abbrev pub OfText : {A : Type 0} → (TextModule → Result A Refused → Type 0) → List ℕ → Result A Refused → Type 0
+unfoldable pub OfText : {A : Type 0} → (TextModule → Result A Refused → Type 0) → List ℕ → Result A Refused → Type 0
 OfText is_answer bytes (Ok x) = OfModule is_answer (denoted bytes) (Ok x)
 OfText is_answer bytes (Err e) = OfModule is_answer (denoted bytes) (Err e) ⊎ RefusesText (denoted bytes) e
 

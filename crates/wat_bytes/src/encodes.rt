@@ -10,6 +10,7 @@ use crate::uncovered::{as_written, first_form};
 use std::alloc::Global;
 use wast_core::{EncodeOptions, Module, discard_module};
 use wast_tree::{Error, Fault, Gensym};
+use wat_meaning::meaning_laws;
 use wat_text::{Strings, TextModule};
 
 /// Returns the error of a module, with the position of an unsupported construct.
@@ -133,6 +134,7 @@ fn encoded_in<'a>(
 ///
 /// - `answer`: the result is that of [`encoded_text`] for the module that the text denotes, or an
 ///   error of the text, which denotes no module then, or one that is not well formed (`OfText`).
+///   That module is a function of the text (`module_of` in `wat_text`).
 /// - `place`: an error of the text is in the text or at its end.
 pub fn encode_text<'a>(
     alloc: Global,
@@ -142,6 +144,7 @@ pub fn encode_text<'a>(
     ensures answer { OfText EncodesText text.now result }
     ensures place { IfErr result (IsPlaced text.now) }
 {
+    meaning_laws();
     match read_text(alloc, text, strings) {
         Ok(module) => encoded_in(alloc, text, strings, module),
         Err(error) => Err(Refused::Text(error)),
