@@ -45,23 +45,12 @@ use Rattle.wat_text.specs.declared.modules.TextKind.{TextKind}
 use Rattle.wat_text.specs.declared.modules.TextKind.TheVariants as held
 use Rattle.wat_text.specs.declared.modules.TextModule.{TextModule}
 use Rattle.wat_text.proofs.Endings.{explains_map}
-use Rattle.wat_meaning.specs.Laws.{SameAnswer, SameMeaning, SameForms, SameNumbers, SameRules, SameGeneration, SameTooLarge, SameBounds}
+use Rattle.wat_bytes.specs.BareLaws.{Laws}
 use Rattle.wat_bytes.specs.declared.names.Denoted.{Denoted}
 use Rattle.wat_bytes.specs.declared.refusals.Refused.{Refused}
 use Rattle.wat_bytes.specs.declared.refusals.Refused.TheVariants as answer
 use Rattle.wat_bytes.specs.Names.{ResolvesReady, IsResolvable, IsMetKind, HasNoNames, ListsText, NumbersText, number_in}
 use Rattle.wat_bytes.specs.Texts.{EncodesText, EncodesReady, IsRead, IsUnready, IsIllFormedIn, OfModule, OfText, kind_of, module_of, unready}
-
--- The laws of a tree and its bare tree (wat_meaning).
-pub record Laws : Type 0 where
-  pub answer : SameAnswer
-  pub meaning : SameMeaning
-  pub forms : SameForms
-  pub numbers : SameNumbers
-  pub rules : SameRules
-  pub generation : SameGeneration
-  pub large : SameTooLarge
-  pub bounds : SameBounds
 
 -- The name of a module is the same bytes.
 word_bare : (n : code.Name) → written_text (named_by (bare_id_name n)) ≡ written_text (named_by n)
@@ -173,14 +162,20 @@ module _ (laws : Laws) where
   }
   encodes_kind name (held.Fields xs) (Err e) left above (inl x) = record {
     left = kind.Refused e;
-    encodes = inl (answers_map (IsTooLarge 1 xs) (IsTooLarge 1 (bare_fields xs)) (diagnostic_of e) (first_unmet (demands (explicit_fields xs))) (first_unmet (demands (explicit_fields (bare_fields xs))))
-        (laws.large 1 xs).0 (laws.answer xs) x.0, refl);
+    encodes = inl (
+      answers_map (IsTooLarge 1 xs) (IsTooLarge 1 (bare_fields xs)) (diagnostic_of e) (first_unmet (demands (explicit_fields xs))) (first_unmet (demands (explicit_fields (bare_fields xs))))
+          (laws.large 1 xs).0 (laws.answer xs) x.0,
+      refl,
+    );
   }
   encodes_kind name (held.Fields xs) (Err e) left above (inr x) = record {
     left = kind.Text (resolved_fields_from 1 (bare_fields xs));
-    encodes = inr (laws.answer xs ∙ x.0,
-        subst (λ o. IsUnwritten o (IsBounded 1 name (bare_fields xs)) e) (sym (ap head_of (laws.forms 1 xs above x.0)))
-        (unwritten_map (head_of (uncovered_forms (resolved_fields_from 1 xs))) (IsBounded 1 name xs) (IsBounded 1 name (bare_fields xs)) e (laws.bounds 1 name xs) x.1), refl);
+    encodes = inr (
+      laws.answer xs ∙ x.0,
+      subst (λ o. IsUnwritten o (IsBounded 1 name (bare_fields xs)) e) (sym (ap head_of (laws.forms 1 xs above x.0)))
+          (unwritten_map (head_of (uncovered_forms (resolved_fields_from 1 xs))) (IsBounded 1 name xs) (IsBounded 1 name (bare_fields xs)) e (laws.bounds 1 name xs) x.1),
+      refl,
+    );
   }
   encodes_kind name (held.Binary ps) (Ok b) left above x = record { left = kind.Binary (map bare_text ps); encodes = (x.0 ∙ sym (pieces_bare ps), refl) }
   encodes_kind name (held.Binary ps) (Err e) left above x = record { left = kind.Binary (map bare_text ps); encodes = (x.0, refl) }
@@ -217,9 +212,11 @@ module _ (laws : Laws) where
   number_bare t ready s name = number_kind t t.kind refl (past t ready) s name
 
   unresolved_kind : (k : TextKind) (e : Error) (left : ModuleKind) → ResolvesKind 1 (kind_of k) (Err e) left → ResolvesKind 1 (kind_of (bare_kind k)) (Err e) (kind.Refused e)
-  unresolved_kind (held.Fields xs) e left x =
-      (answers_map (IsTooLarge 1 xs) (IsTooLarge 1 (bare_fields xs)) (diagnostic_of e) (first_unmet (demands (explicit_fields xs))) (first_unmet (demands (explicit_fields (bare_fields xs))))
-      (laws.large 1 xs).0 (laws.answer xs) x.0, refl)
+  unresolved_kind (held.Fields xs) e left x = (
+    answers_map (IsTooLarge 1 xs) (IsTooLarge 1 (bare_fields xs)) (diagnostic_of e) (first_unmet (demands (explicit_fields xs))) (first_unmet (demands (explicit_fields (bare_fields xs))))
+        (laws.large 1 xs).0 (laws.answer xs) x.0,
+    refl,
+  )
   unresolved_kind (held.Binary ps) e left x = absurd x
 
   unresolved_bare : (t : TextModule) (e : Error) → ResolvesReady (module_of t) (Err e) → ResolvesReady (module_of (bare_module t)) (Err e)

@@ -4,13 +4,13 @@ ghost use Rattle.std.specs.Prelude.{IfErr, IsTrue};
 ghost use Rattle.wast_core.specs.Modules.{IsReady, is_well_formed};
 ghost use Rattle.wat_bytes.specs.Texts.{EncodesModule, EncodesText, IsPlaced, OfText, RefusesWith, module_of};
 
+use crate::laws::bare_laws;
 use crate::modules::{is_ready, module_of, read_text, unready};
 use crate::refusals::{Refused, UncoveredForm};
 use crate::uncovered::{as_written, first_form};
 use std::alloc::Global;
 use wast_core::{EncodeOptions, Module, discard_module};
 use wast_tree::{Error, Fault, Gensym};
-use wat_meaning::meaning_laws;
 use wat_text::{Strings, TextModule};
 
 /// Returns the error of a module, with the position of an unsupported construct.
@@ -144,7 +144,7 @@ pub fn encode_text<'a>(
     ensures answer { OfText EncodesText text.now result }
     ensures place { IfErr result (IsPlaced text.now) }
 {
-    meaning_laws();
+    bare_laws();
     match read_text(alloc, text, strings) {
         Ok(module) => encoded_in(alloc, text, strings, module),
         Err(error) => Err(Refused::Text(error)),

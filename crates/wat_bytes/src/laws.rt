@@ -1,6 +1,16 @@
 //! Theorems about the results of calls on texts. The functions do nothing when they run.
 
+ghost use Rattle.wat_bytes.specs.BareLaws.{Laws};
 ghost use Rattle.wat_bytes.specs.OneText.{SameBytes, SameError, SameList, SameListing, SameLookUp, SameNumber, SameSuccess};
+
+use wat_meaning::meaning_laws;
+
+/// States in one clause what `meaning_laws` states: a tree has the result of its bare tree.
+pub(crate) fn bare_laws()
+    ensures { Laws }
+{
+    meaning_laws();
+}
 
 /// A text has one result (text format: modules).
 ///

@@ -10,13 +10,13 @@ ghost use Rattle.wast_core.specs.Modules.{IsReady};
 ghost use Rattle.wat_bytes.specs.Texts.{IsPlaced, OfText};
 ghost use Rattle.wat_bytes.specs.Names.{AreListed, AreListedIn, AreOfSpace, ListsText, NumbersText, ResolvesReady, ResolvesText, denoted_at, is_written_pair};
 
+use crate::laws::bare_laws;
 use crate::modules::{is_ready, module_of, read_text, unready};
 use crate::refusals::Refused;
 use std::alloc::{AllocError, Global};
 use wast_core::{Module, discard_module};
 use wast_resolve::{Names, discard_names};
 use wast_tree::{Error, Gensym, Id, Index, Space, Span};
-use wat_meaning::meaning_laws;
 use wat_text::{Strings, TextModule};
 
 /// An id of a text with its index space and its index (text format: indices).
@@ -181,7 +181,7 @@ pub fn names_of_text<'a>(
     ensures answer { OfText ListsText text.now result }
     ensures place { IfErr result (IsPlaced text.now) }
 {
-    meaning_laws();
+    bare_laws();
     match read_text(alloc, text, strings) {
         Ok(module) => names_of(alloc, module),
         Err(error) => Err(Refused::Text(error)),
@@ -286,7 +286,7 @@ pub fn number_in_text<'a>(
     ensures answer { OfText (NumbersText space name.now) text.now result }
     ensures place { IfErr result (IsPlaced text.now) }
 {
-    meaning_laws();
+    bare_laws();
     match read_text(alloc, text, strings) {
         Ok(module) => number_in(alloc, module, space, name),
         Err(error) => Err(Refused::Text(error)),

@@ -57,9 +57,10 @@ same_forms forms n xs above met = of_bare (λ zs. uncovered_forms (resolved_fiel
 
 -- A module is too large to resolve if its bare tree is, and the other way round.
 pub same_too_large : RenamedTooLarge → SameTooLarge
-same_too_large large n xs =
-    ((λ h. subst (IsTooLarge n) (sym (bare_is_shown xs)) (large_then n (renamed_fields erasing xs) ((large erasing is_renaming n xs).0 h))),
-    (λ h. (large erasing is_renaming n xs).1 (large_before n (renamed_fields erasing xs) (subst (IsTooLarge n) (bare_is_shown xs) h))))
+same_too_large large n xs = (
+  (λ h. subst (IsTooLarge n) (sym (bare_is_shown xs)) (large_then n (renamed_fields erasing xs) ((large erasing is_renaming n xs).0 h))),
+  (λ h. (large erasing is_renaming n xs).1 (large_before n (renamed_fields erasing xs) (subst (IsTooLarge n) (bare_is_shown xs) h))),
+)
 
 -- A module is small enough to encode if its bare tree is.
 pub same_bounds : TooLargeIsUnbounded → RenamedTooLarge → RenamedFilled → RenamedPositions → SameBounds

@@ -53,12 +53,10 @@ opened next a b h (Err e) d f = record {
     refused o s n r (inl m) = absurd (subst IsRefusal m r)
     refused o s n r (inr m) = subst IsRefused (sym (f.keeps (λ z. n (sym s ∙ z)) m)) r
 
-    explains : Option TextModule → Type 0
-    explains o = Explains (o ≡ None) (IsIllFormed is_well_formed_module (IsModule o)) e.fault
-
-    go : (o : Option TextError) → b.fault ≡ o → a.fault ≡ None → explains (opening (left a) >>= next)
-    unfolding explains
-    go None s n = subst explains (sym (ap (λ o. o >>= next) (d.gives s))) (f.refuses s)
+    go : (o : Option TextError) → b.fault ≡ o → a.fault ≡ None
+        → Explains ((opening (left a) >>= next) ≡ None) (IsIllFormed is_well_formed_module (IsModule (opening (left a) >>= next))) e.fault
+    go None s n =
+        subst (λ (o : Option TextModule). Explains (o ≡ None) (IsIllFormed is_well_formed_module (IsModule o)) e.fault) (sym (ap (λ o. o >>= next) (d.gives s))) (f.refuses s)
     go (Some y) s n =
         explains_nothing (IsIllFormed is_well_formed_module (IsModule (opening (left a) >>= next))) e.fault
         (λ r. ap (λ o. o >>= next) (d.refuses n (refused (Some y) s (λ z. cc) r (memory_or e.fault))))
@@ -171,7 +169,6 @@ unfolding module_of
 text_none text e lexed = explains_nothing (DenotesIllFormed text) e.fault (λ f. go f (memory_or e.fault))
   where
     nothing : tokens bytes_of text ≡ None → DenotesNothing text
-    unfolding module_of
     nothing none =
         ap (λ (o : Option (List grammar.Placed)). (o >>= λ ts. all_at_zero ts) >>= λ found. module_of_tokens (all_of found (record { offset = length text }))) none
 
