@@ -110,6 +110,11 @@ unwritten_map (Some form) b c e to x = x
 unwritten_map None b c e to (inl x) = inl x
 unwritten_map None b c e to (inr x) = inr (x.0, λ y. x.1 (to y))
 
+-- A result of encoding, with what it leaves.
+record Encodes (name : Option (List ℕ)) (k : ModuleKind) (r : Result (Vec ℕ) Error) : Type 0 where
+  left : ModuleKind
+  encodes : EncodesKind 1 name k r left
+
 module _ (laws : Laws) where
   -- Both may be resolved, or neither.
   pub well_bare : (k : TextKind) → is_well_formed_text (bare_kind k) ≡ is_well_formed_text k
@@ -150,10 +155,6 @@ module _ (laws : Laws) where
   }
 
   -- Encoding.
-  record Encodes (name : Option (List ℕ)) (k : ModuleKind) (r : Result (Vec ℕ) Error) : Type 0 where
-    left : ModuleKind
-    encodes : EncodesKind 1 name k r left
-
   encodes_kind : (name : Option (List ℕ)) (k : TextKind) (r : Result (Vec ℕ) Error) (left : ModuleKind) → bound_of_kind (kind_of k) < 1
       → EncodesKind 1 name (kind_of k) r left → Encodes name (kind_of (bare_kind k)) r
   encodes_kind name (held.Fields xs) (Ok b) left above x = record {
