@@ -9,6 +9,8 @@ mod built;
 #[cfg(test)]
 mod calls;
 #[cfg(test)]
+mod checked;
+#[cfg(test)]
 mod made;
 #[cfg(test)]
 mod refused;
