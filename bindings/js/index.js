@@ -38,9 +38,10 @@ export function escaped(text) {
 /** Why a text has no bytes. index.d.ts describes the fields. */
 export class WatError extends Error {
   constructor(message, fields) {
-    // The stack, which engines print, begins with this.
     super(escaped(message));
     this.name = "WatError";
+    // What node prints of an error that is not caught begins with the name and the message that it has when its stack is first read.
+    void this.stack;
     this.message = message;
     Object.assign(this, { number: 0, line: 0, column: 0, start: 0, end: 0, snippet: "" }, fields);
     this.kind = KINDS[this.number];
