@@ -63,6 +63,8 @@ try {
   let seen = await read();
   test("the first text is shown by section", ["header 8 bytes", "00 61 73 6d 01 00 00 00", "code ", "$fac", 'custom "name"'].every((it) => seen.result.includes(it)), seen);
   test("its bytes are counted", /^\d+ bytes in /.test(seen.state), seen);
+  seen = await page.run(() => document.getElementById("version").textContent);
+  test("the page tells of proofs", /^Rigyomad \d+\.\d+\.\d+( \(UNPROVED\)|, built with proofs)$/.test(seen), seen);
 
   await until(() => document.querySelectorAll("#result table button").length === 2);
   await page.run(() => { document.querySelector("#result table input").value = "20"; });
@@ -94,6 +96,8 @@ try {
   });
   test("the mark is at the token", Math.max(...seen) < 2, seen);
   await picture("error");
+  seen = await type('(module (start $"\\u{202e}\\1b"))');
+  test("control characters are shown as escapes", seen.result.includes("`$\\u{202e}\\u{1b}`") && !/[\u202e\u001b]/.test(seen.result), seen);
 
   seen = await type("(module (func (result i32)))");
   await until(() => document.getElementById("result").innerText.includes("this browser does not run the module"));

@@ -18,10 +18,12 @@
 //! ```
 //!
 //! [`parse_str`], [`parse_bytes`], [`parse_file`] and [`Result`] have the signatures of the crate
-//! `wat`. Of its other names, `Parser` is missing because its one option asks for DWARF, which is not
-//! generated, and [`Error::set_path`] sets its path; and `Detect`, because it needs the tokens of a
-//! text, which no call of the archive returns: [`parse_bytes`] accepts text and binary. Below them, [`encode`] returns the [`Fault`] of a text alone. [`names`] and [`resolve`] return what the
-//! names of a text denote, and [`names_within`] the names of locals, labels and fields.
+//! `wat`. Of its other names, two are missing. `Parser` has one option, which asks for DWARF: that is
+//! not generated, and [`Error::set_path`] sets the path. `Detect` needs the tokens of a text, which no
+//! call of the archive returns: [`parse_bytes`] accepts text and binary.
+//!
+//! Below these, [`encode`] returns the [`Fault`] of a text alone. [`names`] and [`resolve`] return
+//! what the names of a text denote, and [`names_within`] the names of locals, labels and fields.
 //!
 //! The encoder is an archive whose code is proved; this crate declares its calls and lends them
 //! slices. No call keeps state, so any thread may make any call. If allocation fails, a call
