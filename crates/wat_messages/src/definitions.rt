@@ -232,6 +232,39 @@ pub(crate) fn read_before(text: &[u8], end: usize) -> Before<'_> {
     before
 }
 
+/// Returns whether an annotation with this word, which begins with `@`, is read by its parts.
+fn has_meaning(word: &[u8]) -> bool {
+    matches!(
+        word,
+        b"@name" | b"@custom" | b"@producers" | b"@dylink.0" | b"@metadata.code.branch_hint"
+    )
+}
+
+/// Returns the offset of the first annotation without a meaning that a text does not close.
+pub(crate) fn open_annotation(text: &[u8]) -> Option<usize> {
+    let mut walk = Walk::new(text);
+    let mut found = None;
+    let mut depth = 0;
+    for _ in 0..text.len() {
+        let Some(lexeme) = walk.next_before(text.len()) else {
+            break;
+        };
+        let is_annotation = walk.is_opened()
+            && lexeme.bytes.starts_with(b"@")
+            && !has_meaning(lexeme.bytes);
+        if is_annotation && found.is_none() {
+            found = Some(lexeme.start.saturating_sub(1));
+            depth = walk.depth;
+        }
+        let _ = walk.take(lexeme);
+        if walk.depth < depth {
+            found = None;
+            depth = 0;
+        }
+    }
+    found
+}
+
 /// Returns the offset of the last parenthesis that is open at an offset, if this many are.
 pub(crate) fn last_open(text: &[u8], end: usize, before: Before<'_>) -> Option<usize> {
     let mut walk = Walk::new(text);

@@ -65,6 +65,10 @@ pub(crate) enum Detail<'a> {
     Unclosed(Place<'a>, Found<'a>),
     /// The token that is wrong.
     Token(Found<'a>),
+    /// The token, if it has to come before the instructions.
+    Early(Found<'a>),
+    /// The place where the construct begins that has no end.
+    Begins(Place<'a>),
     /// A number that is none of its kind.
     NoNumber(Found<'a>, Number),
     /// A number that is out of range.
@@ -91,6 +95,8 @@ impl fmt::Display for Detail<'_> {
             Detail::InPlace(found) => write!(f, ", found {found}"),
             Detail::Unclosed(open, found) => write!(f, " to close the `(` at {open}, found {found}"),
             Detail::Token(found) => write!(f, ": {found}"),
+            Detail::Early(found) => write!(f, ": {found} has to come before all instructions"),
+            Detail::Begins(place) => write!(f, ": it begins at {place}"),
             Detail::NoNumber(found, number) => {
                 let expected = number.name();
                 write!(f, ": expected {expected}, found {found}")

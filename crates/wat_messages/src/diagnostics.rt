@@ -3,16 +3,18 @@
 ghost use Rattle.std.specs.Prelude.{◌≡◌, IfSome, Some};
 ghost use Rattle.wat_messages.specs.Ranges.{IsRange, BeginsAt, range_of, text_of, noted};
 
-use crate::definitions::{first_definition, last_open, nearest_name, read_before};
+use crate::definitions::{
+    first_definition, last_open, nearest_name, open_annotation, read_before,
+};
 use crate::details::{Detail, Found, Hint, Place, first_character};
-use crate::lexemes::{Kind, Lexeme, bytes_from, character_length, first_bytes, lexeme_at, next_lexeme};
+use crate::lexemes::{Kind, Lexeme, bytes_from, first_bytes, lexeme_at, next_lexeme, shown};
 use crate::lists::{FIELDS, INSTRUCTIONS, words_for};
 use crate::near::nearest_of;
-use crate::numbers::number_after;
+use crate::numbers::{Number, number_after};
 use crate::ranges::{Range, range_in, range_of_fault, range_of_token};
 use std::fmt;
 use wast_base::{Error, Fault, Form, Span};
-use wat_tokens::{TextError, TextFault};
+use wat_tokens::{TextError, TextFault, look_up};
 
 /// The words of an error, without what was found.
 #[derive(Clone, Copy)]
@@ -107,12 +109,23 @@ impl fmt::Display for Note<'_> {
     }
 }
 
-/// Returns the token at an offset.
+/// Returns the token at an offset. A parenthesis is returned with the word that follows it directly.
 fn found_at(text: &[u8], start: usize) -> Found<'_> {
     match lexeme_at(text, start) {
+        Some(lexeme) if lexeme.kind == Kind::Open => opened_at(text, start),
         Some(lexeme) if lexeme.kind != Kind::Blank => Found(lexeme.bytes),
         _ => Found(b""),
     }
+}
+
+/// Returns the parenthesis at an offset, with the word that follows it directly.
+fn opened_at(text: &[u8], start: usize) -> Found<'_> {
+    let rest = bytes_from(text, start);
+    let count = match lexeme_at(rest, 1) {
+        Some(word) if word.kind == Kind::Word => word.end,
+        _ => 1,
+    };
+    Found(first_bytes(rest, count))
 }
 
 /// Returns what is said of a token that is followed by another one.
@@ -168,8 +181,12 @@ fn detail_of<'a>(text: &'a str, start: usize, fault: TextFault) -> Detail<'a> {
         TextFault::Expected(what) => in_place(text, start, what),
         TextFault::Number => Detail::NoNumber(found_at(bytes, start), number_at(bytes, start)),
         TextFault::Range => Detail::OutOfRange(found_at(bytes, start), number_at(bytes, start)),
-        TextFault::Operator
-        | TextFault::Alignment
+        TextFault::Operator => operator_at(bytes, start),
+        TextFault::OpenAnnotation => match open_annotation(bytes) {
+            Some(offset) => Detail::Begins(Place { text, offset }),
+            None => Detail::None,
+        },
+        TextFault::Alignment
         | TextFault::PageSize
         | TextFault::Trailing => Detail::Token(found_at(bytes, start)),
         TextFault::Hint => Detail::Fixed("expected `\"\\00\"` or `\"\\01\"`"),
@@ -177,8 +194,19 @@ fn detail_of<'a>(text: &'a str, start: usize, fault: TextFault) -> Detail<'a> {
     }
 }
 
+/// Returns what is said of a token that is no instruction.
+fn operator_at(text: &[u8], start: usize) -> Detail<'_> {
+    let found = found_at(text, start);
+    let word = found.0.strip_prefix(b"(").unwrap_or(found.0);
+    let is_early = matches!(word, b"param" | b"result" | b"local" | b"import" | b"export");
+    if is_early {
+        return Detail::Early(found);
+    }
+    Detail::Token(found)
+}
+
 /// Returns the kind of number that an offset has.
-fn number_at(text: &[u8], start: usize) -> crate::numbers::Number {
+fn number_at(text: &[u8], start: usize) -> Number {
     let found = found_at(text, start);
     if found.0.starts_with(b"offset=") || found.0.starts_with(b"align=") {
         return number_after(found.0);
@@ -197,7 +225,7 @@ fn word_at(text: &[u8], start: usize) -> Option<Lexeme<'_>> {
 
 /// Returns whether a word is in a list whose words are separated by spaces.
 fn is_listed(word: &[u8], list: &str) -> bool {
-    let word = crate::lexemes::shown(word);
+    let word = shown(word);
     list.split(' ').any(|listed| listed == word)
 }
 
@@ -217,6 +245,9 @@ fn hint_of<'a>(text: &'a [u8], start: usize, fault: TextFault) -> Option<Hint<'a
     }
     if word.start == start && list == FIELDS && is_listed(word.bytes, FIELDS) {
         return Some(Hint { before: "(", word: word.bytes });
+    }
+    if look_up(shown(word.bytes)).is_some() {
+        return None;
     }
     let near = nearest_of(word.bytes, list.as_bytes())?;
     Some(Hint { before: "", word: near })
