@@ -18,7 +18,7 @@ use wat_messages::{Diagnostic, Range, range_in};
 const LINE: usize = 120;
 
 /// At most this many bytes of a message are printed, the first ones, because it may hold a name.
-const MESSAGE: usize = 400;
+const MESSAGE: usize = 240;
 
 /// The number of E12.
 const MEMORY: u32 = 12;
