@@ -100,16 +100,18 @@ abbrev pub IsPlaced : List ℕ → Option Span → Diagnosis → Type 0
 IsPlaced text None d = (d.offset ≡ 0) × (d.line ≡ 0) × (d.column ≡ 0)
 IsPlaced text (Some place) d = (d.offset ≡ place.offset) × (d.line ≡ line_of text place) × (d.column ≡ column_of text place)
 
--- The token of an error ends in the text, between characters.
-abbrev pub IsRanged : List ℕ → Diagnosis → Type 0
-IsRanged text d = (d.end_offset ≤ length text) × IsCharBoundary text d.end_offset
+-- The token of an error ends in the text between characters, and not before the position. Without a position the end is 0.
+abbrev pub IsRanged : List ℕ → Option Span → Diagnosis → Type 0
+IsRanged text None d = d.end_offset ≡ 0
+IsRanged text (Some place) d =
+    (d.end_offset ≤ length text) × IsCharBoundary text d.end_offset × (IsCharBoundary text place.offset → place.offset ≤ d.end_offset)
 
 -- The diagnosis of an error: with its status, its number, 0 if it has none, and its position.
 pub record IsTold (text : List ℕ) (refused : Refused) (d : Diagnosis) (s : Status) : Type 0 where
   pub answered : s ≡ status_of (number_of refused)
   pub numbered : d.number ≡ unwrap_or (number_of refused) 0
   pub placed : IsPlaced text (place_of refused) d
-  pub ranged : IsRanged text d
+  pub ranged : IsRanged text (place_of refused) d
 
 -- The diagnosis of a text without an error.
 abbrev pub nothing_wrong : Diagnosis

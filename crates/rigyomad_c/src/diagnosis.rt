@@ -1,9 +1,9 @@
 //! The error of a text and its position.
 
-ghost use Rattle.std.specs.Prelude.{◌≡◌, IfSome};
+ghost use Rattle.std.specs.Prelude.{◌≡◌};
 ghost use Rattle.std.specs.Option.{unwrap_or};
 ghost use Rattle.rigyomad_c.specs.Answers.{IsPlaced, IsRanged, nothing_wrong};
-ghost use Rattle.wat_messages.specs.Ranges.{IsRange, range_of};
+ghost use Rattle.wat_messages.specs.Ranges.{Marks, range_of};
 ghost use Rattle.wat_bytes.specs.Texts.{number_of, place_of};
 
 use crate::messages::Message;
@@ -39,7 +39,7 @@ pub struct Diagnosis {
 
 /// Returns the diagnostic of the error of a text.
 fn diagnostic_of<'a>(text: &'a str, refused: &Refused<'a>) -> Diagnostic<'a>
-    ensures { IfSome (range_of result) (IsRange text.now) }
+    ensures { Marks text.now (place_of refused.now) (range_of result) }
 {
     match refused {
         Refused::Text(error) => Diagnostic::of_text(text, *error),
@@ -74,10 +74,10 @@ impl Diagnosis {
         range: Option<Range>,
         size: usize,
     ) -> Diagnosis
-        requires { IfSome range (IsRange text.now) }
+        requires { Marks text.now place range }
         ensures numbered { result.number ≡ number }
         ensures placed { IsPlaced text.now place result }
-        ensures ranged { IsRanged text.now result }
+        ensures ranged { IsRanged text.now place result }
     {
         let mut diagnosis = Diagnosis::none();
         diagnosis.number = number;
@@ -98,7 +98,7 @@ impl Diagnosis {
     pub(crate) fn of<'a>(text: &'a str, refused: &Refused<'a>, out: &mut [u8]) -> Diagnosis
         ensures numbered { result.number ≡ unwrap_or (number_of refused.now) 0 }
         ensures placed { IsPlaced text.now (place_of refused.now) result }
-        ensures ranged { IsRanged text.now result }
+        ensures ranged { IsRanged text.now (place_of refused.now) result }
     {
         let diagnostic = diagnostic_of(text, refused);
         let mut message = Message::new(out);

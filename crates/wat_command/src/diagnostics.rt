@@ -267,7 +267,8 @@ pub fn warn_in(rt: &HostRuntime, style: Style, file: Escaped<'_>, text: &str) {
         return;
     };
     if style == Style::Json {
-        return warn_in_json(rt, file, text, offset);
+        warn_in_json(rt, file, text, offset);
+        return;
     }
     let (line, column) = line_and_column(text, Span { offset });
     let Colors { warning, reset, .. } = style.colors();

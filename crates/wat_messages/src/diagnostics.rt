@@ -1,7 +1,8 @@
 //! The message of an error, its range and its notes.
 
-ghost use Rattle.std.specs.Prelude.{◌≡◌, IfSome, Some};
-ghost use Rattle.wat_messages.specs.Ranges.{IsRange, BeginsAt, range_of, text_of, noted};
+ghost use Rattle.std.specs.Prelude.{◌≡◌, IfSome, Some, length};
+ghost use Rattle.wast_base.specs.Faults.{span_of};
+ghost use Rattle.wat_messages.specs.Ranges.{IsRange, Marks, place_at, range_of, text_of, noted};
 
 use crate::definitions::{
     first_definition, last_open, nearest_name, open_annotation, read_before,
@@ -9,7 +10,7 @@ use crate::definitions::{
 use crate::details::{Detail, Found, Hint, Place, first_character};
 use crate::lexemes::{Kind, Lexeme, bytes_from, first_bytes, lexeme_at, next_lexeme, shown};
 use crate::lists::{FIELDS, INSTRUCTIONS, words_for};
-use crate::near::nearest_of;
+use crate::near::{is_listed, nearest_of};
 use crate::numbers::{Number, number_after};
 use crate::ranges::{Range, range_in, range_of_fault, range_of_token};
 use std::fmt;
@@ -223,12 +224,6 @@ fn word_at(text: &[u8], start: usize) -> Option<Lexeme<'_>> {
     next_lexeme(text, first.end)
 }
 
-/// Returns whether a word is in a list whose words are separated by spaces.
-fn is_listed(word: &[u8], list: &str) -> bool {
-    let word = shown(word);
-    list.split(' ').any(|listed| listed == word)
-}
-
 /// Returns the word that may be meant where an error in the text format is.
 fn hint_of<'a>(text: &'a [u8], start: usize, fault: TextFault) -> Option<Hint<'a>> {
     let list = match fault {
@@ -243,7 +238,7 @@ fn hint_of<'a>(text: &'a [u8], start: usize, fault: TextFault) -> Option<Hint<'a
     if word.kind != Kind::Word {
         return None;
     }
-    if word.start == start && list == FIELDS && is_listed(word.bytes, FIELDS) {
+    if word.start == start && list == FIELDS && is_listed(word.bytes, FIELDS.as_bytes()) {
         return Some(Hint { before: "(", word: word.bytes });
     }
     if look_up(shown(word.bytes)).is_some() {
@@ -307,12 +302,10 @@ impl<'a> Diagnostic<'a> {
     ///
     /// # Guarantees
     ///
-    /// - `start`: its range begins at the position of the error, if a character begins there or the
-    ///   text ends there.
-    /// - `inside`: its range ends in the text.
+    /// - `marks`: it has a range, which begins at the position of the error, if a character begins
+    ///   there or the text ends there. The range ends in the text.
     pub fn of_text(text: &'a str, error: TextError) -> Diagnostic<'a>
-        ensures start { IfSome (range_of result) (BeginsAt text.now error.span.offset) }
-        ensures range { IfSome (range_of result) (IsRange text.now) }
+        ensures marks { Marks text.now (Some error.span) (range_of result) }
         ensures text { text_of result ≡ text.now }
     {
         let start = error.span.offset;
@@ -326,8 +319,13 @@ impl<'a> Diagnostic<'a> {
     }
 
     /// Returns the diagnostic of an error of the module.
+    ///
+    /// # Guarantees
+    ///
+    /// - `marks`: it has a range if the error has a position. The range begins there, if a character
+    ///   begins there, and ends in the text.
     pub fn of_module(text: &'a str, error: Error<'a>) -> Diagnostic<'a>
-        ensures range { IfSome (range_of result) (IsRange text.now) }
+        ensures marks { Marks text.now (span_of error.entry) (range_of result) }
         ensures text { text_of result ≡ text.now }
     {
         let fault = error.fault();
@@ -356,13 +354,13 @@ impl<'a> Diagnostic<'a> {
         form: Form,
         word: Option<&'a str>,
     ) -> Diagnostic<'a>
-        ensures start { IfSome (range_of result) (BeginsAt text.now place.offset) }
-        ensures range { IfSome (range_of result) (IsRange text.now) }
+        ensures marks { Marks text.now (Some place) (range_of result) }
         ensures text { text_of result ≡ text.now }
     {
+        let range = range_of_token(text, place.offset);
         Diagnostic {
             text,
-            range: Some(range_of_token(text, place.offset)),
+            range: Some(range),
             words: Words::Uncovered(form, word),
             detail: Detail::None,
             hint: None,
@@ -371,7 +369,7 @@ impl<'a> Diagnostic<'a> {
 
     /// Returns the diagnostic of bytes that are not UTF-8, for the text before the first wrong one.
     pub fn of_bytes(text: &'a str) -> Diagnostic<'a>
-        ensures range { IfSome (range_of result) (IsRange text.now) }
+        ensures marks { Marks text.now (Some (place_at (length text.now))) (range_of result) }
         ensures text { text_of result ≡ text.now }
     {
         let start = text.len();

@@ -1,5 +1,6 @@
 //! The range of a text that an error is about.
 
+ghost use Rattle.std.specs.Prelude.{◌≡◌, IsCharBoundary};
 ghost use Rattle.wat_messages.specs.Ranges.{IsRange, BeginsAt};
 
 use crate::lexemes::{bytes_from, character_length, lexeme_at, line_length};
@@ -16,6 +17,17 @@ pub struct Range {
     pub end: usize,
 }
 
+/// Returns the last offset that is not after this one, and is between characters.
+fn floor(text: &str, offset: usize) -> usize
+    ensures kept { IsCharBoundary text.now offset → result ≡ offset }
+    ensures boundary { IsCharBoundary text.now result }
+{
+    if text.is_char_boundary(offset) {
+        return offset;
+    }
+    text.floor_char_boundary(offset)
+}
+
 /// Returns the range of this many bytes from an offset on, as far as the text has them, with no
 /// character in part.
 ///
@@ -27,22 +39,30 @@ pub fn range_in(text: &str, start: usize, count: usize) -> Range
     ensures start { BeginsAt text.now start result }
     ensures range { IsRange text.now result }
 {
-    let start = text.floor_char_boundary(start);
+    let start = floor(text, start);
     let most = text.len() - start;
-    let end = text.ceil_char_boundary(start + count.min(most));
+    let count = if count < most { count } else { most };
+    let end = text.ceil_char_boundary(start + count);
     Range { start, end }
+}
+
+/// Returns how many bytes come before the first `}`, and that, or those before the end of the string.
+fn braced_length(text: &[u8]) -> usize {
+    for (count, byte) in text.iter().enumerate() {
+        if *byte == b'}' {
+            return count.saturating_add(1);
+        }
+        if matches!(*byte, b'"' | b'\n') {
+            return count;
+        }
+    }
+    text.len()
 }
 
 /// Returns how many bytes an escape of a string has, which begins with a backslash.
 fn escape_length(text: &[u8]) -> usize {
     match text {
-        [b'\\', b'u', b'{', rest @ ..] => {
-            let digits = rest.iter().position(|byte| *byte == b'}' || *byte == b'"');
-            match digits {
-                Some(count) => count.saturating_add(4),
-                None => 3,
-            }
-        }
+        [b'\\', b'u', b'{', digits @ ..] => braced_length(digits).saturating_add(3),
         [b'\\', rest @ ..] => character_length(rest).saturating_add(1),
         _ => 1,
     }
