@@ -266,28 +266,29 @@ const ENTRIES: [Entry; 35] = [
     },
 ];
 
-/// Returns whether an entry is called so: by its number, by the first words of its messages, or by
-/// one of these messages.
-fn is_called(entry: &Entry, name: &str) -> bool {
-    let is_number = !entry.number.is_empty() && entry.number == name;
-    is_number || name.starts_with(entry.words) || entry.words.starts_with(name)
+/// Returns whether an entry may be meant by a name: a message of its error, or the first words of it.
+fn may_be(entry: &Entry, name: &str) -> bool {
+    name.starts_with(entry.words) || entry.words.starts_with(name)
 }
 
-/// Returns the entry that is called so. Of several, it is the one with the most words.
+/// Returns the entry with this number or these words. Otherwise it is the one with the most words that
+/// begin the name, or begin with it.
+///
+/// For example, `E4` and `unknown func: failed to find name` are names of E4.
 pub(crate) fn entry_of(name: &str) -> Option<Entry> {
     if name.is_empty() {
         return None;
     }
     let mut found: Option<Entry> = None;
     for entry in ENTRIES.iter() {
-        if entry.number == name {
+        if entry.number == name || entry.words == name {
             return Some(*entry);
         }
         let is_longer = match &found {
             Some(other) => entry.words.len() > other.words.len(),
             None => true,
         };
-        if is_longer && is_called(entry, name) {
+        if is_longer && may_be(entry, name) {
             found = Some(*entry);
         }
     }

@@ -258,7 +258,10 @@ impl fmt::Display for Misuse {
             }
             Misuse::UnknownError(word) => {
                 let word = Escaped(word.as_str());
-                write!(f, "no error is called `{word}`: give E1 to E13, or the first words of a message")
+                write!(
+                    f,
+                    "no error is called `{word}`: give E1 to E13, or the first words of a message"
+                )
             }
             Misuse::Conflict(first, second) => {
                 write!(f, "`{first}` and `{second}` exclude each other")

@@ -88,7 +88,9 @@ fn excerpt_at(text: &str, offset: usize) -> Excerpt<'_> {
 /// Prints a range: the line of its start, and a caret and tildes under the part of it that is in
 /// this line. Does not allocate.
 fn print_range(rt: &HostRuntime, style: Style, file: Escaped<'_>, text: &str, range: Range) {
-    let place = Span { offset: range.start };
+    let place = Span {
+        offset: range.start,
+    };
     let (number, column) = line_and_column(text, place);
     let spaces = Margin(number);
     let Excerpt {

@@ -117,7 +117,11 @@ impl fmt::Display for Underline<'_> {
         let mut is_first = true;
         for character in self.0.chars() {
             let columns = columns_of(character);
-            let more = if is_first { columns.saturating_sub(1) } else { columns };
+            let more = if is_first {
+                columns.saturating_sub(1)
+            } else {
+                columns
+            };
             for _ in 0..more {
                 f.write_str("~")?;
             }

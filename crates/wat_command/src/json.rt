@@ -46,7 +46,10 @@ impl fmt::Display for Placed<'_> {
     fn fmt<W: fmt::Write>(&self, f: &mut fmt::Formatter<W>) -> fmt::Result {
         let Range { start, end } = self.range;
         let (line, column) = line_and_column(self.text, Span { offset: start });
-        write!(f, "\"start\":{start},\"end\":{end},\"line\":{line},\"column\":{column}")
+        write!(
+            f,
+            "\"start\":{start},\"end\":{end},\"line\":{line},\"column\":{column}"
+        )
     }
 }
 
@@ -63,7 +66,10 @@ fn push_note(
     };
     let message = format!(in alloc; "{note}")?;
     let (comma, quoted) = (if is_first { "" } else { "," }, Quoted(message.as_str()));
-    let placed = Placed { text, range: note.range() };
+    let placed = Placed {
+        text,
+        range: note.range(),
+    };
     write!(line, "{comma}{{\"message\":{quoted},{placed}}}")?;
     Ok(false)
 }

@@ -16,9 +16,7 @@ mod files;
 mod json;
 mod styles;
 
-pub use diagnostics::{
-    report, report_in, report_malformed, report_malformed_in, warn, warn_in,
-};
+pub use diagnostics::{report, report_in, report_malformed, report_malformed_in, warn, warn_in};
 pub use escapes::Escaped;
 pub use failures::Failure;
 pub use files::{

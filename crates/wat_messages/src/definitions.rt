@@ -24,7 +24,10 @@ impl<'a> Definition<'a> {
     fn is_in(&self, space: &str) -> bool {
         match space {
             "local" => matches!(self.word, b"param" | b"local"),
-            "label" => matches!(self.word, b"block" | b"loop" | b"if" | b"try" | b"try_table"),
+            "label" => matches!(
+                self.word,
+                b"block" | b"loop" | b"if" | b"try" | b"try_table"
+            ),
             "field" => self.word == b"field",
             _ => self.is_item && self.word == space.as_bytes(),
         }
@@ -135,12 +138,7 @@ impl<'a> Walk<'a> {
 }
 
 /// Returns the offset of the first definition of a name in an index space, before an offset.
-pub(crate) fn first_definition(
-    text: &[u8],
-    space: &str,
-    name: &[u8],
-    end: usize,
-) -> Option<usize> {
+pub(crate) fn first_definition(text: &[u8], space: &str, name: &[u8], end: usize) -> Option<usize> {
     let mut walk = Walk::new(text);
     let mut found = None;
     for _ in 0..text.len() {
@@ -218,7 +216,10 @@ fn is_keyword(word: &[u8]) -> bool {
 /// Reads a text up to an offset.
 pub(crate) fn read_before(text: &[u8], end: usize) -> Before<'_> {
     let mut walk = Walk::new(text);
-    let mut before = Before { depth: 0, word: b"" };
+    let mut before = Before {
+        depth: 0,
+        word: b"",
+    };
     for _ in 0..text.len() {
         let Some(lexeme) = walk.next_before(end) else {
             break;

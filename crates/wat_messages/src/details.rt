@@ -49,7 +49,9 @@ impl fmt::Display for Place<'_> {
 
 /// Returns the first character of bytes.
 pub(crate) fn first_character(bytes: &[u8]) -> Option<char> {
-    shown(first_bytes(bytes, character_length(bytes))).chars().next()
+    shown(first_bytes(bytes, character_length(bytes)))
+        .chars()
+        .next()
 }
 
 /// What a message says after the words of the error.
@@ -93,7 +95,10 @@ impl fmt::Display for Detail<'_> {
             Detail::None => Ok(()),
             Detail::Fixed(text) => write!(f, ": {text}"),
             Detail::InPlace(found) => write!(f, ", found {found}"),
-            Detail::Unclosed(open, found) => write!(f, " to close the `(` at {open}, found {found}"),
+            Detail::Unclosed(open, found) => write!(
+                f,
+                " to close the `(` at {open}, found {found}"
+            ),
             Detail::Token(found) => write!(f, ": {found}"),
             Detail::Early(found) => write!(f, ": {found} has to come before all instructions"),
             Detail::Begins(place) => write!(f, ": it begins at {place}"),

@@ -4,9 +4,7 @@ ghost use Rattle.std.specs.Prelude.{◌≡◌, IfSome, Some, length};
 ghost use Rattle.wast_base.specs.Faults.{span_of};
 ghost use Rattle.wat_messages.specs.Ranges.{IsRange, Marks, place_at, range_of, text_of, noted};
 
-use crate::definitions::{
-    first_definition, last_open, nearest_name, open_annotation, read_before,
-};
+use crate::definitions::{first_definition, last_open, nearest_name, open_annotation, read_before};
 use crate::details::{Detail, Found, Hint, Place, first_character};
 use crate::lexemes::{Kind, Lexeme, bytes_from, first_bytes, lexeme_at, next_lexeme, shown};
 use crate::lists::{FIELDS, INSTRUCTIONS, words_for};
@@ -187,9 +185,9 @@ fn detail_of<'a>(text: &'a str, start: usize, fault: TextFault) -> Detail<'a> {
             Some(offset) => Detail::Begins(Place { text, offset }),
             None => Detail::None,
         },
-        TextFault::Alignment
-        | TextFault::PageSize
-        | TextFault::Trailing => Detail::Token(found_at(bytes, start)),
+        TextFault::Alignment | TextFault::PageSize | TextFault::Trailing => Detail::Token(found_at(
+            bytes, start,
+        )),
         TextFault::Hint => Detail::Fixed("expected `\"\\00\"` or `\"\\01\"`"),
         _ => Detail::None,
     }
@@ -199,7 +197,10 @@ fn detail_of<'a>(text: &'a str, start: usize, fault: TextFault) -> Detail<'a> {
 fn operator_at(text: &[u8], start: usize) -> Detail<'_> {
     let found = found_at(text, start);
     let word = found.0.strip_prefix(b"(").unwrap_or(found.0);
-    let is_early = matches!(word, b"param" | b"result" | b"local" | b"import" | b"export");
+    let is_early = matches!(
+        word,
+        b"param" | b"result" | b"local" | b"import" | b"export"
+    );
     if is_early {
         return Detail::Early(found);
     }
@@ -239,13 +240,19 @@ fn hint_of<'a>(text: &'a [u8], start: usize, fault: TextFault) -> Option<Hint<'a
         return None;
     }
     if word.start == start && list == FIELDS && is_listed(word.bytes, FIELDS.as_bytes()) {
-        return Some(Hint { before: "(", word: word.bytes });
+        return Some(Hint {
+            before: "(",
+            word: word.bytes,
+        });
     }
     if look_up(shown(word.bytes)).is_some() {
         return None;
     }
     let near = nearest_of(word.bytes, list.as_bytes())?;
-    Some(Hint { before: "", word: near })
+    Some(Hint {
+        before: "",
+        word: near,
+    })
 }
 
 /// Returns the name of the id at an offset.

@@ -109,7 +109,8 @@ array.atomic.rmw.cmpxchg i64.add128 i64.sub128 i64.mul_wide_s i64.mul_wide_u ref
 // To here.
 
 /// The keywords that begin a field of a module.
-pub(crate) static FIELDS: &str = "type rec import func table memory global tag export start elem data";
+pub(crate) static FIELDS: &str =
+    "type rec import func table memory global tag export start elem data";
 
 /// The value types.
 pub(crate) static VALUE_TYPES: &str = "i32 i64 f32 f64 v128 funcref externref anyref eqref i31ref \
