@@ -98,14 +98,14 @@ pub(crate) const OPTIONS: [Choice; 10] = [
         short: "",
         long: "--color",
         value: "WHEN",
-        help: "colour diagnostics: `auto` (on a terminal), `always` or `never`",
+        help: "print diagnostics in colours (`auto`, `always` or `never`)",
         action: Action::Color,
     },
     Choice {
         short: "",
         long: "--explain",
         value: "ERROR",
-        help: "print what an error means and what to do: `E4`, or its first words",
+        help: "print what an error means and what to do (`E4`, or a message)",
         action: Action::Explain,
     },
     Choice {
