@@ -34,9 +34,32 @@ impl<'a> Definition<'a> {
     }
 }
 
-/// Returns whether the ids of an index space are known in one field of the module alone.
-fn is_local(space: &str) -> bool {
-    matches!(space, "local" | "label")
+/// Where the ids of an index space are known.
+#[derive(Clone, Copy, PartialEq, Eq)]
+enum Scope {
+    /// In the module.
+    Module,
+    /// In one field of the module.
+    Field,
+    /// In one struct type.
+    Struct,
+}
+
+/// Returns where two ids of an index space have to differ.
+fn scope_of(space: &str) -> Scope {
+    match space {
+        "local" | "label" => Scope::Field,
+        "field" => Scope::Struct,
+        _ => Scope::Module,
+    }
+}
+
+/// Returns where an id of an index space is looked up. That of a field may be in any type.
+fn search_scope_of(space: &str) -> Scope {
+    match scope_of(space) {
+        Scope::Field => Scope::Field,
+        Scope::Module | Scope::Struct => Scope::Module,
+    }
 }
 
 /// What was read of a text.
@@ -50,6 +73,10 @@ pub(crate) struct Walk<'a> {
     depth: usize,
     /// How many of them are around the keyword of a field of the module.
     base: usize,
+    /// The offset of the keyword of the module, or 0 if there is none.
+    module: usize,
+    /// The offset of the last keyword `struct`.
+    holder: usize,
     /// The keyword of the field.
     head: &'a [u8],
     /// The offset of the field's keyword.
@@ -68,6 +95,8 @@ impl<'a> Walk<'a> {
             at: 0,
             depth: 0,
             base: 1,
+            module: 0,
+            holder: 0,
             head: b"",
             field: 0,
             last: None,
@@ -83,13 +112,21 @@ impl<'a> Walk<'a> {
         }
     }
 
-    /// Reads a word: it may begin the module, or a field of it.
+    /// Reads a word: it may begin a module, or a field of it. A script has several modules.
     fn take_word(&mut self, word: &Lexeme<'a>) {
-        if !self.is_opened() || self.depth != self.base {
+        if !self.is_opened() {
             return;
         }
-        if word.bytes == b"module" && self.head.is_empty() {
-            self.base = 2;
+        if word.bytes == b"module" {
+            self.base = self.depth.saturating_add(1);
+            self.module = word.start;
+            self.head = b"";
+            return;
+        }
+        if word.bytes == b"struct" {
+            self.holder = word.start;
+        }
+        if self.depth != self.base {
             return;
         }
         self.head = word.bytes;
@@ -128,6 +165,17 @@ impl<'a> Walk<'a> {
         found
     }
 
+    /// Returns whether another module has begun since then, or another field or struct if ids are
+    /// known in one.
+    fn is_apart(&self, before: &Walk<'_>, scope: Scope) -> bool {
+        let is_apart = match scope {
+            Scope::Module => false,
+            Scope::Field => self.field != before.field,
+            Scope::Struct => self.holder != before.holder,
+        };
+        is_apart || self.module != before.module
+    }
+
     /// Returns the next lexeme, if it begins before an offset.
     fn next_before(&self, end: usize) -> Option<Lexeme<'a>> {
         match next_lexeme(self.text, self.at) {
@@ -145,9 +193,9 @@ pub(crate) fn first_definition(text: &[u8], space: &str, name: &[u8], end: usize
         let Some(lexeme) = walk.next_before(end) else {
             break;
         };
-        let field = walk.field;
+        let before = walk;
         let definition = walk.take(lexeme);
-        if walk.field != field && space != "type" && is_in_field(space) {
+        if walk.is_apart(&before, scope_of(space)) {
             found = None;
         }
         if let Some(definition) = definition {
@@ -157,11 +205,6 @@ pub(crate) fn first_definition(text: &[u8], space: &str, name: &[u8], end: usize
         }
     }
     found
-}
-
-/// Returns whether ids of an index space are compared with those of the same field of the module.
-fn is_in_field(space: &str) -> bool {
-    is_local(space) || space == "field"
 }
 
 /// Returns the name of an index space that is nearest to one that is unknown at an offset.
@@ -178,10 +221,10 @@ pub(crate) fn nearest_name<'a>(
         let Some(lexeme) = walk.next_before(text.len()) else {
             break;
         };
-        let field = walk.field;
+        let before = walk;
         let definition = walk.take(lexeme);
-        if walk.field != field && is_local(space) {
-            if walk.field > place {
+        if walk.is_apart(&before, search_scope_of(space)) {
+            if walk.at > place {
                 break;
             }
             nearest = Nearest::new(name);
