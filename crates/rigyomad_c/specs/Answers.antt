@@ -1,10 +1,10 @@
 -- What the calls for C return: the statuses, and what they write.
 --
 --   rigyomad_c_encode of "(module (func))" into 23 bytes      status 1 (too short), size 24, and no byte is written
-use Rattle.std.specs.Prelude.{◌≡◌, ℕ, ◌==◌, ◌<◌, ◌≤◌, if◌then◌else◌, List, length, drop, ◌++◌, Option, Some, None, Result, Ok, Err, ◌⊎◌}
+use Rattle.std.specs.Prelude.{◌≡◌, ℕ, ◌==◌, ◌<◌, ◌≤◌, if◌then◌else◌, List, length, drop, ◌++◌, Option, Some, None, Result, Ok, Err, ◌⊎◌, IsCharBoundary}
 use Rattle.std.specs.Option.{unwrap_or}
 use Rattle.std.specs.Global.{Vec}
-use Rattle.std.specs.Str.{IsUtf8, IsCharBoundary}
+use Rattle.std.specs.Str.{IsUtf8}
 use Rattle.wast_base.specs.declared.ids.Span.{Span}
 use Rattle.wast_base.specs.declared.spaces.Space.{Space}
 use Rattle.wast_base.specs.Spaces.{rank_of}

@@ -1,7 +1,7 @@
 -- The range of a text that an error is about: from the first byte of its token on, to the byte after its last one.
 --
 --   (start $f)      the range of the error at `$f` is 7 to 9
-use Rattle.std.specs.Prelude.{◌≡◌, ◌≤◌, ℕ, List, length, Option, Some, None, IsCharBoundary, ⊤, ⊥}
+use Rattle.std.specs.Prelude.{◌≡◌, ◌≤◌, ℕ, List, length, Option, Some, None, IsCharBoundary, ⊤}
 use Rattle.wast_base.specs.declared.ids.Span.{Span}
 use Rattle.wat_messages.specs.declared.ranges.Range.{Range}
 use Rattle.wat_messages.specs.declared.diagnostics.Diagnostic.{Diagnostic}

@@ -214,11 +214,6 @@ pub(crate) fn shown(bytes: &[u8]) -> &str {
 }
 
 impl<'a> Lexeme<'a> {
-    /// Returns whether it is this word.
-    pub fn is_word(&self, word: &[u8]) -> bool {
-        self.kind == Kind::Word && self.bytes == word
-    }
-
     /// Returns the name of an id, without its `$` and its quotes.
     pub fn name(&self) -> &'a [u8] {
         match self.bytes {
