@@ -40,7 +40,7 @@ impl Color {
 /// Returns whether the environment variable `NO_COLOR` is set and not empty.
 fn has_no_color(rt: &HostRuntime) -> bool {
     match env::var(rt, "NO_COLOR") {
-        Ok(value) => !value.is_empty(),
+        Ok(value) => !value.as_str().is_empty(),
         Err(env::VarError::NotPresent) => false,
         Err(_) => true,
     }

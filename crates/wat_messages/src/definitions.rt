@@ -28,7 +28,7 @@ impl<'a> Definition<'a> {
                 self.word,
                 b"block" | b"loop" | b"if" | b"try" | b"try_table"
             ),
-            "field" => self.word == b"field",
+            "field" => matches!(self.word, b"field"),
             _ => self.is_item && self.word == space.as_bytes(),
         }
     }
@@ -97,7 +97,7 @@ impl<'a> Walk<'a> {
             base: 1,
             module: 0,
             holder: 0,
-            head: b"",
+            head: &[],
             field: 0,
             last: None,
             was_open: false,
@@ -117,13 +117,13 @@ impl<'a> Walk<'a> {
         if !self.is_opened() {
             return;
         }
-        if word.bytes == b"module" {
+        if matches!(word.bytes, b"module") {
             self.base = self.depth.saturating_add(1);
             self.module = word.start;
-            self.head = b"";
+            self.head = &[];
             return;
         }
-        if word.bytes == b"struct" {
+        if matches!(word.bytes, b"struct") {
             self.holder = word.start;
         }
         if self.depth != self.base {
@@ -231,7 +231,7 @@ pub(crate) fn nearest_name<'a>(
         }
         if let Some(definition) = definition {
             if definition.is_in(space) && count < MOST {
-                count += 1;
+                count = count.saturating_add(1);
                 nearest.compare(definition.name);
             }
         }
@@ -261,7 +261,7 @@ pub(crate) fn read_before(text: &[u8], end: usize) -> Before<'_> {
     let mut walk = Walk::new(text);
     let mut before = Before {
         depth: 0,
-        word: b"",
+        word: &[],
     };
     for _ in 0..text.len() {
         let Some(lexeme) = walk.next_before(end) else {

@@ -58,7 +58,7 @@ pub(crate) fn first_character(bytes: &[u8]) -> Option<char> {
 #[derive(Clone, Copy)]
 pub(crate) enum Detail<'a> {
     /// Nothing.
-    None,
+    Nothing,
     /// What may be there.
     Fixed(&'static str),
     /// What was found in place of what was expected.
@@ -92,7 +92,7 @@ pub(crate) enum Detail<'a> {
 impl fmt::Display for Detail<'_> {
     fn fmt<W: fmt::Write>(&self, f: &mut fmt::Formatter<W>) -> fmt::Result {
         match *self {
-            Detail::None => Ok(()),
+            Detail::Nothing => Ok(()),
             Detail::Fixed(text) => write!(f, ": {text}"),
             Detail::InPlace(found) => write!(f, ", found {found}"),
             Detail::Unclosed(open, found) => write!(

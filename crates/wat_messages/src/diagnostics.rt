@@ -113,7 +113,7 @@ fn found_at(text: &[u8], start: usize) -> Found<'_> {
     match lexeme_at(text, start) {
         Some(lexeme) if lexeme.kind == Kind::Open => opened_at(text, start),
         Some(lexeme) if lexeme.kind != Kind::Blank => Found(lexeme.bytes),
-        _ => Found(b""),
+        _ => Found(&[]),
     }
 }
 
@@ -130,11 +130,11 @@ fn opened_at(text: &[u8], start: usize) -> Found<'_> {
 /// Returns what is said of a token that is followed by another one.
 fn adjacent(text: &[u8], start: usize) -> Detail<'_> {
     let Some(token) = lexeme_at(text, start) else {
-        return Detail::None;
+        return Detail::Nothing;
     };
     match first_character(bytes_from(text, token.end)) {
         Some(character) => Detail::Adjacent(Found(token.bytes), character),
-        None => Detail::None,
+        None => Detail::Nothing,
     }
 }
 
@@ -169,11 +169,11 @@ fn detail_of<'a>(text: &'a str, start: usize, fault: TextFault) -> Detail<'a> {
     match fault {
         TextFault::Character => match character_at(bytes, start) {
             Some(character) => Detail::Character(character),
-            None => Detail::InPlace(Found(b"")),
+            None => Detail::InPlace(Found(&[])),
         },
         TextFault::StringCharacter => match character_at(bytes, start) {
             Some(character) => Detail::InString(character),
-            None => Detail::None,
+            None => Detail::Nothing,
         },
         TextFault::Adjacent => adjacent(bytes, start),
         TextFault::Escape => Detail::Escape(escape_at(text, start)),
@@ -183,13 +183,13 @@ fn detail_of<'a>(text: &'a str, start: usize, fault: TextFault) -> Detail<'a> {
         TextFault::Operator => operator_at(bytes, start),
         TextFault::OpenAnnotation => match open_annotation(bytes) {
             Some(offset) => Detail::Begins(Place { text, offset }),
-            None => Detail::None,
+            None => Detail::Nothing,
         },
         TextFault::Alignment | TextFault::PageSize | TextFault::Trailing => Detail::Token(found_at(
             bytes, start,
         )),
         TextFault::Hint => Detail::Fixed("expected `\"\\00\"` or `\"\\01\"`"),
-        _ => Detail::None,
+        _ => Detail::Nothing,
     }
 }
 
@@ -259,7 +259,7 @@ fn hint_of<'a>(text: &'a [u8], start: usize, fault: TextFault) -> Option<Hint<'a
 fn name_at(text: &[u8], start: usize) -> Found<'_> {
     match lexeme_at(text, start) {
         Some(lexeme) if lexeme.kind == Kind::Id => Found(lexeme.bytes),
-        _ => Found(b""),
+        _ => Found(&[]),
     }
 }
 
@@ -268,10 +268,10 @@ fn twice<'a>(text: &'a str, start: usize, space: &str) -> Detail<'a> {
     let bytes = text.as_bytes();
     let found = name_at(bytes, start);
     let Some(id) = lexeme_at(bytes, start) else {
-        return Detail::None;
+        return Detail::Nothing;
     };
     if found.0.is_empty() {
-        return Detail::None;
+        return Detail::Nothing;
     }
     match first_definition(bytes, space, id.name(), start) {
         Some(offset) => Detail::Twice(found, Place { text, offset }),
@@ -289,7 +289,7 @@ fn detail_of_module<'a>(text: &'a str, start: usize, fault: Fault<'_>) -> Detail
         Fault::Duplicate(space) => twice(text, start, space),
         Fault::DuplicateField(space, _) => twice(text, start, space),
         Fault::OutOfBounds | Fault::Labels => Detail::Token(found_at(bytes, start)),
-        _ => Detail::None,
+        _ => Detail::Nothing,
     }
 }
 
@@ -348,7 +348,7 @@ impl<'a> Diagnostic<'a> {
                 text,
                 range: None,
                 words: Words::Module(fault),
-                detail: Detail::None,
+                detail: Detail::Nothing,
                 hint: None,
             },
         }
@@ -369,7 +369,7 @@ impl<'a> Diagnostic<'a> {
             text,
             range: Some(range),
             words: Words::Uncovered(form, word),
-            detail: Detail::None,
+            detail: Detail::Nothing,
             hint: None,
         }
     }
@@ -384,7 +384,7 @@ impl<'a> Diagnostic<'a> {
             text,
             range: Some(range_in(text, start, 0)),
             words: Words::Bytes(start),
-            detail: Detail::None,
+            detail: Detail::Nothing,
             hint: None,
         }
     }

@@ -44,7 +44,7 @@ fn number_in(word: &[u8]) -> Number {
     if word.ends_with(b"_lane") || word.ends_with(b"_lane_s") || word.ends_with(b"_lane_u") {
         return Number::Lane;
     }
-    if word == b"i8x16.shuffle" {
+    if matches!(word, b"i8x16.shuffle") {
         return Number::Lane;
     }
     if word.starts_with(b"offset=") || word.starts_with(b"align=") {
