@@ -185,17 +185,25 @@ impl<'a> Walk<'a> {
     }
 }
 
-/// Returns the offset of the first definition of a name in an index space, before an offset.
-pub(crate) fn first_definition(text: &[u8], space: &str, name: &[u8], end: usize) -> Option<usize> {
+/// Returns the offset of the first definition of a name in an index space, in the module of an offset.
+pub(crate) fn first_definition(
+    text: &[u8],
+    space: &str,
+    name: &[u8],
+    place: usize,
+) -> Option<usize> {
     let mut walk = Walk::new(text);
     let mut found = None;
     for _ in 0..text.len() {
-        let Some(lexeme) = walk.next_before(end) else {
+        let Some(lexeme) = walk.next_before(text.len()) else {
             break;
         };
         let before = walk;
         let definition = walk.take(lexeme);
         if walk.is_apart(&before, scope_of(space)) {
+            if walk.at > place {
+                break;
+            }
             found = None;
         }
         if let Some(definition) = definition {

@@ -85,8 +85,8 @@ pub(crate) enum Detail<'a> {
     Escape(Found<'a>),
     /// An id that is defined twice, and the place of the first definition.
     Twice(Found<'a>, Place<'a>),
-    /// The same, if the first definition was not found.
-    TwiceUnknown(Found<'a>),
+    /// An id of a type, and the place of its definition.
+    Defined(Found<'a>, Place<'a>),
 }
 
 impl fmt::Display for Detail<'_> {
@@ -127,7 +127,7 @@ impl fmt::Display for Detail<'_> {
                 " {found}: expected two hexadecimal digits, `\\u{{..}}`, or one of t n r \" ' \\ after `\\`"
             ),
             Detail::Twice(found, first) => write!(f, ": {found} is first defined at {first}"),
-            Detail::TwiceUnknown(found) => write!(f, ": {found}"),
+            Detail::Defined(found, place) => write!(f, ": {found} is defined at {place}"),
         }
     }
 }

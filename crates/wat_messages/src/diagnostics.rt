@@ -83,6 +83,8 @@ pub struct Note<'a> {
 enum Saying<'a> {
     /// The id was defined there.
     Defined,
+    /// The type is defined there.
+    Typed,
     /// The parenthesis there is open.
     Opened,
     /// Another word may be meant.
@@ -102,6 +104,7 @@ impl fmt::Display for Note<'_> {
     fn fmt<W: fmt::Write>(&self, f: &mut fmt::Formatter<W>) -> fmt::Result {
         match self.saying {
             Saying::Defined => f.write_str("first defined here"),
+            Saying::Typed => f.write_str("defined here"),
             Saying::Opened => f.write_str("this parenthesis is open"),
             Saying::Meant(hint) => write!(f, "{hint}"),
         }
@@ -274,8 +277,24 @@ fn twice<'a>(text: &'a str, start: usize, space: &str) -> Detail<'a> {
         return Detail::Nothing;
     }
     match first_definition(bytes, space, id.name(), start) {
-        Some(offset) => Detail::Twice(found, Place { text, offset }),
-        None => Detail::TwiceUnknown(found),
+        Some(offset) if offset < start => Detail::Twice(found, Place { text, offset }),
+        _ => Detail::Token(found),
+    }
+}
+
+/// Returns what is said of the type of a type use.
+fn typed(text: &str, start: usize) -> Detail<'_> {
+    let bytes = text.as_bytes();
+    let found = found_at(bytes, start);
+    let Some(id) = lexeme_at(bytes, start) else {
+        return Detail::Nothing;
+    };
+    if id.kind != Kind::Id {
+        return Detail::Token(found);
+    }
+    match first_definition(bytes, "type", id.name(), start) {
+        Some(offset) => Detail::Defined(found, Place { text, offset }),
+        None => Detail::Token(found),
     }
 }
 
@@ -288,6 +307,7 @@ fn detail_of_module<'a>(text: &'a str, start: usize, fault: Fault<'_>) -> Detail
         ),
         Fault::Duplicate(space) => twice(text, start, space),
         Fault::DuplicateField(space, _) => twice(text, start, space),
+        Fault::NotFunc | Fault::NoMatch => typed(text, start),
         Fault::OutOfBounds | Fault::Labels => Detail::Token(found_at(bytes, start)),
         _ => Detail::Nothing,
     }
@@ -404,6 +424,10 @@ impl<'a> Diagnostic<'a> {
             Detail::Twice(_, first) => Some(Note {
                 saying: Saying::Defined,
                 range: range_of_token(self.text, first.offset),
+            }),
+            Detail::Defined(_, place) => Some(Note {
+                saying: Saying::Typed,
+                range: range_of_token(self.text, place.offset),
             }),
             Detail::Unclosed(open, _) => Some(Note {
                 saying: Saying::Opened,
