@@ -191,6 +191,10 @@ fn detail_of<'a>(text: &'a str, start: usize, fault: TextFault) -> Detail<'a> {
         TextFault::Alignment | TextFault::PageSize | TextFault::Trailing => Detail::Token(found_at(
             bytes, start,
         )),
+        TextFault::EmptyAnnotation => {
+            Detail::Fixed("a name or a string has to follow `(@` directly")
+        }
+        TextFault::EmptyId => Detail::Fixed("a name or a string has to follow `$` directly"),
         TextFault::Hint => Detail::Fixed("expected `\"\\00\"` or `\"\\01\"`"),
         _ => Detail::Nothing,
     }
