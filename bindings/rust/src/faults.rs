@@ -124,8 +124,9 @@ impl fmt::Display for Kind {
 /// Why a text has no bytes.
 ///
 /// It is printed in one line, with the line and the column of its place. `{:#}` prints more lines:
-/// the line of the text too, at most 120 bytes of it, with a caret and tildes below the token. Both print control
-/// characters as escapes, such as `\n` or `\u{1b}`, because a name in the text may have them.
+/// the line of the text too, at most 120 bytes of it, with a caret and tildes below the token. Both
+/// print control characters as escapes, such as `\n` or `\u{1b}`, because a name in the text may have
+/// them.
 ///
 /// # Example
 ///
