@@ -14,13 +14,14 @@ use crate::names::name_lines;
 use crate::options::{Options, Output};
 use crate::outputs::output_path;
 use crate::sections::without_names;
+use crate::several::report_all;
 use std::alloc::{AllocError, Global};
 use std::io::Write;
 use std::str;
 use wat_bytes::{encode_text, names_of_text};
 use wat_command::{
-    Escaped, Failure, Style, read_input, report_in, report_malformed_in, shown, text_before,
-    warn_in, write_bytes, write_file,
+    Escaped, Failure, Style, read_input, report_malformed_in, shown, text_before, warn_in,
+    write_bytes, write_file,
 };
 use wat_text::Strings;
 
@@ -77,7 +78,7 @@ fn module_output<'a>(
 {
     match encode_text(rt.alloc(), text, strings) {
         Ok(bytes) => allocated(rt, output_of_bytes(rt.alloc(), options, bytes)),
-        Err(refused) => Err(report_in(rt, style, file, text, &refused)),
+        Err(refused) => Err(report_all(rt, style, file, text, &refused)),
     }
 }
 
@@ -93,7 +94,7 @@ fn names_output<'a>(
 {
     match names_of_text(rt.alloc(), text, strings) {
         Ok(names) => allocated(rt, name_lines(rt.alloc(), names.as_slice())),
-        Err(refused) => Err(report_in(rt, style, file, text, &refused)),
+        Err(refused) => Err(report_all(rt, style, file, text, &refused)),
     }
 }
 

@@ -8,6 +8,7 @@
 //! # Modules
 //!
 //! - `options` reads the arguments, `help` prints the help, and `explanations` what errors mean.
+//! - `several` reports the errors of ids after the first one.
 //! - `colors` decides how diagnostics are printed.
 //! - `conversions` converts one file, `outputs` names its output, and `names` and `sections` make
 //!   what `--names` and `--no-names` print. `examples` has results that the prover computes.
@@ -24,6 +25,7 @@ mod names;
 mod options;
 mod outputs;
 mod sections;
+mod several;
 
 use conversions::convert_file;
 use explanations::print_entry;
