@@ -11,8 +11,10 @@ PAGE = ROOT / "docs/ERRORS.md"
 
 HEAD = """# Errors
 
-For users of `wat` and of the library: what each error means, a text that has it, and what to do. `tools/errors-page` writes this page from
-`crates/wat/src/explanations.rt`, and CI runs its examples. `wat --explain E4` prints an entry, and so does `wat --explain` with a message:
+For users of `wat` and of the library: what each error means, a text that has it, and what to do. `tools/errors-page` writes this page, and CI
+runs its examples.
+
+`wat --explain E4` prints an entry, and so does `wat --explain` with a message:
 
 ```
 $ wat --explain E13
