@@ -1,7 +1,7 @@
 // Calls of the archive in WebAssembly. docs/BINDINGS.md, "From JavaScript", has what they return.
 
 /** The number of the declarations of the archive that this file calls. */
-const DECLARATIONS = 1;
+const DECLARATIONS = 2;
 
 // What a call of the archive returns (enum rigyomad_status of bindings/c/rigyomad.h).
 const DONE = 0, SHORT = 1, FAULT = 2, UTF8 = 3, MEMORY = 4, UNKNOWN = 5;
@@ -189,7 +189,7 @@ function bytesOf(text) {
 function errorOf(calls, status, text, bytes, at) {
   if (status === MEMORY) return outOfMemory();
   if (status !== FAULT && status !== UTF8) return new Error(`status ${status}`);
-  const diagnosis = calls.take(40), size = BigInt(bytes.length);
+  const diagnosis = calls.take(48), size = BigInt(bytes.length);
   let room = 256, message, needed;
   do {
     room = needed ?? room;

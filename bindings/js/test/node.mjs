@@ -134,7 +134,7 @@ await test("errors", () => {
   assert.deepEqual(of("(module (type (func)) (type (cont 0)))"), {
     number: 11, kind: "Uncovered", message: "uncovered form: stack switching: `cont`", line: 1, column: 30, start: 29, end: 33,
   });
-  assert.deepEqual(of("(module\n  (fun))"), { number: 0, kind: "Malformed", message: "expected valid module field", line: 2, column: 4, start: 11, end: 14 });
+  assert.deepEqual(of("(module\n  (fun))"), { number: 0, kind: "Malformed", message: "expected valid module field, found `fun`; did you mean `func`?", line: 2, column: 4, start: 11, end: 14 });
   assert.deepEqual(of(Uint8Array.of(40, 109, 255)), { number: 0, kind: "Malformed", message: "malformed UTF-8 encoding", line: 0, column: 0, start: 2, end: 2 });
   const long = "n".repeat(300);
   assert.equal(of(`(module (start $${long}))`).message, `unknown func: failed to find name \`$${long}\``);

@@ -48,7 +48,7 @@ pub use within::{names_within, NameWithin, Within};
 /// The number of the declarations that this crate has of the calls of the archive. The first call
 /// compares it with that of the archive, and panics if they differ, because a call by other
 /// declarations would be undefined behaviour. A program has no need to compare them.
-pub const VERSION: u32 = 1;
+pub const VERSION: u32 = 2;
 
 /// The examples of the README, as tests.
 #[cfg(doctest)]

@@ -43,16 +43,16 @@ use looks_up::look_up;
 use std::alloc::Global;
 
 /// The version of these declarations. It changes if the parameters or results of a call change.
-const VERSION: u32 = 1;
+const VERSION: u32 = 2;
 
 /// Returns the version of these declarations, to compare it with that of the header.
 ///
 /// # Example
 ///
-/// In C, `rigyomad_c_version() == 1`.
+/// In C, `rigyomad_c_version() == 2`.
 #[unsafe(no_mangle)]
 pub extern "C" fn rigyomad_c_version() -> u32
-    ensures { result ≡ 1 }
+    ensures { result ≡ 2 }
 {
     VERSION
 }

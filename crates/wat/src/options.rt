@@ -1,5 +1,7 @@
 //! The options of the command, and its arguments.
 
+use crate::colors::Color;
+use crate::explanations::{Entry, entry_of};
 use std::alloc::{AllocError, Global};
 use std::env::Args;
 use std::fmt;
@@ -18,10 +20,18 @@ enum Action {
     Names,
     /// The name section is left out.
     NoNames,
+    /// Diagnostics are JSON.
+    Json,
+    /// Diagnostics have colours, or not.
+    Color,
+    /// An error is explained.
+    Explain,
     /// The help is printed.
     Help,
     /// The version is printed.
     Version,
+    /// An error is explained.
+    Explain(Entry),
 }
 
 /// An option of the command.
@@ -41,7 +51,7 @@ pub(crate) struct Choice {
 
 /// The options, in the order of the help. `tools/manual` reads this table, and writes the man page
 /// and the completions of shells from it.
-pub(crate) const OPTIONS: [Choice; 7] = [
+pub(crate) const OPTIONS: [Choice; 10] = [
     Choice {
         short: "-o",
         long: "--output",
@@ -76,6 +86,27 @@ pub(crate) const OPTIONS: [Choice; 7] = [
         value: "",
         help: "leave the name section out",
         action: Action::NoNames,
+    },
+    Choice {
+        short: "",
+        long: "--json",
+        value: "",
+        help: "write each diagnostic as a line of JSON to standard error",
+        action: Action::Json,
+    },
+    Choice {
+        short: "",
+        long: "--color",
+        value: "WHEN",
+        help: "print diagnostics in colours (`auto`, `always` or `never`)",
+        action: Action::Color,
+    },
+    Choice {
+        short: "",
+        long: "--explain",
+        value: "ERROR",
+        help: "print what an error means and what to do (`E4`, or a message)",
+        action: Action::Explain,
     },
     Choice {
         short: "-h",
@@ -146,6 +177,12 @@ pub(crate) struct Options {
     pub output: Output,
     /// Whether the name section is left out.
     pub omits_names: bool,
+    /// Whether diagnostics are JSON.
+    pub is_json: bool,
+    /// When diagnostics have colours.
+    pub color: Color,
+    /// The error to explain.
+    pub explained: Option<Entry>,
 }
 
 /// What the command does with its arguments.
@@ -157,6 +194,8 @@ pub(crate) enum Request {
     Help,
     /// The version is printed.
     Version,
+    /// An error is explained.
+    Explain(Entry),
 }
 
 /// Why arguments are not accepted. It is printed as the message, in one line.
@@ -172,6 +211,10 @@ pub(crate) enum Misuse {
     NoValue(Choice),
     /// This option is given twice.
     Repeated(Choice),
+    /// This is no value of `--color`.
+    UnknownColor(String),
+    /// No error has this number or these words.
+    UnknownError(String),
     /// These two options exclude each other.
     Conflict(&'static str, &'static str),
     /// One file is to be written for several.
@@ -208,6 +251,17 @@ impl fmt::Display for Misuse {
             Misuse::Repeated(choice) => {
                 let long = choice.long;
                 write!(f, "more than one `{long}`")
+            }
+            Misuse::UnknownColor(word) => {
+                let word = Escaped(word.as_str());
+                write!(f, "`--color` is `auto`, `always` or `never`, not `{word}`")
+            }
+            Misuse::UnknownError(word) => {
+                let word = Escaped(word.as_str());
+                write!(
+                    f,
+                    "no error is called `{word}`: give E1 to E13, or the first words of a message"
+                )
             }
             Misuse::Conflict(first, second) => {
                 write!(f, "`{first}` and `{second}` exclude each other")
@@ -264,6 +318,9 @@ impl Reading {
             folder: None,
             output: Output::Bytes,
             omits_names: false,
+            is_json: false,
+            color: Color::Auto,
+            explained: None,
         };
         Reading {
             options,
@@ -336,6 +393,9 @@ impl Reading {
         if let Some(choice) = awaited {
             return Err(Misuse::NoValue(choice));
         }
+        if let Some(entry) = options.explained {
+            return Ok(Request::Explain(entry));
+        }
         match options.conflict() {
             Some(misuse) => Err(misuse),
             None => Ok(Request::Convert(options)),
@@ -357,6 +417,10 @@ impl Options {
         match choice.action {
             Action::Hex => self.set_output(Output::Hex, word),
             Action::Names => self.set_output(Output::Names, word),
+            Action::Json => {
+                self.is_json = true;
+                Ok(())
+            }
             _ => {
                 self.omits_names = true;
                 Ok(())
@@ -379,6 +443,8 @@ impl Options {
     fn set_value(&mut self, choice: Choice, value: String) -> Result<(), Misuse> {
         match choice.action {
             Action::Folder => self.set_folder(choice, value),
+            Action::Color => self.set_color(value),
+            Action::Explain => self.set_explained(value),
             _ => self.set_target(choice, value),
         }
     }
@@ -399,6 +465,28 @@ impl Options {
         }
         self.folder = Some(folder);
         Ok(())
+    }
+
+    /// Sets when diagnostics have colours.
+    fn set_color(&mut self, value: String) -> Result<(), Misuse> {
+        match Color::named(value.as_str()) {
+            Some(color) => {
+                self.color = color;
+                Ok(())
+            }
+            None => Err(Misuse::UnknownColor(value)),
+        }
+    }
+
+    /// Sets the error to explain.
+    fn set_explained(&mut self, value: String) -> Result<(), Misuse> {
+        match entry_of(value.as_str()) {
+            Some(entry) => {
+                self.explained = Some(entry);
+                Ok(())
+            }
+            None => Err(Misuse::UnknownError(value)),
+        }
     }
 
     /// Returns whether standard input is read.

@@ -5,6 +5,7 @@
 //! - `diagnostics`: what is printed about a text, with its source line and a caret.
 //! - `escapes`: text as messages show it, with control characters as escapes.
 //! - `failures`: why a run fails, and its exit status.
+//! - `styles`: lines with and without colours, and `json`: a diagnostic as JSON.
 //! - `files`: input, and files that are written whole or not at all.
 #![tactic(auto)]
 
@@ -12,11 +13,14 @@ mod diagnostics;
 mod escapes;
 mod failures;
 mod files;
+mod json;
+mod styles;
 
-pub use diagnostics::{report, report_malformed, warn};
+pub use diagnostics::{report, report_in, report_malformed, report_malformed_in, warn, warn_in};
 pub use escapes::Escaped;
 pub use failures::Failure;
 pub use files::{
     STANDARD, file_key, is_kept, read_input, shown, split_path, text_before, write_bytes,
     write_file,
 };
+pub use styles::Style;

@@ -47,9 +47,6 @@ SPACES = ("func", "table", "memory", "global", "tag", "elem", "data", "type")
 # What binary modules begin with.
 _MAGIC = b"\0asm"
 
-# A token of the text format, as far as an error shows where it ends.
-_TOKEN = re.compile(r'"(?:[^"\\\n]|\\.)*"?|[$@]"(?:[^"\\\n]|\\.)*"?|\(@?|\)|[^ \t\r\n()";]+|.')
-
 # What could send a command to a terminal, begin a line of a log, or change the order of a line.
 _CONTROLS = re.compile("[\0-\x1f\x7f-\x9f\u061c\u200e\u200f\u2028-\u202e\u2066-\u2069]")
 
@@ -103,18 +100,15 @@ def _decoded(part: bytes) -> str:
     return part.decode(errors="replace")
 
 
-def _error_at(text: Text, given: bytes, offset: int, number: int, message: str) -> WatError:
-    """An error at an offset of the bytes of a text. Lines end at a line feed."""
+def _error_at(text: Text, given: bytes, offset: int, end: int, number: int, message: str) -> WatError:
+    """An error at a range of the bytes of a text. Lines end at a line feed."""
     first = given.rfind(b"\n", 0, offset) + 1
-    last = given.find(b"\n", offset)
-    # bytes that are not UTF-8 keep their number
-    token = _TOKEN.match(given[offset : len(given) if last < 0 else last].decode(errors="surrogateescape"))
-    found = token[0] if token else ""
+    end = max(offset, end)
     line = given.count(b"\n", 0, offset) + 1
     if not isinstance(text, str):
-        return WatError(number, message, line, offset - first + 1, offset, offset + len(found.encode(errors="surrogateescape")))
+        return WatError(number, message, line, offset - first + 1, offset, end)
     start = len(_decoded(given[:offset]))
-    return WatError(number, message, line, start - len(_decoded(given[:first])) + 1, start, start + len(found))
+    return WatError(number, message, line, start - len(_decoded(given[:first])) + 1, start, start + len(_decoded(given[offset:end])))
 
 
 def _given(text: Text) -> bytes:
@@ -136,7 +130,7 @@ def _error(text: Text, given: bytes, status: int) -> Exception:
         return WatError(12, "allocation failed")
     at, message = found
     if at.line or status == _archive.UTF8:
-        return _error_at(text, given, at.offset, at.number, _decoded(message))
+        return _error_at(text, given, at.offset, at.end_offset, at.number, _decoded(message))
     return WatError(at.number, _decoded(message))
 
 
