@@ -1,5 +1,8 @@
 //! Writes the records of actions.
 
+ghost use Rattle.std.specs.Prelude.{◌≡◌};
+ghost use Rattle.wast_script_records.specs.Numbers.{action_number};
+
 use crate::commands::count_of;
 use crate::records::Records;
 use crate::words::put_words;
@@ -7,7 +10,9 @@ use std::alloc::AllocError;
 use wast_script::{Action, ActionKind};
 
 /// Returns the number of what an action does.
-fn kind_of(kind: ActionKind) -> u64 {
+fn kind_of(kind: ActionKind) -> u64
+    ensures { result ≡ action_number kind }
+{
     match kind {
         ActionKind::Invoke => 0,
         ActionKind::Get => 1,

@@ -1,5 +1,8 @@
 //! Writes the records of commands.
 
+ghost use Rattle.std.specs.Prelude.{◌≡◌};
+ghost use Rattle.wast_script_records.specs.Numbers.{command_number};
+
 use crate::records::Records;
 use crate::words::{NONE, put_words};
 use std::alloc::AllocError;
@@ -8,7 +11,9 @@ use wast_tree::Id;
 use wat_text::Strings;
 
 /// Returns the number of what a command does.
-fn type_of(kind: &CommandKind<'_>) -> u64 {
+fn type_of(kind: &CommandKind<'_>) -> u64
+    ensures { result ≡ command_number kind.now }
+{
     match kind {
         CommandKind::Module(_) => 0,
         CommandKind::Definition(_) => 1,

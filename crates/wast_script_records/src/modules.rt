@@ -1,5 +1,8 @@
 //! Encodes modules, and writes their records.
 
+ghost use Rattle.std.specs.Prelude.{◌≡◌};
+ghost use Rattle.wast_script_records.specs.Numbers.{form_number};
+
 use crate::lines::Place;
 use crate::records::{Piece, Records};
 use crate::words::put_words;
@@ -13,7 +16,9 @@ use wat_text::Strings;
 const MEMORY: u32 = 12;
 
 /// Returns the number of the form of a module.
-fn form_of(form: ModuleForm) -> u64 {
+fn form_of(form: ModuleForm) -> u64
+    ensures { result ≡ form_number form }
+{
     match form {
         ModuleForm::Fields => 0,
         ModuleForm::Binary => 1,

@@ -14,6 +14,9 @@
 //!
 //! A lane is a form and bits, as a float has them. An id is the start of its name among the bytes of all strings, and its size.
 
+ghost use Rattle.std.specs.Prelude.{◌≡◌};
+ghost use Rattle.wast_script_records.specs.Numbers.{heap_number, shape_number};
+
 use crate::commands::count_of;
 use crate::records::Records;
 use crate::words::put_words;
@@ -46,7 +49,9 @@ fn number_words(number: Number) -> (u64, u64) {
 }
 
 /// Returns the number of a shape.
-fn shape_number(shape: Shape) -> u64 {
+fn shape_of(shape: Shape) -> u64
+    ensures { result ≡ shape_number shape }
+{
     match shape {
         Shape::I8x16 => 0,
         Shape::I16x8 => 1,
@@ -58,7 +63,9 @@ fn shape_number(shape: Shape) -> u64 {
 }
 
 /// Returns the number of an abstract heap type.
-fn abstract_number(ty: AbstractHeapType) -> u64 {
+fn heap_of(ty: AbstractHeapType) -> u64
+    ensures { result ≡ heap_number ty }
+{
     match ty {
         AbstractHeapType::Func => 0,
         AbstractHeapType::Extern => 1,
@@ -108,7 +115,7 @@ impl Reference {
     fn of_abstract(shared: bool, ty: AbstractHeapType) -> Reference {
         Reference {
             form: if shared { SHARED } else { ABSTRACT },
-            first: abstract_number(ty),
+            first: heap_of(ty),
             second: 0,
         }
     }
@@ -135,7 +142,7 @@ fn float_words(ty: u64, number: Number) -> [u64; 4] {
 
 /// Returns the words of a vector.
 fn vector_words(shape: Shape, lanes: Part) -> [u64; 4] {
-    [4, shape_number(shape), lanes.start as u64, count_of(lanes)]
+    [4, shape_of(shape), lanes.start as u64, count_of(lanes)]
 }
 
 impl Records {
