@@ -1,7 +1,7 @@
 -- The numbers that records have for what a script says in words: types of commands, forms of modules, shapes and heap types.
 --
 --   (assert_trap (invoke "f") "a")      a command of type 6, with an action of kind 0
-use Rattle.std.specs.Prelude.{ℕ, ◌×◌}
+use Rattle.std.specs.Prelude.{ℕ}
 use Rattle.wast_tree_nodes.specs.declared.types.AbstractHeapType.{AbstractHeapType}
 use Rattle.wast_tree_nodes.specs.declared.types.AbstractHeapType.TheVariants as heap
 use Rattle.wast_script.specs.declared.commands.ActionKind.{ActionKind}

@@ -31,11 +31,16 @@
 //! # Modules
 //!
 //! - `records` has [`records_of`], the tables and the header. `commands`, `modules`, `actions` and `values` write the records of each.
-//! - `words` writes words, and `lines` counts lines and columns.
+//! - `words` writes words, and `lines` counts lines and columns. `examples` has numbers that the prover computes.
+//!
+//! # Guarantees
+//!
+//! Types, kinds, forms, shapes and heap types have the numbers that `specs/Numbers.antt` defines.
 #![tactic(auto)]
 
 mod actions;
 mod commands;
+mod examples;
 mod lines;
 mod modules;
 mod records;
