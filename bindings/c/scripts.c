@@ -1,8 +1,9 @@
-/* Prints the commands of the script on standard input, a line of each: scripts < SCRIPT. For example
+/* Prints the commands of scripts, a line of each: scripts TEXT.. For example
  *
  *     1:2 assert_return [1:17 invoke $m "f" i32:1] i32:7
  *
- * Bytes are hexadecimal, and so are the bits of floats. A script that is none is one line, its error. */
+ * Bytes are hexadecimal, and so are the bits of floats. A text that is no script has one line, its
+ * error. The status is that of the first call that does not succeed for another reason. */
 #include "escapes.h"
 #include "rigyomad_script.h"
 
@@ -161,43 +162,31 @@ static void print_command(const struct rigyomad_script *script, size_t index) {
     printf("\n");
 }
 
-/* Reads standard input to its end, or returns NULL. */
-static char *read_all(size_t *size) {
-    size_t room = 1 << 16, length = 0;
-    char *text = malloc(room);
-    while (text) {
-        length += fread(text + length, 1, room - length, stdin);
-        if (length < room) {
-            *size = length;
-            return text;
-        }
-        char *more = realloc(text, room *= 2);
-        if (!more) {
-            free(text);
-        }
-        text = more;
-    }
-    return NULL;
-}
-
-int main(void) {
-    size_t size = 0;
-    char message[256], *text = read_all(&size);
+/* Prints the commands of a script, or its error. */
+static uint32_t print_script(const char *text) {
+    char message[256];
     struct rigyomad_script script;
     struct rigyomad_diagnosis at;
-    if (!text) {
-        return RIGYOMAD_MEMORY;
-    }
-    uint32_t status = rigyomad_script_open(text, size, &script, message, sizeof message, &at);
-    free(text);
+    uint32_t status =
+        rigyomad_script_open(text, strlen(text), &script, message, sizeof message, &at);
     if (status == RIGYOMAD_DONE) {
         for (size_t i = 0; i < rigyomad_script_size(&script); i++) {
             print_command(&script, i);
         }
         rigyomad_script_free(&script);
     } else if (status == RIGYOMAD_FAULT) {
-        int shown = at.size < sizeof message ? (int)at.size : (int)sizeof message;
-        printf("%zu:%zu: %.*s\n", at.line, at.column, shown, message);
+        printf("%zu:%zu: ", at.line, at.column);
+        print_escaped(message, at.size < sizeof message ? at.size : sizeof message, "");
+        printf("\n");
+        return RIGYOMAD_DONE;
     }
-    return status == RIGYOMAD_FAULT ? 0 : (int)status;
+    return status;
+}
+
+int main(int count, char **texts) {
+    uint32_t status = RIGYOMAD_DONE;
+    for (int i = 1; i < count && status == RIGYOMAD_DONE; i++) {
+        status = print_script(texts[i]);
+    }
+    return (int)status;
 }

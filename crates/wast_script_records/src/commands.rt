@@ -157,11 +157,7 @@ impl Records {
     }
 
     /// Adds the record of an action, if there is one, and returns its number.
-    fn action_number(
-        &mut self,
-        text: &str,
-        action: Option<Action<'_>>,
-    ) -> Result<u64, AllocError> {
+    fn action_number(&mut self, text: &str, action: Option<Action<'_>>) -> Result<u64, AllocError> {
         match action {
             Some(action) => self.put_action(text, &action),
             None => Ok(NONE),
