@@ -41,8 +41,8 @@ fn script_text_into(
     message: &mut [u8],
     diagnosis: &mut Diagnosis,
 ) -> Status
-    requires { size.old ≡ 0 }
-    requires { diagnosis.old ≡ nothing_wrong }
+    requires size { size.old ≡ 0 }
+    requires diagnosis { diagnosis.old ≡ nothing_wrong }
     ensures { ScriptRead text.now size.new out.old out.new diagnosis.new result }
 {
     match records_of_text(alloc, text) {
