@@ -28,68 +28,72 @@ extern "C" {
 /* What a command does or asserts. The comment says which members of the command are set, beside
  * type and place. */
 enum rigyomad_command_type {
-    RIGYOMAD_MODULE = 0,                 /* module: it is instantiated */
-    RIGYOMAD_MODULE_DEFINITION = 1,      /* module: it is not instantiated */
-    RIGYOMAD_MODULE_INSTANCE = 2,        /* id, of: an instance of a definition */
-    RIGYOMAD_REGISTER = 3,               /* text, of: a module can be imported from this name */
-    RIGYOMAD_ACTION = 4,                 /* action */
-    RIGYOMAD_ASSERT_RETURN = 5,          /* action or module, results */
-    RIGYOMAD_ASSERT_TRAP = 6,            /* action or module, text: it traps */
-    RIGYOMAD_ASSERT_EXHAUSTION = 7,      /* action, text: it exhausts the stack */
-    RIGYOMAD_ASSERT_EXCEPTION = 8,       /* action or module: it throws */
-    RIGYOMAD_ASSERT_SUSPENSION = 9,      /* action or module, text */
-    RIGYOMAD_ASSERT_MALFORMED = 10,      /* module, text: it cannot be read */
-    RIGYOMAD_ASSERT_MALFORMED_CUSTOM = 11, /* module, text */
-    RIGYOMAD_ASSERT_INVALID = 12,        /* module, text: it is not valid */
-    RIGYOMAD_ASSERT_INVALID_CUSTOM = 13, /* module, text */
-    RIGYOMAD_ASSERT_UNLINKABLE = 14,     /* module, text: it cannot be linked */
-    RIGYOMAD_THREAD = 15,                /* id, of: the commands up to its end run in a thread */
-    RIGYOMAD_THREAD_END = 16,            /* the end of the thread that began last */
-    RIGYOMAD_WAIT = 17                   /* id: waits for a thread to end */
+    RIGYOMAD_COMMAND_MODULE = 0,              /* module: it is instantiated */
+    RIGYOMAD_COMMAND_MODULE_DEFINITION = 1,   /* module: it is not instantiated */
+    RIGYOMAD_COMMAND_MODULE_INSTANCE = 2,     /* id, of: an instance of a definition */
+    RIGYOMAD_COMMAND_REGISTER = 3,            /* text, of: a module can be imported from this name */
+    RIGYOMAD_COMMAND_ACTION = 4,              /* action */
+    RIGYOMAD_COMMAND_ASSERT_RETURN = 5,       /* action or module, results */
+    RIGYOMAD_COMMAND_ASSERT_TRAP = 6,         /* action or module, text: it traps */
+    RIGYOMAD_COMMAND_ASSERT_EXHAUSTION = 7,   /* action, text: it exhausts the stack */
+    RIGYOMAD_COMMAND_ASSERT_EXCEPTION = 8,    /* action or module: it throws */
+    RIGYOMAD_COMMAND_ASSERT_SUSPENSION = 9,   /* action or module, text */
+    RIGYOMAD_COMMAND_ASSERT_MALFORMED = 10,   /* module, text: it cannot be read */
+    RIGYOMAD_COMMAND_ASSERT_MALFORMED_CUSTOM = 11,/* module, text */
+    RIGYOMAD_COMMAND_ASSERT_INVALID = 12,     /* module, text: it is not valid */
+    RIGYOMAD_COMMAND_ASSERT_INVALID_CUSTOM = 13,/* module, text */
+    RIGYOMAD_COMMAND_ASSERT_UNLINKABLE = 14,  /* module, text: it cannot be linked */
+    RIGYOMAD_COMMAND_THREAD = 15,             /* id, of: commands up to its end */
+    RIGYOMAD_COMMAND_THREAD_END = 16,         /* the end of the thread that began last */
+    RIGYOMAD_COMMAND_WAIT = 17                /* id: waits for a thread to end */
 };
 
 /* The form in which a script has a module. */
 enum rigyomad_module_form {
-    RIGYOMAD_FIELDS = 0, /* (module (func)) */
-    RIGYOMAD_BINARY = 1, /* (module binary "\00asm\01\00\00\00") */
-    RIGYOMAD_QUOTE = 2   /* (module quote "(func)"), whose text may be wrong on purpose */
+    RIGYOMAD_FORM_FIELDS = 0, /* (module (func)) */
+    RIGYOMAD_FORM_BINARY = 1, /* (module binary "\00asm\01\00\00\00") */
+    RIGYOMAD_FORM_QUOTE = 2   /* (module quote "(func)"), whose text may be wrong on purpose */
 };
 
 /* The type of a value. The comment says what form, first and second are. */
 enum rigyomad_value_type {
-    RIGYOMAD_I32 = 0,        /* first: the bits */
-    RIGYOMAD_I64 = 1,        /* first: the bits */
-    RIGYOMAD_F32 = 2,        /* form: one of rigyomad_number; first: the bits */
-    RIGYOMAD_F64 = 3,        /* form: one of rigyomad_number; first: the bits */
-    RIGYOMAD_V128 = 4,       /* form: one of rigyomad_shape; first: the first lane; second: how many */
-    RIGYOMAD_REF_NULL = 5,   /* form: one of rigyomad_reference; the type, if it is told */
-    RIGYOMAD_REF_EXTERN = 6, /* form RIGYOMAD_NUMBER: first is the number of a host's reference */
-    RIGYOMAD_REF_HOST = 7,   /* likewise, of a reference that is not external */
-    RIGYOMAD_REF_FUNC = 8,   /* form RIGYOMAD_NUMBER or RIGYOMAD_ID: this function */
-    RIGYOMAD_REF = 9,        /* form: one of rigyomad_reference; any reference of the type */
-    RIGYOMAD_EITHER = 10     /* first: how many values after it are the alternatives */
+    RIGYOMAD_VALUE_I32 = 0,        /* first: the bits */
+    RIGYOMAD_VALUE_I64 = 1,        /* first: the bits */
+    RIGYOMAD_VALUE_F32 = 2,        /* form: one of rigyomad_number; first: the bits */
+    RIGYOMAD_VALUE_F64 = 3,        /* form: one of rigyomad_number; first: the bits */
+    RIGYOMAD_VALUE_V128 = 4,       /* form: one of rigyomad_shape; first: the number of lane 0 */
+    RIGYOMAD_VALUE_REF_NULL = 5,   /* form: one of rigyomad_reference; the type, if it is told */
+    RIGYOMAD_VALUE_REF_EXTERN = 6, /* form: any, or the number of a host's reference */
+    RIGYOMAD_VALUE_REF_HOST = 7,   /* likewise, of a reference that is not external */
+    RIGYOMAD_VALUE_REF_FUNC = 8,   /* form: any, or the index or the id of a function */
+    RIGYOMAD_VALUE_REF = 9,        /* form: one of rigyomad_reference; any reference of the type */
+    RIGYOMAD_VALUE_EITHER = 10     /* first: how many values after it are the alternatives */
 };
 
 /* What a float, or a lane, has to be. */
-enum rigyomad_number { RIGYOMAD_BITS = 0, RIGYOMAD_CANONICAL = 1, RIGYOMAD_ARITHMETIC = 2 };
+enum rigyomad_number {
+    RIGYOMAD_NUMBER_BITS = 0,      /* these bits */
+    RIGYOMAD_NUMBER_CANONICAL = 1, /* nan:canonical */
+    RIGYOMAD_NUMBER_ARITHMETIC = 2 /* nan:arithmetic */
+};
 
 /* The lanes of a vector. */
 enum rigyomad_shape {
-    RIGYOMAD_I8X16 = 0,
-    RIGYOMAD_I16X8 = 1,
-    RIGYOMAD_I32X4 = 2,
-    RIGYOMAD_I64X2 = 3,
-    RIGYOMAD_F32X4 = 4,
-    RIGYOMAD_F64X2 = 5
+    RIGYOMAD_SHAPE_I8X16 = 0,
+    RIGYOMAD_SHAPE_I16X8 = 1,
+    RIGYOMAD_SHAPE_I32X4 = 2,
+    RIGYOMAD_SHAPE_I64X2 = 3,
+    RIGYOMAD_SHAPE_F32X4 = 4,
+    RIGYOMAD_SHAPE_F64X2 = 5
 };
 
 /* What is said of a reference, or of its type. */
 enum rigyomad_reference {
-    RIGYOMAD_ANY = 0,      /* nothing */
-    RIGYOMAD_ABSTRACT = 1, /* first: one of rigyomad_heap_type */
-    RIGYOMAD_SHARED = 2,   /* first: one of rigyomad_heap_type, which is shared */
-    RIGYOMAD_NUMBER = 3,   /* first: the number, or the index */
-    RIGYOMAD_ID = 4        /* an id, which rigyomad_script_value_id returns */
+    RIGYOMAD_REFERENCE_ANY = 0,      /* nothing */
+    RIGYOMAD_REFERENCE_ABSTRACT = 1, /* first: one of rigyomad_heap_type */
+    RIGYOMAD_REFERENCE_SHARED = 2,   /* first: one of rigyomad_heap_type, which is shared */
+    RIGYOMAD_REFERENCE_NUMBER = 3,   /* first: the number, or the index */
+    RIGYOMAD_REFERENCE_ID = 4        /* an id, which rigyomad_script_value_id returns */
 };
 
 /* The abstract heap types. */
@@ -355,7 +359,7 @@ static inline struct rigyomad_value rigyomad_script_value(const struct rigyomad_
     return value;
 }
 
-/* Returns the id of a value of the form RIGYOMAD_ID. */
+/* Returns the id of a value of the form RIGYOMAD_REFERENCE_ID. */
 static inline struct rigyomad_string
 rigyomad_script_value_id(const struct rigyomad_script *script, struct rigyomad_value value) {
     return rigyomad_string_at(script, value.first, value.second);

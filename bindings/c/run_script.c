@@ -1,8 +1,8 @@
 /* Runs the script of tests on standard input over an engine: run_script < SCRIPT. It prints each
  * assertion that fails, and how many commands passed, failed and were skipped.
  *
- * The engine is made for this example: `engine_load` and `engine_call` are where yours plugs in. It
- * knows functions without parameters whose body is one `i32.const` or `unreachable`, and no imports. */
+ * The engine is made for this example: yours plugs in at `engine_load` and `engine_call`. It knows
+ * functions without parameters whose body is `i32.const` or `unreachable`, and no imports. */
 #include "rigyomad_script.h"
 
 #include <stdio.h>
@@ -139,7 +139,7 @@ static int is_wanted(const struct run *run, const struct rigyomad_command *comma
                      uint32_t value) {
     for (uint64_t i = 0; i < command->result_count; i++) {
         struct rigyomad_value result = rigyomad_script_value(&run->script, command->results + i);
-        if (result.type == RIGYOMAD_I32 && result.first == value) {
+        if (result.type == RIGYOMAD_VALUE_I32 && result.first == value) {
             return 1;
         }
     }
@@ -160,25 +160,25 @@ static enum verdict verdict_of(struct run *run, const struct rigyomad_command *c
         outcome = act(run, command->action, &value);
     }
     switch (command->type) {
-    case RIGYOMAD_MODULE:
+    case RIGYOMAD_COMMAND_MODULE:
         if (module.status != RIGYOMAD_DONE || !engine_load(module.bytes)) {
             return FAILED;
         }
         run->instances[run->count++] = module;
         return PASSED;
-    case RIGYOMAD_ACTION:
-    case RIGYOMAD_ASSERT_RETURN:
+    case RIGYOMAD_COMMAND_ACTION:
+    case RIGYOMAD_COMMAND_ASSERT_RETURN:
         if (outcome == UNSUPPORTED) {
             return SKIPPED;
         }
         return outcome == RETURNED &&
-                       (command->type == RIGYOMAD_ACTION || is_wanted(run, command, value))
+                       (command->type == RIGYOMAD_COMMAND_ACTION || is_wanted(run, command, value))
                    ? PASSED
                    : FAILED;
-    case RIGYOMAD_ASSERT_TRAP:
+    case RIGYOMAD_COMMAND_ASSERT_TRAP:
         return outcome == UNSUPPORTED ? SKIPPED : outcome == TRAPPED ? PASSED : FAILED;
-    case RIGYOMAD_ASSERT_MALFORMED:
-    case RIGYOMAD_ASSERT_INVALID:
+    case RIGYOMAD_COMMAND_ASSERT_MALFORMED:
+    case RIGYOMAD_COMMAND_ASSERT_INVALID:
         return module.status == RIGYOMAD_FAULT || !engine_load(module.bytes) ? PASSED : FAILED;
     default:
         return SKIPPED;

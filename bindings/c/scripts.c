@@ -51,10 +51,12 @@ static void print_hex(struct rigyomad_string string) {
     }
 }
 
-static void print_place(struct rigyomad_place place) { printf("%zu:%zu", place.line, place.column); }
+static void print_place(struct rigyomad_place place) {
+    printf("%zu:%zu", place.line, place.column);
+}
 
 static void print_number(uint32_t form, uint64_t bits) {
-    if (form == RIGYOMAD_BITS) {
+    if (form == RIGYOMAD_NUMBER_BITS) {
         printf("%" PRIx64, bits);
     } else {
         printf("%s", NUMBERS[form]);
@@ -72,16 +74,16 @@ static void print_vector(const struct rigyomad_script *script, struct rigyomad_v
 
 static void print_reference(const struct rigyomad_script *script, struct rigyomad_value value) {
     switch (value.form) {
-    case RIGYOMAD_ABSTRACT:
+    case RIGYOMAD_REFERENCE_ABSTRACT:
         printf("%s", HEAPS[value.first]);
         break;
-    case RIGYOMAD_SHARED:
+    case RIGYOMAD_REFERENCE_SHARED:
         printf("shared-%s", HEAPS[value.first]);
         break;
-    case RIGYOMAD_NUMBER:
+    case RIGYOMAD_REFERENCE_NUMBER:
         printf("%" PRIu64, value.first);
         break;
-    case RIGYOMAD_ID:
+    case RIGYOMAD_REFERENCE_ID:
         print_string("$", rigyomad_script_value_id(script, value), "");
         break;
     default:
@@ -93,16 +95,16 @@ static void print_value(const struct rigyomad_script *script, uint64_t index) {
     struct rigyomad_value value = rigyomad_script_value(script, index);
     printf(" %s:", VALUES[value.type]);
     switch (value.type) {
-    case RIGYOMAD_I32:
-    case RIGYOMAD_I64:
-    case RIGYOMAD_EITHER:
+    case RIGYOMAD_VALUE_I32:
+    case RIGYOMAD_VALUE_I64:
+    case RIGYOMAD_VALUE_EITHER:
         printf("%" PRIu64, value.first);
         break;
-    case RIGYOMAD_F32:
-    case RIGYOMAD_F64:
+    case RIGYOMAD_VALUE_F32:
+    case RIGYOMAD_VALUE_F64:
         print_number(value.form, value.first);
         break;
-    case RIGYOMAD_V128:
+    case RIGYOMAD_VALUE_V128:
         print_vector(script, value);
         break;
     default:

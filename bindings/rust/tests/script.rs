@@ -107,44 +107,38 @@ fn register_has_its_name_and_its_module() {
     });
 }
 
-/// The form, the id, the quoted text and the bytes or the fault of each module of a script.
-fn modules(text: &str) -> Vec<(Form, Option<String>, Option<String>, Result<usize, String>)> {
+/// The modules of a script, each with its form, its id, its quoted text, and its bytes or its fault, printed.
+fn modules(text: &str) -> Vec<String> {
     let script = Script::parse(text).unwrap();
-    let mut found = Vec::new();
-    for directive in &script {
-        let module = match directive {
-            Directive::Module(module)
-            | Directive::AssertMalformed { module, .. }
-            | Directive::AssertInvalid { module, .. } => module,
-            other => panic!("{other:?}"),
-        };
-        let quoted = module.quoted().map(|text| String::from_utf8_lossy(text).into_owned());
-        let bytes = module.encode().map(<[u8]>::len).map_err(|fault| fault.to_string());
-        found.push((module.form(), module.id().map(str::to_owned), quoted, bytes));
-    }
-    found
+    let print = |directive| match directive {
+        Directive::Module(module)
+        | Directive::AssertMalformed { module, .. }
+        | Directive::AssertInvalid { module, .. } => {
+            let quoted = module.quoted().map(String::from_utf8_lossy);
+            let answer = module.encode().map_err(|fault| fault.to_string());
+            format!("{:?} {:?} {quoted:?} {answer:?}", module.form(), module.id())
+        }
+        other => panic!("{other:?}"),
+    };
+    script.directives().map(print).collect()
 }
 
 #[test]
 fn modules_have_bytes_or_faults() {
-    let text = r#"(module binary "\00asm" "\01\00\00\00") (module $q quote "(func" ")")
-(assert_malformed (module quote "(func") "a") (assert_invalid (module (func (call $x))) "b")
-(module $e (type $t (func)) (func (export "f") (type $t)))"#;
-    let unknown = "2:82: unknown func: failed to find name `$x`".to_owned();
+    let text = r#"(module binary "\00asm" "\01\00\00\00") (module $q quote "(memory" " 1)")
+(assert_malformed (module quote "(func") "a") (assert_invalid (module (func (call $x))) "b")"#;
     let wanted = [
-        (Form::Binary, None, None, Ok(8)),
-        (Form::Quote, Some("q".to_owned()), Some("(func )".to_owned()), Ok(28)),
-        (Form::Quote, None, Some("(func".to_owned()), Err("2:39: expected `)`".to_owned())),
-        (Form::Fields, None, None, Err(unknown)),
-        (Form::Fields, Some("e".to_owned()), None, Ok(0)),
+        "Binary None None Ok([0, 97, 115, 109, 1, 0, 0, 0])",
+        "Quote Some(\"q\") Some(\"(memory 1)\") Ok([0, 97, 115, 109, 1, 0, 0, 0, 5, 3, 1, 0, 1])",
+        "Quote None Some(\"(func\") Err(\"2:33: expected `)`\")",
+        "Fields None None Err(\"2:83: unknown func: failed to find name `$x`\")",
     ];
-    let found = modules(text);
-    for (found, wanted) in found.iter().zip(&wanted).take(4) {
-        assert_eq!((found.0, &found.1), (wanted.0, &wanted.1));
-        assert_eq!(found.3.is_ok(), wanted.3.is_ok(), "{found:?}");
-    }
-    assert_eq!(found[3].3, wanted[3].3);
-    assert_eq!(found.len(), 5);
+    assert_eq!(modules(text), wanted);
+    let form = with_one("(module)", |it| match it {
+        Directive::Module(module) => module.form(),
+        other => panic!("{other:?}"),
+    });
+    assert_eq!(form, Form::Fields);
 }
 
 #[test]

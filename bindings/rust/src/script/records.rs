@@ -2,7 +2,6 @@
 //! (`crates/wast_script_records/src/lib.rt` has the layout).
 
 use super::Span;
-use std::convert::TryInto;
 use std::ops::Range;
 
 /// What is written for a number or a string that is absent.

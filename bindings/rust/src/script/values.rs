@@ -225,7 +225,7 @@ fn lanes<T: Copy, const N: usize>(
 }
 
 fn v128_pattern(records: &Records, value: Record<'_>) -> V128Pattern {
-    let f32_of = |form, bits| pattern(form, F32 { bits: bits as u32 });
+    let f32_of = |form, bits: u64| pattern(form, F32 { bits: bits as u32 });
     let f64_of = |form, bits| pattern(form, F64 { bits });
     match value.word(1) {
         0 => V128Pattern::I8x16(lanes(records, value, |_, bits| bits as i8)),
