@@ -4,8 +4,12 @@
     >>> scripts.commands('(assert_return (invoke "f" (i32.const 1)) (i32.const -1))')[0]["expected"]
     [{'type': 'i32', 'value': '4294967295'}]
 
-The objects are those that `wast2json` writes, with these differences: `module` has the bytes of a module in place of `filename`, and
-is None if the module has none; then `error` says why. `quoted` has the text of a quoted module, and `column` is beside each `line`.
+The objects are those that `wast2json` writes, with these differences:
+
+- `module` has the bytes of a module in place of `filename`, and is None if the module has none; then `error` says why.
+- `quoted` has the text of a quoted module, and `source` the text of any module in the script.
+- `line` and `column` are those of the command. An action has its own.
+- `expected` is only that of `assert_return`, and has each `either` as a value that has `values`.
 """
 
 import ctypes
@@ -148,7 +152,7 @@ class Script:
 
     def _action(self, number: int) -> Dict[str, Any]:
         kind, _, line, column, module, size, name, length, first, count = self._record(_ACTION, number)
-        action = {"type": "get" if kind else "invoke", "line": line, "column": column}
+        action: Dict[str, Any] = {"type": "get" if kind else "invoke", "line": line, "column": column}
         if module != _NONE:
             action["module"] = self._id(module, size)
         action["field"] = self._string(name, length).decode()
@@ -157,9 +161,9 @@ class Script:
         return action
 
     def _module(self, number: int) -> Dict[str, Any]:
-        form, _, line, column, name, size, start, length, quoted, quoted_size, status, *rest = self._record(_MODULES, number)
+        form, _, _, _, name, size, start, length, quoted, quoted_size, status, *rest = self._record(_MODULES, number)
         first, count, error, _, error_line, error_column, message, message_size = rest
-        module = {"line": line, "column": column, "source": self._text[start : start + length].decode()}
+        module: Dict[str, Any] = {"source": self._text[start : start + length].decode()}
         if name != _NONE:
             module["name"] = self._id(name, size)
         if form == 2:
