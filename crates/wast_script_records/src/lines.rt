@@ -51,13 +51,14 @@ impl Lines {
         }
     }
 
-    /// Moves to a position, and returns it with its line and column. It counts from the last position on, or from the start if that
-    /// is after it. So the positions of all commands take one walk over the text.
+    /// Moves to a position, or to the end of the text if it is after that, and returns it with its line and column. It counts from
+    /// the last position on, or from the start if that is after it. So the positions of all commands take one walk over the text.
     pub fn place_at(&mut self, text: &str, span: Span) -> Place {
-        if span.offset < self.offset {
+        let offset = span.offset.min(text.len());
+        if offset < self.offset {
             *self = Lines::new();
         }
-        let between = text.as_bytes().get(self.offset..span.offset);
+        let between = text.as_bytes().get(self.offset..offset);
         for byte in between.unwrap_or(&[]) {
             self.step(*byte);
         }
