@@ -100,7 +100,7 @@ fn expect_version(number: u32) {
 }
 
 /// Panics if the archive has other declarations than this file. It asks the archive once.
-fn check_version() {
+pub(crate) fn check_version() {
     static IS_CHECKED: AtomicBool = AtomicBool::new(false);
     if !IS_CHECKED.load(Ordering::Relaxed) {
         expect_version(version());

@@ -37,6 +37,7 @@ mod faults;
 mod names;
 mod parse;
 mod room;
+pub mod script;
 mod snippet;
 mod within;
 
