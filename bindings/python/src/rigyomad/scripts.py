@@ -92,7 +92,7 @@ def _records(given: bytes) -> bytes:
     if status == _archive.MEMORY:
         raise rigyomad.WatError(12, "allocation failed")
     if status != _archive.DONE:
-        raise rigyomad._error_at(given, given, at.offset, at.number, rigyomad._decoded(message.raw[: at.size]))
+        raise rigyomad._error_at(given, given, at.offset, at.end_offset, at.number, rigyomad._decoded(message.raw[: at.size]))
     return ctypes.string_at(out, size.value)
 
 
@@ -109,14 +109,15 @@ class Script:
         words, place = table
         return struct.unpack_from(f"<{words}Q", self._bytes, self._header[place] + 8 * words * number)
 
-    def _string(self, start: int, size: int) -> Optional[bytes]:
-        if start == _NONE:
-            return None
+    def _part(self, start: int, size: int) -> Optional[bytes]:
+        return None if start == _NONE else self._string(start, size)
+
+    def _string(self, start: int, size: int) -> bytes:
         first = self._header[_STRINGS] + start
         return self._bytes[first : first + size]
 
     def _id(self, start: int, size: int) -> Optional[str]:
-        name = self._string(start, size)
+        name = self._part(start, size)
         return None if name is None else f"${name.decode()}"
 
     def _reference(self, form: int, first: int, second: int) -> Optional[str]:
@@ -167,9 +168,9 @@ class Script:
         if name != _NONE:
             module["name"] = self._id(name, size)
         if form == 2:
-            module["quoted"] = self._string(quoted, quoted_size)
+            module["quoted"] = self._part(quoted, quoted_size)
         module["module_type"] = "text" if form == 2 else "binary"
-        module["module"] = self._string(first, count)
+        module["module"] = self._part(first, count)
         if status:
             module["error"] = rigyomad.WatError(error, rigyomad._decoded(self._string(message, message_size)), error_line, error_column)
         return module
