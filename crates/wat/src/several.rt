@@ -43,7 +43,7 @@ fn patch_of<'a>(text: &'a str, refused: &Refused<'a>) -> Option<Patch> {
     };
     let first = character_for(error)?;
     let range = Diagnostic::of_module(text, *error).range()?;
-    match text.as_bytes().get(range.start) {
+    match text.as_bytes().get(range.start).copied() {
         Some(b'$') => Some(Patch {
             start: range.start,
             end: range.end,

@@ -147,7 +147,7 @@ fn print_lines(
 }
 
 /// Prints a diagnostic in a style.
-fn print(
+fn print_diagnostic(
     rt: &HostRuntime,
     style: Style,
     file: Escaped<'_>,
@@ -201,7 +201,7 @@ pub fn report_in<'a>(
         return Failure::memory(rt);
     }
     let diagnostic = diagnostic_of(text, refused);
-    print(rt, style, file, text, &diagnostic, refused.number())
+    print_diagnostic(rt, style, file, text, &diagnostic, refused.number())
 }
 
 /// Reports bytes that are not UTF-8 in a style. The text is the bytes before the first wrong one.
@@ -212,7 +212,7 @@ pub fn report_malformed_in(
     text: &str,
 ) -> Failure {
     let diagnostic = Diagnostic::of_bytes(text);
-    print(rt, style, file, text, &diagnostic, None)
+    print_diagnostic(rt, style, file, text, &diagnostic, None)
 }
 
 /// Reports the error of a text, with its range, as lines without colours.

@@ -1,6 +1,6 @@
 //! The ids that a text defines, and the parentheses that are open at a position.
 
-use crate::lexemes::{Kind, Lexeme, next_lexeme};
+use crate::lexemes::{Kind, Lexeme, next_lexeme, shown};
 use crate::near::Nearest;
 
 /// At most this many ids are compared with one that is unknown.
@@ -285,11 +285,11 @@ pub(crate) fn read_before(text: &[u8], end: usize) -> Before<'_> {
 }
 
 /// Returns whether an annotation with this word, which begins with `@`, is read by its parts.
-fn has_meaning(word: &[u8]) -> bool {
-    matches!(
-        word,
-        b"@name" | b"@custom" | b"@producers" | b"@dylink.0" | b"@metadata.code.branch_hint"
-    )
+fn has_meaning(word: &str) -> bool {
+    match word {
+        "@name" | "@custom" | "@producers" | "@dylink.0" | "@metadata.code.branch_hint" => true,
+        _ => false,
+    }
 }
 
 /// Returns the offset of the first annotation without a meaning that a text does not close.
@@ -303,7 +303,7 @@ pub(crate) fn open_annotation(text: &[u8]) -> Option<usize> {
         };
         let is_annotation = walk.is_opened()
             && lexeme.bytes.starts_with(b"@")
-            && !has_meaning(lexeme.bytes);
+            && !has_meaning(shown(lexeme.bytes));
         if is_annotation && found.is_none() {
             found = Some(lexeme.start.saturating_sub(1));
             depth = walk.depth;
