@@ -127,7 +127,7 @@ impl Records {
     }
 
     /// Encodes a module, and adds its bytes or its error.
-    fn outcome<'a>(
+    fn encode_part<'a>(
         &mut self,
         script: &Script<'a>,
         strings: &'a Strings,
@@ -149,7 +149,7 @@ impl Records {
         let place = self.lines.place_at(script.text, module.span);
         let id = self.id(module.id)?;
         let quoted = self.quoted(script, module)?;
-        let outcome = self.outcome(script, strings, module)?;
+        let outcome = self.encode_part(script, strings, module)?;
         let words: [u64; 19] = [
             form_of(module.form),
             place.offset,

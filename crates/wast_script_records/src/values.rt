@@ -25,19 +25,19 @@ use wast_script::{Number, Part, Shape, Value};
 use wast_tree::{AbstractHeapType, HeapType, Index};
 
 /// The form of a reference of which nothing is said.
-const ANY: u64 = 0;
+const FORM_ANY: u64 = 0;
 
 /// The form of an abstract heap type.
-const ABSTRACT: u64 = 1;
+const FORM_ABSTRACT: u64 = 1;
 
 /// The form of an abstract heap type that is shared.
-const SHARED: u64 = 2;
+const FORM_SHARED: u64 = 2;
 
 /// The form of a number.
-const NUMBER: u64 = 3;
+const FORM_NUMBER: u64 = 3;
 
 /// The form of an id.
-const ID: u64 = 4;
+const FORM_ID: u64 = 4;
 
 /// Returns the form and the bits of a number.
 fn number_words(number: Number) -> (u64, u64) {
@@ -96,7 +96,7 @@ impl Reference {
     /// Returns a reference of which nothing is said.
     fn any() -> Reference {
         Reference {
-            form: ANY,
+            form: FORM_ANY,
             first: 0,
             second: 0,
         }
@@ -105,7 +105,7 @@ impl Reference {
     /// Returns a reference that has a number.
     fn of_number(number: u32) -> Reference {
         Reference {
-            form: NUMBER,
+            form: FORM_NUMBER,
             first: number as u64,
             second: 0,
         }
@@ -114,7 +114,7 @@ impl Reference {
     /// Returns a reference of an abstract heap type.
     fn of_abstract(shared: bool, ty: AbstractHeapType) -> Reference {
         Reference {
-            form: if shared { SHARED } else { ABSTRACT },
+            form: if shared { FORM_SHARED } else { FORM_ABSTRACT },
             first: heap_of(ty),
             second: 0,
         }
@@ -153,7 +153,7 @@ impl Records {
             Index::Id(id) => {
                 let name = self.id(Some(id))?;
                 Ok(Reference {
-                    form: ID,
+                    form: FORM_ID,
                     first: name.start,
                     second: name.size,
                 })

@@ -77,6 +77,13 @@ _NONE = 2**64 - 1
 _COMMAND, _MODULES, _ACTION, _VALUE, _LANE, _STRINGS = (14, 1), (19, 3), (10, 5), (4, 7), (2, 9), 11
 
 
+def _error(given: bytes, at: _archive.Diagnosis, message: str) -> rigyomad.WatError:
+    """The error of a script. Bytes that are not UTF-8 have no line in the diagnosis."""
+    line = at.line or given.count(b"\n", 0, at.offset) + 1
+    column = at.column or at.offset - given.rfind(b"\n", 0, at.offset)
+    return rigyomad.WatError(at.number, message, line, column, at.offset, max(at.offset, getattr(at, "end_offset", 0)))
+
+
 def _records(given: bytes) -> bytes:
     """The records of a script. Raises WatError if there are none."""
     call = _archive._LIBRARY.rigyomad_c_script
@@ -92,7 +99,7 @@ def _records(given: bytes) -> bytes:
     if status == _archive.MEMORY:
         raise rigyomad.WatError(12, "allocation failed")
     if status != _archive.DONE:
-        raise rigyomad._error_at(given, given, at.offset, at.end_offset, at.number, rigyomad._decoded(message.raw[: at.size]))
+        raise _error(given, at, rigyomad._decoded(message.raw[: at.size]))
     return ctypes.string_at(out, size.value)
 
 
