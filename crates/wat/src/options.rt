@@ -2,14 +2,14 @@
 
 use crate::colors::Color;
 use crate::explanations::{Entry, entry_of};
-use std::alloc::{AllocError, Global};
+use std::alloc::Global;
 use std::env::Args;
 use std::fmt;
-use wat_command::{Escaped, STANDARD};
+use wat_command::{Choice, Escaped, STANDARD, choice_of, is_option, joined};
 
 /// The effect of an option.
 #[derive(Clone, Copy)]
-enum Action {
+pub(crate) enum Action {
     /// The output goes to a file.
     Target,
     /// The outputs go into a folder.
@@ -30,28 +30,11 @@ enum Action {
     Help,
     /// The version is printed.
     Version,
-    /// An error is explained.
-    Explain(Entry),
-}
-
-/// An option of the command.
-#[derive(Clone, Copy)]
-pub(crate) struct Choice {
-    /// Its short form; empty if it has none.
-    pub short: &'static str,
-    /// Its long form.
-    pub long: &'static str,
-    /// The name of its value; empty if it takes none.
-    pub value: &'static str,
-    /// What it does, in one line.
-    pub help: &'static str,
-    /// Its effect.
-    action: Action,
 }
 
 /// The options, in the order of the help. `tools/manual` reads this table, and writes the man page
 /// and the completions of shells from it.
-pub(crate) const OPTIONS: [Choice; 10] = [
+pub(crate) const OPTIONS: [Choice<Action>; 10] = [
     Choice {
         short: "-o",
         long: "--output",
@@ -124,35 +107,6 @@ pub(crate) const OPTIONS: [Choice; 10] = [
     },
 ];
 
-/// Returns the option that a word names.
-fn choice_of(word: &str) -> Option<Choice> {
-    for choice in OPTIONS.iter() {
-        if word == choice.long || (word == choice.short && !word.is_empty()) {
-            return Some(*choice);
-        }
-    }
-    None
-}
-
-/// Returns whether a word is an option, or `--`.
-fn is_option(word: &str) -> bool {
-    word.starts_with('-') && word != STANDARD
-}
-
-/// Returns the long option and the value of a word that has both, for example `--output=FILE`.
-fn joined(alloc: Global, word: &str) -> Result<Option<(Choice, String)>, AllocError> {
-    let Some((name, value)) = word.split_once('=') else {
-        return Ok(None);
-    };
-    match choice_of(name) {
-        Some(choice) if name == choice.long => {
-            let value = String::from_str(alloc, value)?;
-            Ok(Some((choice, value)))
-        }
-        _ => Ok(None),
-    }
-}
-
 /// The kind of output of a module.
 #[derive(Clone, Copy)]
 pub(crate) enum Output {
@@ -208,9 +162,9 @@ pub(crate) enum Misuse {
     /// An option that takes no value has one here.
     UnwantedValue(String),
     /// This option has no value.
-    NoValue(Choice),
+    NoValue(Choice<Action>),
     /// This option is given twice.
-    Repeated(Choice),
+    Repeated(Choice<Action>),
     /// This is no value of `--color`.
     UnknownColor(String),
     /// No error has this number or these words.
@@ -287,7 +241,7 @@ struct Reading {
     /// The options so far.
     options: Options,
     /// The option whose value is the next word.
-    awaited: Option<Choice>,
+    awaited: Option<Choice<Action>>,
     /// Whether `--` was read. Each word after it is a file.
     is_past_options: bool,
 }
@@ -334,7 +288,7 @@ impl Reading {
         if self.awaited.is_some() || self.is_past_options {
             return None;
         }
-        match choice_of(word)?.action {
+        match choice_of(&OPTIONS, word)?.action {
             Action::Help => Some(Request::Help),
             Action::Version => Some(Request::Version),
             _ => None,
@@ -354,14 +308,14 @@ impl Reading {
             self.is_past_options = true;
             return Ok(());
         }
-        match choice_of(word.as_str()) {
+        match choice_of(&OPTIONS, word.as_str()) {
             Some(choice) => self.take_choice(choice, word),
             None => self.take_joined(alloc, word),
         }
     }
 
     /// Reads an option, whose word this is.
-    fn take_choice(&mut self, choice: Choice, word: String) -> Result<(), Misuse> {
+    fn take_choice(&mut self, choice: Choice<Action>, word: String) -> Result<(), Misuse> {
         if choice.value.is_empty() {
             return self.options.set_flag(choice, word);
         }
@@ -371,7 +325,7 @@ impl Reading {
 
     /// Reads a word that can only be an option with its value.
     fn take_joined(&mut self, alloc: Global, word: String) -> Result<(), Misuse> {
-        match joined(alloc, word.as_str()) {
+        match joined(alloc, &OPTIONS, word.as_str()) {
             Ok(Some((choice, value))) => {
                 if choice.value.is_empty() {
                     return Err(Misuse::UnwantedValue(word));
@@ -413,7 +367,7 @@ impl Options {
     }
 
     /// Applies an option without a value, which is this word.
-    fn set_flag(&mut self, choice: Choice, word: String) -> Result<(), Misuse> {
+    fn set_flag(&mut self, choice: Choice<Action>, word: String) -> Result<(), Misuse> {
         match choice.action {
             Action::Hex => self.set_output(Output::Hex, word),
             Action::Names => self.set_output(Output::Names, word),
@@ -440,7 +394,7 @@ impl Options {
     }
 
     /// Applies an option with this value.
-    fn set_value(&mut self, choice: Choice, value: String) -> Result<(), Misuse> {
+    fn set_value(&mut self, choice: Choice<Action>, value: String) -> Result<(), Misuse> {
         match choice.action {
             Action::Folder => self.set_folder(choice, value),
             Action::Color => self.set_color(value),
@@ -450,7 +404,7 @@ impl Options {
     }
 
     /// Sets the file to write.
-    fn set_target(&mut self, choice: Choice, file: String) -> Result<(), Misuse> {
+    fn set_target(&mut self, choice: Choice<Action>, file: String) -> Result<(), Misuse> {
         if self.target.is_some() {
             return Err(Misuse::Repeated(choice));
         }
@@ -459,7 +413,7 @@ impl Options {
     }
 
     /// Sets the folder of the outputs.
-    fn set_folder(&mut self, choice: Choice, folder: String) -> Result<(), Misuse> {
+    fn set_folder(&mut self, choice: Choice<Action>, folder: String) -> Result<(), Misuse> {
         if self.folder.is_some() {
             return Err(Misuse::Repeated(choice));
         }
