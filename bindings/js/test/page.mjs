@@ -6,7 +6,7 @@ import { open, serve } from "./chromium.mjs";
 const [, , module, pictures] = process.argv;
 const SECONDS = 120;
 const server = await serve(module);
-const page = await open(`${server.address}/page/index.html`, 1280, 860);
+const page = await open(`${server.address}/page/index.html`, 1280, 700);
 const pause = (time) => new Promise((done) => { setTimeout(done, time); });
 let passed = 0, failed = 0;
 
@@ -59,8 +59,8 @@ const log = (word) => until((given) => {
 const picture = async (name) => pictures && page.picture(`${pictures}/${name}.png`);
 
 try {
-  await shown();
-  let seen = await read();
+  // Twice, so that the time in the picture is not that of compiling.
+  let seen = await after(() => { document.getElementById("text").dispatchEvent(new Event("input")); });
   test("the first text is shown by section", ["header 8 bytes", "00 61 73 6d 01 00 00 00", "code ", "$fac", 'custom "name"'].every((it) => seen.result.includes(it)), seen);
   test("its bytes are counted", /^\d+ bytes in /.test(seen.state), seen);
   seen = await page.run(() => document.getElementById("version").textContent);
