@@ -116,20 +116,20 @@ impl<'a> Parts<'a> {
                 Parts::of_module(*module, None)
             }
             CommandKind::Instance(id, of) => Parts::of_ids(*id, *of),
-            CommandKind::Register(name, of) => Parts::of_register(name, *of),
+            CommandKind::Register(name, of) => Parts::of_register(*name, *of),
             CommandKind::Action(action) => Parts::of_action(*action, None),
             CommandKind::AssertReturn(execution, results) => Parts::of_return(execution, *results),
             CommandKind::AssertTrap(execution, text)
             | CommandKind::AssertSuspension(execution, text) => {
-                Parts::of_execution(execution, Some(text))
+                Parts::of_execution(execution, Some(*text))
             }
-            CommandKind::AssertExhaustion(action, text) => Parts::of_action(*action, Some(text)),
+            CommandKind::AssertExhaustion(action, text) => Parts::of_action(*action, Some(*text)),
             CommandKind::AssertException(execution) => Parts::of_execution(execution, None),
             CommandKind::AssertMalformed(module, text)
             | CommandKind::AssertMalformedCustom(module, text)
             | CommandKind::AssertInvalid(module, text)
             | CommandKind::AssertInvalidCustom(module, text)
-            | CommandKind::AssertUnlinkable(module, text) => Parts::of_module(*module, Some(text)),
+            | CommandKind::AssertUnlinkable(module, text) => Parts::of_module(*module, Some(*text)),
             CommandKind::Thread(id, of) => Parts::of_ids(Some(*id), *of),
             CommandKind::ThreadEnd => Parts::none(),
             CommandKind::Wait(id) => Parts::of_ids(Some(*id), None),

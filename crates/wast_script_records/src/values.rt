@@ -173,7 +173,8 @@ impl Records {
     fn heap_type(&mut self, heap: HeapType<'_>) -> Result<Reference, AllocError> {
         match heap {
             HeapType::Abstract { shared, ty } => Ok(Reference::of_abstract(shared, ty)),
-            HeapType::Concrete(index) | HeapType::Exact(index) => self.index(index),
+            HeapType::Concrete(index) => self.index(index),
+            HeapType::Exact(index) => self.index(index),
         }
     }
 
