@@ -198,7 +198,7 @@ static void run_command(struct run *run, size_t index) {
 
 static int run_script(const char *text, size_t size) {
     struct run run;
-    struct rigyomad_diagnosis at;
+    struct rigyomad_diagnosis at = {0};
     char message[256];
     memset(&run, 0, sizeof run);
     uint32_t status =

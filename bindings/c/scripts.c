@@ -168,7 +168,7 @@ static void print_command(const struct rigyomad_script *script, size_t index) {
 static uint32_t print_script(const char *text) {
     char message[256];
     struct rigyomad_script script;
-    struct rigyomad_diagnosis at;
+    struct rigyomad_diagnosis at = {0};
     uint32_t status =
         rigyomad_script_open(text, strlen(text), &script, message, sizeof message, &at);
     if (status == RIGYOMAD_DONE) {
