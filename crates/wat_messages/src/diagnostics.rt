@@ -234,19 +234,16 @@ fn word_at(text: &[u8], start: usize) -> Option<Lexeme<'_>> {
 
 /// Returns the word that may be meant where an error in the text format is.
 fn hint_of<'a>(text: &'a [u8], start: usize, fault: TextFault) -> Option<Hint<'a>> {
-    let list = match fault {
-        TextFault::Operator => INSTRUCTIONS,
-        TextFault::Expected(what) => words_for(what),
-        _ => "",
+    let (list, is_field) = match fault {
+        TextFault::Operator => (INSTRUCTIONS.as_bytes(), false),
+        TextFault::Expected(what) => (words_for(what)?, what == "valid module field"),
+        _ => return None,
     };
-    if list.is_empty() {
-        return None;
-    }
     let word = word_at(text, start)?;
     if word.kind != Kind::Word {
         return None;
     }
-    if word.start == start && list == FIELDS && is_listed(word.bytes, FIELDS.as_bytes()) {
+    if word.start == start && is_field && is_listed(word.bytes, FIELDS.as_bytes()) {
         return Some(Hint {
             before: "(",
             word: word.bytes,
@@ -255,7 +252,7 @@ fn hint_of<'a>(text: &'a [u8], start: usize, fault: TextFault) -> Option<Hint<'a
     if look_up(shown(word.bytes)).is_some() {
         return None;
     }
-    let near = nearest_of(word.bytes, list.as_bytes())?;
+    let near = nearest_of(word.bytes, list)?;
     Some(Hint {
         before: "",
         word: near,

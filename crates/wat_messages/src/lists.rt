@@ -138,18 +138,18 @@ pub(crate) static PRODUCERS: &str = "language sdk processed-by";
 /// The subsections of `(@dylink.0`.
 pub(crate) static DYLINK: &str = "mem-info needed export-info import-info runtime-path";
 
-/// Returns the words that may be where a reader expected this, in its words; empty for others.
-pub(crate) fn words_for(expected: &str) -> &'static str {
+/// Returns the words that may be where a reader expected this, in its words; nothing for others.
+pub(crate) fn words_for(expected: &str) -> Option<&'static [u8]> {
     match expected {
-        "valid module field" => FIELDS,
-        "a value type" | "a reference type" => VALUE_TYPES,
-        "a heap type" | "`func` or a reference type" => HEAP_TYPES,
-        "a number type" | "a string or a number type" => NUMBER_TYPES,
-        "a vector shape such as `i32x4`" => SHAPES,
-        "`func`, `table`, `memory`, `global` or `tag`" => KINDS,
-        "`(func`, `(struct`, `(array` or `(cont`" => TYPES,
-        "`language`, `sdk` or `processed-by`" => PRODUCERS,
-        "`dylink.0` subsection name" => DYLINK,
-        _ => "",
+        "valid module field" => Some(FIELDS.as_bytes()),
+        "a value type" | "a reference type" => Some(VALUE_TYPES.as_bytes()),
+        "a heap type" | "`func` or a reference type" => Some(HEAP_TYPES.as_bytes()),
+        "a number type" | "a string or a number type" => Some(NUMBER_TYPES.as_bytes()),
+        "a vector shape such as `i32x4`" => Some(SHAPES.as_bytes()),
+        "`func`, `table`, `memory`, `global` or `tag`" => Some(KINDS.as_bytes()),
+        "`(func`, `(struct`, `(array` or `(cont`" => Some(TYPES.as_bytes()),
+        "`language`, `sdk` or `processed-by`" => Some(PRODUCERS.as_bytes()),
+        "`dylink.0` subsection name" => Some(DYLINK.as_bytes()),
+        _ => None,
     }
 }
