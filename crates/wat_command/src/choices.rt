@@ -23,7 +23,13 @@ pub struct Choice<A> {
 pub fn choice_of<A: Copy>(choices: &[Choice<A>], word: &str) -> Option<Choice<A>> {
     for choice in choices.iter() {
         if word == choice.long || (word == choice.short && !word.is_empty()) {
-            return Some(*choice);
+            return Some(Choice {
+                short: choice.short,
+                long: choice.long,
+                value: choice.value,
+                help: choice.help,
+                action: choice.action,
+            });
         }
     }
     None
