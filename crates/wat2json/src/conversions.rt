@@ -2,13 +2,36 @@
 
 use crate::refusals::{Refusal, is_of_names, is_uncovered};
 use std::alloc::{AllocError, Global};
+use std::str;
 use wast_script::{ModuleForm, Script, ScriptModule};
 use wast_script_json::{ConvertedModule, ModuleFile, Role, commands_of, module_of};
 use wast_tree::Span;
 use wat_bytes::{Refused, UncoveredForm, encode_text, encoded_text};
 use wat_text::Strings;
 
-/// Returns an unsupported construct with its word and the position of that, as encoding the text of the module finds them.
+/// The word of a module that is defined and not instantiated, which only scripts have, and as many spaces.
+const DEFINITION: (&str, &str) = ("definition", "          ");
+
+/// Returns the text of a module with spaces for the first `definition`, so that positions in it stay; `None` without that word, or
+/// if an allocation failed.
+fn without_definition<'a>(alloc: Global, source: &str, strings: &'a Strings) -> Option<&'a str> {
+    let (word, spaces) = DEFINITION;
+    let (before, after) = source.split_once(word)?;
+    let text = format!(in alloc; "{before}{spaces}{after}").ok()?;
+    let kept = strings.keep(text.as_bytes()).ok()?;
+    str::from_utf8(kept).ok()
+}
+
+/// Returns the unsupported construct that encoding a text finds.
+fn found_in<'a>(alloc: Global, text: &'a str, strings: &'a Strings) -> Option<UncoveredForm<'a>> {
+    match encode_text(alloc, text, strings) {
+        Err(Refused::Uncovered(written)) => Some(written),
+        _ => None,
+    }
+}
+
+/// Returns an unsupported construct with its word and the position of that, as encoding the text of the module finds them. In quotes
+/// it has the position of the first string, and no word.
 fn as_written<'a>(
     alloc: Global,
     script: &Script<'a>,
@@ -17,14 +40,20 @@ fn as_written<'a>(
     found: UncoveredForm<'a>,
 ) -> UncoveredForm<'a> {
     let start = script.start(module).offset;
-    match encode_text(alloc, script.source(module), strings) {
-        Err(Refused::Uncovered(written)) => {
-            let offset = written.span.offset.saturating_add(start);
-            let span = Span { offset };
-            UncoveredForm { span, ..written }
-        }
-        _ => found,
-    }
+    let source = script.source(module);
+    let written = match found_in(alloc, source, strings) {
+        Some(written) => Some(written),
+        None => match without_definition(alloc, source, strings) {
+            Some(text) => found_in(alloc, text, strings),
+            None => None,
+        },
+    };
+    let Some(written) = written else {
+        return found;
+    };
+    let offset = written.span.offset.saturating_add(start);
+    let span = Span { offset };
+    UncoveredForm { span, ..written }
 }
 
 /// Returns the bytes of a module that is instantiated or encoded.
