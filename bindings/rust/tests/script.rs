@@ -194,7 +194,7 @@ fn unsupported_construct_is_no_fault_of_the_script() {
 #[test]
 fn text_that_is_no_script_has_a_fault() {
     let fault = Script::parse("(module)\n(assert_foo)").unwrap_err();
-    assert_eq!(fault.to_string(), "2:2: expected a command");
+    assert_eq!(fault.to_string(), "2:2: expected a command, found `assert_foo`");
     assert_eq!(fault.kind(), Kind::Malformed);
 }
 
