@@ -108,7 +108,7 @@ class Tests(unittest.TestCase):
         self.assertEqual([it["type"] for it in first["commands"][1]["commands"]], ["action"])
 
     def test_text_that_is_no_script_has_an_error(self):
-        for text, message in [("(module)\n(assert_foo)", "2:2: expected a command"), (b"(module)\xff", "1:9: malformed UTF-8 encoding")]:
+        for text, message in [("(module)\n(assert_foo)", "2:2: expected a command, found `assert_foo`"), (b"(module)\xff", "1:9: malformed UTF-8 encoding")]:
             with self.assertRaises(rigyomad.WatError) as raised:
                 scripts.commands(text)
             self.assertEqual(str(raised.exception), message)

@@ -587,6 +587,7 @@ impl<'s> Module<'s> {
             offset: span.offset,
             line: span.line,
             column: span.column,
+            end_offset: span.offset,
             ..Diagnosis::default()
         };
         Err(Fault::new(self.text, &at, self.record.bytes(17).unwrap_or_default()))

@@ -145,7 +145,9 @@ def _error(text: Text, given: bytes, status: int) -> Exception:
     if found is None:
         return WatError(12, "allocation failed")
     at, message = found
-    if at.line or status == _archive.UTF8:
+    if status == _archive.UTF8:  # the byte at the offset begins no character
+        return _error_at(text, given, at.offset, at.offset + 1, at.number, _decoded(message))
+    if at.line:
         return _error_at(text, given, at.offset, at.end_offset, at.number, _decoded(message))
     return WatError(at.number, _decoded(message))
 

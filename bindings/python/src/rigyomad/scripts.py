@@ -81,7 +81,8 @@ def _error(given: bytes, at: _archive.Diagnosis, message: str) -> rigyomad.WatEr
     """The error of a script. Bytes that are not UTF-8 have no line in the diagnosis."""
     line = at.line or given.count(b"\n", 0, at.offset) + 1
     column = at.column or at.offset - given.rfind(b"\n", 0, at.offset)
-    return rigyomad.WatError(at.number, message, line, column, at.offset, max(at.offset, getattr(at, "end_offset", 0)))
+    end = at.end_offset if at.line else at.offset + 1
+    return rigyomad.WatError(at.number, message, line, column, at.offset, max(at.offset, end))
 
 
 def _records(given: bytes) -> bytes:
