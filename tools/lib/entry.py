@@ -31,15 +31,20 @@ class Failed(Exception):
 
 
 @functools.lru_cache(maxsize=None)
-def kit():
-    """The folder of the kit that `rt` belongs to, which has to be that of the proofs."""
+def version_of_kit():
+    """What `rt version` prints, which has to name the logic of the proofs."""
     rt = shutil.which("rt")
     if rt is None:
         raise Failed("rt is not found: it comes with the Rattle kit")
     said = subprocess.run([rt, "version"], stdin=subprocess.DEVNULL, capture_output=True, text=True, errors="replace").stdout.strip()
     if not said.endswith(LOGIC):
         raise Failed(f"another kit: `rt version` says `{said[-80:]}`, and not `{LOGIC}`")
-    return pathlib.Path(rt).resolve().parent.parent
+    return said
+
+
+def kit():
+    """The folder of the kit that `rt` belongs to."""
+    return version_of_kit() and pathlib.Path(shutil.which("rt")).resolve().parent.parent
 
 
 def files_of_clone():

@@ -2,9 +2,12 @@
 
 `rt try` compiles a program with run-time checks, runs it once and keeps nothing: it hands a module of LLVM to the compiler of the
 kit. Here it runs in a folder of links to the kit, in which that compiler is a script that keeps the module. For example,
-`module(copy / "crates/wat", room, is_test=False)` is the path of the module of the command `wat`.
+`module(copy / "crates/wat", room, is_test=False)` is the path of the module of the command `wat`. Modules are kept in the folder `out`,
+by a checksum of all that they are made of, so that `tools/build wat` after `tools/install` compiles no source again.
 """
 
+import hashlib
+import os
 import pathlib
 import re
 import shutil
@@ -79,6 +82,9 @@ mod calls {
 # No program takes longer to compile.
 SECONDS = 1_200
 
+# Where modules are kept, and how many of each crate.
+KEPT, MOST_KEPT = ROOT / "out", 4
+
 
 class NotBuilt(entry.Failed):
     """Why a program was not built."""
@@ -117,8 +123,56 @@ def linked_kit(folder, module, is_proving=False):
     script(folder / "toolchain/bin/clang", keeper.format(module=module, compiler=kit() / "toolchain/bin/clang"))
 
 
-def module(crate, room, is_test=False):
-    """The module of LLVM of a program, or of the tests of a crate, whose folder is `crate`."""
+def below(name, folder=ROOT):
+    """The crates that a crate depends on, by the file crates.txt of a folder, without those of the kit."""
+    lines = (line.split(":") for line in (folder / "crates.txt").read_text(encoding="utf-8").splitlines() if ":" in line)
+    depends = {head.split()[0]: names.split() for head, names in lines}
+    found, left = [], [name]
+    while left:
+        more = [it for it in depends[left.pop()] if it in depends and it not in found]
+        found += more
+        left += more
+    return sorted(set(found))
+
+
+def key_of(crate, is_test):
+    """A checksum of all that a module is made of: the kit, this file, and the files of the crate and of those below it."""
+    top = crate.parent.parent
+    found = hashlib.sha256(f"{entry.version_of_kit()} {is_test}".encode() + pathlib.Path(__file__).read_bytes())
+    for name in [crate.name, *below(crate.name, top)]:
+        for path in sorted(path for path in (top / "crates" / name).rglob("*") if path.is_file() and "out" not in path.parts[len(top.parts) :]):
+            data = path.read_bytes()
+            found.update(f"{path.relative_to(top)} {len(data)}\n".encode() + data)
+    return found.hexdigest()[:24]
+
+
+def keep(path, name, key):
+    """Keeps a module, and removes the oldest ones of its crate. What another run writes at the same time is the same."""
+    KEPT.mkdir(exist_ok=True)
+    number, beside = tempfile.mkstemp(prefix=".", dir=KEPT)
+    os.close(number)
+    shutil.copyfile(path, beside)
+    os.replace(beside, KEPT / f"{name}-{key}.bc")
+    for old in sorted(KEPT.glob(f"{name}-*.bc"), key=lambda it: it.stat().st_mtime)[:-MOST_KEPT]:
+        old.unlink(missing_ok=True)
+
+
+def module(crate, room, is_test=False, is_anew=False):
+    """The module of LLVM of a program, or of the tests of a crate, whose folder is `crate`: the kept one, unless it is to be made anew."""
+    name, key = f"{crate.name}{'_tests' * is_test}", key_of(crate, is_test)
+    path = pathlib.Path(tempfile.mkdtemp(prefix="module-", dir=room)) / "module.bc"
+    kept = KEPT / f"{name}-{key}.bc"
+    if kept.is_file() and not is_anew:
+        shutil.copyfile(kept, path)
+        os.utime(kept)
+        return path
+    made = made_module(crate, room, is_test)
+    keep(made, name, key)
+    return made
+
+
+def made_module(crate, room, is_test):
+    """The same, compiled from the sources."""
     folder = pathlib.Path(tempfile.mkdtemp(prefix="kit-", dir=room))
     path = folder / "module.bc"
     (folder / "kit").mkdir()
@@ -184,11 +238,11 @@ def exported(path, crate):
     return text
 
 
-def archive_module(crate, room):
+def archive_module(crate, room, is_anew=False):
     """The text of the module of a crate of functions for C."""
     source = crate / "src/lib.rt"
     source.write_text(source.read_text(encoding="utf-8") + CALLS, encoding="utf-8")
-    return exported(module(crate, room, is_test=True), crate)
+    return exported(module(crate, room, True, is_anew), crate)
 
 
 def archive(crate, out, room, version, level=2, target=HOST):
