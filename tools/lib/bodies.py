@@ -1,16 +1,16 @@
 """Texts of one function or one expression that is wrong or at an edge, with their answers, for `tools/texts`.
 
 In a text `^` stands before what is told, and in its answer for that place. The bytes were told by hand; those of instructions that
-have no immediates but lanes and memory arguments are the keys of the table in `tools/ops`, which also says what no encoder covers.
+have no immediates but lanes and memory arguments are the keys of the table in `tools/data/instructions.txt`, which also says what no encoder covers.
 """
 
 import itertools
-import pathlib
 import re
 
+import instructions
 from printing import natural
 
-OPS = (pathlib.Path(__file__).resolve().parent.parent / "ops").read_text()
+TABLE = instructions.sections()
 
 TOLD = r"""
 (module (func br ^$a))	fault at ^: unknown label: failed to find name `$a`
@@ -205,7 +205,7 @@ def row(kind, key, name):
 def table():
     """The rows of the table, those with one first word together."""
     rows = []
-    for line in re.search(r'^TABLE = """\n(.*?)\n"""', OPS, re.S | re.M)[1].split("\n"):
+    for line in TABLE["instructions"]:
         kind, key, names = line.split(" ", 2)
         if kind in ("Plain", "Mem", "Lane", "MemLane"):
             rows += [row(kind, int(key, 16) + n, name) for n, name in enumerate(listed(names))]
@@ -244,7 +244,7 @@ OTHERS_UNCOVERED = {
 
 
 def uncovered():
-    for line in re.search(r'^OTHERS = """\n(.*?)\n"""', OPS, re.S | re.M)[1].split("\n"):
+    for line in TABLE["others"]:
         kind, names = line.split(" ", 1)
         if kind in UNCOVERED:
             behind, form = UNCOVERED[kind]

@@ -1,7 +1,7 @@
 """The opcodes of instructions in runs, for `tools/texts`.
 
 A line of RUNS is the opcode of its first instruction, a kind of immediates, and instructions whose opcodes rise by one: a byte, or
-a prefix and a number. They were copied from the binary format, and not from the table in `tools/ops`, so that a number that is wrong
+a prefix and a number. They were copied from the binary format, and not from the table in `tools/data/instructions.txt`, so that a number that is wrong
 there differs. For example, the bytes of `fc 0f index table.grow table.size table.fill` are `fc 0f 00 fc 10 00 fc 11 00`.
 """
 
