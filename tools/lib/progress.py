@@ -43,8 +43,8 @@ class Steps:
 
     def __init__(self, count, word=None):
         self.count, self.done, self.running = count, 0, {}
-        # names of steps that a tool counts once
-        self.known = set()
+        # names of steps that a tool counts once, and what is said beside what runs
+        self.known, self.beside = set(), ""
         self.began = self.printed = time.monotonic()
         self.is_screen = word is None and sys.stderr.isatty()
         self.is_shown = self.is_screen or word == "-v"
@@ -79,11 +79,15 @@ class Steps:
         while not self.ended.wait(OFTEN):
             with self.lock:
                 now = time.monotonic()
-                what = f"{clock(now - self.began)} {', '.join(self.running)}"
+                what = f"{clock(now - self.began)} {', '.join(self.running)}{self.beside}"
                 if self.is_screen:
                     self.show(what[: shutil.get_terminal_size().columns - 12], end="")
                 elif self.running and now - self.printed >= SELDOM:
                     self.show(what)
+
+    def note(self, text):
+        """Says something beside what runs."""
+        self.beside = f": {text}"
 
     def tell(self, line):
         """Prints a line of what the tool was called for."""
@@ -106,7 +110,7 @@ class Steps:
         try:
             yield step
             with self.lock:
-                self.done += 1
+                self.done, self.beside = self.done + 1, ""
                 self.show(f"{what}: {step.how} ({clock(time.monotonic() - step.began)})")
         finally:
             with self.lock:
