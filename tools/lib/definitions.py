@@ -140,7 +140,7 @@ class SpecModule:
         return f"{self.crate} {'/'.join(self.parts)}"
 
     def read(self):
-        block, here, indent = "", None, 0
+        block, here = "", None
         for number, line in enumerate(sources.lines_of(self.path), 1):
             bare = line.strip()
             if line.startswith(HEADER):
@@ -158,7 +158,7 @@ class SpecModule:
                 at = SIGNATURE.match(line)
                 if at and len(at["indent"]) <= (2 if block else 0):
                     here = Definition(self, number, unescaped(at["type"] or at["value"]), at["kind"] or "value")
-                    here.around, indent = block, len(at["indent"])
+                    here.around = block
                     self.own[here.name] = here
                 elif here is not None and here.kind == "data" and (made := re.match(rf" +({NAME}) :", line)):
                     here.constructors.add(unescaped(made[1]))

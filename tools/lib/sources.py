@@ -130,7 +130,7 @@ def variants(path, lines, start, end):
             last = block_end(lines, number, 4)
             doc, attributes = doc_above(lines, number)
             item = Item("part", match.group(2), path, number + 1, doc, attributes, match.group(1) == "pub ")
-            body = [l for l in lines[number:last + 1] if not l.strip().startswith(("///", "#["))]
+            body = [it for it in lines[number:last + 1] if not it.strip().startswith(("///", "#["))]
             item.signature = joined(body).rstrip(",")
             found.append(item)
             number = last
@@ -247,7 +247,7 @@ def inline_module(lines, name):
     """The lines of a module that stands in its file, or None."""
     for number, line in enumerate(lines):
         if re.match(rf"^pub mod {name} {{", line):
-            return [l[4:] for l in lines[number + 1:block_end(lines, number, 0)]], doc_above(lines, number)[0]
+            return [it[4:] for it in lines[number + 1:block_end(lines, number, 0)]], doc_above(lines, number)[0]
     return None
 
 

@@ -17,7 +17,8 @@ PART = re.compile(r'\(type [^ ()]+\)|\(module (?:definition|instance)\b.*|.*(?:\
 
 # What `wat` says of a text that is read, and whose names, types or sizes are wrong.
 READ = re.compile(
-    r"error: (?:uncovered form|inline function type|accessing a|invalid type|import after|duplicate \w+ identifier|unknown |\w+ is not a|failed to find|reference to|cannot |.*(?:mismatch|beyond the table|not supported|unsupported)|module is|.*does not match)"
+    r"error: (?:uncovered form|inline function type|accessing a|invalid type|import after|duplicate \w+ identifier|unknown |\w+ is not a|failed to find"
+    r"|reference to|cannot |.*(?:mismatch|beyond the table|not supported|unsupported)|module is|.*does not match)"
 )
 
 # How a page says that a text is not read.

@@ -92,7 +92,7 @@ class Name(NamedTuple):
 
     #: One of `SPACES`.
     space: str
-    index: int
+    index: int  # type: ignore[assignment]
     #: Without the `$` of its id, and without escapes.
     name: str
     #: Where its id begins in the text.
