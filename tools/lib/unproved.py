@@ -147,14 +147,18 @@ def key_of(crate, is_test):
 
 
 def keep(path, name, key):
-    """Keeps a module, and removes the oldest ones of its crate. What another run writes at the same time is the same."""
-    KEPT.mkdir(exist_ok=True)
-    number, beside = tempfile.mkstemp(prefix=".", dir=KEPT)
-    os.close(number)
-    shutil.copyfile(path, beside)
-    os.replace(beside, KEPT / f"{name}-{key}.bc")
-    for old in sorted(KEPT.glob(f"{name}-*.bc"), key=lambda it: it.stat().st_mtime)[:-MOST_KEPT]:
-        old.unlink(missing_ok=True)
+    """Keeps a module, and removes the oldest ones of its crate. What another run writes at the same time is the same. Where nothing
+    can be written, nothing is kept."""
+    try:
+        KEPT.mkdir(exist_ok=True)
+        number, beside = tempfile.mkstemp(prefix=".", dir=KEPT)
+        os.close(number)
+        shutil.copyfile(path, beside)
+        os.replace(beside, KEPT / f"{name}-{key}.bc")
+        for old in sorted(KEPT.glob(f"{name}-*.bc"), key=lambda it: it.stat().st_mtime)[:-MOST_KEPT]:
+            old.unlink(missing_ok=True)
+    except OSError:
+        return
 
 
 def module(crate, room, is_test=False, is_anew=False):
