@@ -10,6 +10,8 @@ if sys.version_info < (3, 9):
     sys.exit("tools: Python 3.9 or later is needed, and this is Python %d.%d" % sys.version_info[:2])
 
 import functools
+import importlib.machinery
+import importlib.util
 import os
 import pathlib
 import re
@@ -45,6 +47,14 @@ def version_of_kit():
 def kit():
     """The folder of the kit that `rt` belongs to."""
     return version_of_kit() and pathlib.Path(shutil.which("rt")).resolve().parent.parent
+
+
+def tool(name):
+    """Another tool, as a module."""
+    loader = importlib.machinery.SourceFileLoader(name.replace("-", "_"), str(ROOT / "tools" / name))
+    found = importlib.util.module_from_spec(importlib.util.spec_from_loader(loader.name, loader))
+    loader.exec_module(found)
+    return found
 
 
 def files_of_clone():
