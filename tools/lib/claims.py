@@ -1,6 +1,6 @@
 """Checks what the docs claim of the repository in figures and in relations, for `tools/check-docs`.
 
-A claim is a pattern in the text of a page, and what it must say. For example, "which has 571 rows" must give the number of rows of
+A claim is a pattern in the text of a page, and what it must say. For example, "which has 571 entries" must give the number of rows of
 the opcode table, "`wast_resolve_labels` (on `wast_base` alone)" must agree with crates.txt, and "E1 to E13" with the enum `Fault`. A page is
 read as one text, so that a claim may go over the end of a line; shell blocks and other code are part of it.
 """
@@ -39,8 +39,8 @@ def figures():
     """Patterns of the docs, with the numbers that their groups must say, and the name of what is counted."""
     faces, rows = len(sources.FACES), rows_of_table()
     return [
-        (rf"{NUMBER} rows\b(?= is written once|; instructions)", [rows], "rows of the opcode table"),
-        (rf"\btable(?: of instructions)?(?:,\s+which)?\s+has\s+{NUMBER}\s+rows\b", [rows], "rows of the opcode table"),
+        (rf"{NUMBER} entries\b(?= is written once)", [rows], "entries of the opcode table"),
+        (rf"\btable(?: of instructions)?(?:,\s+which)?\s+has\s+{NUMBER}\s+entries\b", [rows], "entries of the opcode table"),
         (rf"\bcallers meet (?:these )?{NUMBER}\b", [faces], "crates that callers meet"),
         (rf"\b(?:beside|of) the {SEVERAL}\b|\bthe {SEVERAL} crates\b", [faces], "crates that callers meet"),
     ]
