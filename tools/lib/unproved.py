@@ -6,6 +6,7 @@ kit. Here it runs in a folder of links to the kit, in which that compiler is a s
 by a checksum of all that they are made of, so that `tools/build wat` after `tools/install` compiles no source again.
 """
 
+import gzip
 import hashlib
 import os
 import pathlib
@@ -83,7 +84,7 @@ mod calls {
 SECONDS = 1_200
 
 # Where modules are kept, and how many of each crate.
-KEPT, MOST_KEPT = ROOT / "out", 4
+KEPT, MOST_KEPT = ROOT / "out", 3
 
 
 class NotBuilt(entry.Failed):
@@ -152,10 +153,10 @@ def keep(path, name, key):
     try:
         KEPT.mkdir(exist_ok=True)
         number, beside = tempfile.mkstemp(prefix=".", dir=KEPT)
-        os.close(number)
-        shutil.copyfile(path, beside)
-        os.replace(beside, KEPT / f"{name}-{key}.bc")
-        for old in sorted(KEPT.glob(f"{name}-*.bc"), key=lambda it: it.stat().st_mtime)[:-MOST_KEPT]:
+        with open(number, "wb") as file:
+            file.write(gzip.compress(path.read_bytes(), 1))
+        os.replace(beside, KEPT / f"{name}-{key}.bc.gz")
+        for old in sorted(KEPT.glob(f"{name}-*.bc.gz"), key=lambda it: it.stat().st_mtime)[:-MOST_KEPT]:
             old.unlink(missing_ok=True)
     except OSError:
         return
@@ -165,9 +166,9 @@ def module(crate, room, is_test=False, is_anew=False):
     """The module of LLVM of a program, or of the tests of a crate, whose folder is `crate`: the kept one, unless it is to be made anew."""
     name, key = f"{crate.name}{'_tests' * is_test}", key_of(crate, is_test)
     path = pathlib.Path(tempfile.mkdtemp(prefix="module-", dir=room)) / "module.bc"
-    kept = KEPT / f"{name}-{key}.bc"
+    kept = KEPT / f"{name}-{key}.bc.gz"
     if kept.is_file() and not is_anew:
-        shutil.copyfile(kept, path)
+        path.write_bytes(gzip.decompress(kept.read_bytes()))
         os.utime(kept)
         return path
     made = made_module(crate, room, is_test)
