@@ -61,7 +61,8 @@ def files_of_clone():
     """The files of the working tree that git knows, or would add."""
     words = ["git", "ls-files", "-z", "--cached", "--others", "--exclude-standard"]
     listed = subprocess.run(words, cwd=ROOT, check=True, capture_output=True).stdout.decode()
-    return [name for name in listed.split("\0") if name and (ROOT / name).is_file()]
+    # (git names a file that is being merged several times)
+    return [name for name in dict.fromkeys(listed.split("\0")) if name and (ROOT / name).is_file()]
 
 
 def usage(doc):
