@@ -13,6 +13,8 @@ RULES = {
     "data count": "a count of data segments is written",
     "locals": "locals of a type are counted together, or one by one",
     "memory arguments": "the memory of an access stands there, or is the first",
+    "reference types": "a reference that may be null, to an abstract heap type, has one byte or two",
+    "compact imports": "imports of one module after another are a group, in the form of a proposal that wast2json --enable-all writes",
 }
 
 SHORT = {0x40, *range(0x63, 0x80)}
@@ -83,7 +85,10 @@ class Module:
                 return
         if kind == 12 and "data count" in self.rules:
             return
-        read = {2: self.imports, 3: self.functions, 9: self.elements, 10: self.code, 11: self.data, 13: self.tags}.get(kind)
+        if kind == 2:
+            self.said += [(kind, it) for it in self.import_section(content)]
+            return
+        read = {3: self.functions, 4: self.tables, 6: self.globals, 9: self.elements, 10: self.code, 11: self.data, 13: self.tags}.get(kind)
         start = content.at
         said = content.many(lambda: read(content)) if read and content.data[start:] != b"\0" else content.data
         if said != b"\0":
@@ -97,9 +102,15 @@ class Module:
             if kind != 0x60:
                 content.at = start
                 return []
-            shape = (tuple(content.many(content.value_type)), tuple(content.many(content.value_type)))
+            shape = (tuple(content.many(lambda: self.value_type(content))), tuple(content.many(lambda: self.value_type(content))))
             types.append((shape, content.data[begin : content.at]))
         return types
+
+    def value_type(self, content):
+        """A type of values."""
+        ty = content.value_type()
+        is_short = "reference types" in self.rules and isinstance(ty, tuple) and ty[0] == 0x63 and ty[1] < 0
+        return ty[1] & 0x7F if is_short else ty
 
     def type_of(self, index):
         """A type by its number: its parts, where types may stand elsewhere."""
@@ -107,21 +118,48 @@ class Module:
             return self.types[index][0]
         return index
 
-    def imports(self, content):
-        names = content.take(content.number()), content.take(content.number())
+    def import_section(self, content):
+        """The imports, of which several of one module may be a group. The count before them is that of groups, or that of imports, which
+        wast2json 1.0.42 writes there."""
+        count, groups = content.number(), []
+        while content.left():
+            groups.append(self.import_group(content))
+        imports = [it for group in groups for it in group]
+        if count not in (len(groups), len(imports)):
+            raise Unknown(f"{count} imports")
+        return imports if "compact imports" in self.rules else groups
+
+    def import_group(self, content):
+        """An import, alone in a list; or those of a group, which has an empty name and the kind 7f before its imports."""
+        module, name = content.take(content.number()), content.take(content.number())
         kind = content.byte()
+        if not name and kind == 0x7F:
+            return content.many(lambda: (module, content.take(content.number()), self.external_type(content, content.byte())))
+        return [(module, name, self.external_type(content, kind))]
+
+    def external_type(self, content, kind):
+        """The kind and type of an import."""
         if kind == 0:
-            return names, kind, self.type_of(content.number())
+            return kind, self.type_of(content.number())
         if kind == 4:
-            return names, kind, content.byte(), self.type_of(content.number())
+            return kind, content.byte(), self.type_of(content.number())
         if kind == 3:
-            return names, kind, content.value_type(), content.byte()
-        ty = content.value_type() if kind == 1 else None
+            return kind, self.value_type(content), content.byte()
+        ty = self.value_type(content) if kind == 1 else None
         flags = content.number()
-        return names, kind, ty, flags, content.number(), content.number() if flags & 1 else None, content.number() if flags & 8 else None
+        return kind, ty, flags, content.number(), content.number() if flags & 1 else None, content.number() if flags & 8 else None
 
     def functions(self, content):
         return self.type_of(content.number())
+
+    def tables(self, content):
+        is_initial = content.data[content.at] == 0x40
+        if is_initial:
+            content.take(2)
+        return self.external_type(content, 1), self.expression(content) if is_initial else None
+
+    def globals(self, content):
+        return self.external_type(content, 3), self.expression(content)
 
     def tags(self, content):
         return content.byte(), self.type_of(content.number())
@@ -132,7 +170,7 @@ class Module:
         offset = self.expression(content) if not flags & 1 else None
         kind = 0 if not flags & 4 else (0x70, None)
         if flags & 3:
-            kind = content.value_type() if flags & 4 else content.byte()
+            kind = self.value_type(content) if flags & 4 else content.byte()
         kind = "functions" if kind in (0, 0x70, (0x70, None)) else kind
         if flags & 4:
             items = content.many(lambda: self.expression(content))
@@ -150,7 +188,7 @@ class Module:
 
     def code(self, content):
         body = Bytes(content.take(content.number()))
-        groups = body.many(lambda: (body.number(), body.value_type()))
+        groups = body.many(lambda: (body.number(), self.value_type(body)))
         if "locals" in self.rules:
             groups = [ty for count, ty in groups for _ in range(min(count, 10_000))]
         return groups, self.instructions(body)
@@ -179,7 +217,7 @@ class Module:
 
     def block_type(self, body):
         if body.data[body.at] in SHORT:
-            return body.value_type()
+            return self.value_type(body)
         index = body.signed()
         if "block types by index" in self.rules and index < len(self.types):
             params, results = self.types[index][0]
@@ -208,7 +246,7 @@ class Module:
         if op in (0x11, 0x13):
             return op, self.type_of(body.number()), body.number()
         if op == 0x1C:
-            return op, body.many(body.value_type)
+            return op, body.many(lambda: self.value_type(body))
         if op == 0x1F:
             return op, self.block_type(body), body.many(lambda: [body.number() for _ in range(1 + (body.data[body.at] < 2) + 1)])
         if 0x28 <= op <= 0x3E:
@@ -237,8 +275,9 @@ class Module:
         return (*row, body.byte()) if 21 <= row[1] <= 34 else row
 
 
-# Subsections of the name section that are not compared: `wat2wasm` writes no labels (3), and tags with the number that is now that of fields (10, 11).
-UNNAMED = {3, 10, 11}
+# Subsections of the name section that are not compared: `wat2wasm` writes no labels (3), tags with the number that is now that of fields (10, 11), and
+# no parameters of types and of tags (12, 13), whose numbers are this project's.
+UNNAMED = {3, 10, 11, 12, 13}
 
 
 def names(data):
@@ -265,6 +304,14 @@ def names(data):
     return {kind: said for kind, said in found.items() if said}
 
 
+def known_names(ours, theirs):
+    """What the name section of ours says, but for what wabt leaves out: in a module with types of structs and arrays it names no such types."""
+    found, other = names(ours), names(theirs).get(4, {})
+    if 4 in found and not Module(ours, set()).types:
+        found[4] = {index: name for index, name in found[4].items() if index in other}
+    return {kind: said for kind, said in found.items() if said}
+
+
 def fault(ours, theirs, is_text, source):
     """What is wrong with a file of a module, beside that of wabt; nothing if they say the same, or differ by a rule. wabt does not read
     annotations, so names are compared only if their source has none."""
@@ -275,7 +322,7 @@ def fault(ours, theirs, is_text, source):
     if difference(ours, theirs) is None:
         return "the bytes differ by no rule"
     try:
-        return "" if b"(@" in source or names(ours) == names(theirs) else "the names differ"
+        return "" if b"(@" in source or known_names(ours, theirs) == names(theirs) else "the names differ"
     except IndexError:
         return "a name section cannot be read"
 

@@ -2,82 +2,93 @@
 
 use crate::instances::Instances;
 use crate::json::Json;
+use crate::kinds::{ActionEntry, Entry, ModuleEntry, Role, entry_of};
 use crate::lines::Lines;
 use crate::values::{write_arguments, write_results};
 use std::alloc::{AllocError, Global};
-use wast_script::{Action, ActionKind, Command, CommandKind, Part, Script, ScriptModule};
+use wast_script::{Action, ActionKind, Command, CommandKind, Script};
 use wast_tree::{Id, Span};
 
-/// A file of a module: its name, and its bytes.
+/// The file of a module.
 #[derive(Drop)]
 pub struct ModuleFile {
-    /// The name, without a folder.
+    /// Its name, without a folder.
     pub name: String,
-    /// The bytes of the module, or its text.
-    pub bytes: Vec<u8>,
-}
-
-/// What a script is converted to.
-#[derive(Drop)]
-pub struct Conversion {
-    /// The text of the JSON file.
-    pub json: String,
-    /// The files of the modules.
-    pub files: Vec<ModuleFile>,
-}
-
-/// The contents of a module's file.
-#[derive(Drop)]
-pub struct Contents {
     /// The bytes of the module, or its text.
     pub bytes: Vec<u8>,
     /// Whether it is a text.
     pub is_text: bool,
 }
 
-/// The commands of a script that were written so far, and the files of their modules.
+/// What a module of a script is converted to.
+#[derive(Drop)]
+pub enum ConvertedModule {
+    /// A file.
+    File(ModuleFile),
+    /// Nothing, because the module has an unsupported construct: the message, and its position in the script.
+    Skipped(String, Span),
+}
+
+/// Why a command is skipped that refers to a module that is.
+const DEPENDS: &str = "its module is skipped";
+
+/// The commands of a script that were written so far.
 #[derive(Drop)]
 pub struct ScriptJson<'a> {
-    alloc: Global,
     json: Json,
-    files: Vec<ModuleFile>,
     instances: Instances<'a>,
     lines: Lines,
-    /// What the names of files begin with.
-    stem: String,
+    /// What is between the last command and the next one.
+    separator: &'static str,
 }
 
 impl<'a> ScriptJson<'a> {
-    /// Begins a script from a file of this name, up to its first command. The names of module files begin with a stem: `a.0.wasm` is
-    /// the first of `a`.
-    pub fn new(alloc: Global, source: &str, stem: &str) -> Result<ScriptJson<'a>, AllocError> {
+    /// Begins a script from a file of this name, up to its first command.
+    pub fn new(alloc: Global, source: &str) -> Result<ScriptJson<'a>, AllocError> {
         let mut json = Json::new(alloc);
         json.raw("{\"source_filename\": ")?;
         json.string(source)?;
         json.raw(",\n \"commands\": [\n")?;
         Ok(ScriptJson {
-            alloc,
             json,
-            files: Vec::new(alloc),
             instances: Instances::new(alloc),
             lines: Lines::new(),
-            stem: String::from_str(alloc, stem)?,
+            separator: "",
         })
     }
 
-    /// Ends the script after its last command, and returns its text and files.
-    pub fn finish(self) -> Result<Conversion, AllocError> {
-        let mut json = self.json;
-        json.raw("]}\n")?;
-        Ok(Conversion {
-            json: json.finish(),
-            files: self.files,
-        })
+    /// Appends a command. `module` is what its module is converted to, if it has one.
+    pub fn command(
+        &mut self,
+        script: &Script<'a>,
+        command: &Command<'a>,
+        module: Option<&ConvertedModule>,
+    ) -> Result<(), AllocError> {
+        if let CommandKind::ThreadEnd = command.kind {
+            return self.thread_end();
+        }
+        self.json.raw(self.separator)?;
+        self.separator = ",\n";
+        match entry_of(command.kind) {
+            Entry::Module(entry) => self.module_command(script.text, entry, module),
+            Entry::Action(entry) => self.action_command(script, entry),
+            Entry::Other => self.other_command(script.text, command),
+        }
     }
 
-    /// Appends a text between two commands, or after one.
-    pub fn raw(&mut self, text: &str) -> Result<(), AllocError> {
-        self.json.raw(text)
+    /// Ends the script after its last command.
+    pub fn end(&mut self) -> Result<(), AllocError> {
+        self.json.raw("]}\n")
+    }
+
+    /// Returns the text since the last call of `clear`.
+    pub fn text(&self) -> &str {
+        self.json.text()
+    }
+
+    /// Forgets the text, which was written to a file.
+    pub fn clear(&mut self) {
+        self.json.clear();
     }
 
     /// Appends the type of a command.
@@ -88,9 +99,9 @@ impl<'a> ScriptJson<'a> {
 
     /// Appends the number of the line of a position.
     fn line(&mut self, text: &str, span: Span) -> Result<(), AllocError> {
-        let line = self.lines.line_at(text, span);
+        self.lines.move_to(text, span);
         self.json.key("line")?;
-        self.json.number(line)
+        self.json.number(self.lines.line)
     }
 
     /// Appends an id, if there is one, under a key.
@@ -102,93 +113,99 @@ impl<'a> ScriptJson<'a> {
         Ok(())
     }
 
-    /// Adds the file of a module, and appends its name.
-    fn file(&mut self, contents: Contents) -> Result<(), AllocError> {
-        let (stem, number) = (self.stem.as_str(), self.files.len());
-        let extension = if contents.is_text { "wat" } else { "wasm" };
-        let name = format!(in self.alloc; "{stem}.{number}.{extension}")?;
-        self.json.member("filename", name.as_str())?;
-        let bytes = contents.bytes;
-        self.files.push(ModuleFile { name, bytes })?;
+    /// Appends the beginning of a command that is skipped, with its line and its own type.
+    fn begin_skipped(&mut self, text: &str, span: Span, ty: &str) -> Result<(), AllocError> {
+        self.begin("skipped")?;
+        self.line(text, span)?;
+        self.json.member("command", ty)
+    }
+
+    /// Appends a command that is skipped because it refers to a module that is.
+    fn dependent(&mut self, text: &str, span: Span, ty: &str) -> Result<(), AllocError> {
+        self.begin_skipped(text, span, ty)?;
+        self.json.member("reason", DEPENDS)?;
+        self.json.raw("}")
+    }
+
+    /// Appends a command whose module is skipped, with the reason and its position.
+    fn skipped(
+        &mut self,
+        text: &str,
+        entry: ModuleEntry<'a>,
+        reason: &str,
+        place: Span,
+    ) -> Result<(), AllocError> {
+        self.begin_skipped(text, entry.module.span, entry.ty)?;
+        self.id("name", entry.module.id)?;
+        self.json.member("reason", reason)?;
+        self.lines.move_to(text, place);
+        self.json.key("place")?;
+        self.json.raw("{\"line\": ")?;
+        self.json.number(self.lines.line)?;
+        self.json.key("column")?;
+        self.json.number(self.lines.column)?;
+        self.json.raw("}}")?;
+        if let Role::Run = entry.role {
+            self.instances.skip(entry.module.id, entry.is_definition)?;
+        }
         Ok(())
     }
 
-    /// Appends a module that is instantiated or defined, of these bytes.
-    pub fn module(
+    /// Appends a module that is instantiated or defined.
+    fn own_module(
         &mut self,
         text: &str,
-        module: &ScriptModule<'a>,
-        is_definition: bool,
-        bytes: Vec<u8>,
+        entry: ModuleEntry<'a>,
+        file: &ModuleFile,
     ) -> Result<(), AllocError> {
-        self.begin(if is_definition {
-            "module_definition"
-        } else {
-            "module"
-        })?;
-        self.line(text, module.span)?;
-        self.id("name", module.id)?;
-        match is_definition {
-            true => {
-                let _number = self.instances.define(module.id, bytes.as_slice())?;
-            }
-            false => self.instances.instantiate(module.id, bytes.as_slice())?,
+        let id = entry.module.id;
+        self.begin(entry.ty)?;
+        if entry.is_definition {
+            self.json.member("definition", "true")?;
         }
-        self.file(Contents {
-            bytes,
-            is_text: false,
-        })
-    }
-
-    /// Appends an instance of a definition.
-    fn instance(
-        &mut self,
-        text: &str,
-        span: Span,
-        id: Option<Id<'a>>,
-        of: Option<Id<'a>>,
-    ) -> Result<(), AllocError> {
-        self.begin("module_instance")?;
-        self.line(text, span)?;
-        self.id("instance", id)?;
-        self.id("module", of)?;
-        self.instances.copy(id, of)
-    }
-
-    /// Appends `register`. Its line is that of the id, if there is one.
-    fn register(
-        &mut self,
-        text: &str,
-        span: Span,
-        name: &str,
-        module: Option<Id<'a>>,
-    ) -> Result<(), AllocError> {
-        self.begin("register")?;
-        let span = match module {
-            Some(id) => id.span(),
-            None => span,
-        };
-        self.line(text, span)?;
-        self.id("name", module)?;
-        self.json.member("as", name)
+        self.line(text, entry.module.span)?;
+        self.id("name", id)?;
+        self.json.member("filename", file.name.as_str())?;
+        self.json.raw("}")?;
+        self.instances
+            .module(id, entry.is_definition, file.bytes.as_slice())
     }
 
     /// Appends an assertion about a module, with its message, if it has one.
-    pub fn module_command(
+    fn module_assertion(
         &mut self,
-        ty: &str,
-        place: (&str, Span),
-        contents: Contents,
-        message: Option<&str>,
+        text: &str,
+        entry: ModuleEntry<'a>,
+        file: &ModuleFile,
     ) -> Result<(), AllocError> {
-        let form = if contents.is_text { "text" } else { "binary" };
-        self.begin(ty)?;
-        self.line(place.0, place.1)?;
-        self.file(contents)?;
-        if let Some(message) = message {
+        self.begin(entry.ty)?;
+        self.line(text, entry.module.span)?;
+        self.json.member("filename", file.name.as_str())?;
+        if let Some(message) = entry.message {
             self.json.member("text", message)?;
         }
-        self.json.member("module_type", form)
+        let form = if file.is_text { "text" } else { "binary" };
+        self.json.member("module_type", form)?;
+        self.json.raw("}")
+    }
+
+    /// Appends a command about a module.
+    fn module_command(
+        &mut self,
+        text: &str,
+        entry: ModuleEntry<'a>,
+        module: Option<&ConvertedModule>,
+    ) -> Result<(), AllocError> {
+        match module {
+            Some(ConvertedModule::Skipped(reason, place)) => {
+                self.skipped(text, entry, reason.as_str(), *place)
+            }
+            Some(ConvertedModule::File(file)) => match entry.role {
+                Role::Run => self.own_module(text, entry, file),
+                Role::Started | Role::Wrong => self.module_assertion(text, entry, file),
+            },
+            None => self.dependent(text, entry.module.span, entry.ty),
+        }
     }
 
     /// Appends an action.
@@ -215,32 +232,67 @@ impl<'a> ScriptJson<'a> {
         self.json.raw(types)
     }
 
-    /// Appends a command that has an action, with its message, if it has one.
-    pub fn action_command(
+    /// Appends a command that has an action, with its message, if it has one, and its results or their types.
+    fn action_command(
         &mut self,
-        ty: &str,
         script: &Script<'a>,
-        action: &Action<'a>,
-        message: Option<&str>,
+        entry: ActionEntry<'a>,
     ) -> Result<(), AllocError> {
-        self.begin(ty)?;
-        self.action(script, action)?;
-        if let Some(message) = message {
+        if self.instances.is_skipped(entry.action.module) {
+            return self.dependent(script.text, entry.action.span, entry.ty);
+        }
+        self.begin(entry.ty)?;
+        self.action(script, &entry.action)?;
+        if let Some(message) = entry.message {
             self.json.member("text", message)?;
         }
-        self.types(action)
+        match entry.results {
+            Some(results) => write_results(&mut self.json, script, results)?,
+            None => self.types(&entry.action)?,
+        }
+        self.json.raw("}")
     }
 
-    /// Appends `assert_return` of an action.
-    pub fn returns(
+    /// Appends an instance of a definition.
+    fn instance(
         &mut self,
-        script: &Script<'a>,
-        action: &Action<'a>,
-        results: Part,
+        text: &str,
+        span: Span,
+        id: Option<Id<'a>>,
+        of: Option<Id<'a>>,
     ) -> Result<(), AllocError> {
-        self.begin("assert_return")?;
-        self.action(script, action)?;
-        write_results(&mut self.json, script, results)
+        if self.instances.is_definition_skipped(of) {
+            self.dependent(text, span, "instance")?;
+        } else {
+            self.begin("instance")?;
+            self.line(text, span)?;
+            self.id("instance", id)?;
+            self.id("definition", of)?;
+            self.json.raw("}")?;
+        }
+        self.instances.copy(id, of)
+    }
+
+    /// Appends `register`. Its line is that of the id, if there is one.
+    fn register(
+        &mut self,
+        text: &str,
+        span: Span,
+        name: &str,
+        module: Option<Id<'a>>,
+    ) -> Result<(), AllocError> {
+        let span = match module {
+            Some(id) => id.span(),
+            None => span,
+        };
+        if self.instances.is_skipped(module) {
+            return self.dependent(text, span, "register");
+        }
+        self.begin("register")?;
+        self.line(text, span)?;
+        self.id("name", module)?;
+        self.json.member("as", name)?;
+        self.json.raw("}")
     }
 
     /// Appends a thread up to its first command.
@@ -256,25 +308,35 @@ impl<'a> ScriptJson<'a> {
         self.id("name", Some(id))?;
         self.id("shared_module", shared)?;
         self.json.key("commands")?;
-        self.json.raw("[\n")
+        self.json.raw("[\n")?;
+        self.separator = "";
+        self.instances.enter(shared)
+    }
+
+    /// Appends the end of a thread.
+    fn thread_end(&mut self) -> Result<(), AllocError> {
+        self.separator = ",\n";
+        self.instances.leave();
+        self.json.raw("\n  ]}")
     }
 
     /// Appends `wait`.
     fn wait(&mut self, text: &str, span: Span, id: Id<'a>) -> Result<(), AllocError> {
         self.begin("wait")?;
         self.line(text, span)?;
-        self.id("thread", Some(id))
+        self.id("thread", Some(id))?;
+        self.json.raw("}")
     }
 
-    /// Appends a command that runs nothing: `register`, an instance, a thread or `wait`.
-    pub fn other_command(&mut self, text: &str, command: &Command<'a>) -> Result<(), AllocError> {
+    /// Appends a command without a module and an action.
+    fn other_command(&mut self, text: &str, command: &Command<'a>) -> Result<(), AllocError> {
         let span = command.span;
         match command.kind {
             CommandKind::Instance(id, of) => self.instance(text, span, id, of),
             CommandKind::Register(name, module) => self.register(text, span, name, module),
             CommandKind::Thread(id, shared) => self.thread(text, span, id, shared),
             CommandKind::Wait(id) => self.wait(text, span, id),
-            _ => self.json.raw("\n  ]"),
+            _ => Ok(()),
         }
     }
 }

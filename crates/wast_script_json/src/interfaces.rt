@@ -5,35 +5,18 @@
 
 use crate::binary::Bytes;
 use std::alloc::{AllocError, AllocFailed, Global};
+use std::collections::BTreeMap;
 
-/// An export: its name, and the types of its results as a list in JSON.
-#[derive(Drop)]
-struct Export {
-    name: Vec<u8>,
-    types: String,
+/// What is exported: the kind of the item, as its byte, and its number among those of its kind.
+#[derive(Clone, Copy)]
+struct Item {
+    kind: u8,
+    number: usize,
 }
 
-/// What a module exports.
+/// What a module exports: the types of functions, and the types of the functions and globals.
 #[derive(Drop)]
 pub(crate) struct Interface {
-    exports: Vec<Export>,
-}
-
-impl Interface {
-    /// Returns the types of the results of an export, as a list in JSON; an empty list if there is no such export.
-    pub fn types_of(&self, name: &str) -> &str {
-        for export in self.exports.iter() {
-            if export.name.as_slice() == name.as_bytes() {
-                return export.types.as_str();
-            }
-        }
-        "[]"
-    }
-}
-
-/// What was read of a module: the types of functions, and the types of the functions and globals.
-#[derive(Drop)]
-struct Items {
     alloc: Global,
     /// The results of each type, as a list in JSON.
     types: Vec<String>,
@@ -41,7 +24,57 @@ struct Items {
     functions: Vec<usize>,
     /// The type of each global, as a list in JSON.
     globals: Vec<String>,
-    exports: Vec<Export>,
+    /// The exports by their names.
+    exports: BTreeMap<Vec<u8>, Item>,
+    /// Whether the module was skipped, so that nothing is known of it.
+    is_skipped: bool,
+}
+
+impl Interface {
+    /// What a module without exports has.
+    fn new(alloc: Global) -> Interface {
+        Interface {
+            alloc,
+            types: Vec::new(alloc),
+            functions: Vec::new(alloc),
+            globals: Vec::new(alloc),
+            exports: BTreeMap::new(alloc),
+            is_skipped: false,
+        }
+    }
+
+    /// What is known of a module that was skipped.
+    pub fn skipped(alloc: Global) -> Interface {
+        let mut interface = Interface::new(alloc);
+        interface.is_skipped = true;
+        interface
+    }
+
+    /// Returns whether the module was skipped.
+    pub fn is_skipped(&self) -> bool {
+        self.is_skipped
+    }
+
+    /// The types of the results of an item, as a list in JSON.
+    fn types_of_item(&self, item: Item) -> Option<&String> {
+        match item.kind {
+            0 => self.types.get(*self.functions.get(item.number)?),
+            3 => self.globals.get(item.number),
+            _ => None,
+        }
+    }
+
+    /// Returns the types of the results of an export, as a list in JSON; an empty list if there is no such export.
+    pub fn types_of(&self, name: &str) -> &str {
+        let types = match self.exports.get(name.as_bytes()) {
+            Some(item) => self.types_of_item(*item),
+            None => None,
+        };
+        match types {
+            Some(list) => list.as_str(),
+            None => "[]",
+        }
+    }
 }
 
 /// Why a module is not read to its end.
@@ -82,6 +115,7 @@ fn type_name(byte: u8) -> &'static str {
         0x70 => "funcref",
         0x6f => "externref",
         0x69 => "exnref",
+        0x68 => "contref",
         0x6e => "anyref",
         0x6d => "eqref",
         0x6c => "i31ref",
@@ -91,20 +125,35 @@ fn type_name(byte: u8) -> &'static str {
         0x72 => "nullexternref",
         0x73 => "nullfuncref",
         0x74 => "nullexnref",
+        0x75 => "nullcontref",
         _ => "ref",
     }
 }
 
-/// Reads a type of values, and returns its name (binary format, value types). References to an abstract heap type that may be null
-/// have the name of the short form, as `anyref` for `63 6e`.
-fn value_type(bytes: &mut Bytes<'_>) -> Option<&'static str> {
-    let byte = bytes.byte()?;
-    if byte != 0x63 && byte != 0x64 {
-        return Some(type_name(byte));
+/// Reads a heap type, and returns the name of references to it that may be null (binary format, heap types). Before a shared one is
+/// `65`, and before an exact one `62`.
+fn heap_type(bytes: &mut Bytes<'_>) -> Option<&'static str> {
+    let first = *bytes.0.first()?;
+    if first == 0x65 || first == 0x62 {
+        let _prefix = bytes.byte()?;
     }
     let heap = *bytes.0.first()?;
     bytes.skip_integer()?;
-    Some(type_name(if byte == 0x63 { heap } else { byte }))
+    Some(type_name(heap))
+}
+
+/// Reads a type of values, and returns its name (binary format, value types). References to an abstract heap type that may be null
+/// have the name of the short form, as `anyref` for `63 6e`. Those that may not be null are `ref`.
+fn value_type(bytes: &mut Bytes<'_>) -> Option<&'static str> {
+    let byte = bytes.byte()?;
+    match byte {
+        0x63 => heap_type(bytes),
+        0x64 => {
+            let _name = heap_type(bytes)?;
+            Some("ref")
+        }
+        _ => Some(type_name(byte)),
+    }
 }
 
 /// Skips the type of a field of a struct or an array.
@@ -146,7 +195,8 @@ fn skip_limits(bytes: &mut Bytes<'_>) -> Option<()> {
 /// Skips the immediates of an instruction of constant expressions.
 fn skip_immediates(bytes: &mut Bytes<'_>, opcode: u8) -> Option<()> {
     match opcode {
-        0x41 | 0x42 | 0x23 | 0xd0 | 0xd2 => bytes.skip_integer(),
+        0x41 | 0x42 | 0x23 | 0xd2 => bytes.skip_integer(),
+        0xd0 => heap_type(bytes).map(|_| ()),
         0x43 => bytes.take(4).map(|_| ()),
         0x44 => bytes.take(8).map(|_| ()),
         0xfd => {
@@ -183,7 +233,7 @@ fn skip_expression(bytes: &mut Bytes<'_>) -> Option<()> {
     None
 }
 
-impl Items {
+impl Interface {
     /// Reads so many types of values, as a list in JSON.
     fn type_list(&self, bytes: &mut Bytes<'_>, count: usize) -> Result<String, Stop> {
         let mut list = String::from_str(self.alloc, "[")?;
@@ -217,12 +267,13 @@ impl Items {
                 read(skip_fields(bytes, count))?;
             }
             0x5e => read(skip_field(bytes))?,
+            0x5d => read(bytes.skip_integer())?,
             _ => return Err(Stop::Malformed),
         }
         Ok(String::new(self.alloc))
     }
 
-    /// Reads a type of a group from its first byte on (binary format, recursive types).
+    /// Reads a type of a group from its first byte on (binary format, recursive types). A shared one has `65` before its form.
     fn sub_type(&mut self, bytes: &mut Bytes<'_>, first: u8) -> Result<(), Stop> {
         let mut form = first;
         if first == 0x50 || first == 0x4f {
@@ -230,6 +281,9 @@ impl Items {
             for _ in 0..count {
                 read(bytes.skip_integer())?;
             }
+            form = read(bytes.byte())?;
+        }
+        if form == 0x65 {
             form = read(bytes.byte())?;
         }
         let results = self.composite(bytes, form)?;
@@ -295,30 +349,13 @@ impl Items {
         read(skip_expression(bytes))
     }
 
-    /// The types of the results of an item, as a list in JSON.
-    fn types_of(&self, kind: u8, number: usize) -> &str {
-        let list = match kind {
-            0 => match self.functions.get(number) {
-                Some(ty) => self.types.get(*ty),
-                None => None,
-            },
-            3 => self.globals.get(number),
-            _ => None,
-        };
-        match list {
-            Some(list) => list.as_str(),
-            None => "[]",
-        }
-    }
-
     /// Reads an export (binary format, export section).
     fn export(&mut self, bytes: &mut Bytes<'_>) -> Result<(), Stop> {
         let name = read(bytes.list())?;
         let kind = read(bytes.byte())?;
         let number = read(bytes.index())?;
-        let types = String::from_str(self.alloc, self.types_of(kind, number))?;
         let name = Vec::from_slice(self.alloc, name.0)?;
-        self.exports.push(Export { name, types })?;
+        let _before = self.exports.insert(name, Item { kind, number })?;
         Ok(())
     }
 
@@ -361,17 +398,9 @@ impl Items {
 
 /// Returns what the module of these bytes exports.
 pub(crate) fn interface_of(alloc: Global, bytes: &[u8]) -> Result<Interface, AllocError> {
-    let mut items = Items {
-        alloc,
-        types: Vec::new(alloc),
-        functions: Vec::new(alloc),
-        globals: Vec::new(alloc),
-        exports: Vec::new(alloc),
-    };
-    match items.sections(&mut Bytes(bytes)) {
+    let mut interface = Interface::new(alloc);
+    match interface.sections(&mut Bytes(bytes)) {
         Err(Stop::Memory) => Err(AllocError),
-        _ => Ok(Interface {
-            exports: items.exports,
-        }),
+        _ => Ok(interface),
     }
 }

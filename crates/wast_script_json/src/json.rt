@@ -1,26 +1,37 @@
 //! Writes the text of a JSON file.
 
 use std::alloc::{AllocError, Global};
+use std::fmt::Write;
 
 /// A text in JSON that is written piece by piece.
 #[derive(Drop)]
 pub(crate) struct Json {
-    alloc: Global,
     text: String,
+}
+
+/// Returns whether a character of a string is written as an escape.
+fn has_escapes(text: &str) -> bool {
+    text.as_bytes()
+        .iter()
+        .any(|byte| *byte < b' ' || *byte == b'"' || *byte == b'\\')
 }
 
 impl Json {
     /// An empty text.
     pub fn new(alloc: Global) -> Json {
         Json {
-            alloc,
             text: String::new(alloc),
         }
     }
 
-    /// Returns the text.
-    pub fn finish(self) -> String {
-        self.text
+    /// Returns the text since the last call of `clear`.
+    pub fn text(&self) -> &str {
+        self.text.as_str()
+    }
+
+    /// Forgets the text, after which the next piece begins.
+    pub fn clear(&mut self) {
+        self.text.clear();
     }
 
     /// Appends a text as it is.
@@ -30,14 +41,12 @@ impl Json {
 
     /// Appends a number in decimal digits.
     pub fn number(&mut self, number: u64) -> Result<(), AllocError> {
-        let digits = format!(in self.alloc; "{number}")?;
-        self.raw(digits.as_str())
+        write!(self.text, "{number}")
     }
 
     /// Appends a number in decimal digits as a string: `"7"`.
     pub fn digits(&mut self, number: u64) -> Result<(), AllocError> {
-        let digits = format!(in self.alloc; "\"{number}\"")?;
-        self.raw(digits.as_str())
+        write!(self.text, "\"{number}\"")
     }
 
     /// Appends a character of a string. Control characters, quotes and backslashes are escapes: a line feed is `\u000a`.
@@ -46,12 +55,14 @@ impl Json {
             return self.text.push(character);
         }
         let number = character as u32;
-        let escape = format!(in self.alloc; "\\u{number:04x}")?;
-        self.raw(escape.as_str())
+        write!(self.text, "\\u{number:04x}")
     }
 
-    /// Appends the characters of a string.
+    /// Appends the characters of a string. Few strings have escapes, so the others are appended at once.
     fn characters(&mut self, text: &str) -> Result<(), AllocError> {
+        if !has_escapes(text) {
+            return self.raw(text);
+        }
         for character in text.chars() {
             self.character(character)?;
         }
@@ -74,8 +85,9 @@ impl Json {
 
     /// Appends the key of one more member of an object.
     pub fn key(&mut self, name: &str) -> Result<(), AllocError> {
-        let key = format!(in self.alloc; ", \"{name}\": ")?;
-        self.raw(key.as_str())
+        self.raw(", \"")?;
+        self.raw(name)?;
+        self.raw("\": ")
     }
 
     /// Appends one more member of an object, a string.

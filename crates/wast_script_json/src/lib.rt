@@ -8,6 +8,7 @@
 //! # Modules
 //!
 //! - `commands` has [`ScriptJson`]. `values` writes arguments and results, `json` strings and members, and `lines` counts lines.
+//! - `kinds` says what each command is in JSON, and which module it has.
 //! - `instances` knows which modules actions refer to. `interfaces` and `binary` read the exports of a module from its bytes.
 #![tactic(auto)]
 
@@ -16,7 +17,9 @@ mod commands;
 mod instances;
 mod interfaces;
 mod json;
+mod kinds;
 mod lines;
 mod values;
 
-pub use commands::{Contents, Conversion, ModuleFile, ScriptJson};
+pub use commands::{ConvertedModule, ModuleFile, ScriptJson};
+pub use kinds::{Role, commands_of, module_of};

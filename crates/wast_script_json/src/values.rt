@@ -103,12 +103,26 @@ fn write_vector(json: &mut Json, shape: Shape, lanes: &[Number]) -> Result<(), A
     json.raw("]}")
 }
 
-/// Appends a reference to a function: any is `0`.
+/// Appends a reference to the function of an index: `{"index": 5}` or `{"id": "$f"}`.
+fn write_index(json: &mut Json, index: Index<'_>) -> Result<(), AllocError> {
+    match index {
+        Index::Id(id) => {
+            json.raw("{\"id\": ")?;
+            json.id(id.name())?;
+        }
+        Index::Num(number, _) => {
+            json.raw("{\"index\": ")?;
+            json.number(number as u64)?;
+        }
+    }
+    json.raw("}")
+}
+
+/// Appends a reference to a function. Any is `"0"`, as `wast2json` writes it; one of an index is an object.
 fn write_function(json: &mut Json, index: Option<Index<'_>>) -> Result<(), AllocError> {
     begin_value(json, "funcref")?;
     match index {
-        Some(Index::Id(id)) => json.id(id.name())?,
-        Some(Index::Num(number, _)) => json.digits(number as u64)?,
+        Some(index) => write_index(json, index)?,
         None => json.string("0")?,
     }
     json.raw("}")

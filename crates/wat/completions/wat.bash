@@ -23,9 +23,17 @@ _wat() {
                 mapfile -t COMPREPLY < <(compgen -d -- "$word")
                 return
                 ;;
+            --color)
+                mapfile -t COMPREPLY < <(compgen -W 'auto always never' -- "$word")
+                return
+                ;;
+            --explain)
+                mapfile -t COMPREPLY < <(compgen -W 'E1 E2 E3 E4 E5 E6 E7 E8 E9 E10 E11 E12 E13' -- "$word")
+                return
+                ;;
         esac
         if [[ $word == -* ]]; then
-            mapfile -t COMPREPLY < <(compgen -W '-o --output --out-dir --hex --names --no-names -h --help -V --version' -- "$word")
+            mapfile -t COMPREPLY < <(compgen -W '-o --output --out-dir --hex --names --no-names --json --color --explain -h --help -V --version' -- "$word")
             return
         fi
     fi

@@ -9,17 +9,19 @@ ghost use Rattle.std.specs.Io.KnownBytes.{Appends, Keeps};
 ghost use Rattle.wat_command.specs.Fronts.{AppendsFront};
 ghost use Rattle.wat.specs.Outputs.{HasNames, IsOutput, OutputBy, Writes, Gets, Converts, Stops, hex_line as hex_line_of, selected as selected_bytes};
 
+use crate::colors::style_of;
 use crate::names::name_lines;
 use crate::options::{Options, Output};
 use crate::outputs::output_path;
 use crate::sections::without_names;
+use crate::several::report_all;
 use std::alloc::{AllocError, Global};
 use std::io::Write;
 use std::str;
 use wat_bytes::{encode_text, names_of_text};
 use wat_command::{
-    Escaped, Failure, read_input, report, report_malformed, shown, text_before, warn, write_bytes,
-    write_file,
+    Escaped, Failure, Style, read_input, report_malformed_in, shown, text_before, warn_in,
+    write_bytes, write_file,
 };
 use wat_text::Strings;
 
@@ -67,6 +69,7 @@ fn allocated(rt: &HostRuntime, output: Result<Vec<u8>, AllocError>) -> Result<Ve
 fn module_output<'a>(
     rt: &HostRuntime,
     options: &Options,
+    style: Style,
     file: Escaped<'_>,
     text: &'a str,
     strings: &'a Strings,
@@ -75,13 +78,14 @@ fn module_output<'a>(
 {
     match encode_text(rt.alloc(), text, strings) {
         Ok(bytes) => allocated(rt, output_of_bytes(rt.alloc(), options, bytes)),
-        Err(refused) => Err(report(rt, rt.alloc(), file, text, &refused)),
+        Err(refused) => Err(report_all(rt, style, file, text, &refused)),
     }
 }
 
 /// Returns the list of the ids of a text, or reports its error.
 fn names_output<'a>(
     rt: &HostRuntime,
+    style: Style,
     file: Escaped<'_>,
     text: &'a str,
     strings: &'a Strings,
@@ -90,7 +94,7 @@ fn names_output<'a>(
 {
     match names_of_text(rt.alloc(), text, strings) {
         Ok(names) => allocated(rt, name_lines(rt.alloc(), names.as_slice())),
-        Err(refused) => Err(report(rt, rt.alloc(), file, text, &refused)),
+        Err(refused) => Err(report_all(rt, style, file, text, &refused)),
     }
 }
 
@@ -98,16 +102,17 @@ fn names_output<'a>(
 fn output_of_text(
     rt: &HostRuntime,
     options: &Options,
+    style: Style,
     file: Escaped<'_>,
     text: &str,
 ) -> Result<Vec<u8>, Failure>
     ensures { IfOk result (λ out. Writes options.now text.now out.items) }
 {
-    warn(rt, file, text);
+    warn_in(rt, style, file, text);
     let strings = Strings::new(rt.alloc());
     match options.output {
-        Output::Names => names_output(rt, file, text, &strings),
-        Output::Bytes | Output::Hex => module_output(rt, options, file, text, &strings),
+        Output::Names => names_output(rt, style, file, text, &strings),
+        Output::Bytes | Output::Hex => module_output(rt, options, style, file, text, &strings),
     }
 }
 
@@ -120,11 +125,12 @@ fn output_of(
 ) -> Result<Vec<u8>, Failure>
     ensures { IfOk result (λ out. Writes options.now bytes.now out.items) }
 {
+    let style = style_of(rt, options);
     match str::from_utf8(bytes) {
-        Ok(text) => output_of_text(rt, options, file, text),
+        Ok(text) => output_of_text(rt, options, style, file, text),
         Err(error) => {
             let text = text_before(bytes, error.valid_up_to());
-            Err(report_malformed(rt, file, text))
+            Err(report_malformed_in(rt, style, file, text))
         }
     }
 }

@@ -1,7 +1,8 @@
 //! The text of `--help`. `tools/manual` reads the strings of this file for the man page.
 
-use crate::options::{Choice, OPTIONS};
-use std::{fmt, io};
+use crate::options::OPTIONS;
+use std::io;
+use wat_command::{print_options, print_statuses};
 
 /// What the command does.
 const ABOUT: &str = "Turns WebAssembly text modules into binary modules.";
@@ -26,49 +27,10 @@ const STATUSES: [(u8, &str); 4] = [
     (3, "out of memory"),
 ];
 
-/// How many columns a long form and its value have in the list of options.
-const COLUMNS: usize = 18;
-
-/// Prints an option as a line of the list.
-#[derive(Clone, Copy)]
-struct Listed(Choice);
-
-impl fmt::Display for Listed {
-    fn fmt<W: fmt::Write>(&self, f: &mut fmt::Formatter<W>) -> fmt::Result {
-        let (short, long, value) = (self.0.short, self.0.long, self.0.value);
-        let comma = if short.is_empty() { "    " } else { ", " };
-        write!(f, "  {short}{comma}{long} {value}")?;
-        for _ in long.len().saturating_add(value.len())..COLUMNS {
-            f.write_str(" ")?;
-        }
-        f.write_str(self.0.help)
-    }
-}
-
-/// Prints the list of options.
-fn print_options(rt: &HostRuntime) -> io::Result<()> {
-    println!(rt; "Options:")?;
-    for choice in OPTIONS.iter() {
-        let listed = Listed(*choice);
-        println!(rt; "{listed}")?;
-    }
-    Ok(())
-}
-
-/// Prints the list of exit statuses.
-fn print_statuses(rt: &HostRuntime) -> io::Result<()> {
-    println!(rt; "Exit status:")?;
-    for status in STATUSES.iter() {
-        let (number, meaning) = *status;
-        println!(rt; "  {number}  {meaning}")?;
-    }
-    Ok(())
-}
-
 /// Prints the help.
 pub(crate) fn print_help(rt: &HostRuntime) -> io::Result<()> {
     println!(rt; "{ABOUT}\n\nUsage: {USAGE}\n\n{DESCRIPTION}\n")?;
-    print_options(rt)?;
+    print_options(rt, &OPTIONS)?;
     println!(rt; "")?;
-    print_statuses(rt)
+    print_statuses(rt, &STATUSES)
 }

@@ -7,22 +7,28 @@
 //!
 //! # Modules
 //!
-//! - `options` reads the arguments, and `help` prints the help.
+//! - `options` reads the arguments, `help` prints the help, and `explanations` what errors mean.
+//! - `several` reports the errors of ids after the first one.
+//! - `colors` decides how diagnostics are printed.
 //! - `conversions` converts one file, `outputs` names its output, and `names` and `sections` make
 //!   what `--names` and `--no-names` print. `examples` has results that the prover computes.
 //! - `wat_command`, which `wat2json` uses too, has what reads and writes files, the diagnostics and
 //!   the exit statuses.
 #![tactic(auto)]
 
+mod colors;
 mod conversions;
 mod examples;
+mod explanations;
 mod help;
 mod names;
 mod options;
 mod outputs;
 mod sections;
+mod several;
 
 use conversions::convert_file;
+use explanations::print_entry;
 use help::print_help;
 use options::{Misuse, Options, Request};
 use outputs::check_outputs;
@@ -99,6 +105,7 @@ fn run(rt: &HostRuntime) -> Result<(), Failure> {
     match Request::new(rt.alloc(), arguments) {
         Ok(Request::Convert(options)) => convert(rt, &options),
         Ok(Request::Help) => printed(rt, print_help(rt)),
+        Ok(Request::Explain(entry)) => printed(rt, print_entry(rt, entry)),
         Ok(Request::Version) => printed(rt, println!(rt; "wat {VERSION}")),
         Err(misuse) => Err(misused(rt, misuse)),
     }

@@ -1,13 +1,15 @@
 //! The options of the command, and its arguments.
 
-use std::alloc::{AllocError, Global};
+use crate::colors::Color;
+use crate::explanations::{Entry, entry_of};
+use std::alloc::Global;
 use std::env::Args;
 use std::fmt;
-use wat_command::{Escaped, STANDARD};
+use wat_command::{Choice, Escaped, STANDARD, choice_of, is_option, joined};
 
 /// The effect of an option.
 #[derive(Clone, Copy)]
-enum Action {
+pub(crate) enum Action {
     /// The output goes to a file.
     Target,
     /// The outputs go into a folder.
@@ -18,30 +20,21 @@ enum Action {
     Names,
     /// The name section is left out.
     NoNames,
+    /// Diagnostics are JSON.
+    Json,
+    /// Diagnostics have colours, or not.
+    Color,
+    /// An error is explained.
+    Explain,
     /// The help is printed.
     Help,
     /// The version is printed.
     Version,
 }
 
-/// An option of the command.
-#[derive(Clone, Copy)]
-pub(crate) struct Choice {
-    /// Its short form; empty if it has none.
-    pub short: &'static str,
-    /// Its long form.
-    pub long: &'static str,
-    /// The name of its value; empty if it takes none.
-    pub value: &'static str,
-    /// What it does, in one line.
-    pub help: &'static str,
-    /// Its effect.
-    action: Action,
-}
-
 /// The options, in the order of the help. `tools/manual` reads this table, and writes the man page
 /// and the completions of shells from it.
-pub(crate) const OPTIONS: [Choice; 7] = [
+pub(crate) const OPTIONS: [Choice<Action>; 10] = [
     Choice {
         short: "-o",
         long: "--output",
@@ -78,6 +71,27 @@ pub(crate) const OPTIONS: [Choice; 7] = [
         action: Action::NoNames,
     },
     Choice {
+        short: "",
+        long: "--json",
+        value: "",
+        help: "write each diagnostic as a line of JSON to standard error",
+        action: Action::Json,
+    },
+    Choice {
+        short: "",
+        long: "--color",
+        value: "WHEN",
+        help: "print diagnostics in colours (`auto`, `always` or `never`)",
+        action: Action::Color,
+    },
+    Choice {
+        short: "",
+        long: "--explain",
+        value: "ERROR",
+        help: "print what an error means and what to do (`E4`, or a message)",
+        action: Action::Explain,
+    },
+    Choice {
         short: "-h",
         long: "--help",
         value: "",
@@ -92,35 +106,6 @@ pub(crate) const OPTIONS: [Choice; 7] = [
         action: Action::Version,
     },
 ];
-
-/// Returns the option that a word names.
-fn choice_of(word: &str) -> Option<Choice> {
-    for choice in OPTIONS.iter() {
-        if word == choice.long || (word == choice.short && !word.is_empty()) {
-            return Some(*choice);
-        }
-    }
-    None
-}
-
-/// Returns whether a word is an option, or `--`.
-fn is_option(word: &str) -> bool {
-    word.starts_with('-') && word != STANDARD
-}
-
-/// Returns the long option and the value of a word that has both, for example `--output=FILE`.
-fn joined(alloc: Global, word: &str) -> Result<Option<(Choice, String)>, AllocError> {
-    let Some((name, value)) = word.split_once('=') else {
-        return Ok(None);
-    };
-    match choice_of(name) {
-        Some(choice) if name == choice.long => {
-            let value = String::from_str(alloc, value)?;
-            Ok(Some((choice, value)))
-        }
-        _ => Ok(None),
-    }
-}
 
 /// The kind of output of a module.
 #[derive(Clone, Copy)]
@@ -146,6 +131,12 @@ pub(crate) struct Options {
     pub output: Output,
     /// Whether the name section is left out.
     pub omits_names: bool,
+    /// Whether diagnostics are JSON.
+    pub is_json: bool,
+    /// When diagnostics have colours.
+    pub color: Color,
+    /// The error to explain.
+    pub explained: Option<Entry>,
 }
 
 /// What the command does with its arguments.
@@ -157,6 +148,8 @@ pub(crate) enum Request {
     Help,
     /// The version is printed.
     Version,
+    /// An error is explained.
+    Explain(Entry),
 }
 
 /// Why arguments are not accepted. It is printed as the message, in one line.
@@ -169,9 +162,13 @@ pub(crate) enum Misuse {
     /// An option that takes no value has one here.
     UnwantedValue(String),
     /// This option has no value.
-    NoValue(Choice),
+    NoValue(Choice<Action>),
     /// This option is given twice.
-    Repeated(Choice),
+    Repeated(Choice<Action>),
+    /// This is no value of `--color`.
+    UnknownColor(String),
+    /// No error has this number or these words.
+    UnknownError(String),
     /// These two options exclude each other.
     Conflict(&'static str, &'static str),
     /// One file is to be written for several.
@@ -209,6 +206,17 @@ impl fmt::Display for Misuse {
                 let long = choice.long;
                 write!(f, "more than one `{long}`")
             }
+            Misuse::UnknownColor(word) => {
+                let word = Escaped(word.as_str());
+                write!(f, "`--color` is `auto`, `always` or `never`, not `{word}`")
+            }
+            Misuse::UnknownError(word) => {
+                let word = Escaped(word.as_str());
+                write!(
+                    f,
+                    "no error is called `{word}`: give E1 to E13, or the first words of a message"
+                )
+            }
             Misuse::Conflict(first, second) => {
                 write!(f, "`{first}` and `{second}` exclude each other")
             }
@@ -233,7 +241,7 @@ struct Reading {
     /// The options so far.
     options: Options,
     /// The option whose value is the next word.
-    awaited: Option<Choice>,
+    awaited: Option<Choice<Action>>,
     /// Whether `--` was read. Each word after it is a file.
     is_past_options: bool,
 }
@@ -264,6 +272,9 @@ impl Reading {
             folder: None,
             output: Output::Bytes,
             omits_names: false,
+            is_json: false,
+            color: Color::Auto,
+            explained: None,
         };
         Reading {
             options,
@@ -277,7 +288,7 @@ impl Reading {
         if self.awaited.is_some() || self.is_past_options {
             return None;
         }
-        match choice_of(word)?.action {
+        match choice_of(&OPTIONS, word)?.action {
             Action::Help => Some(Request::Help),
             Action::Version => Some(Request::Version),
             _ => None,
@@ -297,14 +308,14 @@ impl Reading {
             self.is_past_options = true;
             return Ok(());
         }
-        match choice_of(word.as_str()) {
+        match choice_of(&OPTIONS, word.as_str()) {
             Some(choice) => self.take_choice(choice, word),
             None => self.take_joined(alloc, word),
         }
     }
 
     /// Reads an option, whose word this is.
-    fn take_choice(&mut self, choice: Choice, word: String) -> Result<(), Misuse> {
+    fn take_choice(&mut self, choice: Choice<Action>, word: String) -> Result<(), Misuse> {
         if choice.value.is_empty() {
             return self.options.set_flag(choice, word);
         }
@@ -314,7 +325,7 @@ impl Reading {
 
     /// Reads a word that can only be an option with its value.
     fn take_joined(&mut self, alloc: Global, word: String) -> Result<(), Misuse> {
-        match joined(alloc, word.as_str()) {
+        match joined(alloc, &OPTIONS, word.as_str()) {
             Ok(Some((choice, value))) => {
                 if choice.value.is_empty() {
                     return Err(Misuse::UnwantedValue(word));
@@ -336,6 +347,9 @@ impl Reading {
         if let Some(choice) = awaited {
             return Err(Misuse::NoValue(choice));
         }
+        if let Some(entry) = options.explained {
+            return Ok(Request::Explain(entry));
+        }
         match options.conflict() {
             Some(misuse) => Err(misuse),
             None => Ok(Request::Convert(options)),
@@ -353,10 +367,14 @@ impl Options {
     }
 
     /// Applies an option without a value, which is this word.
-    fn set_flag(&mut self, choice: Choice, word: String) -> Result<(), Misuse> {
+    fn set_flag(&mut self, choice: Choice<Action>, word: String) -> Result<(), Misuse> {
         match choice.action {
             Action::Hex => self.set_output(Output::Hex, word),
             Action::Names => self.set_output(Output::Names, word),
+            Action::Json => {
+                self.is_json = true;
+                Ok(())
+            }
             _ => {
                 self.omits_names = true;
                 Ok(())
@@ -376,15 +394,17 @@ impl Options {
     }
 
     /// Applies an option with this value.
-    fn set_value(&mut self, choice: Choice, value: String) -> Result<(), Misuse> {
+    fn set_value(&mut self, choice: Choice<Action>, value: String) -> Result<(), Misuse> {
         match choice.action {
             Action::Folder => self.set_folder(choice, value),
+            Action::Color => self.set_color(value),
+            Action::Explain => self.set_explained(value),
             _ => self.set_target(choice, value),
         }
     }
 
     /// Sets the file to write.
-    fn set_target(&mut self, choice: Choice, file: String) -> Result<(), Misuse> {
+    fn set_target(&mut self, choice: Choice<Action>, file: String) -> Result<(), Misuse> {
         if self.target.is_some() {
             return Err(Misuse::Repeated(choice));
         }
@@ -393,12 +413,34 @@ impl Options {
     }
 
     /// Sets the folder of the outputs.
-    fn set_folder(&mut self, choice: Choice, folder: String) -> Result<(), Misuse> {
+    fn set_folder(&mut self, choice: Choice<Action>, folder: String) -> Result<(), Misuse> {
         if self.folder.is_some() {
             return Err(Misuse::Repeated(choice));
         }
         self.folder = Some(folder);
         Ok(())
+    }
+
+    /// Sets when diagnostics have colours.
+    fn set_color(&mut self, value: String) -> Result<(), Misuse> {
+        match Color::named(value.as_str()) {
+            Some(color) => {
+                self.color = color;
+                Ok(())
+            }
+            None => Err(Misuse::UnknownColor(value)),
+        }
+    }
+
+    /// Sets the error to explain.
+    fn set_explained(&mut self, value: String) -> Result<(), Misuse> {
+        match entry_of(value.as_str()) {
+            Some(entry) => {
+                self.explained = Some(entry);
+                Ok(())
+            }
+            None => Err(Misuse::UnknownError(value)),
+        }
     }
 
     /// Returns whether standard input is read.

@@ -1,14 +1,37 @@
-//! Converts the commands of a script to JSON and to the files of its modules.
+//! Converts the modules of a script to files.
 
-use crate::refusals::{Refusal, is_of_names};
+use crate::refusals::{Refusal, is_of_names, is_uncovered};
 use std::alloc::{AllocError, Global};
-use wast_script::{Command, CommandKind, Execution, ModuleForm, Part, Script, ScriptModule};
-use wast_script_json::{Contents, Conversion, ScriptJson};
+use std::str;
+use wast_script::{ModuleForm, Script, ScriptModule};
+use wast_script_json::{ConvertedModule, ModuleFile, Role, commands_of, module_of};
 use wast_tree::Span;
 use wat_bytes::{Refused, UncoveredForm, encode_text, encoded_text};
 use wat_text::Strings;
 
-/// Returns an unsupported construct with its word and the position of that, as encoding the text of the module finds them.
+/// The word of a module that is defined and not instantiated, which only scripts have, and as many spaces.
+const DEFINITION: (&str, &str) = ("definition", "          ");
+
+/// Returns the text of a module with spaces for the first `definition`, so that positions in it stay; `None` without that word, or
+/// if an allocation failed.
+fn without_definition<'a>(alloc: Global, source: &str, strings: &'a Strings) -> Option<&'a str> {
+    let (word, spaces) = DEFINITION;
+    let (before, after) = source.split_once(word)?;
+    let text = format!(in alloc; "{before}{spaces}{after}").ok()?;
+    let kept = strings.keep(text.as_bytes()).ok()?;
+    str::from_utf8(kept).ok()
+}
+
+/// Returns the unsupported construct that encoding a text finds.
+fn found_in<'a>(alloc: Global, text: &'a str, strings: &'a Strings) -> Option<UncoveredForm<'a>> {
+    match encode_text(alloc, text, strings) {
+        Err(Refused::Uncovered(written)) => Some(written),
+        _ => None,
+    }
+}
+
+/// Returns an unsupported construct with its word and the position of that, as encoding the text of the module finds them. In quotes
+/// it has the position of the first string, and no word.
 fn as_written<'a>(
     alloc: Global,
     script: &Script<'a>,
@@ -17,14 +40,20 @@ fn as_written<'a>(
     found: UncoveredForm<'a>,
 ) -> UncoveredForm<'a> {
     let start = script.start(module).offset;
-    match encode_text(alloc, script.source(module), strings) {
-        Err(Refused::Uncovered(written)) => {
-            let offset = written.span.offset.saturating_add(start);
-            let span = Span { offset };
-            UncoveredForm { span, ..written }
-        }
-        _ => found,
-    }
+    let source = script.source(module);
+    let written = match found_in(alloc, source, strings) {
+        Some(written) => Some(written),
+        None => match without_definition(alloc, source, strings) {
+            Some(text) => found_in(alloc, text, strings),
+            None => None,
+        },
+    };
+    let Some(written) = written else {
+        return found;
+    };
+    let offset = written.span.offset.saturating_add(start);
+    let span = Span { offset };
+    UncoveredForm { span, ..written }
 }
 
 /// Returns the bytes of a module that is instantiated or encoded.
@@ -46,6 +75,13 @@ fn bytes_of<'a>(
     }
 }
 
+/// The contents of a module's file: its bytes or its text.
+#[derive(Drop)]
+struct Contents {
+    bytes: Vec<u8>,
+    is_text: bool,
+}
+
 /// Returns a text as the contents of a file.
 fn text_contents(alloc: Global, text: &str) -> Result<Contents, AllocError> {
     Ok(Contents {
@@ -54,20 +90,20 @@ fn text_contents(alloc: Global, text: &str) -> Result<Contents, AllocError> {
     })
 }
 
-/// Returns the file of a module with fields. If its names are wrong, and it may be wrong because an assertion is about that, this is its text.
-fn contents_of_fields<'a>(
+/// Returns the bytes of a module. If its names are wrong, and it may be wrong because an assertion is about that, this is its text.
+fn encoded_contents<'a>(
     alloc: Global,
     script: &Script<'a>,
     strings: &'a Strings,
     module: &ScriptModule<'a>,
-    may_be_wrong: bool,
+    role: Role,
 ) -> Result<Contents, Refusal<'a>> {
     match bytes_of(alloc, script, strings, module) {
         Ok(bytes) => Ok(Contents {
             bytes,
             is_text: false,
         }),
-        Err(refused) if may_be_wrong && is_of_names(&refused) => {
+        Err(refused) if matches!(role, Role::Wrong) && is_of_names(&refused) => {
             let contents = text_contents(alloc, script.source(module))?;
             Ok(contents)
         }
@@ -75,216 +111,108 @@ fn contents_of_fields<'a>(
     }
 }
 
-/// Returns the file of a module in an assertion: its bytes, or its text if it is quoted.
+/// Returns the contents of a module's file. Only a module that actions run is encoded from its quotes.
 fn contents_of<'a>(
     alloc: Global,
     script: &Script<'a>,
     strings: &'a Strings,
     module: &ScriptModule<'a>,
-    may_be_wrong: bool,
+    role: Role,
 ) -> Result<Contents, Refusal<'a>> {
-    match module.form {
-        ModuleForm::Fields => contents_of_fields(alloc, script, strings, module, may_be_wrong),
-        ModuleForm::Binary | ModuleForm::Quote => Ok(Contents {
-            bytes: script.bytes(alloc, module)?,
-            is_text: matches!(module.form, ModuleForm::Quote),
-        }),
+    let is_quoted = matches!(module.form, ModuleForm::Quote);
+    if matches!(role, Role::Run) || matches!(module.form, ModuleForm::Fields) {
+        return encoded_contents(alloc, script, strings, module, role);
     }
+    Ok(Contents {
+        bytes: script.bytes(alloc, module)?,
+        is_text: is_quoted,
+    })
 }
 
-/// A script that is converted, and what it is converted to so far.
-#[derive(Drop)]
-struct Converter<'a> {
+/// Returns the file of a module, which is the one of this number among those whose names begin with a stem: `a.0.wasm` is the first
+/// of `a`.
+fn file_of(
     alloc: Global,
-    written: ScriptJson<'a>,
+    stem: &str,
+    number: usize,
+    contents: Contents,
+) -> Result<ModuleFile, AllocError> {
+    let Contents { bytes, is_text } = contents;
+    let extension = if is_text { "wat" } else { "wasm" };
+    let name = format!(in alloc; "{stem}.{number}.{extension}")?;
+    Ok(ModuleFile {
+        name,
+        bytes,
+        is_text,
+    })
 }
 
-impl<'a> Converter<'a> {
-    /// Appends a module that is instantiated or defined.
-    fn module(
-        &mut self,
-        script: &Script<'a>,
-        strings: &'a Strings,
-        module: &ScriptModule<'a>,
-        is_definition: bool,
-    ) -> Result<(), Refusal<'a>> {
-        match bytes_of(self.alloc, script, strings, module) {
-            Ok(bytes) => {
-                self.written
-                    .module(script.text, module, is_definition, bytes)?;
-                Ok(())
-            }
-            Err(refused) => Err(Refusal(refused)),
-        }
-    }
+/// Returns that a module is skipped for this error.
+fn skipped<'a>(alloc: Global, refused: &Refused<'a>) -> Result<ConvertedModule, AllocError> {
+    let reason = format!(in alloc; "{refused}")?;
+    let place = refused.span().unwrap_or(Span::default());
+    Ok(ConvertedModule::Skipped(reason, place))
+}
 
-    /// Appends an assertion that a module is wrong.
-    fn wrong_module(
-        &mut self,
-        ty: &str,
-        script: &Script<'a>,
-        strings: &'a Strings,
-        module: &ScriptModule<'a>,
-        message: &str,
-    ) -> Result<(), Refusal<'a>> {
-        let contents = contents_of(self.alloc, script, strings, module, true)?;
-        self.written
-            .module_command(ty, (script.text, module.span), contents, Some(message))?;
+/// The modules of a script that were converted so far.
+#[derive(Drop)]
+pub(crate) struct Modules {
+    /// What they are converted to, in the order of their commands.
+    pub converted: Vec<ConvertedModule>,
+    /// How many of them are skipped.
+    pub skipped: usize,
+}
+
+impl Modules {
+    /// Appends what one more module is converted to.
+    fn push(&mut self, module: ConvertedModule) -> Result<(), AllocError> {
+        self.converted.push(module)?;
         Ok(())
     }
 
-    /// Appends an assertion about what the instantiation of a module does.
-    fn started_module(
+    /// Converts one more module. If modules may be skipped, one with an unsupported construct is.
+    fn add<'a>(
         &mut self,
-        ty: &str,
-        script: &Script<'a>,
-        strings: &'a Strings,
-        module: &ScriptModule<'a>,
-        message: Option<&str>,
+        alloc: Global,
+        contents: Result<Contents, Refusal<'a>>,
+        stem: &str,
+        may_skip: bool,
     ) -> Result<(), Refusal<'a>> {
-        let contents = contents_of(self.alloc, script, strings, module, false)?;
-        self.written
-            .module_command(ty, (script.text, module.span), contents, message)?;
-        Ok(())
-    }
-
-    /// Appends an assertion about what it runs: of a module it has another type.
-    fn execution_command(
-        &mut self,
-        types: (&str, &str),
-        script: &Script<'a>,
-        strings: &'a Strings,
-        execution: &Execution<'a>,
-        message: Option<&str>,
-    ) -> Result<(), Refusal<'a>> {
-        match execution {
-            Execution::Action(action) => {
-                self.written
-                    .action_command(types.0, script, action, message)?;
-                Ok(())
+        match contents {
+            Ok(contents) => {
+                let number = self.converted.len().saturating_sub(self.skipped);
+                let file = file_of(alloc, stem, number, contents)?;
+                self.push(ConvertedModule::File(file))?;
             }
-            Execution::Module(module) => {
-                self.started_module(types.1, script, strings, module, message)
+            Err(Refusal(refused)) if may_skip && is_uncovered(&refused) => {
+                self.skipped = self.skipped.saturating_add(1);
+                let module = skipped(alloc, &refused)?;
+                self.push(module)?;
             }
-        }
-    }
-
-    /// Appends `assert_return`.
-    fn return_command(
-        &mut self,
-        script: &Script<'a>,
-        strings: &'a Strings,
-        execution: &Execution<'a>,
-        results: Part,
-    ) -> Result<(), Refusal<'a>> {
-        match execution {
-            Execution::Action(action) => {
-                self.written.returns(script, action, results)?;
-                Ok(())
-            }
-            Execution::Module(module) => {
-                self.started_module("assert_return", script, strings, module, None)
-            }
-        }
-    }
-
-    /// Appends an assertion that a module is wrong, or another command that runs nothing.
-    fn other_assertion(
-        &mut self,
-        script: &Script<'a>,
-        strings: &'a Strings,
-        command: &Command<'a>,
-    ) -> Result<(), Refusal<'a>> {
-        match command.kind {
-            CommandKind::AssertMalformed(module, message) => {
-                self.wrong_module("assert_malformed", script, strings, &module, message)
-            }
-            CommandKind::AssertMalformedCustom(module, message) => {
-                self.wrong_module("assert_malformed_custom", script, strings, &module, message)
-            }
-            CommandKind::AssertInvalid(module, message) => {
-                self.wrong_module("assert_invalid", script, strings, &module, message)
-            }
-            CommandKind::AssertInvalidCustom(module, message) => {
-                self.wrong_module("assert_invalid_custom", script, strings, &module, message)
-            }
-            CommandKind::AssertUnlinkable(module, message) => {
-                self.started_module("assert_unlinkable", script, strings, &module, Some(message))
-            }
-            _ => {
-                self.written.other_command(script.text, command)?;
-                Ok(())
-            }
-        }
-    }
-
-    /// Appends a command up to its end.
-    fn command(
-        &mut self,
-        script: &Script<'a>,
-        strings: &'a Strings,
-        command: &Command<'a>,
-    ) -> Result<(), Refusal<'a>> {
-        match command.kind {
-            CommandKind::Module(module) => self.module(script, strings, &module, false),
-            CommandKind::Definition(module) => self.module(script, strings, &module, true),
-            CommandKind::Action(action) => {
-                self.written
-                    .action_command("action", script, &action, None)?;
-                Ok(())
-            }
-            CommandKind::AssertReturn(execution, results) => {
-                self.return_command(script, strings, &execution, results)
-            }
-            CommandKind::AssertTrap(execution, message) => {
-                let types = ("assert_trap", "assert_uninstantiable");
-                self.execution_command(types, script, strings, &execution, Some(message))
-            }
-            CommandKind::AssertExhaustion(action, message) => {
-                self.written
-                    .action_command("assert_exhaustion", script, &action, Some(message))?;
-                Ok(())
-            }
-            CommandKind::AssertException(execution) => {
-                let types = ("assert_exception", "assert_exception");
-                self.execution_command(types, script, strings, &execution, None)
-            }
-            CommandKind::AssertSuspension(execution, message) => {
-                let types = ("assert_suspension", "assert_suspension");
-                self.execution_command(types, script, strings, &execution, Some(message))
-            }
-            _ => self.other_assertion(script, strings, command),
-        }
-    }
-
-    /// Appends the commands, with what separates and ends them.
-    fn commands(&mut self, script: &Script<'a>, strings: &'a Strings) -> Result<(), Refusal<'a>> {
-        let mut separator = "";
-        for command in script.commands.iter() {
-            if !matches!(command.kind, CommandKind::ThreadEnd) {
-                self.written.raw(separator)?;
-            }
-            self.command(script, strings, command)?;
-            let is_thread = matches!(command.kind, CommandKind::Thread(_, _));
-            self.written.raw(if is_thread { "" } else { "}" })?;
-            separator = if is_thread { "" } else { ",\n" };
+            Err(refusal) => return Err(refusal),
         }
         Ok(())
     }
 }
 
-/// Converts a script from a file of this name. The names of module files begin with a stem: `a.0.wasm` is the first of `a`.
-pub(crate) fn conversion_of<'a>(
+/// Converts the modules of a script. The names of their files begin with a stem. If modules may be skipped, those with unsupported
+/// constructs (E11) are.
+pub(crate) fn modules_of<'a>(
     alloc: Global,
     script: &Script<'a>,
     strings: &'a Strings,
-    source: &str,
     stem: &str,
-) -> Result<Conversion, Refusal<'a>> {
-    let mut converter = Converter {
-        alloc,
-        written: ScriptJson::new(alloc, source, stem)?,
+    may_skip: bool,
+) -> Result<Modules, Refusal<'a>> {
+    let mut modules = Modules {
+        converted: Vec::new(alloc),
+        skipped: 0,
     };
-    converter.commands(script, strings)?;
-    Ok(converter.written.finish()?)
+    for command in commands_of(script) {
+        if let Some((module, role)) = module_of(command) {
+            let contents = contents_of(alloc, script, strings, &module, role);
+            modules.add(alloc, contents, stem, may_skip)?;
+        }
+    }
+    Ok(modules)
 }

@@ -1,10 +1,19 @@
 //! Names and writes the files.
 
-use crate::options::Options;
+use crate::options::{Misuse, Options};
 use std::alloc::{AllocError, Global};
-use std::io;
-use wast_script_json::Conversion;
-use wat_command::{Escaped, Failure, file_key, is_kept, split_path, write_file};
+use std::io::{self, Write};
+use wast_script::Script;
+use wast_script_json::{ConvertedModule, ModuleFile, ScriptJson, commands_of, module_of};
+use wat_command::{
+    Escaped, Failure, NewFile, STANDARD, file_key, is_kept, split_path, write_bytes, write_unsynced,
+};
+
+/// A piece of the JSON is written when it has so many bytes.
+const PIECE: usize = 1 << 16;
+
+/// What the names of module files begin with, if the script is from standard input and the JSON goes to standard output.
+const UNNAMED: &str = "stdin";
 
 /// Returns a name without its extension, if there is a name before that.
 fn without_extension(name: &str) -> &str {
@@ -14,90 +23,202 @@ fn without_extension(name: &str) -> &str {
     }
 }
 
-/// Returns the JSON file of the options: in the current folder if they do not name it.
-pub(crate) fn target_of(alloc: Global, options: &Options) -> Result<String, AllocError> {
-    if let Some(target) = &options.target {
-        return String::from_str(alloc, target.as_str());
+/// Returns what the names of outputs begin with: `a` for `folder/a.json`.
+fn stem_of(path: &str) -> &str {
+    if path == STANDARD {
+        return UNNAMED;
     }
-    let (_, name) = split_path(options.file.as_str());
-    let stem = without_extension(name);
-    format!(in alloc; "{stem}.json")
-}
-
-/// Returns what the names of module files begin with: `a` for `folder/a.json`.
-pub(crate) fn stem_of_target(target: &str) -> &str {
-    let (_, name) = split_path(target);
+    let (_, name) = split_path(path);
     without_extension(name)
 }
 
-/// Returns the path of a file in the folder of the JSON file, or reports that allocation failed.
-fn path_beside(rt: &HostRuntime, target: &str, name: &str) -> Result<String, Failure> {
-    let (folder, _) = split_path(target);
-    match format!(in rt.alloc(); "{folder}{name}") {
-        Ok(path) => Ok(path),
-        Err(_) => Err(Failure::memory(rt)),
+/// The files to write.
+#[derive(Drop)]
+pub(crate) struct Outputs {
+    /// The path of the JSON file; `None` is standard output.
+    pub target: Option<String>,
+    /// The folder of the modules, with its slash; empty for the current one.
+    pub folder: String,
+    /// What the names of module files begin with.
+    pub stem: String,
+}
+
+/// Returns a folder with its slash.
+fn with_slash(alloc: Global, folder: &str) -> Result<String, AllocError> {
+    let slash = if folder.is_empty() || folder.ends_with('/') {
+        ""
+    } else {
+        "/"
+    };
+    format!(in alloc; "{folder}{slash}")
+}
+
+/// Returns the files in a folder, with their names from the script.
+fn outputs_in(alloc: Global, options: &Options, folder: &str) -> Result<Outputs, AllocError> {
+    let folder = with_slash(alloc, folder)?;
+    let stem = stem_of(options.file.as_str());
+    let target = if options.prints() {
+        None
+    } else {
+        Some(format!(in alloc; "{folder}{stem}.json")?)
+    };
+    Ok(Outputs {
+        target,
+        folder,
+        stem: String::from_str(alloc, stem)?,
+    })
+}
+
+/// Returns the files that the options name: with `--output` the JSON file and others beside it, and without it all in the folder of
+/// `--out-dir` or the current one.
+pub(crate) fn outputs_of(alloc: Global, options: &Options) -> Result<Outputs, AllocError> {
+    match (&options.target, &options.folder) {
+        (Some(target), None) => {
+            let (folder, _) = split_path(target.as_str());
+            Ok(Outputs {
+                target: Some(String::from_str(alloc, target.as_str())?),
+                folder: String::from_str(alloc, folder)?,
+                stem: String::from_str(alloc, stem_of(target.as_str()))?,
+            })
+        }
+        (_, Some(folder)) => outputs_in(alloc, options, folder.as_str()),
+        (None, None) => outputs_in(alloc, options, ""),
     }
 }
 
-/// Returns the key of a file, or reports that allocation failed.
-fn key_of(rt: &HostRuntime, path: &str) -> Result<String, Failure> {
-    match file_key(rt, path) {
-        Ok(key) => Ok(key),
-        Err(_) => Err(Failure::memory(rt)),
+impl Outputs {
+    /// Returns the path of a module's file.
+    fn path_of(&self, alloc: Global, file: &ModuleFile) -> Result<String, AllocError> {
+        let (folder, name) = (self.folder.as_str(), file.name.as_str());
+        format!(in alloc; "{folder}{name}")
     }
 }
 
-/// Reports a file to write that is the script, which has this key, because the script would be lost.
-fn check_output(rt: &HostRuntime, key: &str, path: &str) -> Result<(), Failure> {
-    let of_path = key_of(rt, path)?;
+/// Checks that an output is not the script, which has this key, because the script would be lost.
+fn check_output(rt: &HostRuntime, key: &str, path: &str) -> Result<(), Misuse> {
+    let of_path = file_key(rt, path)?;
     if of_path.as_str() == key {
-        let path = Escaped(path);
-        let _ = eprintln!(rt;
-            "error: output would replace the script: `{path}` (see `wat2json --help`)"
-        );
-        return Err(Failure::System);
+        let path = String::from_str(rt.alloc(), path)?;
+        return Err(Misuse::ReadOutput(path));
     }
     Ok(())
 }
 
 /// Checks that no output replaces the script.
-fn check_outputs(
+pub(crate) fn check_outputs(
     rt: &HostRuntime,
     script: &str,
-    target: &str,
-    conversion: &Conversion,
-) -> Result<(), Failure> {
+    outputs: &Outputs,
+    modules: &[ConvertedModule],
+) -> Result<(), Misuse> {
     if !is_kept(rt, script) {
         return Ok(());
     }
-    let key = key_of(rt, script)?;
-    for file in conversion.files.iter() {
-        let path = path_beside(rt, target, file.name.as_str())?;
-        check_output(rt, key.as_str(), path.as_str())?;
+    let key = file_key(rt, script)?;
+    for module in modules.iter() {
+        if let ConvertedModule::File(file) = module {
+            let path = outputs.path_of(rt.alloc(), file)?;
+            check_output(rt, key.as_str(), path.as_str())?;
+        }
     }
-    check_output(rt, key.as_str(), target)
+    match &outputs.target {
+        Some(target) => check_output(rt, key.as_str(), target.as_str()),
+        None => Ok(()),
+    }
 }
 
-/// Writes a file, or reports why that failed.
-fn write_to(rt: &HostRuntime, path: &str, bytes: &[u8]) -> Result<(), Failure> {
-    match write_file(rt, path, bytes) {
+/// Writes the file of a module, or reports why that failed.
+fn write_module(rt: &HostRuntime, outputs: &Outputs, file: &ModuleFile) -> Result<(), Failure> {
+    let Ok(path) = outputs.path_of(rt.alloc(), file) else {
+        return Err(Failure::memory(rt));
+    };
+    match write_unsynced(rt, path.as_str(), file.bytes.as_slice()) {
         Ok(()) => Ok(()),
-        Err(error) => Err(Failure::of_write_to(rt, Escaped(path), error)),
+        Err(error) => Err(Failure::of_write_to(rt, Escaped(path.as_str()), error)),
     }
 }
 
-/// Writes the files of the modules, and then the JSON file, so that each file that it names is there.
-/// If one of them is the script, nothing is written.
+/// Writes the JSON of the commands piece by piece, so that no more of it than a piece and one command is in memory.
+fn write_pieces<'a, W: Write>(
+    script: &Script<'a>,
+    modules: &[ConvertedModule],
+    json: &mut ScriptJson<'a>,
+    writer: &mut W,
+) -> io::Result<()> {
+    let mut modules = modules.iter();
+    for command in commands_of(script) {
+        let module = match module_of(command) {
+            Some(_) => modules.next(),
+            None => None,
+        };
+        json.command(script, command, module)?;
+        if json.text().len() >= PIECE {
+            write_bytes(writer, json.text().as_bytes())?;
+            json.clear();
+        }
+    }
+    Ok(())
+}
+
+/// Writes the whole JSON.
+fn write_json<W: Write>(
+    rt: &HostRuntime,
+    source: &str,
+    script: &Script<'_>,
+    modules: &[ConvertedModule],
+    writer: &mut W,
+) -> io::Result<()> {
+    let mut json = ScriptJson::new(rt.alloc(), source)?;
+    write_pieces(script, modules, &mut json, writer)?;
+    json.end()?;
+    write_bytes(writer, json.text().as_bytes())
+}
+
+/// Writes the JSON file whole or not at all.
+fn write_target(
+    rt: &HostRuntime,
+    source: &str,
+    script: &Script<'_>,
+    modules: &[ConvertedModule],
+    path: &str,
+) -> io::Result<()> {
+    let mut file = NewFile::create(rt, path)?;
+    let written = write_json(rt, source, script, modules, &mut file);
+    file.finish(rt, path, true, written)
+}
+
+/// Prints the JSON to standard output.
+fn print_json(
+    rt: &HostRuntime,
+    source: &str,
+    script: &Script<'_>,
+    modules: &[ConvertedModule],
+) -> Result<(), Failure> {
+    let mut stdout = rt.stdout();
+    match write_json(rt, source, script, modules, &mut stdout) {
+        Ok(()) => Ok(()),
+        Err(error) => Err(Failure::of_write(rt, error)),
+    }
+}
+
+/// Writes the files of the modules, and then the JSON, so that each file that it names is there and whole.
 pub(crate) fn write_outputs(
     rt: &HostRuntime,
-    script: &str,
-    target: &str,
-    conversion: &Conversion,
+    source: &str,
+    script: &Script<'_>,
+    outputs: &Outputs,
+    modules: &[ConvertedModule],
 ) -> Result<(), Failure> {
-    check_outputs(rt, script, target, conversion)?;
-    for file in conversion.files.iter() {
-        let path = path_beside(rt, target, file.name.as_str())?;
-        write_to(rt, path.as_str(), file.bytes.as_slice())?;
+    for module in modules.iter() {
+        if let ConvertedModule::File(file) = module {
+            write_module(rt, outputs, file)?;
+        }
     }
-    write_to(rt, target, conversion.json.as_bytes())
+    let Some(target) = &outputs.target else {
+        return print_json(rt, source, script, modules);
+    };
+    match write_target(rt, source, script, modules, target.as_str()) {
+        Ok(()) => Ok(()),
+        Err(error) => Err(Failure::of_write_to(rt, Escaped(target.as_str()), error)),
+    }
 }

@@ -25,6 +25,11 @@ impl From<AllocError> for Refusal<'_> {
 /// The number of the last fault of names and type uses, E9.
 const LAST: u32 = 9;
 
+/// Returns whether an error is an unsupported construct (E11).
+pub(crate) fn is_uncovered(refused: &Refused<'_>) -> bool {
+    matches!(refused, Refused::Uncovered(_))
+}
+
 /// Returns whether an error is about names, type uses or the order of imports (E1 to E9). A module that is malformed or not valid may
 /// have one.
 pub(crate) fn is_of_names(refused: &Refused<'_>) -> bool {

@@ -4,12 +4,15 @@
 //! most some hundred columns, however long a line of the text or a name is. The time is linear in
 //! the text.
 
-use crate::escapes::{Blanks, Escaped, Margin, SourceText, is_bidirectional_control};
+use crate::escapes::{Blanks, Escaped, Margin, SourceText, Underline, is_bidirectional_control};
 use crate::failures::Failure;
+use crate::json::{error_line, warning_line};
+use crate::styles::{Colors, Style};
 use std::alloc::{AllocError, Global};
 use std::io;
 use wast_tree::{Span, line_and_column};
 use wat_bytes::Refused;
+use wat_messages::{Diagnostic, Range, range_in};
 
 /// At most this many bytes of a source line are printed, those around the caret.
 const LINE: usize = 120;
@@ -82,61 +85,151 @@ fn excerpt_at(text: &str, offset: usize) -> Excerpt<'_> {
     }
 }
 
-/// Prints a position: the line of the text, and a caret under the position. Does not allocate.
-fn print_place(rt: &HostRuntime, file: Escaped<'_>, text: &str, place: Span) {
+/// Prints a range: the line of its start, and a caret and tildes under the part of it that is in
+/// this line. Does not allocate.
+fn print_range(rt: &HostRuntime, style: Style, file: Escaped<'_>, text: &str, range: Range) {
+    let place = Span {
+        offset: range.start,
+    };
     let (number, column) = line_and_column(text, place);
-    let margin = Margin(number);
+    let spaces = Margin(number);
     let Excerpt {
         head,
         before,
         after,
         tail,
     } = excerpt_at(text, place.offset);
+    let (marked, _) = cut_after(after, range.end.saturating_sub(range.start));
     let (shown, rest) = (SourceText(before), SourceText(after));
-    let (left, blanks) = (Blanks(head), Blanks(before));
-    let _ = eprintln!(rt; "{margin}--> {file}:{number}:{column}");
-    let _ = eprintln!(rt; "{margin} |");
-    let _ = eprintln!(rt; "{number} | {head}{shown}{rest}{tail}");
-    let _ = eprintln!(rt; "{margin} | {left}{blanks}^");
+    let (left, blanks, marks) = (Blanks(head), Blanks(before), Underline(marked));
+    let Colors {
+        error,
+        margin,
+        reset,
+        ..
+    } = style.colors();
+    let _ = eprintln!(rt; "{margin}{spaces}-->{reset} {file}:{number}:{column}");
+    let _ = eprintln!(rt; "{margin}{spaces} |{reset}");
+    let _ = eprintln!(rt; "{margin}{number} |{reset} {head}{shown}{rest}{tail}");
+    let _ = eprintln!(rt; "{margin}{spaces} |{reset} {left}{blanks}{error}{marks}{reset}");
 }
 
 /// Returns the message of an error.
-fn message_of(alloc: Global, refused: &Refused<'_>) -> Result<String, AllocError> {
-    format!(in alloc; "{refused}")
+fn message_of(alloc: Global, diagnostic: &Diagnostic<'_>) -> Result<String, AllocError> {
+    format!(in alloc; "{diagnostic}")
 }
 
-/// Reports the error of a text, with its position.
-pub fn report(
+/// Prints a diagnostic as lines for a reader.
+fn print_lines(
     rt: &HostRuntime,
-    alloc: Global,
+    style: Style,
     file: Escaped<'_>,
     text: &str,
-    refused: &Refused<'_>,
-) -> Failure {
-    if refused.number() == Some(MEMORY) {
-        return Failure::memory(rt);
-    }
-    let Ok(message) = message_of(alloc, refused) else {
-        return Failure::memory(rt);
-    };
+    diagnostic: &Diagnostic<'_>,
+) -> Result<(), AllocError> {
+    let message = message_of(rt.alloc(), diagnostic)?;
     let (shown, tail) = cut_after(message.as_str(), MESSAGE);
     let shown = Escaped(shown);
-    let _ = eprintln!(rt; "error: {shown}{tail}");
-    match refused.span() {
-        Some(place) => print_place(rt, file, text, place),
+    let Colors {
+        error,
+        strong,
+        reset,
+        ..
+    } = style.colors();
+    let _ = eprintln!(rt; "{error}error{reset}{strong}: {shown}{tail}{reset}");
+    match diagnostic.range() {
+        Some(range) => print_range(rt, style, file, text, range),
         None => {
             let _ = eprintln!(rt; " --> {file}");
         }
     }
-    Failure::Text
+    Ok(())
 }
 
-/// Reports bytes that are not UTF-8. The text is the bytes before the first wrong one.
+/// Prints a diagnostic in a style.
+fn print_diagnostic(
+    rt: &HostRuntime,
+    style: Style,
+    file: Escaped<'_>,
+    text: &str,
+    diagnostic: &Diagnostic<'_>,
+    number: Option<u32>,
+) -> Failure {
+    let printed = match style {
+        Style::Json => print_json(rt, file, text, diagnostic, number),
+        Style::Plain | Style::Colored => print_lines(rt, style, file, text, diagnostic),
+    };
+    match printed {
+        Ok(()) => Failure::Text,
+        Err(_) => Failure::memory(rt),
+    }
+}
+
+/// Prints a diagnostic as a line of JSON.
+fn print_json(
+    rt: &HostRuntime,
+    file: Escaped<'_>,
+    text: &str,
+    diagnostic: &Diagnostic<'_>,
+    number: Option<u32>,
+) -> Result<(), AllocError> {
+    let line = error_line(rt.alloc(), file.0, text, diagnostic, number)?;
+    let _ = eprintln!(rt; "{line}");
+    Ok(())
+}
+
+/// Returns the diagnostic of the error of a text.
+fn diagnostic_of<'a>(text: &'a str, refused: &Refused<'a>) -> Diagnostic<'a> {
+    match refused {
+        Refused::Text(error) => Diagnostic::of_text(text, *error),
+        Refused::Module(error) => Diagnostic::of_module(text, *error),
+        Refused::Uncovered(found) => {
+            Diagnostic::of_uncovered(text, found.span, found.form, found.word)
+        }
+    }
+}
+
+/// Reports the error of a text in a style, with its range.
+pub fn report_in<'a>(
+    rt: &HostRuntime,
+    style: Style,
+    file: Escaped<'_>,
+    text: &'a str,
+    refused: &Refused<'a>,
+) -> Failure {
+    if refused.number() == Some(MEMORY) {
+        return Failure::memory(rt);
+    }
+    let diagnostic = diagnostic_of(text, refused);
+    print_diagnostic(rt, style, file, text, &diagnostic, refused.number())
+}
+
+/// Reports bytes that are not UTF-8 in a style. The text is the bytes before the first wrong one.
+pub fn report_malformed_in(
+    rt: &HostRuntime,
+    style: Style,
+    file: Escaped<'_>,
+    text: &str,
+) -> Failure {
+    let diagnostic = Diagnostic::of_bytes(text);
+    print_diagnostic(rt, style, file, text, &diagnostic, None)
+}
+
+/// Reports the error of a text, with its range, as lines without colours.
+pub fn report<'a>(
+    rt: &HostRuntime,
+    _alloc: Global,
+    file: Escaped<'_>,
+    text: &'a str,
+    refused: &Refused<'a>,
+) -> Failure {
+    report_in(rt, Style::Plain, file, text, refused)
+}
+
+/// Reports bytes that are not UTF-8, as lines without colours. The text is the bytes before the
+/// first wrong one.
 pub fn report_malformed(rt: &HostRuntime, file: Escaped<'_>, text: &str) -> Failure {
-    let offset = text.len();
-    let _ = eprintln!(rt; "error: malformed UTF-8 encoding at byte {offset}");
-    print_place(rt, file, text, Span { offset });
-    Failure::Text
+    report_malformed_in(rt, Style::Plain, file, text)
 }
 
 /// Returns whether a text may have bidirectional control characters. In UTF-8 each of them begins
@@ -160,13 +253,33 @@ fn first_bidirectional_control(text: &str) -> Option<usize> {
     None
 }
 
-/// Warns of the first bidirectional control character of a text. The text is still read, because
-/// comments and strings may have such characters.
-pub fn warn(rt: &HostRuntime, file: Escaped<'_>, text: &str) {
-    if let Some(offset) = first_bidirectional_control(text) {
-        let (line, column) = line_and_column(text, Span { offset });
-        let _ = eprintln!(rt;
-            "warning: {file}: bidirectional control character at {line}:{column}"
-        );
+/// Prints the warning of a bidirectional control character as a line of JSON, if there is memory.
+fn warn_in_json(rt: &HostRuntime, file: Escaped<'_>, text: &str, offset: usize) {
+    let range = range_in(text, offset, 1);
+    let message = "bidirectional control character";
+    if let Ok(line) = warning_line(rt.alloc(), file.0, text, message, range) {
+        let _ = eprintln!(rt; "{line}");
     }
+}
+
+/// Warns of the first bidirectional control character of a text, in a style. The text is still read,
+/// because comments and strings may have such characters.
+pub fn warn_in(rt: &HostRuntime, style: Style, file: Escaped<'_>, text: &str) {
+    let Some(offset) = first_bidirectional_control(text) else {
+        return;
+    };
+    if style == Style::Json {
+        warn_in_json(rt, file, text, offset);
+        return;
+    }
+    let (line, column) = line_and_column(text, Span { offset });
+    let Colors { warning, reset, .. } = style.colors();
+    let _ = eprintln!(rt;
+        "{warning}warning{reset}: {file}: bidirectional control character at {line}:{column}"
+    );
+}
+
+/// Warns of the first bidirectional control character of a text, as a line without colours.
+pub fn warn(rt: &HostRuntime, file: Escaped<'_>, text: &str) {
+    warn_in(rt, Style::Plain, file, text);
 }

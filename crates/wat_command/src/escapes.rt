@@ -42,17 +42,21 @@ fn write_columns<W: fmt::Write>(f: &mut fmt::Formatter<W>, count: usize) -> fmt:
     Ok(())
 }
 
+/// Returns how many columns a terminal shows for what `SourceText` prints of a character. It is 1 for
+/// a tab, whose width depends on the terminal.
+fn columns_of(character: char) -> usize {
+    if character != '\t' && is_escaped(character) {
+        return character.escape_default().count();
+    }
+    character.width().unwrap_or(1)
+}
+
 /// Writes as many blanks as a terminal shows columns for what `SourceText` prints of a character.
 fn write_blanks<W: fmt::Write>(f: &mut fmt::Formatter<W>, character: char) -> fmt::Result {
     if character == '\t' {
         return f.write_str("\t");
     }
-    let columns = if is_escaped(character) {
-        character.escape_default().count()
-    } else {
-        character.width().unwrap_or(1)
-    };
-    write_columns(f, columns)
+    write_columns(f, columns_of(character))
 }
 
 /// Prints a text with its control characters as escapes: a line feed as `\n`, and an escape
@@ -96,6 +100,32 @@ impl fmt::Display for Blanks<'_> {
     fn fmt<W: fmt::Write>(&self, f: &mut fmt::Formatter<W>) -> fmt::Result {
         for character in self.0.chars() {
             write_blanks(f, character)?;
+        }
+        Ok(())
+    }
+}
+
+/// Prints a caret, and tildes up to the end of what `SourceText` prints of the same text.
+///
+/// For example, it prints `^~~~~~` for `i32.ad`, and `^` for nothing.
+#[derive(Clone, Copy)]
+pub(crate) struct Underline<'a>(pub &'a str);
+
+impl fmt::Display for Underline<'_> {
+    fn fmt<W: fmt::Write>(&self, f: &mut fmt::Formatter<W>) -> fmt::Result {
+        f.write_str("^")?;
+        let mut is_first = true;
+        for character in self.0.chars() {
+            let columns = columns_of(character);
+            let more = if is_first {
+                columns.saturating_sub(1)
+            } else {
+                columns
+            };
+            for _ in 0..more {
+                f.write_str("~")?;
+            }
+            is_first = false;
         }
         Ok(())
     }

@@ -6,7 +6,7 @@ ghost use Rattle.wat_command.specs.Fronts.{AppendsFront};
 
 use crate::escapes::Escaped;
 use std::alloc::AllocError;
-use std::fs::{self, File, Metadata, OpenOptions, Permissions};
+use std::fs::{self, File, Metadata, OpenOptions};
 use std::io::{self, ErrorKind, Read, Write};
 use std::os::unix::fs::{MetadataExt, OpenOptionsExt, PermissionsExt};
 use std::str;
@@ -17,13 +17,13 @@ pub const STANDARD: &str = "-";
 /// At most this many names of temporary files are tried.
 const MOST: u32 = 1_000_000;
 
-/// A file that is written before it gets its final name.
+/// A file that is written piece by piece, and gets its name when it is complete.
 #[derive(Drop)]
-struct Temporary {
-    /// The path of the temporary file.
-    path: String,
+pub struct NewFile {
     /// The open file.
     file: File,
+    /// The path of the temporary file. A device, a pipe or the target of a link is written without one.
+    temporary: Option<String>,
 }
 
 /// Returns the folder of a path, with its slash, and the name in it.
@@ -64,12 +64,12 @@ pub fn file_key(rt: &HostRuntime, path: &str) -> Result<String, AllocError> {
     }
 }
 
-/// Returns whether a file to read would be lost if an output replaced it. Standard input, devices and
-/// pipes would not.
+/// Returns whether a file to read would be lost if an output replaced it, or would be that output if it
+/// does not exist. Standard input, devices and pipes would not.
 pub fn is_kept(rt: &HostRuntime, file: &str) -> bool {
     match fs::metadata(rt, file) {
         Ok(found) => found.is_file() && file != STANDARD,
-        Err(_) => false,
+        Err(_) => file != STANDARD,
     }
 }
 
@@ -146,12 +146,15 @@ fn create_new(rt: &HostRuntime, path: &str, mode: u32) -> io::Result<File> {
 }
 
 /// Creates a file in the folder of this path.
-fn create_temporary(rt: &HostRuntime, path: &str, mode: u32) -> io::Result<Temporary> {
+fn create_temporary(rt: &HostRuntime, path: &str, mode: u32) -> io::Result<NewFile> {
     let (folder, _) = split_path(path);
     for number in 0..MOST {
         let path = format!(in rt.alloc(); "{folder}.wat-{number}.tmp")?;
         match create_new(rt, path.as_str(), mode) {
-            Ok(file) => return Ok(Temporary { path, file }),
+            Ok(file) => {
+                let temporary = Some(path);
+                return Ok(NewFile { file, temporary });
+            }
             Err(error) => {
                 if error.kind() != ErrorKind::AlreadyExists {
                     return Err(error);
@@ -162,78 +165,116 @@ fn create_temporary(rt: &HostRuntime, path: &str, mode: u32) -> io::Result<Tempo
     Err(io::Error::from(ErrorKind::AlreadyExists))
 }
 
-/// Writes all bytes to an open file, and waits until the system has them, because an error that
-/// comes later would be lost. The file gets its permissions before its first byte, so that nobody can
-/// read it who could not read the old file.
-fn fill(file: &mut File, permissions: Option<Permissions>, bytes: &[u8]) -> io::Result<()> {
-    if let Some(permissions) = permissions {
-        file.set_permissions(permissions)?;
-    }
-    file.write_all(bytes)?;
-    file.sync_all()
-}
-
-/// Returns the permission bits that a file is created with: those of the file that it replaces, or
-/// those of any new file.
-fn mode_of(permissions: &Option<Permissions>) -> u32 {
-    match permissions {
-        Some(permissions) => permissions.mode() & 0o777,
-        None => 0o666,
-    }
-}
-
-/// Writes a file under a temporary name, and renames it when it is complete. If that fails, the
-/// temporary file is removed.
-fn replace(
-    rt: &HostRuntime,
-    path: &str,
-    permissions: Option<Permissions>,
-    bytes: &[u8],
-) -> io::Result<()> {
-    let Temporary {
-        path: temporary,
-        mut file,
-    } = create_temporary(rt, path, mode_of(&permissions))?;
-    let replaced = match fill(&mut file, permissions, bytes) {
-        Ok(()) => fs::rename(rt, temporary.as_str(), path),
-        Err(error) => Err(error),
-    };
-    if replaced.is_err() {
-        let _ = fs::remove_file(rt, temporary.as_str());
-    }
-    replaced
-}
-
-/// Replaces a regular file, if it may be written. It keeps its permissions.
-fn replace_existing(rt: &HostRuntime, path: &str, bytes: &[u8]) -> io::Result<()> {
+/// Creates a temporary file beside a regular file that it will replace, if that may be written. It has the permissions of that file
+/// before its first byte, so that nobody can read it who could not read the old file.
+fn create_beside(rt: &HostRuntime, path: &str) -> io::Result<NewFile> {
     let existing = OpenOptions::new().write(true).open(rt, path)?;
     let permissions = existing.metadata()?.permissions();
-    replace(rt, path, Some(permissions), bytes)
+    let created = create_temporary(rt, path, permissions.mode() & 0o777)?;
+    match created.file.set_permissions(permissions) {
+        Ok(()) => Ok(created),
+        Err(error) => {
+            created.remove(rt);
+            Err(error)
+        }
+    }
 }
 
-/// Writes to a device, a pipe, or the target of a link.
-fn write_through(rt: &HostRuntime, path: &str, bytes: &[u8]) -> io::Result<()> {
-    let mut file = File::create(rt, path)?;
-    file.write_all(bytes)
+/// Opens a device, a pipe, or the target of a link.
+fn open_in_place(rt: &HostRuntime, path: &str) -> io::Result<NewFile> {
+    let file = File::create(rt, path)?;
+    let temporary = None;
+    Ok(NewFile { file, temporary })
+}
+
+impl NewFile {
+    /// Begins a file that gets this path.
+    ///
+    /// A device, a pipe or a symbolic link is written directly, because replacing it would break what
+    /// it is used for.
+    pub fn create(rt: &HostRuntime, path: &str) -> io::Result<NewFile> {
+        match fs::symlink_metadata(rt, path) {
+            Ok(found) => {
+                if found.is_file() {
+                    return create_beside(rt, path);
+                }
+                open_in_place(rt, path)
+            }
+            Err(error) => {
+                if error.kind() == ErrorKind::NotFound {
+                    return create_temporary(rt, path, 0o666);
+                }
+                Err(error)
+            }
+        }
+    }
+
+    /// Gives the file its path, if all was written.
+    fn publish(&self, rt: &HostRuntime, path: &str, is_synced: bool) -> io::Result<()> {
+        let Some(temporary) = &self.temporary else {
+            return Ok(());
+        };
+        if is_synced {
+            self.file.sync_all()?;
+        }
+        fs::rename(rt, temporary.as_str(), path)
+    }
+
+    /// Removes the temporary file.
+    fn remove(&self, rt: &HostRuntime) {
+        if let Some(temporary) = &self.temporary {
+            let _ = fs::remove_file(rt, temporary.as_str());
+        }
+    }
+
+    /// Ends the file, which was written with this result, and gives it its path. If it was not written, or if that fails, the
+    /// temporary file is removed.
+    ///
+    /// If it is synced, the call waits until the system has the bytes, because an error that comes later would be lost.
+    pub fn finish(
+        self,
+        rt: &HostRuntime,
+        path: &str,
+        is_synced: bool,
+        written: io::Result<()>,
+    ) -> io::Result<()> {
+        let published = match written {
+            Ok(()) => self.publish(rt, path, is_synced),
+            Err(error) => Err(error),
+        };
+        if published.is_err() {
+            self.remove(rt);
+        }
+        published
+    }
+}
+
+impl Write for NewFile {
+    fn write(&mut self, buf: &[u8]) -> io::Result<usize> {
+        self.file.write(buf)
+    }
+
+    fn flush(&mut self) -> io::Result<()> {
+        self.file.flush()
+    }
 }
 
 /// Writes a file completely or not at all.
+fn write_whole(rt: &HostRuntime, path: &str, bytes: &[u8], is_synced: bool) -> io::Result<()> {
+    let mut file = NewFile::create(rt, path)?;
+    let written = file.write_all(bytes);
+    file.finish(rt, path, is_synced, written)
+}
+
+/// Writes a file completely or not at all, and waits until the system has its bytes.
 ///
 /// A device, a pipe or a symbolic link is written directly, because replacing it would break what
 /// it is used for.
 pub fn write_file(rt: &HostRuntime, path: &str, bytes: &[u8]) -> io::Result<()> {
-    match fs::symlink_metadata(rt, path) {
-        Ok(found) => {
-            if found.is_file() {
-                return replace_existing(rt, path, bytes);
-            }
-            write_through(rt, path, bytes)
-        }
-        Err(error) => {
-            if error.kind() == ErrorKind::NotFound {
-                return replace(rt, path, None, bytes);
-            }
-            Err(error)
-        }
-    }
+    write_whole(rt, path, bytes, true)
+}
+
+/// Writes a file as [`write_file`] does, without waiting for the system. It is for many files of one run.
+pub fn write_unsynced(rt: &HostRuntime, path: &str, bytes: &[u8]) -> io::Result<()> {
+    write_whole(rt, path, bytes, false)
 }
