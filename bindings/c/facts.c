@@ -53,19 +53,23 @@ static void faults(void) {
     uint32_t status = rigyomad_fault(FAULTY, message, 64, &at);
     expect(status == RIGYOMAD_FAULT && at.number == RIGYOMAD_E4_UNKNOWN, "the fault is E4");
     expect(at.offset == 16 && at.line == 2 && at.column == 9, "it is in the second line");
+    expect(at.end_offset == 18, "the token ends behind the id");
     const char *told = "unknown func: failed to find name `$f`.";
     expect(at.size == 38 && !memcmp(message, told, 39), "the message is whole, and no more");
     status = rigyomad_fault(TEXT("(module (fun))"), cut, 7, &at);
     expect(status == RIGYOMAD_FAULT && at.number == 0 && at.column == 10, "it is no module");
-    expect(at.size == 27 && !strcmp(cut, "expecte"), "a message is cut");
+    expect(at.end_offset == 12, "the token is the word");
+    const char *more = "expected valid module field, found `fun`; did you mean `func`?";
+    expect(at.size == strlen(more) && !strcmp(cut, "expecte"), "a message is cut");
     status = rigyomad_fault(TEXT("(module (type (func)) (type (cont 0)))"), message, 64, &at);
     expect(status == RIGYOMAD_FAULT && at.number == RIGYOMAD_E11_UNCOVERED, "the fault is E11");
     status = rigyomad_fault(TEXT("(module)\xff"), message, 64, &at);
-    expect(status == RIGYOMAD_UTF8 && at.offset == 8 && at.line == 0, "a byte has an offset");
+    expect(status == RIGYOMAD_UTF8 && at.offset == 8 && at.end_offset == 8 && at.line == 0,
+           "a byte has an offset");
     expect(!memcmp(message, TEXT("malformed UTF-8 encoding")), "it has a message");
     status = rigyomad_fault(TEXT("(module)"), message, 64, &at);
     expect(status == RIGYOMAD_DONE && at.number == 0, "a module has no fault");
-    expect(at.line == 0 && at.size == 0, "it has no place and no message");
+    expect(at.line == 0 && at.size == 0 && at.end_offset == 0, "it has no place and no message");
 }
 
 /* A name is looked up in its index space. */
@@ -86,7 +90,7 @@ static void indices(void) {
     expect(status == RIGYOMAD_UTF8 && number == 9, "a name is UTF-8");
     status = rigyomad_resolve(FAULTY, RIGYOMAD_SPACE_FUNC, "f", 1, &number);
     expect(status == RIGYOMAD_FAULT && number == 9, "a fault has no names");
-    expect(rigyomad_version() == 1, "the version of the declarations is 1");
+    expect(rigyomad_version() == 2, "the version of the declarations is 2");
 }
 
 /* All names are listed, if there is room for them. */

@@ -18,7 +18,7 @@ extern "C" {
 #endif
 
 /* The number of these declarations. rigyomad_version() returns that of the archive. */
-#define RIGYOMAD_VERSION 1
+#define RIGYOMAD_VERSION 2
 
 /* What a call returns. */
 enum rigyomad_status {
@@ -133,13 +133,16 @@ static inline const char *rigyomad_fault_text(uint32_t number) {
     }
 }
 
-/* What is wrong with a text, and where. */
+/* What is wrong with a text, and where. A member that is new is the last one, so the others keep
+ * their offsets. The struct is larger than that of version 1 of the declarations: compile all that
+ * uses it against this header. */
 struct rigyomad_diagnosis {
     uint32_t number; /* One of rigyomad_fault_kind; 0 if it is no module, or nothing is wrong. */
     size_t offset;   /* Bytes before the place; 0 if there is no place. */
     size_t line;     /* From 1; 0 if there is no place, or the text is not UTF-8. */
     size_t column;   /* In bytes, from 1; 0 where line is 0. */
     size_t size;     /* How many bytes the whole message has. */
+    size_t end_offset; /* Bytes before the end of the token at the place; 0 if there is no place. */
 };
 
 /* A name of a text, and what it denotes. */

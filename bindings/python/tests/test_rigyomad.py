@@ -10,6 +10,15 @@ import rigyomad
 EMPTY = b"\0asm\x01\0\0\0"
 
 
+def snippet_of(text):
+    """The line that the error of a text shows."""
+    try:
+        rigyomad.parse(text)
+    except rigyomad.WatError as error:
+        return error.snippet
+    return None
+
+
 def error_of(text):
     """The fields of the error of a text."""
     try:
@@ -54,6 +63,16 @@ class Tests(unittest.TestCase):
             rigyomad.parse('(module (start $"\\1b[31m\\n"))')
         self.assertEqual(str(caught.exception), r"1:16: unknown func: failed to find name `$\u{1b}[31m\n`")
 
+    def test_snippet_shows_the_line(self):
+        shown = " --> 2:9\n  |\n2 | \t(start $f))\n  | \t       ^"
+        for text in ("(module\n\t(start $f))\r\n", b"(module\n\t(start $f))\r\n"):
+            self.assertEqual(snippet_of(text), shown)
+        self.assertEqual(snippet_of("(;\u202e\x1b;) (start $f)"), " --> 1:15\n  |\n1 | (;\\u{202e}\\u{1b};) (start $f)\n  | " + " " * 26 + "^")
+        self.assertEqual(snippet_of("(module)\n;; \ud800"), " --> 2:4\n  |\n2 | ;; ?\n  |    ^")
+        long = snippet_of(f"(module {' ' * 100}(start ${'n' * 100}))").split("\n")
+        self.assertEqual(long[2:], [f"1 | ...{' ' * 53}(start ${'n' * 59}...", f"  | {' ' * 63}^"])
+        self.assertEqual(rigyomad.WatError(12, "allocation failed").snippet, "")
+
     def test_message_may_be_long(self):
         self.assertEqual(len(error_of(f"(module (start ${'n' * 3000}))")[2]), len("unknown func: failed to find name `$`") + 3000)
 
@@ -65,9 +84,9 @@ class Tests(unittest.TestCase):
             rigyomad.names("(module (start $f))")
 
     def test_error_can_be_pickled(self):
-        error = rigyomad.WatError(4, "unknown", 1, 2, 3, 4)
+        error = rigyomad.WatError(4, "unknown", 1, 2, 3, 4, " --> 1:2")
         again = pickle.loads(pickle.dumps(error))
-        self.assertEqual((again.kind, again.end, str(again)), ("Unknown", 4, "1:2: unknown"))
+        self.assertEqual((again.kind, again.end, again.snippet, str(again)), ("Unknown", 4, " --> 1:2", "1:2: unknown"))
 
     def test_threads_may_call(self):
         with concurrent.futures.ThreadPoolExecutor(8) as pool:

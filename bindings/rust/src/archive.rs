@@ -26,6 +26,7 @@ pub(crate) struct Diagnosis {
     pub(crate) line: usize,
     pub(crate) column: usize,
     pub(crate) size: usize,
+    pub(crate) end_offset: usize,
 }
 
 /// A name, and what it denotes.
@@ -99,7 +100,7 @@ fn expect_version(number: u32) {
 }
 
 /// Panics if the archive has other declarations than this file. It asks the archive once.
-fn check_version() {
+pub(crate) fn check_version() {
     static IS_CHECKED: AtomicBool = AtomicBool::new(false);
     if !IS_CHECKED.load(Ordering::Relaxed) {
         expect_version(version());
@@ -170,8 +171,8 @@ mod tests {
     }
 
     #[test]
-    #[should_panic(expected = "librigyomad.a has declarations of number 2, and the crate rigyomad")]
+    #[should_panic(expected = "librigyomad.a has declarations of number 3, and the crate rigyomad")]
     fn other_declarations_are_refused() {
-        expect_version(2);
+        expect_version(3);
     }
 }

@@ -5,6 +5,7 @@ use crate::room;
 use crate::snippet::{Escaped, Snippet};
 use std::borrow::Cow;
 use std::error::Error;
+use std::ops::Range;
 use std::path::Path;
 use std::{fmt, iter};
 
@@ -123,8 +124,9 @@ impl fmt::Display for Kind {
 /// Why a text has no bytes.
 ///
 /// It is printed in one line, with the line and the column of its place. `{:#}` prints more lines:
-/// the line of the text too, at most 120 bytes of it, and a caret below the place. Both print control
-/// characters as escapes, such as `\n` or `\u{1b}`, because a name in the text may have them.
+/// the line of the text too, at most 120 bytes of it, with a caret and tildes below the token. Both
+/// print control characters as escapes, such as `\n` or `\u{1b}`, because a name in the text may have
+/// them.
 ///
 /// # Example
 ///
@@ -132,19 +134,22 @@ impl fmt::Display for Kind {
 /// let fault = rigyomad::encode("(module\n  (start $f))").unwrap_err();
 /// assert_eq!(fault.kind(), rigyomad::Kind::Unknown);
 /// assert_eq!(fault.message(), "unknown func: failed to find name `$f`");
+/// assert_eq!(fault.span(), Some(17..19));
 /// assert_eq!(fault.to_string(), "2:10: unknown func: failed to find name `$f`");
 /// let shown = "\
 /// unknown func: failed to find name `$f`
 ///  --> 2:10
 ///   |
 /// 2 |   (start $f))
-///   |          ^";
+///   |          ^~";
 /// assert_eq!(format!("{fault:#}"), shown);
 /// ```
 #[derive(Clone, Debug, PartialEq, Eq)]
 pub struct Fault {
     kind: Kind,
     place: Option<(Place, Snippet)>,
+    /// The offset of the end of the token at the place.
+    end: usize,
     message: Cow<'static, str>,
 }
 
@@ -171,6 +176,12 @@ impl Fault {
         self.place.as_ref().map(|(place, _)| *place)
     }
 
+    /// Returns the part of the text that the fault is about, as offsets of bytes: mostly a token. It
+    /// is empty at the end of the text. Returns `None` if the fault has no place.
+    pub fn span(&self) -> Option<Range<usize>> {
+        self.place().map(|place| place.offset..self.end.max(place.offset))
+    }
+
     /// Returns what is wrong, without the place. A name in it is as in the text, without escapes.
     pub fn message(&self) -> &str {
         &self.message
@@ -179,14 +190,14 @@ impl Fault {
     /// Allocation failed. It does not allocate.
     pub(crate) fn out_of_memory() -> Fault {
         let message = Cow::Borrowed("out of memory");
-        Fault { kind: Kind::Memory, place: None, message }
+        Fault { kind: Kind::Memory, place: None, end: 0, message }
     }
 
     /// The fault of a text by its diagnosis, with its message; E12 if there is no memory for it.
     pub(crate) fn new(text: &str, at: &Diagnosis, message: &[u8]) -> Fault {
         let place = Place { offset: at.offset, line: at.line, column: at.column };
         let place = Some(place).filter(|place| place.line != 0);
-        Fault::try_new(text, Kind::of(at.number), place, message)
+        Fault::try_new(text, Kind::of(at.number), place, at.end_offset, message)
             .unwrap_or_else(|out_of_memory| out_of_memory)
     }
 
@@ -195,14 +206,15 @@ impl Fault {
         text: &str,
         kind: Kind,
         place: Option<Place>,
+        end: usize,
         message: &[u8],
     ) -> Result<Fault, Fault> {
         let message = Cow::Owned(room::owned(message)?);
         let place = match place {
-            Some(place) => Some((place, Snippet::new(text, place.offset)?)),
+            Some(place) => Some((place, Snippet::new(text, place.offset..end)?)),
             None => None,
         };
-        Ok(Fault { kind, place, message })
+        Ok(Fault { kind, place, end, message })
     }
 
     /// Bytes are not UTF-8 after this text; E12 if there is no memory to say so.
@@ -213,7 +225,8 @@ impl Fault {
             line: text.bytes().filter(|byte| *byte == b'\n').count() + 1,
             column: text.len() - line_start + 1,
         };
-        Fault::try_new(text, Kind::Malformed, Some(place), b"malformed UTF-8 encoding")
+        let end = text.len();
+        Fault::try_new(text, Kind::Malformed, Some(place), end, b"malformed UTF-8 encoding")
             .unwrap_or_else(|out_of_memory| out_of_memory)
     }
 
@@ -233,7 +246,7 @@ impl Fault {
         }
     }
 
-    /// Prints the message, the place and the line of the place, with a caret below the place.
+    /// Prints the message, the place and the line of the place, with a caret and tildes below the token.
     fn fmt_lines(&self, f: &mut fmt::Formatter<'_>, file: Option<&Path>) -> fmt::Result {
         write!(f, "{}", Escaped(&self.message))?;
         let margin = self.place().map_or(1, |place| digits(place.line));
@@ -247,7 +260,7 @@ impl Fault {
         if let Some((place, snippet)) = &self.place {
             writeln!(f, "{place}\n{:margin$} |", "")?;
             writeln!(f, "{} | {}", place.line, snippet.line())?;
-            write!(f, "{:margin$} | {}^", "", snippet.blanks())?;
+            write!(f, "{:margin$} | {}{}", "", snippet.blanks(), snippet.marks())?;
         }
         Ok(())
     }

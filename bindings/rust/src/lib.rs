@@ -1,9 +1,10 @@
 //! Turns modules in the text format of WebAssembly into the bytes of the binary format.
 //!
-//! A program that calls this crate needs `librigyomad.a`, which the crate does not contain. In a clone
-//! of Rigyomad, `tools/build archive ~/rigyomad` writes it; then set `RIGYOMAD_LIB=~/rigyomad` for
-//! cargo. After `tools/install ~/.local`, pkg-config finds it. Without it `cargo check` and `cargo doc`
-//! work, and `cargo build` ends with one line that says so.
+//! A program that calls this crate needs `librigyomad.a`, which the crate does not contain. In a
+//! clone of Rigyomad, `tools/build archive ~/rigyomad` writes it; then set `RIGYOMAD_LIB=~/rigyomad`
+//! for cargo. After `tools/install ~/.local`, set `PKG_CONFIG_PATH=~/.local/lib/pkgconfig` in its
+//! place. Without the archive `cargo check` and `cargo doc` work, and `cargo build` ends with one line
+//! that says so.
 //!
 //! # Example
 //!
@@ -18,10 +19,12 @@
 //! ```
 //!
 //! [`parse_str`], [`parse_bytes`], [`parse_file`] and [`Result`] have the signatures of the crate
-//! `wat`. Of its other names, `Parser` is missing because its one option asks for DWARF, which is not
-//! generated, and [`Error::set_path`] sets its path; and `Detect`, because it needs the tokens of a
-//! text, which no call of the archive returns: [`parse_bytes`] accepts text and binary. Below them, [`encode`] returns the [`Fault`] of a text alone. [`names`] and [`resolve`] return what the
-//! names of a text denote, and [`names_within`] the names of locals, labels and fields.
+//! `wat`. Of its other names, two are missing. `Parser` has one option, which asks for DWARF: that is
+//! not generated, and [`Error::set_path`] sets the path. `Detect` needs the tokens of a text, which no
+//! call of the archive returns: [`parse_bytes`] accepts text and binary.
+//!
+//! Below these, [`encode`] returns the [`Fault`] of a text alone. [`names`] and [`resolve`] return
+//! what the names of a text denote, and [`names_within`] the names of locals, labels and fields.
 //!
 //! The encoder is an archive whose code is proved; this crate declares its calls and lends them
 //! slices. No call keeps state, so any thread may make any call. If allocation fails, a call
@@ -35,6 +38,7 @@ mod faults;
 mod names;
 mod parse;
 mod room;
+pub mod script;
 mod snippet;
 mod within;
 
@@ -46,7 +50,7 @@ pub use within::{names_within, NameWithin, Within};
 /// The number of the declarations that this crate has of the calls of the archive. The first call
 /// compares it with that of the archive, and panics if they differ, because a call by other
 /// declarations would be undefined behaviour. A program has no need to compare them.
-pub const VERSION: u32 = 1;
+pub const VERSION: u32 = 2;
 
 /// The examples of the README, as tests.
 #[cfg(doctest)]

@@ -2,6 +2,7 @@
 
 use crate::{room, Fault};
 use std::fmt::{self, Write};
+use std::ops::Range;
 
 /// At most this many bytes of a line are shown, those around the place.
 const MOST: usize = 120;
@@ -87,25 +88,51 @@ impl fmt::Display for Blanks<'_> {
     }
 }
 
+/// Prints a tilde for each character that is written to it.
+struct Tildes<'a, 'f>(&'a mut fmt::Formatter<'f>);
+
+impl Write for Tildes<'_, '_> {
+    fn write_str(&mut self, text: &str) -> fmt::Result {
+        text.chars().try_for_each(|_| self.0.write_char('~'))
+    }
+}
+
+/// Prints a caret, and tildes below the rest of what `Shown` prints of a text.
+pub(crate) struct Marks<'a>(&'a str);
+
+impl fmt::Display for Marks<'_> {
+    fn fmt(&self, f: &mut fmt::Formatter<'_>) -> fmt::Result {
+        let mut characters = self.0.chars();
+        f.write_char('^')?;
+        if let Some(first) = characters.next().filter(|first| is_escaped(*first)) {
+            first.escape_default().skip(1).try_for_each(|_| f.write_char('~'))?;
+        }
+        write!(Tildes(f), "{}", Shown(characters.as_str()))
+    }
+}
+
 /// The line of a place, or the part of it around the place.
 #[derive(Clone, Debug, PartialEq, Eq)]
 pub(crate) struct Snippet {
     line: String,
     /// How many bytes of it are before the place.
     before: usize,
+    /// How many bytes of it are in the token at the place.
+    marked: usize,
 }
 
 impl Snippet {
-    /// The line of an offset of a text. E12 if allocation fails.
-    pub(crate) fn new(text: &str, offset: usize) -> Result<Snippet, Fault> {
-        let (before, after) = line_at(text, offset);
+    /// The line of the start of a range of a text. E12 if allocation fails.
+    pub(crate) fn new(text: &str, range: Range<usize>) -> Result<Snippet, Fault> {
+        let (before, after) = line_at(text, range.start);
         let half = MOST / 2;
         let first = cut_before(before, half.max(MOST.saturating_sub(after.len())));
         let last = cut_after(after, half.max(MOST.saturating_sub(before.len())));
         let head = if first.len() < before.len() { CUT } else { "" };
         let tail = if last.len() < after.len() { CUT } else { "" };
         let line = room::joined(&[head, first, last, tail])?;
-        Ok(Snippet { line, before: head.len() + first.len() })
+        let marked = cut_after(last, range.end.saturating_sub(range.start)).len();
+        Ok(Snippet { line, before: head.len() + first.len(), marked })
     }
 
     /// What is shown of the line.
@@ -116,6 +143,11 @@ impl Snippet {
     /// Blanks below what is shown before the place.
     pub(crate) fn blanks(&self) -> Blanks<'_> {
         Blanks(&self.line[..self.before])
+    }
+
+    /// A caret and tildes below the token.
+    pub(crate) fn marks(&self) -> Marks<'_> {
+        Marks(&self.line[self.before..self.before + self.marked])
     }
 }
 
@@ -152,7 +184,7 @@ mod tests {
 
     /// What is shown of the line of an offset, and the blanks below it.
     fn lines(text: &str, offset: usize) -> [String; 2] {
-        let snippet = Snippet::new(text, offset).unwrap();
+        let snippet = Snippet::new(text, offset..offset).unwrap();
         [snippet.line().to_string(), snippet.blanks().to_string()]
     }
 
@@ -169,6 +201,16 @@ mod tests {
         assert_eq!(lines("\té\u{1b}x", 4), ["\té\\u{1b}x", "\t       "]);
         assert_eq!(lines("é", 1), ["é", ""]);
         assert_eq!(lines("\u{202e}\u{2028}", 3), ["\\u{202e}\\u{2028}", "        "]);
+    }
+
+    #[test]
+    fn marks_are_below_the_token() {
+        let marks = |text, range| Snippet::new(text, range).unwrap().marks().to_string();
+        assert_eq!(marks("(i32.ad)", 1..7), "^~~~~~");
+        assert_eq!(marks("(é)", 1..3), "^");
+        assert_eq!(marks("ab\ncd", 1..4), "^");
+        assert_eq!(marks("ab", 2..2), "^");
+        assert_eq!(marks("\u{1b}x", 0..2), "^~~~~~~");
     }
 
     #[test]

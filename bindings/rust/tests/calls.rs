@@ -33,7 +33,7 @@ fn faults_show_the_line_of_their_place() {
         " --> 2:9",
         "  |",
         "2 | \t(start $f) ;; é",
-        "  | \t       ^",
+        "  | \t       ^~",
     ];
     assert_eq!(lines, wanted);
     let fault = encode(&format!("{}(module (start $f))", "\n".repeat(99))).unwrap_err();

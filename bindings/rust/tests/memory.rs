@@ -1,5 +1,6 @@
 //! Each call returns E12, or what it returns with ample memory, if a request of its own is refused.
 
+use rigyomad::script::Script;
 use rigyomad::{encode, names, names_within, parse_bytes, Fault, Kind};
 use std::alloc::{GlobalAlloc, Layout, System};
 use std::cell::Cell;
@@ -86,4 +87,10 @@ fn refused_request_of_names_is_an_error() {
 fn refused_request_of_names_within_is_an_error() {
     let text = "(module (func (param $a i32) (local $b i32)))";
     assert_eq!(refuse_each(|| names_within(text), Fault::kind), 4);
+}
+
+#[test]
+fn refused_request_of_a_script_is_an_error() {
+    let call = || Script::parse("(thread $T (wait $U))").map(|it| it.directives().count());
+    assert_eq!(refuse_each(call, Fault::kind), 3);
 }

@@ -49,7 +49,7 @@ fn fault_of_a_file_has_its_name() {
     assert_eq!(error.path(), Some(path.as_path()));
     assert_eq!(error.to_string(), format!("{}:{MESSAGE}", path.display()));
     assert!(error.fault().is_some() && error.io_error().is_none());
-    let lines = format!("\n --> {}:2:10\n  |\n2 |   (start $f))\n  |          ^", path.display());
+    let lines = format!("\n --> {}:2:10\n  |\n2 |   (start $f))\n  |          ^~", path.display());
     assert!(format!("{error:#}").ends_with(&lines));
 }
 
@@ -100,8 +100,11 @@ fn faults_of_changed_texts_are_shown() {
             let lines: Vec<_> = shown.split('\n').collect();
             assert_eq!(lines.len(), 5, "{shown}");
             assert!(error.to_string().starts_with(&format!("{place}: ")));
-            assert!(lines[3].starts_with(&format!("{} | ", place.line)) && lines[4].ends_with('^'));
+            assert!(lines[3].starts_with(&format!("{} | ", place.line)) && lines[4].contains('^'));
             assert!(lines[4].chars().count() <= lines[3].chars().count() + 1);
+            let span = error.fault().and_then(|fault| fault.span()).unwrap();
+            assert!(span.start == place.offset && span.end <= bytes.len(), "{shown}");
+            assert!(std::str::from_utf8(&bytes[span]).is_ok(), "{shown}");
         }
     }
 }

@@ -40,7 +40,7 @@ fn control_characters_of_a_source_line_are_escaped() {
         .chars()
         .map(|it| if it == '\t' { it } else { ' ' })
         .collect();
-    assert!(format!("{fault:#}").ends_with(&format!("{lines}{blanks}^")), "{fault:#}");
+    assert!(format!("{fault:#}").ends_with(&format!("{lines}{blanks}^~")), "{fault:#}");
 }
 
 #[test]

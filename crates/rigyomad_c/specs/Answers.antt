@@ -1,7 +1,7 @@
 -- What the calls for C return: the statuses, and what they write.
 --
 --   rigyomad_c_encode of "(module (func))" into 23 bytes      status 1 (too short), size 24, and no byte is written
-use Rattle.std.specs.Prelude.{◌≡◌, ℕ, ◌==◌, ◌<◌, ◌≤◌, if◌then◌else◌, List, length, drop, ◌++◌, Option, Some, None, Result, Ok, Err, ◌⊎◌}
+use Rattle.std.specs.Prelude.{◌≡◌, ℕ, ◌==◌, ◌<◌, ◌≤◌, if◌then◌else◌, List, length, drop, ◌++◌, Option, Some, None, Result, Ok, Err, ◌⊎◌, IsCharBoundary}
 use Rattle.std.specs.Option.{unwrap_or}
 use Rattle.std.specs.Global.{Vec}
 use Rattle.std.specs.Str.{IsUtf8}
@@ -100,15 +100,22 @@ abbrev pub IsPlaced : List ℕ → Option Span → Diagnosis → Type 0
 IsPlaced text None d = (d.offset ≡ 0) × (d.line ≡ 0) × (d.column ≡ 0)
 IsPlaced text (Some place) d = (d.offset ≡ place.offset) × (d.line ≡ line_of text place) × (d.column ≡ column_of text place)
 
+-- The token of an error ends in the text between characters, and not before the position. Without a position the end is 0.
+abbrev pub IsRanged : List ℕ → Option Span → Diagnosis → Type 0
+IsRanged text None d = d.end_offset ≡ 0
+IsRanged text (Some place) d =
+    (d.end_offset ≤ length text) × IsCharBoundary text d.end_offset × (IsCharBoundary text place.offset → place.offset ≤ d.end_offset)
+
 -- The diagnosis of an error: with its status, its number, 0 if it has none, and its position.
 pub record IsTold (text : List ℕ) (refused : Refused) (d : Diagnosis) (s : Status) : Type 0 where
   pub answered : s ≡ status_of (number_of refused)
   pub numbered : d.number ≡ unwrap_or (number_of refused) 0
   pub placed : IsPlaced text (place_of refused) d
+  pub ranged : IsRanged text (place_of refused) d
 
 -- The diagnosis of a text without an error.
 abbrev pub nothing_wrong : Diagnosis
-nothing_wrong = record { number = 0; offset = 0; line = 0; column = 0; size = 0 }
+nothing_wrong = record { number = 0; offset = 0; line = 0; column = 0; size = 0; end_offset = 0 }
 
 -- The diagnosis of a result of encoding.
 abbrev pub TellsAnswer : List ℕ → Result (Vec ℕ) Refused → Diagnosis → Status → Type 0

@@ -2,7 +2,8 @@
 
 ghost use Rattle.std.specs.Prelude.{◌≡◌};
 ghost use Rattle.std.specs.Option.{unwrap_or};
-ghost use Rattle.rigyomad_c.specs.Answers.{IsPlaced, nothing_wrong};
+ghost use Rattle.rigyomad_c.specs.Answers.{IsPlaced, IsRanged, nothing_wrong};
+ghost use Rattle.wat_messages.specs.Ranges.{Marks, range_of};
 ghost use Rattle.wat_bytes.specs.Texts.{number_of, place_of};
 
 use crate::messages::Message;
@@ -10,6 +11,7 @@ use std::fmt::Write;
 use std::str::Utf8Error;
 use wast_tree::{Span, line_and_column};
 use wat_bytes::Refused;
+use wat_messages::{Diagnostic, Range};
 
 /// The error of a text and its position.
 ///
@@ -30,6 +32,22 @@ pub struct Diagnosis {
     pub column: usize,
     /// The number of bytes of the message.
     pub size: usize,
+    /// The number of bytes before the end of the token at the position, or 0 if there is no
+    /// position.
+    pub end_offset: usize,
+}
+
+/// Returns the diagnostic of the error of a text.
+fn diagnostic_of<'a>(text: &'a str, refused: &Refused<'a>) -> Diagnostic<'a>
+    ensures { Marks text.now (place_of refused.now) (range_of result) }
+{
+    match refused {
+        Refused::Text(error) => Diagnostic::of_text(text, *error),
+        Refused::Module(error) => Diagnostic::of_module(text, *error),
+        Refused::Uncovered(found) => {
+            Diagnostic::of_uncovered(text, found.span, found.form, found.word)
+        }
+    }
 }
 
 impl Diagnosis {
@@ -43,13 +61,23 @@ impl Diagnosis {
             line: 0,
             column: 0,
             size: 0,
+            end_offset: 0,
         }
     }
 
-    /// Returns an error with its position in a text, if it has one, and the size of its message.
-    fn new(number: u32, text: &str, place: Option<Span>, size: usize) -> Diagnosis
+    /// Returns an error with its position in a text and the range of its token, if it has them, and
+    /// the size of its message.
+    fn new(
+        number: u32,
+        text: &str,
+        place: Option<Span>,
+        range: Option<Range>,
+        size: usize,
+    ) -> Diagnosis
+        requires { Marks text.now place range }
         ensures numbered { result.number ≡ number }
         ensures placed { IsPlaced text.now place result }
+        ensures ranged { IsRanged text.now place result }
     {
         let mut diagnosis = Diagnosis::none();
         diagnosis.number = number;
@@ -60,18 +88,24 @@ impl Diagnosis {
             diagnosis.line = line;
             diagnosis.column = column;
         }
+        if let Some(range) = range {
+            diagnosis.end_offset = range.end;
+        }
         diagnosis
     }
 
     /// Returns the error of a text, and writes its message to a slice.
-    pub(crate) fn of(text: &str, refused: &Refused<'_>, out: &mut [u8]) -> Diagnosis
+    pub(crate) fn of<'a>(text: &'a str, refused: &Refused<'a>, out: &mut [u8]) -> Diagnosis
         ensures numbered { result.number ≡ unwrap_or (number_of refused.now) 0 }
         ensures placed { IsPlaced text.now (place_of refused.now) result }
+        ensures ranged { IsRanged text.now (place_of refused.now) result }
     {
+        let diagnostic = diagnostic_of(text, refused);
         let mut message = Message::new(out);
-        let _written = write!(message, "{refused}");
+        let _written = write!(message, "{diagnostic}");
         let number = refused.number().unwrap_or(0);
-        Diagnosis::new(number, text, refused.span(), message.size())
+        let range = diagnostic.range();
+        Diagnosis::new(number, text, refused.span(), range, message.size())
     }
 
     /// Returns the error of bytes that are not UTF-8, and writes its message to a slice. The
@@ -84,6 +118,7 @@ impl Diagnosis {
         let _written = write!(message, "malformed UTF-8 encoding");
         let mut diagnosis = Diagnosis::none();
         diagnosis.offset = error.valid_up_to();
+        diagnosis.end_offset = error.valid_up_to();
         diagnosis.size = message.size();
         diagnosis
     }

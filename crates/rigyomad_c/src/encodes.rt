@@ -21,7 +21,7 @@ pub(crate) fn put_front<T: Copy>(items: &[T], out: &mut [T])
 
 /// Copies bytes to the front of a slice, if they fit, and returns whether they do. Otherwise the
 /// slice is not changed.
-fn put(bytes: &[u8], out: &mut [u8]) -> bool
+pub(crate) fn put(bytes: &[u8], out: &mut [u8]) -> bool
     ensures fits { IsTrue result → (length bytes.now ≤ length out.old) × (out.new ≡ bytes.now ++ drop (length bytes.now) out.old) }
     ensures stays { IsFalse result → (length out.old < length bytes.now) × (out.new ≡ out.old) }
 {

@@ -16,43 +16,47 @@
 //! - `encodes` writes the bytes of a text, or its error. `diagnosis` is the error with its
 //!   position, and `messages` cuts its message to the size of a slice.
 //! - `looks_up` finds the index of one name, and `lists` writes all names.
+//! - `script` writes the records of a script of tests, whose layout `wast_script_records` has.
 //! - `statuses` has the results of calls.
 //!
 //! # Guarantees
 //!
 //! - `Returns`: a call returns the number of a status, and writes what its definition has for that
-//!   status (`specs/Answers.antt`, `specs/Lists.antt`).
+//!   status (`specs/Answers.antt`, `specs/Lists.antt`, `specs/Scripts.antt`).
 //! - If a slice is too short, it is not changed, and the call returns the size that is needed.
 #![tactic(auto)]
 
 ghost use Rattle.std.specs.Prelude.{◌≡◌};
 ghost use Rattle.rigyomad_c.specs.Answers.{Returns, EncodeReturns, Diagnoses, ResolveReturns};
 ghost use Rattle.rigyomad_c.specs.Lists.{Lists};
+ghost use Rattle.rigyomad_c.specs.Scripts.{ScriptReturns};
 
 mod diagnosis;
 mod encodes;
 mod lists;
 mod looks_up;
 mod messages;
+mod script;
 mod statuses;
 
 use diagnosis::Diagnosis;
 use encodes::{diagnose, encode_into};
 use lists::{Name, Room, list_names};
 use looks_up::look_up;
+use script::script_into;
 use std::alloc::Global;
 
 /// The version of these declarations. It changes if the parameters or results of a call change.
-const VERSION: u32 = 1;
+const VERSION: u32 = 2;
 
 /// Returns the version of these declarations, to compare it with that of the header.
 ///
 /// # Example
 ///
-/// In C, `rigyomad_c_version() == 1`.
+/// In C, `rigyomad_c_version() == 2`.
 #[unsafe(no_mangle)]
 pub extern "C" fn rigyomad_c_version() -> u32
-    ensures { result ≡ 1 }
+    ensures { result ≡ 2 }
 {
     VERSION
 }
@@ -142,4 +146,30 @@ pub extern "C" fn rigyomad_c_names(
     ensures { Returns (Lists text.now room.new names.old names.new bytes.old bytes.new) result }
 {
     list_names(alloc, text, names, bytes, room).code()
+}
+
+/// Writes the records of the script of a text to a slice, if they fit, and their number of bytes to
+/// `size`.
+///
+/// The records are the commands of the script, with their modules, actions and values, in the layout
+/// of `wast_script_records`. If they do not fit, the slice is not changed, and the status is 1. If
+/// the text is no script, the status is 2, and `diagnosis` and `message` have the error as
+/// `rigyomad_c_fault` writes it. A module that has an error is no error of the script.
+///
+/// # Example
+///
+/// For `(module)` and a slice of 376 bytes the status is 0, and `size` is 376. With a slice of 375
+/// bytes the status is 1.
+#[unsafe(no_mangle)]
+pub extern "C" fn rigyomad_c_script(
+    alloc: Global,
+    text: &[u8],
+    out: &mut [u8],
+    size: &mut usize,
+    message: &mut [u8],
+    diagnosis: &mut Diagnosis,
+) -> u32
+    ensures { Returns (ScriptReturns text.now size.new out.old out.new diagnosis.new) result }
+{
+    script_into(alloc, text, out, size, message, diagnosis).code()
 }

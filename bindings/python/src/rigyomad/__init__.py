@@ -47,8 +47,8 @@ SPACES = ("func", "table", "memory", "global", "tag", "elem", "data", "type")
 # What binary modules begin with.
 _MAGIC = b"\0asm"
 
-# A token of the text format, as far as an error shows where it ends.
-_TOKEN = re.compile(r'"(?:[^"\\\n]|\\.)*"?|[$@]"(?:[^"\\\n]|\\.)*"?|\(@?|\)|[^ \t\r\n()";]+|.')
+# At most so many characters of a line are shown on each side of an error.
+_HALF_LINE = 60
 
 # What could send a command to a terminal, begin a line of a log, or change the order of a line.
 _CONTROLS = re.compile("[\0-\x1f\x7f-\x9f\u061c\u200e\u200f\u2028-\u202e\u2066-\u2069]")
@@ -58,6 +58,15 @@ def _escaped(message: str) -> str:
     """A message as the command `wat` prints it: a line feed as `\\n`, and an escape character as `\\u{1b}`."""
     letters = {"\t": "\\t", "\n": "\\n", "\r": "\\r"}
     return _CONTROLS.sub(lambda it: letters.get(it[0], f"\\u{{{ord(it[0]):x}}}"), message)
+
+
+def _snippet(before: str, after: str, line: int, column: int) -> str:
+    """The line of an error and a caret below it, as the command `wat` prints them: with escapes, but tabs as they are."""
+    left, right = ("\t".join(map(_escaped, part.split("\t"))) for part in (before[-_HALF_LINE:], after[:_HALF_LINE]))
+    head = ("..." if len(before) > _HALF_LINE else "") + left
+    tail = right + ("..." if len(after) > _HALF_LINE else "")
+    margin, blanks = " " * len(str(line)), re.sub(r"[^\t]", " ", head)
+    return f"{margin}--> {line}:{column}\n{margin} |\n{line} | {head}{tail}\n{margin} | {blanks}^"
 
 
 class WatError(ValueError):
@@ -77,11 +86,13 @@ class WatError(ValueError):
     start: int
     #: Where the token at `start` ends.
     end: int
+    #: The position, the line and a caret below it, as the command `wat` prints them; empty if the error has no position.
+    snippet: str
 
-    def __init__(self, number: int, message: str, line: int = 0, column: int = 0, start: int = 0, end: int = 0) -> None:
-        super().__init__(number, message, line, column, start, end)
+    def __init__(self, number: int, message: str, line: int = 0, column: int = 0, start: int = 0, end: int = 0, snippet: str = "") -> None:
+        super().__init__(number, message, line, column, start, end, snippet)
         self.number, self.kind, self.message = number, KINDS[number], message
-        self.line, self.column, self.start, self.end = line, column, start, end
+        self.line, self.column, self.start, self.end, self.snippet = line, column, start, end, snippet
 
     def __str__(self) -> str:
         return f"{self.line}:{self.column}: {_escaped(self.message)}" if self.line else _escaped(self.message)
@@ -103,18 +114,18 @@ def _decoded(part: bytes) -> str:
     return part.decode(errors="replace")
 
 
-def _error_at(text: Text, given: bytes, offset: int, number: int, message: str) -> WatError:
-    """An error at an offset of the bytes of a text. Lines end at a line feed."""
+def _error_at(text: Text, given: bytes, offset: int, end: int, number: int, message: str) -> WatError:
+    """An error at a range of the bytes of a text. Lines end at a line feed."""
     first = given.rfind(b"\n", 0, offset) + 1
-    last = given.find(b"\n", offset)
-    # bytes that are not UTF-8 keep their number
-    token = _TOKEN.match(given[offset : len(given) if last < 0 else last].decode(errors="surrogateescape"))
-    found = token[0] if token else ""
-    line = given.count(b"\n", 0, offset) + 1
+    end = max(offset, end)
+    line, before = given.count(b"\n", 0, offset) + 1, _decoded(given[first:offset])
+    feed = given.find(b"\n", offset)
+    rest = given[offset : len(given) if feed < 0 else feed].removesuffix(b"\r")
+    snippet = _snippet(before, _decoded(rest), line, len(before) + 1)
     if not isinstance(text, str):
-        return WatError(number, message, line, offset - first + 1, offset, offset + len(found.encode(errors="surrogateescape")))
+        return WatError(number, message, line, offset - first + 1, offset, end, snippet)
     start = len(_decoded(given[:offset]))
-    return WatError(number, message, line, start - len(_decoded(given[:first])) + 1, start, start + len(found))
+    return WatError(number, message, line, len(before) + 1, start, start + len(_decoded(given[offset:end])), snippet)
 
 
 def _given(text: Text) -> bytes:
@@ -124,9 +135,8 @@ def _given(text: Text) -> bytes:
     try:
         return text.encode()
     except UnicodeEncodeError as error:
-        before = text[: error.start]
-        line, column = before.count("\n") + 1, error.start - before.rfind("\n")
-        raise WatError(0, "lone surrogate in a string", line, column, error.start, error.start + 1) from None
+        offset = len(text[: error.start].encode())
+        raise _error_at(text, text.encode(errors="replace"), offset, offset + 1, 0, "lone surrogate in a string") from None
 
 
 def _error(text: Text, given: bytes, status: int) -> Exception:
@@ -135,8 +145,10 @@ def _error(text: Text, given: bytes, status: int) -> Exception:
     if found is None:
         return WatError(12, "allocation failed")
     at, message = found
-    if at.line or status == _archive.UTF8:
-        return _error_at(text, given, at.offset, at.number, _decoded(message))
+    if status == _archive.UTF8:  # the byte at the offset begins no character
+        return _error_at(text, given, at.offset, at.offset + 1, at.number, _decoded(message))
+    if at.line:
+        return _error_at(text, given, at.offset, at.end_offset, at.number, _decoded(message))
     return WatError(at.number, _decoded(message))
 
 

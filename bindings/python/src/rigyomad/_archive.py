@@ -5,7 +5,7 @@ import pathlib
 from typing import List, Optional, Tuple
 
 # RIGYOMAD_VERSION
-_DECLARATIONS = 1
+_DECLARATIONS = 2
 
 # enum rigyomad_status
 DONE, SHORT, FAULT, UTF8, MEMORY = 0, 1, 2, 3, 4
@@ -19,12 +19,14 @@ class Diagnosis(ctypes.Structure):
     line: int
     column: int
     size: int
+    end_offset: int
     _fields_ = [
         ("number", ctypes.c_uint32),
         ("offset", ctypes.c_size_t),
         ("line", ctypes.c_size_t),
         ("column", ctypes.c_size_t),
         ("size", ctypes.c_size_t),
+        ("end_offset", ctypes.c_size_t),
     ]
 
 
