@@ -53,14 +53,22 @@ export function sections(bytes: Uint8Array): Section[];
 /** Returns the version of the module: `0.1.0`, or `0.1.0 (UNPROVED)` if it was built without proofs. */
 export function version(): string;
 
+/** Returns whether the module was built with proofs. */
+export function isProved(): boolean;
+
 /** Returns how many bytes the memory of the module has now. */
 export function memorySize(): number;
+
+/** Returns a text in one line: with what could send a command to a terminal, begin a line or change the order of a line as escapes, such
+ * as `\n` or `\u{1b}`. Names and messages may have such characters. */
+export function escaped(text: string): string;
 
 export type Kind =
   | "Malformed" | "ImportAfter" | "Duplicate" | "DuplicateField" | "Unknown" | "NotFunc" | "OutOfBounds" | "NoMatch" | "Labels"
   | "NoNamedFields" | "TooLarge" | "Uncovered" | "Memory" | "Component";
 
-/** Why a text has no bytes. `message` says it without a position. */
+/** Why a text has no bytes. `message` says it without a position, and a name in it is as in the text. `String(error)` has the position before it, and
+ * escapes as `escaped` has them, and so has `stack`. */
 export class WatError extends Error {
   private constructor();
   /** 1 to 13 for E1 to E13 (docs/FORMATS.md); 0 if the text is not a well-formed module. */

@@ -1,7 +1,7 @@
 // Calls of the archive in WebAssembly. docs/BINDINGS.md, "From JavaScript", has what they return.
 
 /** The number of the declarations of the archive that this file calls. */
-const DECLARATIONS = 1;
+const DECLARATIONS = 2;
 
 // What a call of the archive returns (enum rigyomad_status of bindings/c/rigyomad.h).
 const DONE = 0, SHORT = 1, FAULT = 2, UTF8 = 3, MEMORY = 4, UNKNOWN = 5;
@@ -21,19 +21,34 @@ const MOST_KEPT = 64 << 20;
 const HALF_LINE = 60;
 
 /** What could send a command to a terminal, begin a line of a log, or change the order of a line. */
-const CONTROLS = /[\0-\x08\x0a-\x1f\x7f-\x9f\u061c\u200e\u200f\u2028-\u202e\u2066-\u2069]/g;
+const CONTROLS = /[\0-\x1f\x7f-\x9f\u061c\u200e\u200f\u2028-\u202e\u2066-\u2069]/g;
+
+/** The escapes that have a letter. */
+const LETTERS = { "\t": "\\t", "\n": "\\n", "\r": "\\r" };
 
 const encoder = new TextEncoder();
 // A byte order mark is part of a text.
 const decoder = new TextDecoder("utf-8", { ignoreBOM: true });
 
+/** A text with control characters as escapes, as the command `wat` prints a message. */
+export function escaped(text) {
+  return text.replace(CONTROLS, (it) => LETTERS[it] ?? `\\u{${it.codePointAt(0).toString(16)}}`);
+}
+
 /** Why a text has no bytes. index.d.ts describes the fields. */
 export class WatError extends Error {
   constructor(message, fields) {
-    super(message);
+    super(escaped(message));
     this.name = "WatError";
+    // What node prints of an error that is not caught begins with the name and the message that it has when its stack is first read.
+    void this.stack;
+    this.message = message;
     Object.assign(this, { number: 0, line: 0, column: 0, start: 0, end: 0, snippet: "" }, fields);
     this.kind = KINDS[this.number];
+  }
+
+  toString() {
+    return (this.line ? `${this.line}:${this.column}: ` : "") + escaped(this.message);
   }
 }
 
@@ -138,7 +153,7 @@ function tokenSize(line) {
 
 /** The line of an error and a caret below it, as the command `wat` prints them. */
 function snippetOf(before, after, line, column) {
-  const shown = (text) => text.replace(CONTROLS, (it) => ({ "\n": "\\n", "\r": "\\r" })[it] ?? `\\u{${it.codePointAt(0).toString(16)}}`);
+  const shown = (part) => part.split("\t").map(escaped).join("\t");
   const left = [...before], right = [...after];
   const head = (left.length > HALF_LINE ? "..." : "") + shown(left.slice(-HALF_LINE).join(""));
   const tail = shown(right.slice(0, HALF_LINE).join("")) + (right.length > HALF_LINE ? "..." : "");
@@ -174,7 +189,7 @@ function bytesOf(text) {
 function errorOf(calls, status, text, bytes, at) {
   if (status === MEMORY) return outOfMemory();
   if (status !== FAULT && status !== UTF8) return new Error(`status ${status}`);
-  const diagnosis = calls.take(40), size = BigInt(bytes.length);
+  const diagnosis = calls.take(48), size = BigInt(bytes.length);
   let room = 256, message, needed;
   do {
     room = needed ?? room;
@@ -287,6 +302,9 @@ export function version() {
     return decoder.decode(bytes.subarray(at, bytes.indexOf(0, at)));
   });
 }
+
+/** Whether the module was built with proofs. */
+export const isProved = () => called((calls) => calls.exports.rigyomad_is_proved() === 1);
 
 /** How many bytes the memory of the instance has: 0 if there is none. */
 export const memorySize = () => instance?.exports.memory.buffer.byteLength ?? 0;

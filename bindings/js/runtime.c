@@ -1,7 +1,7 @@
 /* What the archive takes from its surroundings, for WebAssembly: memory, by the allocator dlmalloc.
  * `tools/build wasm` compiles it with the folder of dlmalloc.c among the include folders, and
- * VERSION_TEXT as the version. JavaScript takes and returns buffers by rigyomad_take and
- * rigyomad_give. */
+ * VERSION_TEXT as the version, and IS_PROVED as 1 if the archive is proved and as 0 if not.
+ * JavaScript takes and returns buffers by rigyomad_take and rigyomad_give. */
 #include <stddef.h>
 
 void *memcpy(void *, const void *, size_t);
@@ -93,6 +93,7 @@ void rattle_dealloc(void *at) { dlfree(at); }
 void *rigyomad_take(size_t size) { return dlmalloc(size); }
 void rigyomad_give(void *at) { dlfree(at); }
 const char *rigyomad_version_text(void) { return VERSION_TEXT; }
+int rigyomad_is_proved(void) { return IS_PROVED; }
 
 /* Functions of memory, which instructions of WebAssembly do. The compiler may call them. */
 void *memcpy(void *to, const void *from, size_t size) { return __builtin_memcpy(to, from, size); }

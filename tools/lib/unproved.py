@@ -76,6 +76,7 @@ mod calls {
         let _ = rigyomad_c_fault(rt.alloc(), b"", &mut [], &mut diagnosis);
         let _ = rigyomad_c_resolve(rt.alloc(), b"", 0, b"", &mut number);
         let _ = rigyomad_c_names(rt.alloc(), b"", &mut [], &mut [], &mut room);
+        let _ = rigyomad_c_script(rt.alloc(), b"", &mut [], &mut size, &mut [], &mut diagnosis);
     }
 }
 """

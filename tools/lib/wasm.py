@@ -40,7 +40,7 @@ COMPILED = "--target=wasm64-unknown-unknown -O2 -ffunction-sections -fdata-secti
 # Without `--stack-first` a stack that is too small overwrites data, and calls return status 0 with wrong bytes; with it they trap.
 LINKED = "-mwasm64 --no-entry --gc-sections --stack-first --strip-all -z stack-size=65536".split()
 EXPORTED = [f"rigyomad_c_{call}" for call in ("version", "encode", "fault", "resolve", "names")]
-EXPORTED += ["rigyomad_take", "rigyomad_give", "rigyomad_version_text"]
+EXPORTED += ["rigyomad_take", "rigyomad_give", "rigyomad_version_text", "rigyomad_is_proved"]
 
 LOWERED = """-O2 --memory64-lowering --enable-memory64 --enable-bulk-memory --enable-sign-ext --enable-mutable-globals --enable-nontrapping-float-to-int
 --enable-multivalue""".split()
@@ -68,9 +68,9 @@ def owner(path):
 
 
 def commit():
-    """The commit of the sources, with a word if they are changed."""
+    """The last commit that changed a source, with a word if there are changes since: the commit that adds what is built does not change it."""
     git = lambda *words: subprocess.run(["git", *words], cwd=ROOT, check=True, capture_output=True, text=True).stdout.strip()
-    return git("rev-parse", "HEAD") + (" and changes" if git("status", "--porcelain", *SOURCES) else "")
+    return git("log", "-1", "--format=%H", "--", *SOURCES) + (" and changes" if git("status", "--porcelain", *SOURCES) else "")
 
 
 def called(words):
@@ -98,7 +98,7 @@ def build(text, folder, version, is_proved, room):
     archive, runtime, wide, narrow = room / "archive.o", room / "runtime.o", folder / WIDE, folder / NARROW
     called([clang, *COMPILED, "-x", "ir", portable(text), "-o", archive])
     include = [f"-I{it}" for it in (room, EMSCRIPTEN / "include", EMSCRIPTEN / "lib")]
-    called([clang, *COMPILED, "-ffreestanding", "-nostdinc", *include, f'-DVERSION_TEXT="{version}"', RUNTIME, "-o", runtime])
+    called([clang, *COMPILED, "-ffreestanding", "-nostdinc", *include, f'-DVERSION_TEXT="{version}"', f"-DIS_PROVED={int(is_proved)}", RUNTIME, "-o", runtime])
     called([found["lld"], *LINKED, *(f"--export={name}" for name in EXPORTED), archive, runtime, found["libclang-rt-14-dev-wasm64"], "-o", wide])
     narrow.unlink(missing_ok=True)
     if found["binaryen"]:

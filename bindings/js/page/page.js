@@ -1,4 +1,7 @@
-// The page: texts go to a worker, and what it returns is shown.
+// The page: texts go to a worker, and what it returns is shown. Names and messages are shown with escapes, because a name may have what changes the
+// order of a line.
+import { escaped } from "../index.js";
+
 const SECTIONS = ["custom", "type", "import", "function", "table", "memory", "global", "export", "start", "element", "code", "data", "data count", "tag"];
 
 /** How many bytes of a section, and how many functions, are shown at once. */
@@ -98,7 +101,7 @@ worker.onmessage = ({ data }) => {
 };
 worker.onerror = () => { state.textContent = "the encoder was not loaded: this page needs a server (docs/BINDINGS.md)"; };
 
-function show({ error, took, version, ...module }) {
+function show({ error, took, version, isProved, ...module }) {
   runner?.terminate();
   runner = undefined;
   bytes = module.bytes;
@@ -111,15 +114,15 @@ function show({ error, took, version, ...module }) {
     return;
   }
   state.textContent = `${bytes.length} bytes in ${took.toFixed(took < 10 ? 2 : 0)} ms`;
-  at("version").textContent = `Rigyomad ${version}`;
+  at("version").textContent = `Rigyomad ${version}${isProved ? ", built with proofs" : ""}`;
   showFunctions();
   showNames(module.names, module.count);
   showBytes("header", 0, 8);
-  for (const { id, name, start, end } of module.sections) showBytes(id === 0 ? `custom "${name}"` : SECTIONS[id] ?? `section ${id}`, start, end);
+  for (const { id, name, start, end } of module.sections) showBytes(id === 0 ? `custom "${escaped(name)}"` : SECTIONS[id] ?? `section ${id}`, start, end);
 }
 
 function showError({ message, number, line, start, snippet }) {
-  const parts = [element("strong", number > 0 ? `error E${number}: ` : "error: "), message];
+  const parts = [element("strong", number > 0 ? `error E${number}: ` : "error: "), escaped(message)];
   if (snippet) parts.push(element("pre", snippet));
   const shown = element("div", "", parts);
   shown.className = "error";
@@ -187,7 +190,7 @@ function showNames(names, count) {
   const table = element("table");
   for (const { space, index, name } of names) {
     const row = table.insertRow();
-    for (const cell of [space, index, `$${name}`]) row.insertCell().textContent = cell;
+    for (const cell of [space, index, `$${escaped(name)}`]) row.insertCell().textContent = cell;
   }
   result.append(table);
   if (count > names.length) result.append(element("p", `and ${count - names.length} more`));
@@ -208,10 +211,10 @@ async function showFunctions() {
     for (const { name } of functions) {
       const row = table.insertRow(), given = element("input"), run = element("button", "run");
       given.placeholder = "arguments";
-      given.ariaLabel = `arguments of ${name}`;
+      given.ariaLabel = `arguments of ${escaped(name)}`;
       given.onkeydown = ({ key }) => { if (key === "Enter") run.click(); };
       run.onclick = () => call(name, given.value.split(",").map((word) => word.trim()).filter(Boolean), log);
-      row.insertCell().textContent = name;
+      row.insertCell().textContent = escaped(name);
       row.insertCell().append(given);
       row.insertCell().append(run);
     }
@@ -229,11 +232,11 @@ function call(name, words, log) {
   const timer = setTimeout(() => {
     mine.terminate();
     if (runner === mine) runner = undefined;
-    log.append(`${name}: ended after ${MOST_TIME / 1000} seconds\n`);
+    log.append(`${escaped(name)}: ended after ${MOST_TIME / 1000} seconds\n`);
   }, MOST_TIME);
   mine.onmessage = ({ data }) => {
     clearTimeout(timer);
-    log.append(`${data.join("\n")}\n`);
+    log.append(`${data.map(escaped).join("\n")}\n`);
   };
   mine.postMessage({ bytes, name, words });
 }

@@ -1,5 +1,5 @@
 // Turns texts into bytes and names, beside the page, so that the page answers while a long text is read.
-import { init, names, parse, sections, version } from "../index.js";
+import { init, isProved, names, parse, sections, version } from "../index.js";
 
 /** How many names are shown. */
 const MOST_NAMES = 300;
@@ -11,7 +11,8 @@ onmessage = async ({ data: { text, hasNames } }) => {
     await ready;
     const start = performance.now(), bytes = parse(text, { names: hasNames }), took = performance.now() - start;
     const every = names(text), count = every.length;
-    postMessage({ bytes, took, sections: sections(bytes), names: every.slice(0, MOST_NAMES), count, version: version() }, [bytes.buffer]);
+    const told = { version: version(), isProved: isProved() };
+    postMessage({ bytes, took, sections: sections(bytes), names: every.slice(0, MOST_NAMES), count, ...told }, [bytes.buffer]);
   } catch (error) {
     // The fields of an error are not copied with it.
     const { message, number = 0, line = 0, column = 0, start = 0, end = 0, snippet = "" } = error;

@@ -1,22 +1,31 @@
-// Writes what the package returns of each text, for tools/javascript: `node test/answers.mjs MODULE <TEXTS`. Texts are a list in JSON.
+// Writes what the package returns of each text, for tools/javascript and tools/doors: `node test/answers.mjs MODULE [chromium] <TEXTS`. Texts are
+// a list in JSON. With the word `chromium` a headless Chromium, or $CHROMIUM, calls the package.
 import { readFileSync } from "node:fs";
-import { init, names, parse, WatError } from "../index.js";
+import { init } from "../index.js";
+import { answersOf } from "./answers_of.js";
+import { open, serve } from "./chromium.mjs";
 
-await init(readFileSync(process.argv[2]));
-const encoder = new TextEncoder();
+const [, , module, engine] = process.argv;
+const texts = JSON.parse(readFileSync(0, "utf8"));
 
-/** What a call returns, or the fields of its error, as in C. */
-function answer(call) {
+async function inNode() {
+  await init(readFileSync(module));
+  return answersOf(texts);
+}
+
+async function inChromium() {
+  // any file of the server, which the package is loaded from
+  const server = await serve(module), page = await open(`${server.address}/package.json`, 100, 100);
   try {
-    return call();
-  } catch (error) {
-    if (!(error instanceof WatError)) throw error;
-    return [error.number, error.start, error.line, error.column, error.message];
+    return await page.run(async (given) => {
+      const [{ init: start }, { answersOf: of }] = await Promise.all([import("/index.js"), import("/test/answers_of.js")]);
+      await start();
+      return of(given);
+    }, texts);
+  } finally {
+    await page.close();
+    server.stop();
   }
 }
 
-const answers = JSON.parse(readFileSync(0, "utf8")).map((text) => {
-  const bytes = encoder.encode(text);
-  return [answer(() => Buffer.from(parse(bytes)).toString("hex")), answer(() => names(bytes).length)];
-});
-process.stdout.write(JSON.stringify(answers));
+process.stdout.write(JSON.stringify(await (engine === "chromium" ? inChromium() : inNode())));

@@ -1,7 +1,8 @@
 // Tests the package in node: `node test/node.mjs MODULE`. The last line is 'N passed, M failed'.
 import assert from "node:assert/strict";
 import { readFileSync } from "node:fs";
-import { init, memorySize, names, parse, resolve, sections, version, WatError } from "../index.js";
+import { inspect } from "node:util";
+import { escaped, init, isProved, memorySize, names, parse, resolve, sections, version, WatError } from "../index.js";
 
 const [, , file] = process.argv;
 const module = readFileSync(file);
@@ -133,7 +134,7 @@ await test("errors", () => {
   assert.deepEqual(of("(module (type (func)) (type (cont 0)))"), {
     number: 11, kind: "Uncovered", message: "uncovered form: stack switching: `cont`", line: 1, column: 30, start: 29, end: 33,
   });
-  assert.deepEqual(of("(module\n  (fun))"), { number: 0, kind: "Malformed", message: "expected valid module field", line: 2, column: 4, start: 11, end: 14 });
+  assert.deepEqual(of("(module\n  (fun))"), { number: 0, kind: "Malformed", message: "expected valid module field, found `fun`; did you mean `func`?", line: 2, column: 4, start: 11, end: 14 });
   assert.deepEqual(of(Uint8Array.of(40, 109, 255)), { number: 0, kind: "Malformed", message: "malformed UTF-8 encoding", line: 0, column: 0, start: 2, end: 2 });
   const long = "n".repeat(300);
   assert.equal(of(`(module (start $${long}))`).message, `unknown func: failed to find name \`$${long}\``);
@@ -227,7 +228,23 @@ await test("an instance is dropped after a trap alone", async () => {
   assert.equal(calls(), 1);
 });
 
-await test("the version tells of proofs", () => assert.match(version(), /^\d+\.\d+\.\d+( \(UNPROVED\))?$/));
+await test("the version tells of proofs", () => {
+  assert.match(version(), /^\d+\.\d+\.\d+( \(UNPROVED\))?$/);
+  assert.equal(isProved(), !version().includes("UNPROVED"));
+});
+
+await test("control characters are printed as escapes", () => {
+  const raw = "\u001b[31m\n\r\t\0\u007f\u009b\u061c\u2028\u2029\u202e\u2069\u00e9";
+  const shown = "\\u{1b}[31m\\n\\r\\t\\u{0}\\u{7f}\\u{9b}\\u{61c}\\u{2028}\\u{2029}\\u{202e}\\u{2069}\u00e9";
+  const error = errorOf(() => parse(`(module (start $"${raw.replace(/[^\u00e9]/g, (it) => `\\u{${it.codePointAt(0).toString(16)}}`)}"))`));
+  assert.equal(error.message, `unknown func: failed to find name \`$${raw}\``);
+  assert.equal(String(error), `1:16: unknown func: failed to find name \`$${shown}\``);
+  assert.equal(escaped(raw), shown);
+  // what engines print of an error that is not caught
+  for (const printed of [error.stack, inspect(error)]) {
+    assert.ok(printed.includes(shown) && !/[\0-\x09\x0b-\x1f\x7f\x9b\u202e]/.test(printed), printed);
+  }
+});
 
 console.log(`${passed} passed, ${failed} failed`);
 process.exit(failed ? 1 : 0);

@@ -6,7 +6,7 @@ import { open, serve } from "./chromium.mjs";
 const [, , module, pictures] = process.argv;
 const SECONDS = 120;
 const server = await serve(module);
-const page = await open(`${server.address}/page/index.html`, 1280, 860);
+const page = await open(`${server.address}/page/index.html`, 1280, 700);
 const pause = (time) => new Promise((done) => { setTimeout(done, time); });
 let passed = 0, failed = 0;
 
@@ -59,10 +59,12 @@ const log = (word) => until((given) => {
 const picture = async (name) => pictures && page.picture(`${pictures}/${name}.png`);
 
 try {
-  await shown();
-  let seen = await read();
+  // Twice, so that the time in the picture is not that of compiling.
+  let seen = await after(() => { document.getElementById("text").dispatchEvent(new Event("input")); });
   test("the first text is shown by section", ["header 8 bytes", "00 61 73 6d 01 00 00 00", "code ", "$fac", 'custom "name"'].every((it) => seen.result.includes(it)), seen);
   test("its bytes are counted", /^\d+ bytes in /.test(seen.state), seen);
+  seen = await page.run(() => document.getElementById("version").textContent);
+  test("the page tells of proofs", /^Rigyomad \d+\.\d+\.\d+( \(UNPROVED\)|, built with proofs)$/.test(seen), seen);
 
   await until(() => document.querySelectorAll("#result table button").length === 2);
   await page.run(() => { document.querySelector("#result table input").value = "20"; });
@@ -94,6 +96,8 @@ try {
   });
   test("the mark is at the token", Math.max(...seen) < 2, seen);
   await picture("error");
+  seen = await type('(module (start $"\\u{202e}\\1b"))');
+  test("control characters are shown as escapes", seen.result.includes("`$\\u{202e}\\u{1b}`") && !/[\u202e\u001b]/.test(seen.result), seen);
 
   seen = await type("(module (func (result i32)))");
   await until(() => document.getElementById("result").innerText.includes("this browser does not run the module"));

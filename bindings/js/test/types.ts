@@ -1,5 +1,5 @@
 // What `tsc` has to take, and what it has to refuse, of the types of the package. Nothing of it runs.
-import { init, memorySize, names, parse, resolve, sections, version, WatError } from "../index.js";
+import { escaped, init, isProved, memorySize, names, parse, resolve, sections, version, WatError } from "../index.js";
 import type { Kind, Name, Section, Space } from "../index.js";
 
 await init();
@@ -14,7 +14,7 @@ const first: Name | undefined = names(new ArrayBuffer(8))[0];
 const space: Space = first?.space ?? "func";
 const index: number | undefined = resolve("(module)", space, "f");
 const found: Section[] = sections(bytes);
-const told: [string, number] = [version(), memorySize()];
+const told: [string, boolean, number] = [escaped(version()), isProved(), memorySize()];
 
 try {
   parse("");
