@@ -194,6 +194,13 @@ def starts(lengths):
     return [0, *itertools.accumulate(lengths)]
 
 
+def suggested():
+    """The instructions, to suggest one of them."""
+    lines = textwrap.wrap(" ".join(row.name for row in instructions()), 96, break_long_words=False, break_on_hyphens=False)
+    letters = " \\\n".join(lines)
+    return f'pub(crate) static INSTRUCTIONS: &str = "\\\n{letters}";\n'
+
+
 def look_up():
     """The words by their buckets, and the function that finds one."""
     found = [row for members in buckets() for row in members]
