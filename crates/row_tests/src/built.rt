@@ -1,7 +1,6 @@
 //! Modules that no text has: empty names, lists and import groups that a text cannot have, memory
 //! arguments of arrays, generated ids, and fields that are not well formed.
 
-use crate::made::{at, module, ready};
 use std::alloc::Global;
 use wast_core::{Module, ModuleKind, discard_module};
 use wast_rows::{RunError, form_sample, run};
@@ -11,10 +10,24 @@ use wast_tree::{
     ExportKind, Expression, Fault, Form, Func, FunctionType, Gensym, GlobalType, Id, ImportItems,
     Imports, Index, InnerTypeKind, Instruction, ItemKind, ItemSig, LaneArg, Limits,
     LoadOrStoreLane, Local, MemArg, MemArgOrdering, MemArgTarget, MemLaneOp, MemOp, Memory,
-    MemoryType, ModuleField, Ordering, Plain, Producers, Rec, RefType, Seq, StorageType,
+    MemoryType, ModuleField, Ordering, Plain, Producers, Rec, RefType, Seq, Span, StorageType,
     StructField, StructType, Table, TableType, TreeBuilder, TryTableCatch, TryTableCatchKind, Type,
     TypeDef, TypeUse, ValType,
 };
+
+fn at(offset: usize) -> Span {
+    Span { offset }
+}
+
+/// Returns a module without an id.
+fn module(kind: ModuleKind<'_>) -> Module<'_> {
+    Module {
+        span: at(1),
+        id: None,
+        name: None,
+        kind,
+    }
+}
 
 /// Returns the text module of these fields.
 fn text_module<'a>(
@@ -490,7 +503,9 @@ fn segment_of_four_gibibytes_is_too_large(rt: HostRuntime) {
     let alloc = rt.alloc();
     let piece = vec![in alloc; 0u8; 1048576].expect(&rt, "memory");
     let made = long_data(alloc, piece.as_slice());
-    let mut module = ready(&rt, made.expect(&rt, "memory"));
+    let mut module = made.expect(&rt, "memory");
+    assert!(rt; module.well_formed());
+    assert!(rt; module.gensym_bound() == 0);
     let error = module.encode(alloc, &mut Gensym::new(1)).err();
     assert!(rt; error == Some(Error::refusal(Fault::TooLarge)));
     discard_module(module);
