@@ -1,35 +1,24 @@
 -- A text has one list of names, and one index for a name.
 --
--- What a text denotes is the same module but for addresses (wat_text), and a source id denotes the same index in modules that differ in
--- addresses alone (wat_meaning). A list of names is determined by these indices: it has each name once, ordered by index.
-use Rattle.std.specs.Prelude.{is_none}
-use Rattle.std.specs.FinMap as finmap
-use Rattle.std.specs.FinMap.{get-entries, entries_sorted}
-use Rattle.std.specs.FinMap.Entries.{find, is_sorted-where_key, find-where_key, same_entries}
+-- What a text denotes is the same module but for addresses (wat_text). Modules that differ in addresses alone have the same items, and a
+-- source id denotes the same index in both (wat_meaning). A list of names has the ids of the items.
 use Rattle.std.specs.Global.{Vec}
-use Rattle.std.specs.List.Sorted.{IsPermutation, IsNonDecreasingBy}
-use Rattle.std.specs.declared.cmp.Ordering.TheVariants.{Equal}
-use Rattle.std.proofs.Common.{◌≡◌, ◌⊎◌, inl, inr, ℕ, ◌<◌, Bool, true, cond, List, [], ◌∷◌, ◌++◌, map, get_or, All, Option, None, Some, Result, Ok, Err, IsTrue, refl, sym, ap, subst, ◌∙◌, arith}
-use Rattle.std.proofs.lemmas.List.{get_or-map, length-map, map-append}
-use Rattle.std.proofs.lemmas.List.Elements.{All-filter, All-head, All-tail, filter_passes}
-use Rattle.std.proofs.lemmas.List.Sorted.{IsPermutation-sym, IsPermutation-trans, All-permutation}
+use Rattle.std.proofs.Common.{◌≡◌, ◌⊎◌, inl, inr, ℕ, ◌<◌, List, map, Option, None, Some, Result, Ok, Err, IsTrue, refl, sym, ap, ◌∙◌}
 use Rattle.wast_base.specs.declared.faults.Error.{Error}
 use Rattle.wast_base.specs.declared.spaces.Space.{Space}
 use Rattle.wast_base.specs.Faults.{Nowhere, Memory, TooLarge, diagnostic_of}
-use Rattle.wast_base.specs.Ids.{Name, Written, text_of}
-use Rattle.wast_base.specs.Order.{Key, key_cmp}
-use Rattle.wast_base.specs.Spaces.{spaces}
-use Rattle.wast_base.proofs.Keys.{exact_keys, keys_total}
-use Rattle.wast_base.specs.Ids.{mark_of_option}
+use Rattle.wast_base.specs.Ids.{Written, mark_of_option}
 use Rattle.wast_tree_nodes.specs.Generations.{generation_or_zero}
-use Rattle.wast_tree_nodes.specs.Items.{Item, items}
-use Rattle.wast_tree_nodes.specs.Known.{IdContext, names_in, id_context}
-use Rattle.wast_resolve_namespace.proofs.Called.{position_bears}
-use Rattle.wast_resolve_names.specs.Resolvers.{KnownNames, known_to, space_in}
+use Rattle.wast_tree_nodes.specs.Items.{items}
+use Rattle.wast_tree_nodes.specs.Known.{IdContext}
+use Rattle.wast_resolve_names.specs.Resolvers.{KnownNames, known_to}
 use Rattle.wast_resolve_rules.specs.Demands.{first_unmet, demands, IsTooLarge}
-use Rattle.wast_resolve_rules.specs.Explicit.{explicit_fields, explicit_fields_from}
+use Rattle.wast_resolve_rules.specs.Explicit.{explicit_fields}
+use Rattle.wast_resolve_laws.specs.Renaming.{renamed_fields}
+use Rattle.wast_resolve_laws.proofs.Renamed.{same_explicit}
 use Rattle.wast_core.specs.Headline.{ResolvesKind}
 use Rattle.wast_core.specs.Modules.{bound_of_kind}
+use Rattle.wast_core.specs.Tree.{ModuleField}
 use Rattle.wast_core.specs.declared.module.ModuleKind.{ModuleKind}
 use Rattle.wat_tokens.specs.declared.faults.TextError.{TextError}
 use Rattle.wat_text.specs.Denotes.{Denotes, seen_module}
@@ -38,16 +27,21 @@ use Rattle.wat_text.specs.Texts.{is_well_formed_text}
 use Rattle.wat_text.specs.declared.modules.TextKind.{TextKind}
 use Rattle.wat_text.specs.declared.modules.TextKind.TheVariants as held
 use Rattle.wat_text.specs.declared.modules.TextModule.{TextModule}
+use Rattle.wat_meaning.specs.Erasing.{erasing}
 use Rattle.wat_meaning.specs.Laws.{SameAnswer, SameRules, SameGeneration, SameNumbers}
+use Rattle.wat_meaning.specs.Shown.{shown_fields}
+use Rattle.wat_meaning.proofs.Erased.{is_renaming}
+use Rattle.wat_meaning.proofs.ErasedRules.{items_erased}
+use Rattle.wat_meaning.proofs.OneMeaning.{alike_all}
+use Rattle.wat_meaning.proofs.ShownItems.{items_shown}
+use Rattle.wat_meaning.proofs.ShownResolved.{shown_explicit}
 use Rattle.wat_bytes.specs.declared.names.Denoted.{Denoted}
 use Rattle.wat_bytes.specs.declared.refusals.Refused.{Refused}
 use Rattle.wat_bytes.specs.declared.refusals.Refused.TheVariants as answer
-use Rattle.wat_bytes.specs.Names.{ResolvesReady, HasNoNames, HasNoList, AreOfSpace, AreListedIn, ListsText, NumbersText, entry_listed, written_in, is_written}
-use Rattle.wat_bytes.specs.OneText.{SameNumber, SameLookUp, SameList, SameListing, IsOfLimits, content_of}
+use Rattle.wat_bytes.specs.Names.{ResolvesReady, HasNoNames, ListsText, NumbersText, content_of, entries_of, items_of}
+use Rattle.wat_bytes.specs.OneText.{SameNumber, SameLookUp, SameList, SameListing, IsOfLimits}
 use Rattle.wat_bytes.specs.Texts.{AfterReading, IsRead, kind_of, module_of}
 use Rattle.wat_bytes.proofs.OneText.{one_module, alike, below, of_limits, same_ready, after_reading}
-use Rattle.wat_bytes.proofs.Ordered.{one_order}
-use Rattle.wat_bytes.proofs.Stored.{stored}
 
 -- What a successful call says: the text denotes a module, and resolving returns these names.
 record IsResolved (bytes : List ℕ) (names : KnownNames) : Type 0 where
@@ -59,7 +53,7 @@ record IsResolved (bytes : List ℕ) (names : KnownNames) : Type 0 where
 record IsListed (bytes : List ℕ) (all : List Denoted) : Type 0 where
   names : KnownNames
   resolved : IsResolved bytes names
-  listed : AreListedIn names spaces all
+  listed : map content_of all ≡ entries_of (items_of (kind_of resolved.t.kind))
 
 record IsNumbered (s : Space) (name bytes : List ℕ) (found : Option ℕ) : Type 0 where
   names : KnownNames
@@ -100,115 +94,25 @@ same_number numbers s name bytes m n x y =
     let b = number_read s name bytes n y.read y.is_read y.answered in
     a.denotes ∙ (known_alike numbers bytes a.names b.names a.resolved b.resolved s name ∙ sym b.denotes)
 
--- The identifier context of a module is that of its items.
-record HasItems (names : KnownNames) : Type 0 where
-  all : List Item
-  known : known_to names ≡ id_context all
+-- The items of two modules that are alike are the same, so their lists are.
+shown_items : (xs : List ModuleField) → items (explicit_fields (shown_fields xs)) ≡ items (explicit_fields xs)
+shown_items xs = ap items (shown_explicit xs) ∙ items_shown (explicit_fields xs)
 
-items_of : (k : TextKind) (names : KnownNames) (left : ModuleKind) → ResolvesKind 1 (kind_of k) (Ok names) left → HasItems names
-items_of (held.Fields xs) names left x = record { all = items (explicit_fields_from 1 xs); known = x.2 }
-items_of (held.Binary ps) names left x = record { all = []; known = x.0 }
+erased_items : (xs : List ModuleField) → items (explicit_fields (renamed_fields erasing xs)) ≡ items (explicit_fields xs)
+erased_items xs = ap items (same_explicit erasing is_renaming xs) ∙ items_erased (explicit_fields xs)
 
--- The entries of an index space that are from the source are those that a look-up finds.
-is_source : Key → Bool
-is_source k = is_none k.1
+same_items : (k l : TextKind) → bare_kind k ≡ bare_kind l → items_of (kind_of k) ≡ items_of (kind_of l)
+same_items (held.Fields xs) (held.Fields ys) e = alike_all (λ zs. items (explicit_fields zs)) shown_items erased_items xs ys (alike xs ys e)
+same_items (held.Fields xs) (held.Binary qs) e = absurd cc
+same_items (held.Binary ps) (held.Fields ys) e = absurd cc
+same_items (held.Binary ps) (held.Binary qs) e = refl
 
-keys_alike : (q x : Key) → key_cmp q x ≡ Equal → is_source x ≡ is_source q
-keys_alike q x e = ap is_source (sym (exact_keys q x e))
-
-module _ (names others : KnownNames) (s : Space) (same : (text : List ℕ) → (known_to names).number s (Written text) ≡ (known_to others).number s (Written text)) where
-  found_alike : (q : Key) → cond (is_source q) (find key_cmp q (finmap.entries (space_in names.spaces s).names)) None ≡ cond (is_source q) (find key_cmp q (finmap.entries (space_in others.spaces s).names)) None
-  unfolding is_source
-  found_alike (text, None) = sym (get-entries (space_in names.spaces s).names (text, None)) ∙ (same text ∙ get-entries (space_in others.spaces s).names (text, None))
-  found_alike (text, Some n) = refl
-
-  entries_alike : written_in names s ≡ written_in others s
-  unfolding is_source
-  entries_alike =
-      let xs = finmap.entries (space_in names.spaces s).names in
-      let ys = finmap.entries (space_in others.spaces s).names in
-      same_entries key_cmp keys_total exact_keys (written_in names s) (written_in others s)
-      (is_sorted-where_key key_cmp is_source xs (entries_sorted (space_in names.spaces s).names))
-      (is_sorted-where_key key_cmp is_source ys (entries_sorted (space_in others.spaces s).names))
-      (λ q. find-where_key key_cmp is_source q (keys_alike q) xs ∙ (found_alike q ∙ sym (find-where_key key_cmp is_source q (keys_alike q) ys)))
-
--- An entry that is from the source, and the item with its index.
-record IsEntryOf (all : List Item) (s : Space) (e : Key × ℕ) : Type 0 where
-  source : e.0.1 ≡ None
-  named : get_or (names_in s all) e.1 None ≡ Some (Written e.0.0)
-
--- No two entries have one index, because an item has one id.
-text_in : Option Name → List ℕ
-text_in None = []
-text_in (Some name) = text_of name
-
-alone : (all : List Item) (s : Space) (e f : Key × ℕ) → IsEntryOf all s e → IsEntryOf all s f → e.1 ≡ f.1 → e ≡ f
-unfolding text_in
-alone all s e f x y level =
-    let texts : e.0.0 ≡ f.0.0 = ap text_in (sym x.named ∙ (ap (λ n. get_or (names_in s all) n None) level ∙ y.named)) in
-    let sources : e.0.1 ≡ f.0.1 = x.source ∙ sym y.source in
-    λ i. ((texts i, sources i), level i)
-
-none_so : (o : Option ℕ) → is_none o ≡ true → o ≡ None
-none_so None h = refl
-none_so (Some n) h = absurd cc
-
-module _ (names : KnownNames) (s : Space) (has : HasItems names) where
-  of_key : (k : Key) (n : ℕ) → find key_cmp k (finmap.entries (space_in names.spaces s).names) ≡ Some n → k.1 ≡ None → get_or (names_in s has.all) n None ≡ Some (Written k.0)
-  of_key (text, None) n found e =
-      let number : (known_to names).number s (Written text) ≡ Some n = get-entries (space_in names.spaces s).names (text, None) ∙ found in
-      (position_bears (Written text) (names_in s has.all) n (sym (ap (λ (c : IdContext). c.number s (Written text)) has.known) ∙ number)).1
-  of_key (text, Some m) n found e = absurd cc
-
-  all_entries : All (IsEntryOf has.all s) (written_in names s)
-  all_entries k d lt =
-      let xs = finmap.entries (space_in names.spaces s).names in
-      let found = All-filter is_written (λ e. find key_cmp e.0 xs ≡ Some e.1) xs (stored key_cmp keys_total xs (entries_sorted (space_in names.spaces s).names)) k d lt in
-      let e = get_or (written_in names s) k d in
-      let source = none_so e.0.1 (filter_passes is_written xs k d lt) in
-      record { source = source; named = of_key e.0 e.1 found source }
-
--- The order of entries is that of what is listed.
-entries_ordered : (found : List Denoted) → IsNonDecreasingBy (λ d. d.number) found → IsNonDecreasingBy (λ e. e.1) (map entry_listed found)
-entries_ordered [] order i j d le lt = absurd (omega (arith, lt))
-entries_ordered (x ∷ xs) order i j d le lt =
-    let all = x ∷ xs in
-    let long = length-map all entry_listed in
-    let first = ap (λ e. e.1) (get_or-map entry_listed all i x d (omega (arith, le, lt, long))) in
-    let second = ap (λ e. e.1) (get_or-map entry_listed all j x d (omega (arith, lt, long))) in
-    omega (arith, first, second, order i j x le (omega (arith, lt, long)))
-
--- What is listed of an index space is its entries.
-space_content : (s : Space) (found : List Denoted) → All (λ d. d.space ≡ s) found → map content_of found ≡ map (λ e. (s, e)) (map entry_listed found)
-space_content s [] h = refl
-space_content s (d ∷ ds) h =
-    λ i. (All-head (λ x. x.space ≡ s) d ds h i, entry_listed d) ∷ space_content s ds (All-tail (λ x. x.space ≡ s) d ds h) i
-
-module _ (names others : KnownNames) (has : HasItems names) (same : (s : Space) (text : List ℕ) → (known_to names).number s (Written text) ≡ (known_to others).number s (Written text)) where
-  space_alike : (s : Space) (found given : List Denoted) → AreOfSpace names s found → AreOfSpace others s given → map content_of found ≡ map content_of given
-  space_alike s found given x y =
-      let moved = IsPermutation-trans (map entry_listed found) (written_in names s) (map entry_listed given)
-      (IsPermutation-sym (written_in names s) (map entry_listed found) x.exact)
-      (subst (λ es. IsPermutation es (map entry_listed given)) (sym (entries_alike names others s (same s))) y.exact) in
-      let one = one_order (λ e. e.1) (IsEntryOf has.all s) (alone has.all s) (map entry_listed found) (map entry_listed given) moved
-      (All-permutation (IsEntryOf has.all s) (written_in names s) (map entry_listed found) x.exact (all_entries names s has))
-      (entries_ordered found x.order) (entries_ordered given y.order) in
-      space_content s found x.of_space ∙ (ap (map (λ e. (s, e))) one ∙ sym (space_content s given y.of_space))
-
-  spaces_alike : (ss : List Space) (a b : List Denoted) → AreListedIn names ss a → AreListedIn others ss b → map content_of a ≡ map content_of b
-  spaces_alike [] a b x y = ap (map content_of) (x ∙ sym y)
-  spaces_alike (s ∷ ss) a b x y =
-      let front = space_alike s x.found y.found x.of_space y.of_space in
-      let rest = spaces_alike ss x.rest y.rest x.others y.others in
-      ap (map content_of) x.joined
-      ∙ (map-append content_of x.found x.rest ∙ ((λ i. front i ++ rest i) ∙ (sym (map-append content_of y.found y.rest) ∙ ap (map content_of) (sym y.joined))))
-
-pub same_list : SameNumbers → SameList
-same_list numbers bytes a b x y =
+pub same_list : SameList
+same_list bytes a b x y =
     let u = list_read bytes a x.read x.is_read x.answered in
     let v = list_read bytes b y.read y.is_read y.answered in
-    spaces_alike u.names v.names (items_of u.resolved.t.kind u.names u.resolved.resolves.left u.resolved.resolves.resolves)
-    (known_alike numbers bytes u.names v.names u.resolved v.resolved) spaces a.items b.items u.listed v.listed
+    let e = one_module bytes u.resolved.t v.resolved.t u.resolved.denotes v.resolved.denotes in
+    u.listed ∙ (ap entries_of (same_items u.resolved.t.kind v.resolved.t.kind (λ i. (e i).kind)) ∙ sym v.listed)
 
 -- The errors of resolving a module like one that is resolved are those of limits.
 unresolved_kinds : SameAnswer → (k l : TextKind) (names : KnownNames) (d : Error) (left rest : ModuleKind) → bare_kind k ≡ bare_kind l
@@ -229,7 +133,7 @@ no_names answers rules generations t u names (answer.Text d) e x y = absurd (y.i
 no_names answers rules generations t u names (answer.Module d) e x y = unresolved answers t u names d e x y
 no_names answers rules generations t u names (answer.Uncovered d) e x y = absurd y
 
-no_list : SameAnswer → SameRules → SameGeneration → (t u : TextModule) (names : KnownNames) (r : Refused) → bare_module t ≡ bare_module u → ResolvesReady (module_of t) (Ok names) → HasNoList (module_of u) r → IsOfLimits r
+no_list : SameAnswer → SameRules → SameGeneration → (t u : TextModule) (names : KnownNames) (r : Refused) → bare_module t ≡ bare_module u → ResolvesReady (module_of t) (Ok names) → ListsText u (Err r) → IsOfLimits r
 no_list answers rules generations t u names (answer.Text d) e x y = absurd (y.is_not_ready (same_ready rules generations t u e x.ready))
 no_list answers rules generations t u names (answer.Module d) e x (inl y) = unresolved answers t u names d e x y
 no_list answers rules generations t u names (answer.Module d) e x (inr y) = inl (ap diagnostic_of y.1)

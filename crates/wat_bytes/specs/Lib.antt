@@ -1,4 +1,6 @@
+pub mod Listing
 pub mod Names
 pub mod OneText
 pub mod Texts
+pub mod WorkedNames
 pub mod WorkedResults

@@ -36,6 +36,7 @@
 mod encodes;
 mod examples;
 mod laws;
+mod listing;
 mod modules;
 mod names;
 mod refusals;

@@ -19,7 +19,7 @@ pub returns-clause-look_up : goal.returns-clause-look_up
 returns-clause-look_up c = same_look_up c.meaning_laws.ensures.answer c.meaning_laws.ensures.rules c.meaning_laws.ensures.generation
 
 pub returns-clause-list : goal.returns-clause-list
-returns-clause-list c = same_list c.meaning_laws.ensures.numbers
+returns-clause-list c = same_list
 
 pub returns-clause-listing : goal.returns-clause-listing
 returns-clause-listing c = same_listing c.meaning_laws.ensures.answer c.meaning_laws.ensures.rules c.meaning_laws.ensures.generation
