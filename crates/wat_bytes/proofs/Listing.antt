@@ -10,16 +10,16 @@ use Rattle.wast_tree_visit.specs.Visits.{TellsEach, Visits}
 use Rattle.wast_core_name_section.specs.GivenNames.{named_from}
 use Rattle.wast_core_name_section.proofs.NameEntries.{named_append}
 use Rattle.wat_bytes.specs.Listing.{ListsOn}
-use Rattle.wat_bytes.specs.Names.{Entry, content_of, entries_in, id_in, source_id}
-use Rattle.wat_bytes.specs.declared.listing.Lister.{Lister}
+use Rattle.wat_bytes.specs.Names.{Entry, content_of, entries_in, id_in, source_mark}
+use Rattle.wat_bytes.specs.declared.lister.Lister.{Lister}
 use Rattle.wat_bytes.specs.declared.names.Denoted.{Denoted}
 
 -- An id is from the source, or it is generated.
-pub generated_id : (name : Name) (place : Span) → is_generated name ≡ true → source_id (Some (name, place)) ≡ None
+pub generated_id : (name : Name) (place : Span) → is_generated name ≡ true → source_mark (Some (name, place)) ≡ None
 generated_id (Written text) place is = absurd cc
 generated_id (Generated n) place is = refl
 
-pub written_id : (name : Name) (place : Span) → is_generated name ≡ false → source_id (Some (name, place)) ≡ Some (name, place)
+pub written_id : (name : Name) (place : Span) → is_generated name ≡ false → source_mark (Some (name, place)) ≡ Some (name, place)
 written_id (Written text) place is = refl
 written_id (Generated n) place is = absurd cc
 
@@ -56,11 +56,11 @@ pub lists_none : (l : Lister) → ListsOn l [] l
 lists_none l = record { space = refl; runs = λ h. h; next = λ h. omega arith; listed = λ h. sym (append-nil (map content_of l.listed.items)) }
 
 -- An item is of the index space, or it is of another one.
-pub of_space : (a b : Lister) (x : Item) → same_space a.space x.space ≡ true → ListsOn a (source_id x.id ∷ []) b → ListsOn a (id_in a.space x) b
-of_space a b x same h = subst (λ c. ListsOn a (cond c (source_id x.id ∷ []) []) b) (sym same) h
+pub of_space : (a b : Lister) (x : Item) → same_space a.space x.space ≡ true → ListsOn a (source_mark x.id ∷ []) b → ListsOn a (id_in a.space x) b
+of_space a b x same h = subst (λ c. ListsOn a (cond c (source_mark x.id ∷ []) []) b) (sym same) h
 
 pub of_other : (a : Lister) (x : Item) → same_space a.space x.space ≡ false → ListsOn a (id_in a.space x) a
-of_other a x other = subst (λ c. ListsOn a (cond c (source_id x.id ∷ []) []) a) (sym other) (lists_none a)
+of_other a x other = subst (λ c. ListsOn a (cond c (source_mark x.id ∷ []) []) a) (sym other) (lists_none a)
 
 -- Entries after those of other items.
 after : (s : Space) (n : ℕ) (all : List Entry) (xs ys : List (Option Mark))

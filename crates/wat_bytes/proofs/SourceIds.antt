@@ -1,6 +1,9 @@
 -- Resolving keeps the source ids of the items, with their positions and their indices: it only generates ids.
-use Rattle.std.proofs.Common.{◌≡◌, ℕ, ◌+◌, Bool, true, false, List, [], ◌∷◌, ◌++◌, map, flat_map, Option, Ok, refl, sym, ap, ◌∙◌}
+use Rattle.std.proofs.Common.{◌≡◌, ℕ, ◌+◌, Bool, true, false, List, [], ◌∷◌, ◌++◌, map, flat_map, Option, Result, Ok, Err, IfOk, IfErr, inr, refl, sym, ap, ◌∙◌}
 use Rattle.std.proofs.lemmas.Grind.{flat_map-append}
+use Rattle.std.specs.Global.{Vec}
+use Rattle.wast_base.specs.declared.faults.Error.{Error}
+use Rattle.wast_base.specs.Faults.{out_of_memory}
 use Rattle.wast_base.specs.Filling.{one_if, given_if}
 use Rattle.wast_base.specs.Ids.{Mark}
 use Rattle.wast_base.specs.Spaces.{spaces}
@@ -24,10 +27,13 @@ use Rattle.wast_core_name_section.specs.GivenNames.{named_from}
 use Rattle.wast_core.specs.Tree.{ModuleField}
 use Rattle.wast_core.specs.Tree.field
 use Rattle.wast_core.specs.Headline.{ResolvesKind}
+use Rattle.wast_core.specs.Modules.{IsReady}
+use Rattle.wast_core.specs.declared.module.Module.{Module}
 use Rattle.wast_core.specs.declared.module.ModuleKind.{ModuleKind}
 use Rattle.wast_core.specs.declared.module.ModuleKind.TheVariants as kind
 use Rattle.wat_bytes.specs.Listing.{items_held}
-use Rattle.wat_bytes.specs.Names.{entries_in, entries_of, id_in, items_of}
+use Rattle.wat_bytes.specs.Names.{ListsReady, content_of, entries_in, entries_of, id_in, items_of}
+use Rattle.wat_bytes.specs.declared.names.Denoted.{Denoted}
 
 same_segments : (b : Bool) (n : ℕ) (x : ModuleField) → segments (given_if b with_item_id n x) ≡ segments x
 same_segments false n x = refl
@@ -87,7 +93,7 @@ module _ (s : Space) where
   resolved n xs = ap ids (finished_items n xs) ∙ explicit n xs
 
 -- Items with the same source ids in each index space have the same entries.
-entries_alike : (xs ys : List Item) → ((s : Space) → ids s xs ≡ ids s ys) → (ss : List Space) → flat_map (entries_in xs) ss ≡ flat_map (entries_in ys) ss
+entries_alike : (xs ys : List Item) → ((s : Space) → flat_map (id_in s) xs ≡ flat_map (id_in s) ys) → (ss : List Space) → flat_map (entries_in xs) ss ≡ flat_map (entries_in ys) ss
 entries_alike xs ys same [] = refl
 entries_alike xs ys same (s ∷ ss) = λ i. map (λ e. (s, e)) (named_from 0 (same s i)) ++ entries_alike xs ys same ss i
 
@@ -97,3 +103,10 @@ entries_held (kind.Text fields) new names h =
     ap (λ k. entries_of (items_held k)) h.1 ∙ entries_alike (items (resolved_fields_from 1 fields)) (items (explicit_fields fields)) (λ s. resolved s 1 fields) spaces
 entries_held (kind.Binary pieces) new names h = ap (λ k. entries_of (items_held k)) h.1
 entries_held (kind.Refused e) new names h = absurd h
+
+-- The result of listing what resolving leaves.
+pub listed : (m : Module) (left : ModuleKind) (names : KnownNames) (r : Result (Vec Denoted) Error) → IsReady m 1 → ResolvesKind 1 m.kind (Ok names) left
+    → IfOk r (λ all. map content_of all.items ≡ entries_of (items_held left)) → IfErr r (λ e. e ≡ out_of_memory) → ListsReady m r
+listed m left names (Ok all) ready resolves list refusal =
+    record { names = names; resolves = record { ready = ready; left = left; resolves = resolves }; listed = list ∙ entries_held m.kind left names resolves }
+listed m left names (Err e) ready resolves list refusal = inr (ready, refusal)

@@ -8,7 +8,7 @@ use Rattle.wast_core_name_section.specs.GivenNames.{named_from}
 use Rattle.wast_core.specs.declared.module.ModuleKind.{ModuleKind}
 use Rattle.wast_core.specs.declared.module.ModuleKind.TheVariants as kind
 use Rattle.wat_bytes.specs.Names.{content_of}
-use Rattle.wat_bytes.specs.declared.listing.Lister.{Lister}
+use Rattle.wat_bytes.specs.declared.lister.Lister.{Lister}
 
 -- A lister before and after items of its index space with these source ids. If it has not stopped, it has counted the items, and has
 -- added an entry for each id.

@@ -54,14 +54,14 @@ abbrev pub content_of : Denoted → Entry
 content_of d = (d.space, (d.number, mark_of d.id))
 
 -- An id, if it is from the source. `$f` is, and a generated id is not.
-abbrev pub source_id : Option Mark → Option Mark
-source_id None = None
-source_id (Some (Written text, place)) = Some (Written text, place)
-source_id (Some (Generated n, place)) = None
+abbrev pub source_mark : Option Mark → Option Mark
+source_mark None = None
+source_mark (Some (Written text, place)) = Some (Written text, place)
+source_mark (Some (Generated n, place)) = None
 
 -- The source id of an item, or none, if the item is of this index space.
 abbrev pub id_in : Space → Item → List (Option Mark)
-id_in s x = if same_space s x.space then source_id x.id ∷ [] else []
+id_in s x = if same_space s x.space then source_mark x.id ∷ [] else []
 
 -- The source ids of the items of an index space, in the order of the items, each with its index: its position among these items.
 abbrev pub ids_in : Space → List Item → List (ℕ × Mark)

@@ -14,7 +14,7 @@ use wat_meaning::meaning_laws;
 /// # Example
 ///
 /// For example, each call that returns bytes for `(module (func $f) (export "a" (func $f)))`
-/// returns the same bytes, and each list of its names has `$f` as function 0. For
+/// returns the same bytes, and each list of its names has `$f` at 14 as function 0. For
 /// `(module (func $f) (func $f))` no call returns bytes.
 ///
 /// # Guarantees
@@ -29,8 +29,8 @@ use wat_meaning::meaning_laws;
 ///   both return none.
 /// - `look_up`: if one call that looks a name up succeeds, another with the same text, index space and
 ///   name fails only because of E12 or E10.
-/// - `list`: two calls that list the names of one text return the same index spaces, names and
-///   indices in the same order.
+/// - `list`: two calls that list the names of one text return the same index spaces, names,
+///   positions and indices in the same order.
 /// - `listing`: if one call that lists the names of a text succeeds, another fails only because of E12
 ///   or E10.
 pub fn one_result()

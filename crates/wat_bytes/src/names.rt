@@ -1,15 +1,16 @@
-//! The ids of a text and their indices.
+//! The ids of a text, their indices and their positions.
 
 ghost use Rattle.std.specs.Prelude.{◌≡◌, IfErr};
 ghost use Rattle.wast_base.specs.Ids.{Written};
 ghost use Rattle.wast_resolve_names.specs.LookUps.{IsSettledFor};
 ghost use Rattle.wast_resolve_names.specs.Resolvers.{known_to};
 ghost use Rattle.wast_resolve_rules.specs.Resolved.{numbered_at};
+ghost use Rattle.wast_core.specs.Headline.{ResolvesKind};
 ghost use Rattle.wast_core.specs.Modules.{IsReady};
 ghost use Rattle.wat_bytes.specs.Texts.{IsPlaced, OfText};
 ghost use Rattle.wat_bytes.specs.Names.{ListsReady, ListsText, NumbersText, ResolvesReady, ResolvesText};
 
-use crate::listing;
+use crate::lister;
 use crate::modules::{is_ready, module_of, read_text, unready};
 use crate::refusals::Refused;
 use std::alloc::Global;
@@ -18,7 +19,8 @@ use wast_resolve::{Names, discard_names};
 use wast_tree::{Error, Gensym, Id, Index, Space, Span};
 use wat_text::{Strings, TextModule};
 
-/// An id of a text with its index space and its index (text format: indices).
+/// An id of a text with its index space, its index and its position (text format: identifiers,
+/// indices).
 ///
 /// # Example
 ///
@@ -36,10 +38,11 @@ pub struct Denoted<'a> {
     pub number: u32,
 }
 
-/// Returns the names of a module that may be resolved with a counter at 1.
+/// Resolves a module that may be resolved with a counter at 1, and returns its names.
 fn resolved<'a>(alloc: Global, module: &mut Module<'a>) -> Result<Names<'a>, Error<'a>>
     requires ready { IsReady «module».old 1 }
-    ensures { ResolvesReady «module».old result }
+    ensures answer { ResolvesReady «module».old result }
+    ensures left { ResolvesKind 1 «module».old.kind result «module».new.kind }
 {
     let mut gensym = Gensym::new(1);
     module.resolve(alloc, &mut gensym)
@@ -66,11 +69,13 @@ fn listed<'a>(alloc: Global, module: &mut Module<'a>) -> Result<Vec<Denoted<'a>>
     requires ready { IsReady «module».old 1 }
     ensures { ListsReady «module».old result }
 {
-    let mut gensym = Gensym::new(1);
-    let names = module.resolve(alloc, &mut gensym)?;
-    discard_names(names);
-    let all = listing::of_module(alloc, module)?;
-    Ok(all)
+    match resolved(alloc, module) {
+        Ok(names) => {
+            discard_names(names);
+            lister::of_module(alloc, module)
+        }
+        Err(error) => Err(error),
+    }
 }
 
 /// Resolves a parsed module, and returns each of its ids with its index and its position (text

@@ -1,15 +1,16 @@
 //! Lists the source ids of fields, one index space after another.
 
-ghost use Rattle.std.specs.Prelude.{◌≡◌, ◌++◌, ◌∷◌, [], flat_map, map, IfOk, OnOk};
+ghost use Rattle.std.specs.Prelude.{◌≡◌, ◌++◌, ◌∷◌, [], flat_map, map, IfOk, IfErr, OnOk};
+ghost use Rattle.wast_base.specs.Faults.{out_of_memory};
 ghost use Rattle.wast_base.specs.Ids.{mark_of_option};
 ghost use Rattle.wast_tree_nodes.specs.Items.{items};
 ghost use Rattle.wat_bytes.specs.Listing.{ListsOn, items_held};
-ghost use Rattle.wat_bytes.specs.Names.{content_of, entries_in, entries_of, id_in, source_id};
+ghost use Rattle.wat_bytes.specs.Names.{content_of, entries_in, entries_of, id_in, source_mark};
 
 use crate::names::Denoted;
 use std::alloc::{AllocError, Global};
 use wast_core::{Module, ModuleKind};
-use wast_tree::{Id, ItemVisitor, ModuleField, Space, StructField, visit_items};
+use wast_tree::{Error, Id, ItemVisitor, ModuleField, Space, StructField, visit_items};
 
 /// A visitor that lists the source ids of one index space.
 #[derive(Drop)]
@@ -26,7 +27,7 @@ struct Lister<'a> {
 
 /// Returns an id, if it is from the source.
 fn source_id<'a>(id: &Option<Id<'a>>) -> Option<Id<'a>>
-    ensures { mark_of_option result ≡ source_id (mark_of_option id.now) }
+    ensures { mark_of_option result ≡ source_mark (mark_of_option id.now) }
 {
     let id = (*id)?;
     if id.is_gensym() {
@@ -39,7 +40,7 @@ impl<'a> Lister<'a> {
     /// Counts an item of the index space, and lists its id if it is from the source.
     fn try_add(&mut self, id: &Option<Id<'a>>) -> Result<(), AllocError>
         ensures space { self.new.space ≡ self.old.space }
-        ensures listed { OnOk result (ListsOn self.old (source_id (mark_of_option id.now) ∷ []) self.new) }
+        ensures listed { OnOk result (ListsOn self.old (source_mark (mark_of_option id.now) ∷ []) self.new) }
     {
         let number = self.next;
         let Some(next) = number.checked_add(1) else {
@@ -55,7 +56,7 @@ impl<'a> Lister<'a> {
 
     /// Does the same, and stops if that fails.
     fn add(&mut self, id: &Option<Id<'a>>)
-        ensures { ListsOn self.old (source_id (mark_of_option id.now) ∷ []) self.new }
+        ensures { ListsOn self.old (source_mark (mark_of_option id.now) ∷ []) self.new }
     {
         if self.try_add(id).is_err() {
             self.is_stopped = true;
@@ -123,11 +124,15 @@ fn of_fields<'a>(
 pub(crate) fn of_module<'a>(
     alloc: Global,
     module: &mut Module<'a>,
-) -> Result<Vec<Denoted<'a>>, AllocError>
-    ensures { IfOk result (λ all. map content_of all.items ≡ entries_of (items_held «module».old.kind)) }
+) -> Result<Vec<Denoted<'a>>, Error<'a>>
+    ensures list { IfOk result (λ all. map content_of all.items ≡ entries_of (items_held «module».old.kind)) }
+    ensures refusal { IfErr result (λ e. e ≡ out_of_memory) }
 {
     match &module.kind {
-        ModuleKind::Text(fields) => of_fields(alloc, fields.as_slice()),
+        ModuleKind::Text(fields) => {
+            let all = of_fields(alloc, fields.as_slice())?;
+            Ok(all)
+        }
         ModuleKind::Binary(_) | ModuleKind::Refused(_) => Ok(Vec::new(alloc)),
     }
 }
