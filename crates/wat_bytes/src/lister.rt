@@ -29,11 +29,13 @@ struct Lister<'a> {
 fn source_id<'a>(id: &Option<Id<'a>>) -> Option<Id<'a>>
     ensures { mark_of_option result ≡ source_mark (mark_of_option id.now) }
 {
-    let id = (*id)?;
+    let Some(id) = id else {
+        return None;
+    };
     if id.is_gensym() {
         return None;
     }
-    Some(id)
+    Some(*id)
 }
 
 impl<'a> Lister<'a> {
@@ -47,14 +49,16 @@ impl<'a> Lister<'a> {
             return Err(AllocError);
         };
         self.next = next;
-        if let Some(id) = source_id(id) {
-            let space = self.space;
-            self.listed.push(Denoted { space, id, number })?;
-        }
+        let Some(id) = source_id(id) else {
+            return Ok(());
+        };
+        let space = self.space;
+        self.listed.push(Denoted { space, id, number })?;
         Ok(())
     }
 
     /// Does the same, and stops if that fails.
+    #[tactic(auto, using(crate::proofs::Listing::stops))]
     fn add(&mut self, id: &Option<Id<'a>>)
         ensures { ListsOn self.old (source_mark (mark_of_option id.now) ∷ []) self.new }
     {
@@ -81,6 +85,7 @@ impl<'a> Lister<'a> {
 impl<'a> ItemVisitor<'a> for Lister<'a> {
     ghost told = { λ old x new. ListsOn old (id_in old.space x) new };
 
+    #[tactic(auto, using(crate::proofs::Listing::of_space, crate::proofs::Listing::of_other))]
     fn item(&mut self, space: Space, id: &Option<Id<'a>>, _fields: &[StructField<'a>]) {
         if self.space.is(space) {
             self.add(id);
