@@ -2,37 +2,37 @@
 use Rattle.std.specs.Prelude.{◌≡◌, false, List, [], ◌∷◌, Some, None, codes}
 use Rattle.wast_base.specs.Ids.{Written}
 use Rattle.wast_base.specs.declared.spaces.Space.TheVariants as space
-use Rattle.wast_tree_nodes.specs.Tree.{Func, Memory, Data, ModuleField}
-use Rattle.wast_tree_nodes.specs.Tree.memory
-use Rattle.wast_tree_nodes.specs.Tree.data_kind
-use Rattle.wast_tree_nodes.specs.Tree.bytes
-use Rattle.wast_tree_nodes.specs.Tree.func
-use Rattle.wast_tree_nodes.specs.Tree.field
 use Rattle.wast_tree_nodes.specs.WorkedModules.{Address, text, place, id_at, by_id, plain_type, plain_func, import_field}
+use Rattle.wast_core.specs.Tree.{ModuleField}
+use Rattle.wast_core.specs.Tree.memory
+use Rattle.wast_core.specs.Tree.data_kind
+use Rattle.wast_core.specs.Tree.bytes
+use Rattle.wast_core.specs.Tree.func
+use Rattle.wast_core.specs.Tree.field
 use Rattle.wast_core.specs.declared.module.ModuleKind.TheVariants as kind
 use Rattle.wat_bytes.specs.Names.{entries_of, items_of}
 
 -- `(memory $m (data "a"))` at 41
-abbrev filled_memory : (a b : Address) → Memory
-filled_memory a b = record { span = place 42; id = Some (id_at a (codes "m") 49); name = None; exports = record { names = [] }; kind = memory.Inline false (bytes.«String» (text b (codes "a")) ∷ []) None }
+abbrev filled_memory : (a b : Address) → ModuleField
+filled_memory a b = field.Memory (record { span = place 42; id = Some (id_at a (codes "m") 49); name = None; exports = record { names = [] }; kind = memory.Inline false (bytes.«String» (text b (codes "a")) ∷ []) None })
 
 -- `(data $d "b")` at 64
-abbrev named_data : (a b : Address) → Data
-named_data a b = record { span = place 65; id = Some (id_at a (codes "d") 70); name = None; kind = data_kind.Passive; bytes = bytes.«String» (text b (codes "b")) ∷ [] }
+abbrev named_data : (a b : Address) → ModuleField
+named_data a b = field.Data (record { span = place 65; id = Some (id_at a (codes "d") 70); name = None; kind = data_kind.Passive; bytes = bytes.«String» (text b (codes "b")) ∷ [] })
 
 -- `(func (export "a"))` at 115
-abbrev exported_func : Address → Func
-exported_func a = record { span = place 116; id = None; name = None; exports = record { names = text a (codes "a") ∷ [] }; kind = func.Inline [] (record { instrs = []; branch_hints = [] }); ty = record { index = None; inline = None } }
+abbrev exported_func : Address → ModuleField
+exported_func a = field.Func (record { span = place 116; id = None; name = None; exports = record { names = text a (codes "a") ∷ [] }; kind = func.Inline [] (record { instrs = []; branch_hints = [] }); ty = record { index = None; inline = None } })
 
 -- `(module (import "e" "g" (global $g i32)) (memory $m (data "a")) (data $d "b") (rec (type (func)) (type $t (func)))
 -- (func (export "a")) (func $f (type $t)))`
 abbrev each_kind : (a b c d e f g h i : Address) → List ModuleField
 each_kind a b c d e f g h i =
     import_field a 8
-    ∷ field.Memory (filled_memory b c)
-    ∷ field.Data (named_data d e)
+    ∷ filled_memory b c
+    ∷ named_data d e
     ∷ field.Rec (record { span = place 79; types = plain_type None 83 ∷ plain_type (Some (id_at f (codes "t") 103)) 97 ∷ [] })
-    ∷ field.Func (exported_func g)
+    ∷ exported_func g
     ∷ field.Func (plain_func (Some (id_at h (codes "f") 141)) 135 (by_id i (codes "t") 150) [])
     ∷ []
 
