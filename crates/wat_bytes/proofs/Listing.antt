@@ -42,9 +42,9 @@ adds_entry a b id d some own number space stopped next listed =
       runs = λ r. sym stopped ∙ r;
       next = λ r. next;
       listed = λ r.
-        ap (map content_of) listed
-        ∙ (map-append content_of a.listed.items (d ∷ [])
-        ∙ (ap (λ e. map content_of a.listed.items ++ e ∷ []) entry ∙ ap (λ o. map content_of a.listed.items ++ map (λ e. (a.space, e)) (named_from a.next (o ∷ []))) (sym some)));
+          ap (map content_of) listed
+          ∙ (map-append content_of a.listed.items (d ∷ [])
+          ∙ (ap (λ e. map content_of a.listed.items ++ e ∷ []) entry ∙ ap (λ o. map content_of a.listed.items ++ map (λ e. (a.space, e)) (named_from a.next (o ∷ []))) (sym some)));
     }
 
 -- After a failure nothing is said.
@@ -77,9 +77,9 @@ lists_both a b c xs ys h k =
       runs = λ r. h.runs (k.runs r);
       next = λ r. omega (arith, k.next r, h.next (k.runs r), length-append xs ys);
       listed = λ r.
-        k.listed r
-        ∙ ((λ i. h.listed (k.runs r) i ++ map (λ e. (h.space i, e)) (named_from (h.next (k.runs r) i) ys))
-        ∙ after a.space a.next (map content_of a.listed.items) xs ys);
+          k.listed r
+          ∙ ((λ i. h.listed (k.runs r) i ++ map (λ e. (h.space i, e)) (named_from (h.next (k.runs r) i) ys))
+          ∙ after a.space a.next (map content_of a.listed.items) xs ys);
     }
 
 lists_each : (a b : Lister) (xs : List Item) → TellsEach (λ old x new. ListsOn old (id_in old.space x) new) a xs b → ListsOn a (flat_map (id_in a.space) xs) b

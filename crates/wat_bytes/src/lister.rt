@@ -114,10 +114,7 @@ fn of_spaces<'a>(
 }
 
 /// Returns the source ids of all index spaces.
-fn of_fields<'a>(
-    alloc: Global,
-    fields: &[ModuleField<'a>],
-) -> Result<Vec<Denoted<'a>>, AllocError>
+fn of_fields<'a>(alloc: Global, fields: &[ModuleField<'a>]) -> Result<Vec<Denoted<'a>>, AllocError>
     ensures { IfOk result (λ all. map content_of all.items ≡ entries_of (items fields.now)) }
 {
     let spaces = Space::ALL;
