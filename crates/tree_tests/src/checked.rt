@@ -39,43 +39,39 @@ fn checked_calls_return_results_of_unchecked_calls(rt: HostRuntime) {
     let alloc = rt.alloc();
     let bytes = bytes_of(alloc, row(&rt, alloc, 4)).expect(&rt, "memory");
     has_bytes(&rt, alloc, Ok(bytes), BYTES_OF_4);
-    let mut module = row(&rt, alloc, 4);
+    let mut made = row(&rt, alloc, 4);
     let mut gensym = Gensym::new(1);
-    assert!(rt; module.check(&gensym).is_ok());
-    let names = module.check_and_resolve(alloc, &mut gensym);
+    assert!(rt; made.check(&gensym).is_ok());
+    let names = made.check_and_resolve(alloc, &mut gensym);
     discard_names(names.expect(&rt, "memory"));
     assert!(rt; gensym.peek() == 3);
-    discard_module(module);
-    let mut failed = Module {
-        kind: ModuleKind::Refused(Error::refusal(Fault::Component)),
-        ..row(&rt, alloc, 4)
-    };
+    discard_module(made);
+    let component = Error::refusal(Fault::Component);
+    let mut failed = module(ModuleKind::Refused(component));
     let error = failed.check_and_resolve(alloc, &mut gensym).err();
-    let component = CheckError::from(Error::refusal(Fault::Component));
-    assert!(rt; error == Some(component) && component.span().is_none());
-    discard_module(failed);
+    assert!(rt; error == Some(CheckError::from(component)));
+    assert!(rt; bytes_of(alloc, failed).err() == error);
 }
 
 #[test]
 fn modules_that_are_not_ready_do_not_change(rt: HostRuntime) {
     let alloc = rt.alloc();
     let mut wrong = misaligned(alloc).expect(&rt, "memory");
-    let found = CheckError::IllFormed(IllFormed {
+    let rule = IllFormed {
         clause: 1,
         span: at(23),
-    });
+    };
+    let found = CheckError::IllFormed(rule);
     let mut gensym = Gensym::new(7);
     let error = wrong.check_and_resolve(alloc, &mut gensym).err();
     assert!(rt; error == Some(found) && found.span() == Some(at(23)));
     assert!(rt; bytes_of(alloc, wrong).err() == Some(found));
-    let id = gensym.generate(at(8)).expect(&rt, "counter");
-    let module = row(&rt, alloc, 4);
-    let module = Module {
-        id: Some(id),
-        ..module
-    };
-    assert!(rt; module.check(&gensym).is_ok());
+    let text = format!(in alloc; "{found}").expect(&rt, "memory");
+    assert!(rt; text.as_str() == "alignment must be a power of two");
+    let mut named = row(&rt, alloc, 4);
+    named.id = gensym.generate(at(8)).ok();
+    assert!(rt; named.check(&gensym).is_ok());
     let low = CheckError::CounterTooLow(7);
-    assert!(rt; module.check(&Gensym::new(7)).err() == Some(low) && low.span().is_none());
-    assert!(rt; bytes_of(alloc, module).err() == Some(low));
+    assert!(rt; named.check(&Gensym::new(7)).err() == Some(low) && low.span().is_none());
+    assert!(rt; bytes_of(alloc, named).err() == Some(low));
 }
