@@ -33,7 +33,7 @@ impl<'a> CheckError<'a> {
     ///
     /// # Example
     ///
-    ///     assert!(rt; error.span() == Some(at(14)));
+    ///     assert!(rt; error == Some(found) && found.span() == Some(at(23)));
     pub fn span(&self) -> Option<Span>
         ensures { result ≡ check_span self.now }
     {
@@ -90,7 +90,7 @@ impl<'a> Module<'a> {
     ///
     /// # Example
     ///
-    ///     assert!(rt; module.check(&gensym).is_ok());
+    ///     assert!(rt; made.check(&gensym).is_ok());
     ///
     /// # Errors
     ///
@@ -119,7 +119,7 @@ impl<'a> Module<'a> {
     ///
     /// # Example
     ///
-    ///     let names = module.check_and_resolve(alloc, &mut gensym);
+    ///     let names = made.check_and_resolve(alloc, &mut gensym);
     ///
     /// # Errors
     ///
