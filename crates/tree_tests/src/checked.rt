@@ -2,7 +2,7 @@
 
 use crate::made::{at, has_bytes, module, row};
 use std::alloc::Global;
-use wast_core::{CheckError, EncodeOptions, Module, ModuleKind, discard_module};
+use wast_core::{CheckError, EncodeOptions, Module, ModuleKind, NotReady, discard_module};
 use wast_resolve::discard_names;
 use wast_tree::{
     Error, Fault, Func, Gensym, IllFormed, Index, Instruction, MemArg, MemOp, ModuleField, Seq,
@@ -61,7 +61,7 @@ fn modules_that_are_not_ready_do_not_change(rt: HostRuntime) {
         clause: 1,
         span: at(23),
     };
-    let found = CheckError::IllFormed(rule);
+    let found = CheckError::NotReady(NotReady::IllFormed(rule));
     let mut gensym = Gensym::new(7);
     let error = wrong.check_and_resolve(alloc, &mut gensym).err();
     assert!(rt; error == Some(found) && found.span() == Some(at(23)));
@@ -71,7 +71,7 @@ fn modules_that_are_not_ready_do_not_change(rt: HostRuntime) {
     let mut named = row(&rt, alloc, 4);
     named.id = gensym.generate(at(8)).ok();
     assert!(rt; named.check(&gensym).is_ok());
-    let low = CheckError::CounterTooLow(7);
+    let low = NotReady::CounterTooLow(7);
     assert!(rt; named.check(&Gensym::new(7)).err() == Some(low) && low.span().is_none());
-    assert!(rt; bytes_of(alloc, named).err() == Some(low));
+    assert!(rt; bytes_of(alloc, named).err() == Some(CheckError::NotReady(low)));
 }

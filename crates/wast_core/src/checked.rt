@@ -1,7 +1,7 @@
 //! Resolving and encoding that check the module first, for callers who prove nothing.
 
 ghost use Rattle.std.specs.Prelude.{◌≡◌, Some, is_none, IfOk, IfErr, OnOk};
-ghost use Rattle.wast_core.specs.Checked.{first_ill_formed_kind, IsUnready, Checks, check_text, check_span};
+ghost use Rattle.wast_core.specs.Checked.{first_ill_formed_kind, IsUnready, Checks, reason_text, check_text, reason_span, check_span};
 ghost use Rattle.wast_core.specs.Headline.{Encodes, Resolves};
 ghost use Rattle.wast_core.specs.Modules.{is_well_formed_kind, IsReady};
 ghost use Rattle.wast_core.specs.Writing.{IsAtRest};
@@ -14,17 +14,49 @@ use wast_base::{Error, Gensym, Span};
 use wast_resolve::Names;
 use wast_tree_visit::{IllFormed, first_ill_formed};
 
-/// Why a checked call returned no result.
+/// Why a module is not ready to be resolved.
 ///
 /// `{}` prints what is wrong, without the position. For example, a load with the alignment 3 gives
 /// `alignment must be a power of two`.
 #[derive(Clone, Copy, Debug, PartialEq, Eq)]
-pub enum CheckError<'a> {
+pub enum NotReady {
     /// The module is not well formed: the first rule that it breaks, with the closest position.
     IllFormed(IllFormed),
     /// The id counter is not past this generation, which a generated id of the module has.
     CounterTooLow(u64),
-    /// The module is ready, and the call failed with this error, E1 to E12.
+}
+
+impl NotReady {
+    /// Returns the position of what is not well formed.
+    pub fn span(&self) -> Option<Span>
+        ensures { result ≡ reason_span self.now }
+    {
+        match self {
+            NotReady::IllFormed(found) => Some(found.span),
+            NotReady::CounterTooLow(_) => None,
+        }
+    }
+}
+
+impl fmt::Display for NotReady {
+    ghost output = { λ r. Some (reason_text r) };
+
+    fn fmt<W: fmt::Write>(&self, f: &mut fmt::Formatter<W>) -> fmt::Result {
+        match *self {
+            NotReady::IllFormed(found) => write!(f, "{found}"),
+            NotReady::CounterTooLow(_) => {
+                write!(f, "id counter must be past the generated ids of the module")
+            }
+        }
+    }
+}
+
+/// Why a checked call returned no result. `{}` prints what is wrong, without the position.
+#[derive(Clone, Copy, Debug, PartialEq, Eq)]
+pub enum CheckError<'a> {
+    /// The module is not ready. Nothing has changed.
+    NotReady(NotReady),
+    /// The module was ready, and the call failed with this error, E1 to E12.
     Failed(Error<'a>),
 }
 
@@ -38,8 +70,7 @@ impl<'a> CheckError<'a> {
         ensures { result ≡ check_span self.now }
     {
         match self {
-            CheckError::IllFormed(found) => Some(found.span),
-            CheckError::CounterTooLow(_) => None,
+            CheckError::NotReady(reason) => reason.span(),
             CheckError::Failed(error) => error.span(),
         }
     }
@@ -50,10 +81,7 @@ impl fmt::Display for CheckError<'_> {
 
     fn fmt<W: fmt::Write>(&self, f: &mut fmt::Formatter<W>) -> fmt::Result {
         match *self {
-            CheckError::IllFormed(found) => write!(f, "{found}"),
-            CheckError::CounterTooLow(_) => {
-                write!(f, "id counter must be past the generated ids of the module")
-            }
+            CheckError::NotReady(reason) => write!(f, "{reason}"),
             CheckError::Failed(error) => write!(f, "{error}"),
         }
     }
@@ -94,25 +122,27 @@ impl<'a> Module<'a> {
     ///
     /// # Errors
     ///
-    /// - [`CheckError::IllFormed`]: the module breaks a rule of well-formedness.
-    /// - [`CheckError::CounterTooLow`]: it breaks none, and the counter is not past its ids.
+    /// - [`NotReady::IllFormed`]: the module breaks a rule of well-formedness.
+    /// - [`NotReady::CounterTooLow`]: it breaks none, and the counter is not past its ids.
     ///
     /// # Guarantees
     ///
     /// - `ok`: the module is ready (`IsReady`).
     /// - `err`: it is not, for this reason.
-    pub fn check(&self, gensym: &Gensym) -> Result<(), CheckError<'a>>
+    pub fn check(&self, gensym: &Gensym) -> Result<(), NotReady>
         ensures ok { IfOk result (λ _. IsReady self.now gensym.now) }
         ensures err { IfErr result (IsUnready self.now gensym.now) }
     {
-        if let Some(found) = first_ill_formed_in(&self.kind) {
-            return Err(CheckError::IllFormed(found));
+        match first_ill_formed_in(&self.kind) {
+            Some(found) => Err(NotReady::IllFormed(found)),
+            None => {
+                let bound = self.gensym_bound();
+                if gensym.peek() <= bound {
+                    return Err(NotReady::CounterTooLow(bound));
+                }
+                Ok(())
+            }
         }
-        let bound = self.gensym_bound();
-        if gensym.peek() <= bound {
-            return Err(CheckError::CounterTooLow(bound));
-        }
-        Ok(())
     }
 
     /// Checks the module, and resolves it as [`Module::resolve`] does.
@@ -123,7 +153,7 @@ impl<'a> Module<'a> {
     ///
     /// # Errors
     ///
-    /// - Those of [`Module::check`]. Nothing has changed then.
+    /// - [`CheckError::NotReady`], as [`Module::check`].
     /// - [`CheckError::Failed`], with an error of [`Module::resolve`]. The module keeps it.
     ///
     /// # Guarantees
@@ -141,12 +171,12 @@ impl<'a> Module<'a> {
         ensures ready { IsReady self.old gensym.old → IsReady self.new gensym.new }
         ensures at_rest { OnOk result (IsAtRest self.new.kind) }
     {
-        if let Err(error) = self.check(gensym) {
-            return Err(error);
-        }
-        match self.resolve(alloc, gensym) {
-            Ok(names) => Ok(names),
-            Err(error) => Err(CheckError::Failed(error)),
+        match self.check(gensym) {
+            Ok(()) => match self.resolve(alloc, gensym) {
+                Ok(names) => Ok(names),
+                Err(error) => Err(CheckError::Failed(error)),
+            },
+            Err(reason) => Err(CheckError::NotReady(reason)),
         }
     }
 }
@@ -160,11 +190,11 @@ impl EncodeOptions {
     ///
     ///     let answer = EncodeOptions::new().check_and_encode(alloc, &mut module, &mut gensym);
     ///
-    /// For `(module (func))` the result are the bytes that `encode_module` returns.
+    /// For `(module (func))` it returns the bytes that `encode_module` returns.
     ///
     /// # Errors
     ///
-    /// - Those of [`Module::check`]. Nothing has changed then.
+    /// - [`CheckError::NotReady`], as [`Module::check`].
     /// - [`CheckError::Failed`], with an error of [`EncodeOptions::encode_module`].
     ///
     /// # Guarantees
@@ -181,12 +211,12 @@ impl EncodeOptions {
         ensures stays { «module».new ≡ record «module».old { kind = «module».new.kind } }
         ensures ready { IsReady «module».old gensym.old → IsReady «module».new gensym.new }
     {
-        if let Err(error) = module.check(gensym) {
-            return Err(error);
-        }
-        match self.encode_module(alloc, module, gensym) {
-            Ok(bytes) => Ok(bytes),
-            Err(error) => Err(CheckError::Failed(error)),
+        match module.check(gensym) {
+            Ok(()) => match self.encode_module(alloc, module, gensym) {
+                Ok(bytes) => Ok(bytes),
+                Err(error) => Err(CheckError::Failed(error)),
+            },
+            Err(reason) => Err(CheckError::NotReady(reason)),
         }
     }
 }

@@ -42,7 +42,7 @@ mod rests;
 mod spelled;
 mod wat;
 
-pub use checked::CheckError;
+pub use checked::{CheckError, NotReady};
 pub use encode::EncodeOptions;
 pub use laws::{
     at_rest, bounded_law, customs_law, hint_places, meaning_law, one_meaning, renaming,
