@@ -45,7 +45,7 @@ mod wat;
 pub use checked::{CheckError, NotReady};
 pub use encode::EncodeOptions;
 pub use laws::{
-    at_rest, bounded_law, customs_law, hint_places, meaning_law, one_meaning, renaming,
+    at_rest, bounded_law, customs_law, hint_places, meaning_law, one_meaning, order_law, renaming,
 };
 pub use module::{Module, ModuleKind, discard_module};
 pub use spelled::Encode;
