@@ -61,9 +61,9 @@ rest_moves xs zeros at more lt long =
     let all : length (paste d to s n) ≤ to + n = omega (arith, length-paste d to s n (omega (arith, total)) has, total) in
     let whole : take to d ++ take n s ≡ paste d to s n = sym (take-paste d to s n fits has) ∙ take_all (to + n) (paste d to s n) all in
     let kept : take n s ≡ rest =
-        ap (take n) (drop-append-le (at + 1) xs zeros (omega arith))
-        ∙ ap (λ k. take k (rest ++ zeros)) (sym (length-drop (at + 1) xs))
-        ∙ take-append_seam rest zeros in
+    ap (take n) (drop-append-le (at + 1) xs zeros (omega arith))
+    ∙ ap (λ k. take k (rest ++ zeros)) (sym (length-drop (at + 1) xs))
+    ∙ take-append_seam rest zeros in
     ap (drop to) (sym whole)
     ∙ ap (λ k. drop k (take to d ++ take n s)) (sym (length-take-le to d fits))
     ∙ drop-append_seam (take to d) (take n s)

@@ -10,7 +10,8 @@ use Rattle.wast_core_conv.specs.Customs.{custom_part}
 use Rattle.wast_core_conv.specs.Hints.{HintedBody}
 use Rattle.wast_core_name_section.specs.NamesPart.{names_part}
 use Rattle.wast_tree_nodes.specs.Customs.{customs_at}
-use Rattle.wast_core_sections.specs.Tree.{Custom as CustomField, ModuleField}
+use Rattle.wast_core_sections.specs.Tree as tree
+use Rattle.wast_core_sections.specs.Tree.{ModuleField}
 use Rattle.wast_core_sections.specs.DataCounts.{needs_count, count_parts}
 use Rattle.wast_core_sections.specs.Hints.{hinted_functions, hints_part}
 use Rattle.wast_core_sections.specs.Sections.{entries, section_part, start_part, starts_in, contribution_of, subsections_of, in_slot}
@@ -64,7 +65,7 @@ one_there least p after kinds rest follows h =
     let both = both_pass (nat_le least p) (rises_from after rest) h in
     both_true (nat_le least p) (rises_from after kinds) both.0 (follows after both.1)
 
-customs_anywhere : (cs : List CustomField) (kinds rest : List PartKind) → Follows kinds rest → Follows (kinds_of (map custom_part cs) ++ kinds) rest
+customs_anywhere : (cs : List tree.Custom) (kinds rest : List PartKind) → Follows kinds rest → Follows (kinds_of (map custom_part cs) ++ kinds) rest
 customs_anywhere [] kinds rest follows = follows
 customs_anywhere (c ∷ cs) kinds rest follows = customs_anywhere cs kinds rest follows
 

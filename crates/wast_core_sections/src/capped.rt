@@ -1,6 +1,6 @@
 //! A vector of bytes that stops at a limit, so that a module that is too large takes little memory.
 
-ghost use Rattle.std.specs.Prelude.{◌≡◌, ◌<◌, [], ◌++◌, true, false, length, take, IfOk, IfErr};
+ghost use Rattle.std.specs.Prelude.{◌≡◌, [], ◌++◌, length, take, IfOk, IfErr};
 ghost use Rattle.wasm_ops.specs.SinkLaws as laws;
 ghost use Rattle.wasm_ops.specs.declared.sink.Refusal.TheVariants as refusal;
 
@@ -106,12 +106,18 @@ impl Sink for Capped {
         if bytes.len() > SHORT && !self.has_room(bytes.len()) {
             return Err(Refusal::Memory);
         }
-        self.bytes.push_bytes(bytes)
+        match self.bytes.push_bytes(bytes) {
+            Ok(()) => Ok(()),
+            Err(refusal) => Err(refusal),
+        }
     }
 
     #[inline(always)]
     fn push_number(&mut self, n: u64) -> Result<(), Refusal> {
-        self.bytes.push_number(n)
+        match self.bytes.push_number(n) {
+            Ok(()) => Ok(()),
+            Err(refusal) => Err(refusal),
+        }
     }
 
     fn size(&self) -> u64 {
@@ -123,7 +129,10 @@ impl Sink for Capped {
     }
 
     fn set_number(&mut self, at: u64, n: u64) -> bool {
-        replace_byte(&mut self.bytes, at as usize, n)
+        if replace_byte(&mut self.bytes, at as usize, n) {
+            return true;
+        }
+        false
     }
 
     ghost laws = { record {

@@ -1,6 +1,6 @@
 //! Replaces a byte of a vector by a number, and moves the bytes after it once.
 
-ghost use Rattle.std.specs.Prelude.{◌≡◌, ◌<◌, ◌≤◌, ◌+◌, ◌++◌, true, false, length, take, drop, vec_len};
+ghost use Rattle.std.specs.Prelude.{◌≡◌, ◌<◌, ◌≤◌, ◌+◌, [], ◌++◌, true, false, length, take, drop, vec_len};
 ghost use Rattle.wasm_ops.specs.Leb128.{unsigned};
 ghost use Rattle.wasm_ops.specs.SinkLaws.{with_number};
 
@@ -14,7 +14,7 @@ use wasm_ops::{Sink, width};
 fn make_room(out: &mut Vec<u8>, at: usize, more: usize) -> bool
     requires { at < vec_len out.old }
     ensures moved { result ≡ true → (take at out.new.items ≡ take at out.old.items) × (drop (at + 1 + more) out.new.items ≡ drop (at + 1) out.old.items) × (vec_len out.new ≡ vec_len out.old + more) }
-    ensures refused { result ≡ false → out.new.items ≡ out.old.items }
+    ensures refused { result ≡ false → out.new.items ≡ out.old.items ++ [] }
 {
     if more > 4 {
         return false;
@@ -52,9 +52,9 @@ fn overwrite(out: &mut Vec<u8>, at: usize, n: u64)
 pub(crate) fn replace_byte(out: &mut Vec<u8>, at: usize, n: u64) -> bool
     requires { at < vec_len out.old }
     ensures replaced { result ≡ true → out.new.items ≡ with_number out.old.items at n }
-    ensures refused { result ≡ false → out.new.items ≡ out.old.items }
+    ensures refused { result ≡ false → out.new.items ≡ out.old.items ++ [] }
 {
-    let more = (width(n) - 1) as usize;
+    let more = width(n).saturating_sub(1) as usize;
     if make_room(out, at, more) {
         overwrite(out, at, n);
         return true;
