@@ -62,13 +62,14 @@ fn write_short(
     ensures refusal { IfErr result (λ e. IsRefused (IsWritable (text_seen name.entry) fields.now) (refused_as e)) }
 {
     let mut out = Capped::new(alloc);
-    let result = put_sections(fields, name, has_data_index, &mut out);
-    if out.is_full() {
-        return Ok(None);
-    }
-    match result {
+    match put_sections(fields, name, has_data_index, &mut out) {
         Ok(()) => Ok(Some(out.finish())),
-        Err(refusal) => Err(refusal),
+        Err(refusal) => {
+            if out.is_full() {
+                return Ok(None);
+            }
+            Err(refusal)
+        }
     }
 }
 
