@@ -26,10 +26,8 @@ mod constants;
 mod directives;
 mod modules;
 mod reader;
-mod scripts;
 mod values;
 mod words;
 
 pub use commands::{Action, ActionKind, Command, CommandKind, Execution, ModuleForm, ScriptModule};
-pub use scripts::{Script, read_script};
 pub use values::{Number, Part, Shape, Value};

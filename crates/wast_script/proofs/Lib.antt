@@ -1,0 +1,3 @@
+pub mod Lefts
+pub mod Names
+pub mod Steps

@@ -1,0 +1,6 @@
+pub mod Constants
+pub mod Grammar
+pub mod Readers
+pub mod Scripts
+pub mod Words
+pub mod Worked
