@@ -1,3 +1,13 @@
+pub mod Acting
+pub mod Commanding
+pub mod Goes
 pub mod Lefts
+pub mod Lists
+pub mod Loops
 pub mod Names
+pub mod Numerals
+pub mod Onto
+pub mod Parts
 pub mod Steps
+pub mod Verbs
+pub mod Worked

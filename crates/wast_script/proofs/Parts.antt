@@ -3,7 +3,9 @@ use Rattle.std.proofs.Common.{◌≡◌, ◌∙◌, ℕ, zero, suc, ◌+◌, ◌
 use Rattle.std.specs.Prelude.{nat_le, if◌then◌else◌, slice_range}
 use Rattle.std.proofs.lemmas.Bool.{leb-true, leb-false, le-leb}
 use Rattle.std.proofs.lemmas.List.{length-map}
+use Rattle.std.specs.Global.{Vec}
 use Rattle.wat_tokens.specs.declared.tokens.Placed.{Placed}
+use Rattle.wat_laws.specs.Bare.{bare_placed}
 use Rattle.wat_syntax.specs.Tokens.{Toks, count}
 use Rattle.wast_script.specs.declared.values.Part.{Part}
 use Rattle.wast_script.specs.Grammar.{between}
@@ -116,5 +118,10 @@ pub between_is : (old new : Reader) (s e : ℕ) → new.tokens ≡ old.tokens �
     → part (record { start = s; end = e }) (all_bare new) ≡ between (left old) (left new)
 unfolding left count
 between_is old new s e same first all =
-    let same_bare : all_bare new ≡ all_bare old = ap (λ (t : Rattle.std.specs.Vec.Vec Placed). map Rattle.wat_laws.specs.Bare.bare_placed t.items) same in
-    ?
+    let same_bare : all_bare new ≡ all_bare old = ap (λ (t : Vec Placed). map bare_placed t.items) same in
+    let old_length : length (all_bare old) ≡ length old.tokens.items = length-map old.tokens.items bare_placed in
+    let new_length : length (all_bare new) ≡ length new.tokens.items = length-map new.tokens.items bare_placed in
+    ap (λ (xs : List Placed). part (record { start = s; end = e }) xs) same_bare
+    ∙ part_between old.at new.at (all_bare old) s e (first ∙ ap (λ n. n - length (drop old.at (all_bare old))) (sym old_length))
+      (all ∙ ap (λ n. n - length (drop new.at (all_bare new))) (sym new_length) ∙ ap (λ (xs : List Placed). length xs - length (drop new.at xs)) same_bare)
+    ∙ ap (λ (xs : List Placed). take (length (drop old.at (all_bare old)) - length (drop new.at xs)) (drop old.at (all_bare old))) (sym same_bare)

@@ -1,7 +1,7 @@
 -- Steps of a rule: after a reader has read a part, the rest of the rule has the result that its start had before.
 --
 --   (invoke "f")      after `(invoke`, the rule of actions reads on at the name
-use Rattle.std.proofs.Common.{◌≡◌, ◌≢◌, ◌∙◌, ℕ, List, [], ◌∷◌, ◌++◌, map, Option, None, Some, refl, sym, ap, subst, append_assoc}
+use Rattle.std.proofs.Common.{◌≡◌, ◌≢◌, ◌∙◌, ℕ, List, [], ◌∷◌, ◌++◌, length, map, Option, None, Some, refl, sym, ap, subst, append_assoc}
 use Rattle.wat_grammar.specs.Parts.{◌>>=◌}
 use Rattle.wat_tokens.specs.declared.faults.TextError.{TextError}
 use Rattle.wat_syntax.specs.Tokens.{Toks, Parse, optional}
@@ -111,7 +111,7 @@ by_reads rule old new part has next d = record {
 
 -- all steps are taken
 pub all_read : {T : Type 0} (rule : Toks → Parse T) (old new : Reader) (part : List Value → T) (has : ℕ → Type 0)
-    → Steps old new (rule (left old)) (Some (part (read_values new.lists), left new)) → (new.fault ≡ None → has (Rattle.std.specs.Prelude.length new.lists.values.items))
+    → Steps old new (rule (left old)) (Some (part (read_values new.lists), left new)) → (new.fault ≡ None → HaveLanes old.lists → has (length new.lists.values.items))
     → Reads rule old new part has
 all_read rule old new part has s h = record {
   commands = s.commands;
@@ -119,7 +119,7 @@ all_read rule old new part has s h = record {
   clean = s.clean;
   lanes = s.lanes;
   values = s.values;
-  has = h;
+  within = h;
   gives = s.goes;
   keeps = s.keeps;
   refuses = s.refuses;

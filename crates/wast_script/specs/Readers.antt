@@ -14,8 +14,8 @@ use Rattle.wat_syntax.specs.Tree.{Span}
 use Rattle.wat_grammar.specs.Parts.{◌>>=◌}
 use Rattle.wat_syntax.specs.Tokens.{Toks, Parse, position_in, count, optional, with_parts}
 use Rattle.wat_laws.specs.Bare.{bare_placed}
-use Rattle.wast_script.specs.Constants.{Value, alternatives}
-use Rattle.wast_script.specs.Grammar.{Module, Execution, Kind, AssertTrap, AssertSuspension, AssertMalformed, AssertMalformedCustom, AssertInvalid, AssertInvalidCustom, AssertUnlinkable, Command, commands_in}
+use Rattle.wast_script.specs.Constants.{Value, alternatives, all_alternatives}
+use Rattle.wast_script.specs.Grammar.{Module, Execution, Kind, AssertTrap, AssertSuspension, AssertMalformed, AssertMalformedCustom, AssertInvalid, AssertInvalidCustom, AssertUnlinkable, Command, form_end, form_rest, no_commands, commands_in, all_commands}
 use Rattle.wast_script.specs.Scripts.{value_in, command_in}
 use Rattle.wast_script.specs.declared.values.Number.{Number}
 use Rattle.wast_script.specs.declared.values.Value as code_value
@@ -160,7 +160,7 @@ pub record ReadsValue (rule : Toks → Parse Value) (old new : Reader) (part : c
   pub tokens : new.tokens ≡ old.tokens
   pub clean : new.fault ≡ None → old.fault ≡ None
   pub lanes : new.fault ≡ None → IsFirst old.lists.lanes.items new.lists.lanes.items
-  pub has : new.fault ≡ None → HasLanes (length new.lists.lanes.items) part
+  pub within : new.fault ≡ None → HasLanes (length new.lists.lanes.items) part
   pub gives : new.fault ≡ None → rule (left old) ≡ Some (value_in new.lists.lanes.items part, left new)
   pub keeps : old.fault ≢ None → new.fault ≡ old.fault
   pub refuses : old.fault ≡ None → IsRefused new.fault → rule (left old) ≡ None
@@ -173,7 +173,7 @@ pub record Reads {T : Type 0} (rule : Toks → Parse T) (old new : Reader) (part
   pub clean : new.fault ≡ None → old.fault ≡ None
   pub lanes : new.fault ≡ None → HaveLanes old.lists → HaveLanes new.lists
   pub values : new.fault ≡ None → HaveLanes old.lists → IsFirst (read_values old.lists) (read_values new.lists)
-  pub has : new.fault ≡ None → has (length new.lists.values.items)
+  pub within : new.fault ≡ None → HaveLanes old.lists → has (length new.lists.values.items)
   pub gives : new.fault ≡ None → HaveLanes old.lists → rule (left old) ≡ Some (part (read_values new.lists), left new)
   pub keeps : old.fault ≢ None → new.fault ≡ old.fault
   pub refuses : old.fault ≡ None → HaveLanes old.lists → IsRefused new.fault → rule (left old) ≡ None
@@ -271,3 +271,25 @@ pub record TakesCommand (before behind : ℕ) (old new : Reader) : Type 0 where
       → with_commands (read_commands old) (commands_in (suc n) before (left old)) ≡ with_commands (read_commands new) (commands_in n behind (left new))
   pub keeps : old.fault ≢ None → new.fault ≡ old.fault
   pub refuses : old.fault ≡ None → HaveLanes old.lists → IsRefused new.fault → (n k : ℕ) → count (left old) ≡ suc k → commands_in (suc n) before (left old) ≡ None
+
+-- A reader read all commands, and so many threads are open.
+pub record TakesCommands (threads : ℕ) (old new : Reader) : Type 0 where
+  pub goes : new.fault ≡ None → all_commands (left old) ≡ with_commands (read_commands new) (no_commands threads)
+  pub refuses : IsRefused new.fault → all_commands (left old) ≡ None
+
+-- A reader skipped tokens of a form, in which so many parentheses are open.
+pub record Skips (depth : ℕ) (old new : Reader) : Type 0 where
+  pub lists : new.lists ≡ old.lists
+  pub tokens : new.tokens ≡ old.tokens
+  pub fault : new.fault ≡ old.fault
+  pub goes : form_rest (left old) ≡ form_end 0 depth (left new)
+
+-- A reader read alternatives of `either`, of which so many are open.
+pub record TakesAlternatives (depth : ℕ) (old new : Reader) : Type 0 where
+  pub commands : new.lists.commands ≡ old.lists.commands
+  pub tokens : new.tokens ≡ old.tokens
+  pub clean : new.fault ≡ None → old.fault ≡ None
+  pub lanes : new.fault ≡ None → HaveLanes old.lists → HaveLanes new.lists
+  pub goes : new.fault ≡ None → HaveLanes old.lists → with_parts (read_values old.lists) (all_alternatives (left old)) ≡ with_parts (read_values new.lists) (alternatives 0 depth (left new))
+  pub keeps : old.fault ≢ None → new.fault ≡ old.fault
+  pub refuses : old.fault ≡ None → HaveLanes old.lists → IsRefused new.fault → all_alternatives (left old) ≡ None

@@ -14,7 +14,7 @@ ghost use Rattle.wast_script.specs.declared.words.Constant.TheVariants as consta
 ghost use Rattle.wast_script.specs.declared.words.Use.TheVariants as usage;
 ghost use Rattle.wast_script.specs.Constants.{nan_of, float_of, lane_of, lane_count, lanes, vector, word_in, word_that, abstract_heap, shared_heap, heap_type, null_type, host_number, function_index, constant_of, value_named, next_constant, value, one_value, all_alternatives, either, argument_or_result, values, Value as ListedValue};
 ghost use Rattle.wast_script.specs.Scripts.{part, value_in};
-ghost use Rattle.wast_script.specs.Readers.{left, read_values, IsRefusal, IsRefused, IsFirst, HasLanes, HaveLanes, Decides, Finds, PushesLane, PushesValue, ReadsLanes, ReadsValue, ReadsOnto, Reads};
+ghost use Rattle.wast_script.specs.Readers.{left, read_values, IsRefusal, IsRefused, IsFirst, HasLanes, HaveLanes, Decides, Finds, PushesLane, PushesValue, TakesAlternative, TakesAlternatives, ReadsLanes, ReadsValue, ReadsOnto, Reads};
 
 use crate::reader::Reader;
 use crate::values::{Number, Part, Shape, Value};
@@ -424,8 +424,8 @@ impl<'a> Reader<'a> {
 
     /// One step in the alternatives of `either`, of which so many are open; how many are then. An `either` in another is
     /// one with it, because both are for a result that is one of their values.
-    fn alternative(&mut self, depth: usize) -> usize
-        requires { depth < 2 ^ 64 - 1 }
+    fn alternative(&mut self, depth: u128) -> u128
+        requires { depth < 2 ^ 127 }
         ensures { TakesAlternative depth result self.old self.new }
     {
         if self.is_close(0) {
@@ -439,17 +439,25 @@ impl<'a> Reader<'a> {
         depth
     }
 
-    /// The alternatives of `either`, which is read.
-    fn alternatives(&mut self)
-        ensures { ReadsOnto all_alternatives self.old self.new }
+    /// Steps in the alternatives of `either`, up to its end or to the last token. Returns how many are open then.
+    fn alternative_steps(&mut self) -> u128
+        ensures { TakesAlternatives result self.old self.new }
     {
-        let mut depth = 1_usize;
+        let mut depth = 1_u128;
         for _ in 0..self.left() {
             if depth == 0 {
                 break;
             }
             depth = self.alternative(depth);
         }
+        depth
+    }
+
+    /// The alternatives of `either`, which is read.
+    fn alternatives(&mut self)
+        ensures { ReadsOnto all_alternatives self.old self.new }
+    {
+        let depth = self.alternative_steps();
         if depth > 0 {
             self.expected("`)`");
         }

@@ -11,7 +11,7 @@ ghost use Rattle.wast_script.specs.declared.commands.CommandKind.TheVariants as 
 ghost use Rattle.wast_script.specs.Grammar.{module_command, module_or_instance, instance, register_command, action_command, message, return_command, exhaustion_command, exception_command, shared_module, thread_command, wait_command, command_of, command, command_or_end, commands_in, threads_after, ends_thread, begins_command, script};
 ghost use Rattle.wast_script.specs.Grammar.{about_module, about_run, module_assertion, run_assertion, module_of_thread, all_commands, all_module};
 ghost use Rattle.wast_script.specs.Scripts.{part, module_in, execution_in, kind_in, command_in};
-ghost use Rattle.wast_script.specs.Readers.{left, all_bare, read_commands, read_values, HasExecuted, HasValues, HaveLanes, HaveValues, IsRefused, IsNew, Decides, Moves, Reads, Pushes, TakesCommand, ReadsAll, asserts_module, asserts_run};
+ghost use Rattle.wast_script.specs.Readers.{left, all_bare, read_commands, read_values, HasExecuted, HasValues, HaveLanes, HaveValues, IsRefused, IsNew, Decides, Moves, Reads, Pushes, TakesCommand, TakesCommands, ReadsAll, asserts_module, asserts_run};
 
 use crate::commands::{ActionKind, Command, CommandKind, Execution, ScriptModule};
 use crate::reader::Reader;
@@ -20,8 +20,8 @@ use crate::words::{Use, Verb, verb_of};
 use wast_base::{Id, Span};
 
 /// How many threads are open after a command.
-fn threads_after(kind: CommandKind<'_>, threads: usize) -> usize
-    requires { threads < 2 ^ 64 - 1 }
+fn threads_after(kind: CommandKind<'_>, threads: u128) -> u128
+    requires { threads < 2 ^ 127 }
     ensures after { (ts : List Placed) (vs : List Value) → result ≡ threads_after (kind_in ts vs kind) threads }
     ensures few { result ≤ suc threads }
 {
@@ -275,7 +275,7 @@ impl<'a> Reader<'a> {
     }
 
     /// Reads a command, or the end of a thread. So many threads are open.
-    fn command_or_end(&mut self, threads: usize) -> Command<'a>
+    fn command_or_end(&mut self, threads: u128) -> Command<'a>
         ensures { Reads (command_or_end threads) self.old self.new (λ vs. command_in (all_bare self.new) vs result) (λ n. HasValues n result.kind) }
     {
         if threads > 0 && self.is_close(0) {
@@ -293,8 +293,8 @@ impl<'a> Reader<'a> {
     }
 
     /// Reads a command, or the end of a thread, and adds it. Returns how many threads are open then.
-    fn step(&mut self, threads: usize) -> usize
-        requires { threads < 2 ^ 64 - 1 }
+    fn step(&mut self, threads: u128) -> u128
+        requires { threads < 2 ^ 127 }
         ensures { TakesCommand threads result self.old self.new }
     {
         let command = self.command_or_end(threads);
@@ -302,18 +302,27 @@ impl<'a> Reader<'a> {
         threads_after(command.kind, threads)
     }
 
-    /// Reads the commands up to the end of the text.
-    fn commands(&mut self)
+    /// Reads commands up to the end of the text. Returns how many threads are open then.
+    fn all_steps(&mut self) -> u128
         requires { IsNew self.old }
-        ensures { ReadsAll all_commands self.old self.new }
+        ensures { TakesCommands result self.old self.new }
     {
-        let mut threads = 0_usize;
+        let mut threads = 0_u128;
         for _ in 0..self.left() {
             if self.left() == 0 {
                 break;
             }
             threads = self.step(threads);
         }
+        threads
+    }
+
+    /// Reads the commands up to the end of the text.
+    fn commands(&mut self)
+        requires { IsNew self.old }
+        ensures { ReadsAll all_commands self.old self.new }
+    {
+        let threads = self.all_steps();
         if threads > 0 {
             self.expected("`)`");
         }

@@ -24,6 +24,7 @@ mod actions;
 mod commands;
 mod constants;
 mod directives;
+mod examples;
 mod modules;
 mod reader;
 mod values;

@@ -4,7 +4,7 @@ ghost use Rattle.std.specs.Prelude.{◌≡◌, ◌<◌, ◌-◌, ◌^◌};
 ghost use Rattle.wat_syntax.specs.Tokens.{peek, after};
 ghost use Rattle.wast_script.specs.Grammar.{depth_after, is_name_next, after_name, behind_strings, form_rest, strings_to_end, contents, contents_of, module_after, in_parentheses, bare_module};
 ghost use Rattle.wast_script.specs.Scripts.{part, contents_in, module_in};
-ghost use Rattle.wast_script.specs.Readers.{left, all_bare, Decides, Expects, Moves};
+ghost use Rattle.wast_script.specs.Readers.{left, all_bare, Decides, Expects, Moves, Skips};
 
 use crate::commands::{ModuleForm, ScriptModule};
 use crate::reader::Reader;
@@ -14,8 +14,8 @@ use wat_tokens::{Annotation, Token};
 
 impl<'a> Reader<'a> {
     /// Reads the next token, of a form in which so many parentheses are open. Returns how many are open after it.
-    fn skip_in(&mut self, depth: usize) -> usize
-        requires { depth < 2 ^ 64 - 1 }
+    fn skip_in(&mut self, depth: u128) -> u128
+        requires { depth < 2 ^ 127 }
         ensures moves { Moves after self.old self.new }
         ensures depth { result ≡ depth_after (peek 0 (left self.old)) depth }
     {
@@ -28,17 +28,25 @@ impl<'a> Reader<'a> {
         after
     }
 
-    /// Reads the tokens up to the end of the form that is open, and its end.
-    fn skip_form(&mut self)
-        ensures { Expects form_rest self.old self.new }
+    /// Reads tokens up to the end of the form that is open, or to the last one. Returns how many parentheses are open then.
+    fn skip_tokens(&mut self) -> u128
+        ensures { Skips result self.old self.new }
     {
-        let mut depth = 1_usize;
+        let mut depth = 1_u128;
         for _ in 0..self.left() {
             if depth == 0 {
                 break;
             }
             depth = self.skip_in(depth);
         }
+        depth
+    }
+
+    /// Reads the tokens up to the end of the form that is open, and its end.
+    fn skip_form(&mut self)
+        ensures { Expects form_rest self.old self.new }
+    {
+        let depth = self.skip_tokens();
         if depth > 0 {
             self.expected("`)`");
         }
