@@ -4,7 +4,7 @@ use Rattle.std.specs.Global.{Vec}
 use Rattle.std.proofs.lemmas.List.{length-map}
 use Rattle.wat_grammar.specs.Parts.{◌>>=◌}
 use Rattle.wat_tokens.specs.declared.faults.TextError.{TextError}
-use Rattle.wat_syntax.specs.Tokens.{Toks, Parse, lparen, rparen, with_parts}
+use Rattle.wat_syntax.specs.Tokens.{Toks, Parse, lparen, rparen, optional, with_parts}
 use Rattle.wast_script.specs.declared.values.Number.{Number}
 use Rattle.wast_script.specs.declared.values.Shape.{Shape}
 use Rattle.wast_script.specs.declared.values.Part.{Part}
@@ -17,7 +17,7 @@ use Rattle.wast_script.specs.declared.reader.Reader.{Reader}
 use Rattle.wast_script.specs.Words.{shape_named}
 use Rattle.wast_script.specs.Constants.{Value, V128, word_that, lanes, vector, constant_of, next_constant, value, values}
 use Rattle.wast_script.specs.Scripts.{part, value_in}
-use Rattle.wast_script.specs.Readers.{left, read_values, IsRefused, IsFirst, HasLanes, HaveLanes, Decides, Expects, ReadsLanes, ReadsValue, ReadsOnto, Reads}
+use Rattle.wast_script.specs.Readers.{left, read_values, IsRefused, IsFirst, HasLanes, HaveLanes, Decides, Expects, Finds, ReadsLanes, ReadsValue, ReadsOnto, Reads}
 use Rattle.wast_script.proofs.Lists.{no_more}
 use Rattle.wast_script.proofs.Parts.{part_last}
 
@@ -46,6 +46,14 @@ decides rule old new x next d = record { clean = d.clean; goes = λ h. ap (λ o.
 
 pub expects : {T : Type 0} (rule : Toks → Option Toks) (old new : Reader) (next : Toks → Option T) → Expects rule old new → Goes old new (rule (left old) >>= next) (next (left new))
 expects rule old new next d = record { clean = d.clean; goes = λ h. ap (λ o. o >>= next) (d.gives h); keeps = d.keeps; refuses = λ h f. ap (λ o. o >>= next) (d.refuses h f) }
+
+none_refused : (o : Option TextError) → o ≡ None → IsRefused o → ⊥
+none_refused None e f = f
+none_refused (Some x) e f = absurd cc
+
+pub finds : {S T : Type 0} (rule : Toks → Parse S) (old new : Reader) (x : Option S) (next : Option S × Toks → Option T) → Finds rule old new x
+    → Goes old new (optional rule (left old) >>= next) (next (x, left new))
+finds rule old new x next d = record { clean = λ h. sym d.fault ∙ h; goes = λ h. ap (λ o. o >>= next) d.gives; keeps = λ h. d.fault; refuses = λ h f. absurd (none_refused new.fault (d.fault ∙ h) f) }
 
 a_value : {T : Type 0} (rule : Toks → Parse Value) (old new : Reader) (v : code_value.Value) (next : Value × Toks → Option T) → ReadsValue rule old new v
     → Goes old new (rule (left old) >>= next) (next (value_in new.lists.lanes.items v, left new))

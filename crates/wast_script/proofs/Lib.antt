@@ -1,5 +1,7 @@
 pub mod Acting
+pub mod Alternatives
 pub mod Commanding
+pub mod Finding
 pub mod Goes
 pub mod Lefts
 pub mod Lists

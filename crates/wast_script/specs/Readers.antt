@@ -5,7 +5,7 @@
 -- addresses.
 --
 --   (register "a")      the rule of commands returns `Register`, and leaves nothing
-use Rattle.std.specs.Prelude.{◌≡◌, ◌≢◌, ⊤, ℕ, suc, ◌-◌, ◌≤◌, Bool, true, false, List, [], ◌∷◌, ◌++◌, length, map, drop, All, Option, None, Some}
+use Rattle.std.specs.Prelude.{◌≡◌, ◌≢◌, ⊤, ℕ, suc, ◌-◌, ◌<◌, ◌≤◌, Bool, true, false, List, [], ◌∷◌, ◌++◌, length, map, drop, slice_set, All, Option, None, Some}
 use Rattle.wat_tokens.specs.declared.faults.TextFault.{TextFault}
 use Rattle.wat_tokens.specs.declared.faults.TextFault.TheVariants as fault
 use Rattle.wat_tokens.specs.declared.faults.TextError.{TextError}
@@ -293,3 +293,12 @@ pub record TakesAlternatives (depth : ℕ) (old new : Reader) : Type 0 where
   pub goes : new.fault ≡ None → HaveLanes old.lists → with_parts (read_values old.lists) (all_alternatives (left old)) ≡ with_parts (read_values new.lists) (alternatives 0 depth (left new))
   pub keeps : old.fault ≢ None → new.fault ≡ old.fault
   pub refuses : old.fault ≡ None → HaveLanes old.lists → IsRefused new.fault → all_alternatives (left old) ≡ None
+
+-- A reader counted the alternatives of `either` in its value, which has this number among all values.
+pub record SetsEither (at count : ℕ) (old new : Reader) : Type 0 where
+  pub commands : new.lists.commands ≡ old.lists.commands
+  pub lanes : new.lists.lanes ≡ old.lists.lanes
+  pub tokens : new.tokens ≡ old.tokens
+  pub fault : new.fault ≡ old.fault
+  pub left : left new ≡ left old
+  pub values : at < length old.lists.values.items → new.lists.values.items ≡ slice_set old.lists.values.items at (val.Either count)

@@ -14,7 +14,7 @@ ghost use Rattle.wast_script.specs.declared.words.Constant.TheVariants as consta
 ghost use Rattle.wast_script.specs.declared.words.Use.TheVariants as usage;
 ghost use Rattle.wast_script.specs.Constants.{nan_of, float_of, lane_of, lane_count, lanes, vector, word_in, word_that, abstract_heap, shared_heap, heap_type, null_type, host_number, function_index, constant_of, value_named, next_constant, value, one_value, all_alternatives, either, argument_or_result, values, Value as ListedValue};
 ghost use Rattle.wast_script.specs.Scripts.{part, value_in};
-ghost use Rattle.wast_script.specs.Readers.{left, read_values, IsRefusal, IsRefused, IsFirst, HasLanes, HaveLanes, Decides, Finds, PushesLane, PushesValue, TakesAlternative, TakesAlternatives, ReadsLanes, ReadsValue, ReadsOnto, Reads};
+ghost use Rattle.wast_script.specs.Readers.{left, read_values, IsRefusal, IsRefused, IsFirst, HasLanes, HaveLanes, Decides, Finds, PushesLane, PushesValue, SetsEither, TakesAlternative, TakesAlternatives, ReadsLanes, ReadsValue, ReadsOnto, Reads};
 
 use crate::reader::Reader;
 use crate::values::{Number, Part, Shape, Value};
@@ -463,6 +463,15 @@ impl<'a> Reader<'a> {
         }
     }
 
+    /// Counts the alternatives of `either` in its value, which has this number among all values.
+    fn set_either(&mut self, at: usize, count: usize)
+        ensures { SetsEither at count self.old self.new }
+    {
+        if at < self.lists.values.len() {
+            self.lists.values[at] = Value::Either(count);
+        }
+    }
+
     /// `either`, which is read, and its alternatives.
     fn either(&mut self)
         ensures { ReadsOnto either self.old self.new }
@@ -471,9 +480,7 @@ impl<'a> Reader<'a> {
         self.push_value(Value::Either(0));
         self.alternatives();
         let count = self.lists.values.len().saturating_sub(at.saturating_add(1));
-        if let Some(value) = self.lists.values.get_mut(at) {
-            *value = Value::Either(count);
-        }
+        self.set_either(at, count);
     }
 
     /// A result: a value or `either`.
