@@ -144,9 +144,9 @@ running_first old n new few = record {
   refuses = λ f. absurd (none_refused old.fault new.clean f);
 }
 
-pub running_more : (old now new : Reader) (counter end threads behind k : ℕ) → counter < end → count (left now) ≡ suc k → Running old now (end - counter) threads → TakesCommand threads behind now new
+pub running_more : (old now new : Reader) (counter end threads behind : ℕ) → counter < end → count (left now) ≢ 0 → Running old now (end - counter) threads → TakesCommand threads behind now new
     → Running old new (end - (counter + 1)) behind
-running_more old now new counter end threads behind k few yet s t =
+running_more old now new counter end threads behind few some s t =
     let n = end - (counter + 1) in
     let one : end - counter ≡ suc n = omega (arith, few) in
     record {
@@ -157,6 +157,12 @@ running_more old now new counter end threads behind k few yet s t =
       refuses = λ f. go n one now.fault refl f;
     }
   where
+    k : ℕ
+    k = count (left now) - 1
+
+    yet : count (left now) ≡ suc k
+    yet = omega (arith, some)
+
     go : (n : ℕ) → end - counter ≡ suc n → (o : Option TextError) → now.fault ≡ o → IsRefused new.fault → all_commands (left old) ≡ None
     go n one None e f = s.goes e ∙ ap (λ m. with_commands (read_commands now) (commands_in m threads (left now))) one
         ∙ ap (with_commands (read_commands now)) (t.refuses e (s.lanes e) f n k yet)
@@ -176,15 +182,19 @@ running_end old now n threads e s = record { goes = λ h. s.goes h ∙ ap (with_
 pub running_last : (old now : Reader) (n threads : ℕ) → n ≡ 0 → Running old now n threads → TakesCommands threads old now
 running_last old now n threads e s = record { goes = λ h. s.goes h ∙ ap (λ m. with_commands (read_commands now) (commands_in m threads (left now))) e; refuses = s.refuses }
 
+none_closed : (threads : ℕ) → 0 < threads → no_commands threads ≡ None
+none_closed zero some = absurd (omega (arith, some))
+none_closed (suc n) some = refl
+
 -- no thread is open, or one is
-pub all_closed : (old new : Reader) (threads : ℕ) → threads ≡ 0 → TakesCommands threads old new → ReadsAll all_commands old new
+pub all_closed : (old new : Reader) (threads : ℕ) → threads ≤ 0 → TakesCommands threads old new → ReadsAll all_commands old new
 all_closed old new threads e t = record {
-  gives = λ h. t.goes h ∙ ap (λ m. with_commands (read_commands new) (no_commands m)) e ∙ ap Some (no_more (read_commands new));
+  gives = λ h. t.goes h ∙ ap (λ m. with_commands (read_commands new) (no_commands m)) (omega (arith, e)) ∙ ap Some (no_more (read_commands new));
   refuses = t.refuses;
 }
 
-pub one_open : (old mid new : Reader) (threads d : ℕ) (fault : TextFault) (span : Span) → threads ≡ suc d → TakesCommands threads old mid → Fails fault span mid new → ReadsAll all_commands old new
-one_open old mid new threads d fault span e t f = record {
+pub one_open : (old mid new : Reader) (threads : ℕ) (fault : TextFault) (span : Span) → 0 < threads → TakesCommands threads old mid → Fails fault span mid new → ReadsAll all_commands old new
+one_open old mid new threads fault span some t f = record {
   gives = λ h. absurd (faulty mid.fault refl h);
   refuses = λ g. go mid.fault refl g;
 }
@@ -194,5 +204,5 @@ one_open old mid new threads d fault span e t f = record {
     faulty (Some y) is h = absurd (cc (f.keeps (λ n. cc)))
 
     go : (o : Option TextError) → mid.fault ≡ o → IsRefused new.fault → all_commands (left old) ≡ None
-    go None is g = t.goes is ∙ ap (λ m. with_commands (read_commands mid) (no_commands m)) e
+    go None is g = t.goes is ∙ ap (with_commands (read_commands mid)) (none_closed threads some)
     go (Some y) is g = t.refuses (subst IsRefused (f.keeps (λ n. cc)) g)

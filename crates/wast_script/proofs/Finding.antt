@@ -62,10 +62,9 @@ module_read a b c m s e first f d last rest = record {
         ∙ ap (λ ts. part m.head (all_bare c) ++ ts) (sym (ap (λ p. part p (all_bare c)) rest ∙ between_is a c s e (d.tokens ∙ f.tokens) first last))
 
 -- a module in its parentheses
-pub parentheses_read : (a b c d : Reader) (m : ScriptModule) (s e : ℕ) → s ≡ length a.tokens.items - count (left a) → Expects lparen a b → m.span ≡ position (left b) → Expects (the_word (codes "module")) b c
-    → e ≡ length c.tokens.items - count (left c) → m.head ≡ record { start = s; end = e } → Decides (module_after m.span (part m.head (all_bare c))) c d (module_in (all_bare d) m)
-    → Decides in_parentheses a d (module_in (all_bare d) m)
-parentheses_read a b c d m s e first opens at word last head r = record {
+pub parentheses_read : (a b c d : Reader) (span : Span) (s e : ℕ) (x : Module) → s ≡ length a.tokens.items - count (left a) → Expects lparen a b → span ≡ position (left b) → Expects (the_word (codes "module")) b c
+    → e ≡ length c.tokens.items - count (left c) → Decides (module_after span (part (record { start = s; end = e }) (all_bare c))) c d x → Decides in_parentheses a d x
+parentheses_read a b c d span s e x first opens at word last r = record {
   lists = r.lists ∙ word.lists ∙ opens.lists;
   tokens = r.tokens ∙ word.tokens ∙ opens.tokens;
   clean = g.clean;
@@ -74,19 +73,13 @@ parentheses_read a b c d m s e first opens at word last head r = record {
   refuses = g.refuses;
 }
   where
-    from : part m.head (all_bare c) ≡ between (left a) (left c)
-    from = ap (λ p. part p (all_bare c)) head ∙ between_is a c s e (word.tokens ∙ opens.tokens) first last
+    placed : Decides (module_after (position (left b)) (between (left a) (left c))) c d x
+    placed = subst (λ y. Decides (module_after y (between (left a) (left c))) c d x) at
+        (subst (λ y. Decides (module_after span y) c d x) (between_is a c s e (word.tokens ∙ opens.tokens) first last) r)
 
-    placed : Decides (module_after (position (left b)) (between (left a) (left c))) c d (module_in (all_bare d) m)
-    placed = subst (λ x. Decides (module_after x (between (left a) (left c))) c d (module_in (all_bare d) m)) at
-        (subst (λ x. Decides (module_after m.span x) c d (module_in (all_bare d) m)) from r)
-
-    whole : Module × Toks → Parse Module
-    whole x = Some x
-
-    all : Goes c d (module_after (position (left b)) (between (left a) (left c)) (left c)) (Some (module_in (all_bare d) m, left d))
+    all : Goes c d (module_after (position (left b)) (between (left a) (left c)) (left c)) (Some (x, left d))
     all = record { clean = placed.clean; goes = placed.gives; keeps = placed.keeps; refuses = placed.refuses }
 
-    g : Goes a d (in_parentheses (left a)) (Some (module_in (all_bare d) m, left d))
+    g : Goes a d (in_parentheses (left a)) (Some (x, left d))
     g = chain a b d _ _ _ (expects lparen a b (λ t. the_word (codes "module") t >>= λ k. module_after (position t) (between (left a) k) k) opens)
         (chain b c d _ _ _ (expects (the_word (codes "module")) b c (λ k. module_after (position (left b)) (between (left a) k) k) word) all)

@@ -10,6 +10,7 @@ pub mod Names
 pub mod Numerals
 pub mod Onto
 pub mod Parts
+pub mod Rows
 pub mod Steps
 pub mod Verbs
 pub mod Worked

@@ -1,5 +1,5 @@
 -- Loops over tokens: the parentheses of a form, and strings.
-use Rattle.std.proofs.Common.{◌≡◌, ◌≢◌, ◌∙◌, ℕ, zero, suc, ◌+◌, ◌-◌, ◌<◌, Bool, true, false, Option, None, Some, refl, sym, ap, arith}
+use Rattle.std.proofs.Common.{◌≡◌, ◌≢◌, ◌∙◌, ℕ, zero, suc, ◌+◌, ◌-◌, ◌<◌, ◌≤◌, Bool, true, false, Option, None, Some, refl, sym, ap, arith}
 use Rattle.wat_syntax.specs.Tokens.{Toks, peek, after, count}
 use Rattle.wat_syntax.specs.Values.{is_string}
 use Rattle.wast_script.specs.Grammar.{depth_after, form_end, form_rest, after_strings, behind_strings}
@@ -26,10 +26,12 @@ skipping_first old n e = record { lists = refl; tokens = refl; fault = refl; goe
 one_token : (n depth d : ℕ) (toks : Toks) → depth ≡ suc d → form_end (suc n) depth toks ≡ form_end n (depth_after (peek 0 toks) depth) (after toks)
 one_token n depth d toks e = ap (λ k. form_end (suc n) k toks) e ∙ ap (λ k. form_end n (depth_after (peek 0 toks) k) (after toks)) (sym e)
 
-pub skipping_more : (old now new : Reader) (counter end depth d after_it : ℕ) → counter < end → depth ≡ suc d → Skipping old now (end - counter) depth → Moves after now new
+pub skipping_more : (old now new : Reader) (counter end depth after_it : ℕ) → counter < end → depth ≢ 0 → Skipping old now (end - counter) depth → Moves after now new
     → after_it ≡ depth_after (peek 0 (left now)) depth → Skipping old new (end - (counter + 1)) after_it
-skipping_more old now new counter end depth d after_it few open_ s m is =
+skipping_more old now new counter end depth after_it few some s m is =
     let n = end - (counter + 1) in
+    let d = depth - 1 in
+    let open_ : depth ≡ suc d = omega (arith, some) in
     let one : end - counter ≡ suc n = omega (arith, few) in
     record {
       lists = m.lists ∙ s.lists;
@@ -46,25 +48,29 @@ skips_end old now n depth e s = record { lists = s.lists; tokens = s.tokens; fau
 pub skips_last : (old now : Reader) (n depth : ℕ) → n ≡ 0 → Skipping old now n depth → Skips depth old now
 skips_last old now n depth e s = record { lists = s.lists; tokens = s.tokens; fault = s.fault; goes = s.goes ∙ ap (λ k. form_end k depth (left now)) e }
 
+none_left : (depth : ℕ) (toks : Toks) → 0 < depth → form_end 0 depth toks ≡ None
+none_left zero toks some = absurd (omega (arith, some))
+none_left (suc d) toks some = refl
+
 -- the end of the form is read, or there is none
-pub form_ends : (old new : Reader) (depth : ℕ) → depth ≡ 0 → Skips depth old new → Expects form_rest old new
+pub form_ends : (old new : Reader) (depth : ℕ) → depth ≤ 0 → Skips depth old new → Expects form_rest old new
 form_ends old new depth e s = record {
   lists = s.lists;
   tokens = s.tokens;
   clean = λ h. sym s.fault ∙ h;
-  gives = λ h. s.goes ∙ ap (λ k. form_end 0 k (left new)) e;
+  gives = λ h. s.goes ∙ ap (λ k. form_end 0 k (left new)) (omega (arith, e));
   keeps = λ h. s.fault;
   refuses = λ h f. absurd (none_refused new.fault (s.fault ∙ h) f);
 }
 
-pub no_form_end : (old mid new : Reader) (depth d : ℕ) (fault : TextFault) (span : Span) → depth ≡ suc d → Skips depth old mid → Fails fault span mid new → Expects form_rest old new
-no_form_end old mid new depth d fault span e s f = record {
+pub no_form_end : (old mid new : Reader) (depth : ℕ) (fault : TextFault) (span : Span) → 0 < depth → Skips depth old mid → Fails fault span mid new → Expects form_rest old new
+no_form_end old mid new depth fault span some s f = record {
   lists = f.lists ∙ s.lists;
   tokens = f.tokens ∙ s.tokens;
   clean = λ h. absurd (faulty mid.fault refl h);
   gives = λ h. absurd (faulty mid.fault refl h);
   keeps = λ h. f.keeps (λ g. h (sym s.fault ∙ g)) ∙ s.fault;
-  refuses = λ h g. s.goes ∙ ap (λ k. form_end 0 k (left mid)) e;
+  refuses = λ h g. s.goes ∙ none_left depth (left mid) some;
 }
   where
     faulty : (o : Option TextError) → mid.fault ≡ o → new.fault ≡ None → ⊥

@@ -2,7 +2,9 @@
 use Rattle.std.proofs.Common.{◌≡◌, ◌≢◌, ◌∙◌, ℕ, zero, suc, ◌+◌, ◌-◌, ◌<◌, ◌≤◌, Bool, true, false, List, [], ◌∷◌, ◌++◌, length, map, All, Option, None, Some, refl, sym, ap, subst, arith, length-append}
 use Rattle.std.specs.Global.{Vec}
 use Rattle.wat_grammar.specs.Parts.{◌>>=◌}
+use Rattle.wat_tokens.specs.declared.faults.TextFault.{TextFault}
 use Rattle.wat_tokens.specs.declared.faults.TextError.{TextError}
+use Rattle.wat_syntax.specs.Tree.{Span}
 use Rattle.wat_syntax.specs.Tokens.{Toks, Parse, count, many_lists, with_parts}
 use Rattle.wast_script.specs.declared.values.Number.{Number}
 use Rattle.wast_script.specs.declared.values.Value as code_value
@@ -12,9 +14,9 @@ use Rattle.wast_script.specs.declared.reader.Lists.{Lists}
 use Rattle.wast_script.specs.declared.reader.Reader.{Reader}
 use Rattle.wast_script.specs.Constants.{Value, V128, value, one_value, is_form_next, argument_or_result, values, alternatives, all_alternatives}
 use Rattle.wast_script.specs.Scripts.{value_in}
-use Rattle.wast_script.specs.Readers.{left, read_values, IsRefused, IsFirst, HasLanes, HaveLanes, PushesValue, ReadsOnto, ReadsValue, TakesAlternative}
+use Rattle.wast_script.specs.Readers.{left, read_values, IsRefused, IsFirst, HasLanes, HaveLanes, PushesValue, Fails, ReadsOnto, ReadsValue, TakesAlternative, TakesAlternatives}
 use Rattle.wast_script.proofs.Parts.{part_stays}
-use Rattle.wast_script.proofs.Lists.{mapped, none_after, list_more, list_none, list_end, list_last, all_tail, all_one}
+use Rattle.wast_script.proofs.Lists.{no_more, mapped, none_after, list_more, list_none, list_end, list_last, all_tail, all_one}
 
 -- a value, by lanes that were added later
 value_stays : (v : code_value.Value) (xs ys : List Number) → HasLanes (length xs) v → value_in (xs ++ ys) v ≡ value_in xs v
@@ -142,11 +144,13 @@ values_more u start first old new counter end few yet r s =
     })
 
 -- one step more in the alternatives of `either`
-pub alternative_more : (start : Parse (List Value)) (first old new : Reader) (counter end before behind d : ℕ) → counter < end → before ≡ suc d → TakesAlternative before behind old new
+pub alternative_more : (start : Parse (List Value)) (first old new : Reader) (counter end before behind : ℕ) → counter < end → before ≢ 0 → TakesAlternative before behind old new
     → Adds first old start (with_parts (read_values old.lists) (alternatives (end - counter) before (left old)))
     → Adds first new start (with_parts (read_values new.lists) (alternatives (end - (counter + 1)) behind (left new)))
-alternative_more start first old new counter end before behind d few open_ r s =
+alternative_more start first old new counter end before behind few some r s =
     let n = end - (counter + 1) in
+    let d = before - 1 in
+    let open_ : before ≡ suc d = omega (arith, some) in
     let one : end - counter ≡ suc n = omega (arith, few) in
     both first old new start _ _ s (record {
       commands = r.commands;
@@ -157,3 +161,62 @@ alternative_more start first old new counter end before behind d few open_ r s =
       keeps = r.keeps;
       refuses = λ h l f. ap (λ k. with_parts (read_values old.lists) (alternatives k before (left old))) one ∙ ap (with_parts (read_values old.lists)) (r.refuses h l f n d open_);
     })
+
+-- all alternatives are read, or no token is left
+pub takes_end : (old now : Reader) (n depth : ℕ) → depth ≡ 0
+    → Adds old now (with_parts (read_values old.lists) (all_alternatives (left old))) (with_parts (read_values now.lists) (alternatives n depth (left now))) → TakesAlternatives depth old now
+takes_end old now n depth e s = record {
+  commands = s.commands;
+  tokens = s.tokens;
+  clean = s.clean;
+  lanes = s.lanes;
+  goes = λ h l. s.goes h l ∙ ap (λ k. with_parts (read_values now.lists) (alternatives n k (left now))) e ∙ sym (ap (λ k. with_parts (read_values now.lists) (alternatives 0 k (left now))) e);
+  keeps = s.keeps;
+  refuses = λ h l f. none_after (read_values old.lists) (all_alternatives (left old)) (s.refuses h l f);
+}
+
+pub takes_last : (old now : Reader) (n depth : ℕ) → n ≡ 0
+    → Adds old now (with_parts (read_values old.lists) (all_alternatives (left old))) (with_parts (read_values now.lists) (alternatives n depth (left now))) → TakesAlternatives depth old now
+takes_last old now n depth e s = record {
+  commands = s.commands;
+  tokens = s.tokens;
+  clean = s.clean;
+  lanes = s.lanes;
+  goes = λ h l. s.goes h l ∙ ap (λ k. with_parts (read_values now.lists) (alternatives k depth (left now))) e;
+  keeps = s.keeps;
+  refuses = λ h l f. none_after (read_values old.lists) (all_alternatives (left old)) (s.refuses h l f);
+}
+
+pub all_taken : (old new : Reader) (depth : ℕ) → depth ≤ 0 → TakesAlternatives depth old new → ReadsOnto all_alternatives old new
+all_taken old new depth few s = record {
+  commands = s.commands;
+  tokens = s.tokens;
+  clean = s.clean;
+  lanes = s.lanes;
+  gives = λ h l. s.goes h l ∙ ap (λ k. with_parts (read_values new.lists) (alternatives 0 k (left new))) (omega (arith, few)) ∙ ap (λ vs. let o : List Value × Toks = (vs, left new) in Some o) (no_more (read_values new.lists));
+  keeps = s.keeps;
+  refuses = s.refuses;
+}
+
+none_left : (depth : ℕ) (toks : Toks) → 0 < depth → alternatives 0 depth toks ≡ None
+none_left zero toks some = absurd (omega (arith, some))
+none_left (suc d) toks some = refl
+
+pub none_taken : (old mid new : Reader) (depth : ℕ) (fault : TextFault) (span : Span) → 0 < depth → TakesAlternatives depth old mid → Fails fault span mid new → ReadsOnto all_alternatives old new
+none_taken old mid new depth fault span some s f = record {
+  commands = ap (λ (l : Lists). l.commands) f.lists ∙ s.commands;
+  tokens = f.tokens ∙ s.tokens;
+  clean = λ h. absurd (faulty mid.fault refl h);
+  lanes = λ h l. absurd (faulty mid.fault refl h);
+  gives = λ h l. absurd (faulty mid.fault refl h);
+  keeps = λ h. f.keeps (λ g. h (s.clean g)) ∙ s.keeps h;
+  refuses = λ h l g. go mid.fault refl h l g;
+}
+  where
+    faulty : (o : Option TextError) → mid.fault ≡ o → new.fault ≡ None → ⊥
+    faulty None is h = absurd (cc (f.first is))
+    faulty (Some y) is h = absurd (cc (f.keeps (λ n. cc)))
+
+    go : (o : Option TextError) → mid.fault ≡ o → old.fault ≡ None → HaveLanes old.lists → IsRefused new.fault → all_alternatives (left old) ≡ None
+    go None is h l g = none_after (read_values old.lists) (all_alternatives (left old)) (s.goes is l ∙ ap (with_parts (read_values mid.lists)) (none_left depth (left mid) some))
+    go (Some y) is h l g = s.refuses h l (subst IsRefused (f.keeps (λ n. cc)) g)

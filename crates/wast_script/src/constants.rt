@@ -227,6 +227,7 @@ impl<'a> Reader<'a> {
     }
 
     /// The lanes of a vector.
+    #[tactic(auto, using(crate::proofs::Rows::rows_first, crate::proofs::Rows::rows_more, crate::proofs::Rows::rows_last))]
     fn lanes(&mut self, shape: Shape, usage: Use)
         ensures { ReadsLanes (lanes shape usage) self.old self.new }
     {
@@ -237,6 +238,7 @@ impl<'a> Reader<'a> {
     }
 
     /// A vector from its shape on (text format, vector instructions).
+    #[tactic(auto, using(crate::proofs::Goes::vector_read))]
     fn vector(&mut self, usage: Use) -> Value<'a>
         ensures { ReadsValue (vector usage) self.old self.new result }
     {
@@ -396,6 +398,7 @@ impl<'a> Reader<'a> {
     }
 
     /// A value in its parentheses.
+    #[tactic(auto, using(crate::proofs::Goes::form_read))]
     fn form(&mut self, usage: Use) -> Value<'a>
         ensures { ReadsValue (value usage) self.old self.new result }
     {
@@ -415,6 +418,7 @@ impl<'a> Reader<'a> {
     }
 
     /// Reads a value, and adds it.
+    #[tactic(auto, using(crate::proofs::Onto::value_pushed))]
     fn one_value(&mut self, usage: Use)
         ensures { ReadsOnto (one_value usage) self.old self.new }
     {
@@ -424,6 +428,7 @@ impl<'a> Reader<'a> {
 
     /// One step in the alternatives of `either`, of which so many are open; how many are then. An `either` in another is
     /// one with it, because both are for a result that is one of their values.
+    #[tactic(auto, using(crate::proofs::Alternatives::closes_one, crate::proofs::Alternatives::opens_one, crate::proofs::Alternatives::reads_one))]
     fn alternative(&mut self, depth: u128) -> u128
         requires { depth < 2 ^ 127 }
         ensures { TakesAlternative depth result self.old self.new }
@@ -440,6 +445,7 @@ impl<'a> Reader<'a> {
     }
 
     /// Steps in the alternatives of `either`, up to its end or to the last token. Returns how many are open then.
+    #[tactic(auto, using(crate::proofs::Onto::adds_first, crate::proofs::Onto::alternative_more, crate::proofs::Onto::takes_end, crate::proofs::Onto::takes_last))]
     fn alternative_steps(&mut self) -> u128
         ensures { TakesAlternatives result self.old self.new }
     {
@@ -454,6 +460,7 @@ impl<'a> Reader<'a> {
     }
 
     /// The alternatives of `either`, which is read.
+    #[tactic(auto, using(crate::proofs::Onto::all_taken, crate::proofs::Onto::none_taken))]
     fn alternatives(&mut self)
         ensures { ReadsOnto all_alternatives self.old self.new }
     {
@@ -473,6 +480,7 @@ impl<'a> Reader<'a> {
     }
 
     /// `either`, which is read, and its alternatives.
+    #[tactic(auto, using(crate::proofs::Alternatives::either_read))]
     fn either(&mut self)
         ensures { ReadsOnto either self.old self.new }
     {
@@ -504,6 +512,7 @@ impl<'a> Reader<'a> {
     }
 
     /// Reads values up to the end of the form, or up to what is no form.
+    #[tactic(auto, using(crate::proofs::Onto::adds_first, crate::proofs::Onto::values_more, crate::proofs::Onto::adds_last, crate::proofs::Lists::list_end, crate::proofs::Lists::list_last))]
     fn all_values(&mut self, usage: Use)
         ensures { ReadsOnto (values usage) self.old self.new }
     {
@@ -516,6 +525,7 @@ impl<'a> Reader<'a> {
     }
 
     /// Reads values. Returns the part of the values that they are.
+    #[tactic(auto, using(crate::proofs::Goes::values_read))]
     pub(crate) fn values_of(&mut self, usage: Use) -> Part
         ensures { Reads (values usage) self.old self.new (λ vs. part result vs) (λ n. result.end ≤ n) }
     {

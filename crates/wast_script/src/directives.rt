@@ -275,6 +275,7 @@ impl<'a> Reader<'a> {
     }
 
     /// Reads a command, or the end of a thread. So many threads are open.
+    #[tactic(auto, using(crate::proofs::Verbs::end_read, crate::proofs::Verbs::not_end, crate::proofs::Verbs::thread_open, crate::proofs::Verbs::no_thread))]
     fn command_or_end(&mut self, threads: u128) -> Command<'a>
         ensures { Reads (command_or_end threads) self.old self.new (λ vs. command_in (all_bare self.new) vs result) (λ n. HasValues n result.kind) }
     {
@@ -293,6 +294,7 @@ impl<'a> Reader<'a> {
     }
 
     /// Reads a command, or the end of a thread, and adds it. Returns how many threads are open then.
+    #[tactic(auto, using(crate::proofs::Commanding::command_taken))]
     fn step(&mut self, threads: u128) -> u128
         requires { threads < 2 ^ 127 }
         ensures { TakesCommand threads result self.old self.new }
@@ -303,6 +305,7 @@ impl<'a> Reader<'a> {
     }
 
     /// Reads commands up to the end of the text. Returns how many threads are open then.
+    #[tactic(auto, using(crate::proofs::Commanding::running_first, crate::proofs::Commanding::running_more, crate::proofs::Commanding::running_end, crate::proofs::Commanding::running_last))]
     fn all_steps(&mut self) -> u128
         requires { IsNew self.old }
         ensures { TakesCommands result self.old self.new }
@@ -318,6 +321,7 @@ impl<'a> Reader<'a> {
     }
 
     /// Reads the commands up to the end of the text.
+    #[tactic(auto, using(crate::proofs::Commanding::all_closed, crate::proofs::Commanding::one_open))]
     fn commands(&mut self)
         requires { IsNew self.old }
         ensures { ReadsAll all_commands self.old self.new }

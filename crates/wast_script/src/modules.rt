@@ -29,6 +29,7 @@ impl<'a> Reader<'a> {
     }
 
     /// Reads tokens up to the end of the form that is open, or to the last one. Returns how many parentheses are open then.
+    #[tactic(auto, using(crate::proofs::Loops::skipping_first, crate::proofs::Loops::skipping_more, crate::proofs::Loops::skips_end, crate::proofs::Loops::skips_last))]
     fn skip_tokens(&mut self) -> u128
         ensures { Skips result self.old self.new }
     {
@@ -43,6 +44,7 @@ impl<'a> Reader<'a> {
     }
 
     /// Reads the tokens up to the end of the form that is open, and its end.
+    #[tactic(auto, using(crate::proofs::Loops::form_ends, crate::proofs::Loops::no_form_end))]
     fn skip_form(&mut self)
         ensures { Expects form_rest self.old self.new }
     {
@@ -53,6 +55,7 @@ impl<'a> Reader<'a> {
     }
 
     /// Reads strings as long as one is next.
+    #[tactic(auto, using(crate::proofs::Loops::strings_first, crate::proofs::Loops::strings_end, crate::proofs::Loops::strings_last))]
     fn skip_strings(&mut self)
         ensures { Moves behind_strings self.old self.new }
     {
