@@ -1,5 +1,5 @@
 -- Actions, what assertions run, and commands: the steps of their rules.
-use Rattle.std.proofs.Common.{◌≡◌, ◌≢◌, ◌∙◌, ℕ, ◌+◌, ◌≤◌, Bool, true, false, List, [], ◌∷◌, ◌++◌, length, map, Option, None, Some, refl, sym, ap, subst, arith, length-append}
+use Rattle.std.proofs.Common.{◌≡◌, ◌≢◌, ◌∙◌, ℕ, ◌+◌, ◌≤◌, Bool, true, false, List, [], ◌∷◌, ◌++◌, length, map, codes, Option, None, Some, refl, sym, ap, subst, arith, length-append}
 use Rattle.std.specs.Global.{Vec}
 use Rattle.std.proofs.lemmas.List.{length-map}
 use Rattle.std.specs.Borrow.{Bor}
@@ -11,17 +11,20 @@ use Rattle.wat_syntax.specs.Values.{id, name}
 use Rattle.wat_syntax.specs.Seen.{seen_text}
 use Rattle.wat_laws.specs.Bare.{bare_placed, bare_id_option}
 use Rattle.wast_script.specs.declared.values.Part.{Part}
+use Rattle.wat_tokens.specs.declared.faults.TextError.{TextError}
 use Rattle.wast_script.specs.declared.commands.ActionKind.{ActionKind}
+use Rattle.wast_script.specs.declared.commands.ActionKind.TheVariants as action_kind
+use Rattle.wast_script.specs.declared.commands.ScriptModule.{ScriptModule}
 use Rattle.wast_script.specs.declared.commands.Action as code_action
 use Rattle.wast_script.specs.declared.commands.Execution as code_execution
 use Rattle.wast_script.specs.declared.commands.Execution.TheVariants as run
 use Rattle.wast_script.specs.declared.words.Use.TheVariants as usage
 use Rattle.wast_script.specs.declared.reader.Lists.{Lists}
 use Rattle.wast_script.specs.declared.reader.Reader.{Reader}
-use Rattle.wast_script.specs.Constants.{Value, form, values}
-use Rattle.wast_script.specs.Grammar.{Action, Execution, Runs, Kind, AssertReturn, action, arguments, execution, message, about_run, return_command, exception_command, exhaustion_command, invocation, AssertException, AssertExhaustion}
-use Rattle.wast_script.specs.Scripts.{part, value_in, execution_in}
-use Rattle.wast_script.specs.Readers.{left, all_bare, read_values, IsFirst, HaveLanes, HasArguments, HasExecuted, HasValues, Decides, Expects, Finds, Reads}
+use Rattle.wast_script.specs.Constants.{Value, is_form, form, values}
+use Rattle.wast_script.specs.Grammar.{Action, Execution, Runs, Instantiates, Kind, AssertReturn, action, arguments, in_parentheses, run_action, execution, message, about_run, return_command, exception_command, AssertException, invocation}
+use Rattle.wast_script.specs.Scripts.{part, value_in, module_in, action_in, execution_in}
+use Rattle.wast_script.specs.Readers.{left, all_bare, read_values, IsRefused, IsFirst, HaveLanes, HasArguments, HasExecuted, Decides, Expects, Accepts, Finds, Reads}
 use Rattle.wast_script.proofs.Parts.{part_on}
 use Rattle.wast_script.proofs.Steps.{Steps, first_same, both, by_decides, by_expects, by_finds, by_reads, all_read}
 
@@ -36,6 +39,23 @@ turned old new p q r s e = record {
   goes = λ h l. s.goes h l ∙ e;
   keeps = s.keeps;
   refuses = s.refuses;
+}
+
+none_refused : (o : Option TextError) → o ≡ None → IsRefused o → ⊥
+none_refused None e f = f
+none_refused (Some x) e f = absurd cc
+
+-- all of a rule, as its steps
+as_steps : {T : Type 0} (rule : Toks → Parse T) (old new : Reader) (part : List Value → T) (has : ℕ → Type 0) → Reads rule old new part has → Steps old new (rule (left old)) (Some (part (read_values new.lists), left new))
+as_steps rule old new part has r = record {
+  commands = r.commands;
+  tokens = r.tokens;
+  clean = r.clean;
+  lanes = r.lanes;
+  values = r.values;
+  goes = r.gives;
+  keeps = r.keeps;
+  refuses = r.refuses;
 }
 
 -- a part that is made of another one
@@ -146,3 +166,128 @@ return_read a b c d e results runs takes close =
           (sym (execution_on (all_bare b) e (read_values b.lists) (read_values c.lists) (length b.lists.values.items) (runs.within (takes.clean (close.clean h)) l) (sym (value_count b.lists)) (takes.values (close.clean h) (mid h l))))
         ∙ ap (λ ts. let o : Kind × Toks = (AssertReturn (execution_in ts (read_values c.lists) e) (part results (read_values c.lists)), left d) in Some o) bare_on
         ∙ ap (λ vs. let o : Kind × Toks = (AssertReturn (execution_in (all_bare d) vs e) (part results vs), left d) in Some o) (same_values rparen c d close)
+
+-- a reader that has taken tokens, by another rule for those that are left
+pub moved : {T : Type 0} (rule rule_too : Toks → Parse T) (a b c : Reader) (part : List Value → T) (has : ℕ → Type 0) → b.lists ≡ a.lists → b.tokens ≡ a.tokens → b.fault ≡ a.fault
+    → rule (left a) ≡ rule_too (left b) → Reads rule_too b c part has → Reads rule a c part has
+moved rule rule_too a b c part has lists tokens fault same r = record {
+  commands = r.commands ∙ ap (λ (l : Lists). l.commands) lists;
+  tokens = r.tokens ∙ tokens;
+  clean = λ h. sym fault ∙ r.clean h;
+  lanes = λ h l. r.lanes h (subst HaveLanes (sym lists) l);
+  values = λ h l. subst (λ (k : Lists). IsFirst (read_values k) (read_values c.lists)) lists (r.values h (subst HaveLanes (sym lists) l));
+  within = λ h l. r.within h (subst HaveLanes (sym lists) l);
+  gives = λ h l. same ∙ r.gives h (subst HaveLanes (sym lists) l);
+  keeps = λ h. r.keeps (λ g. h (sym fault ∙ g)) ∙ fault;
+  refuses = λ h l f. same ∙ r.refuses (fault ∙ h) (subst HaveLanes (sym lists) l) f;
+}
+
+-- the arguments of `get`, which has none
+pub no_arguments : (a : Reader) (p : Part) → ((vs : List Value) → part p vs ≡ []) → p.end ≡ 0 → Reads (arguments action_kind.Get) a a (part p) (λ n. p.end ≤ n)
+no_arguments a p none last = record {
+  commands = refl;
+  tokens = refl;
+  clean = λ h. h;
+  lanes = λ h l. l;
+  values = λ h l. first_same (read_values a.lists) (read_values a.lists) refl;
+  within = λ h l. omega (arith, last);
+  gives = λ h l. ap (λ vs. let o : List Value × Toks = (vs, left a) in Some o) (sym (none (read_values a.lists)));
+  keeps = λ h. refl;
+  refuses = λ h l f. absurd (none_refused a.fault h f);
+}
+
+-- `(invoke`, and an action
+pub invocation_read : (a b c : Reader) (part : List Value → Action) (has : ℕ → Type 0) → Expects (form (codes "invoke")) a b → Reads (action action_kind.Invoke) b c part has → Reads invocation a c part has
+invocation_read a b c part has e r =
+    all_read invocation a c part has
+    (both a b c _ _ _ (by_expects (form (codes "invoke")) a b (action action_kind.Invoke) e) (as_steps (action action_kind.Invoke) b c part has r))
+    (λ h l. r.within h (subst HaveLanes (sym e.lists) l))
+
+-- an action with its parenthesis
+pub get_read : (a b c : Reader) (ts : List Placed) (x : code_action.Action) → Accepts (form (codes "get")) a b true → Reads (action action_kind.Get) b c (λ vs. action_in vs x) (λ n. HasArguments n x)
+    → Reads run_action a c (λ vs. execution_in ts vs (run.Action x)) (λ n. HasArguments n x)
+get_read a b c ts x m r =
+    moved run_action (λ toks. action action_kind.Get toks >>= λ y. Some (Runs y.0, y.1)) a b c (λ vs. execution_in ts vs (run.Action x)) (λ n. HasArguments n x) m.lists m.tokens m.fault
+    (ap (λ (o : Option Toks). elim o as (λ o. Parse Execution) [ Some t ↦ action action_kind.Get t >>= λ y. Some (Runs y.0, y.1) | None ↦ invocation (left a) >>= λ y. Some (Runs y.0, y.1) ]) (m.there refl))
+    (wrapped (action action_kind.Get) Runs b c (λ vs. action_in vs x) (λ n. HasArguments n x) (λ n. HasArguments n x) r (λ n h. h))
+
+pub other_read : (a b c : Reader) (ts : List Placed) (x : code_action.Action) → Accepts (form (codes "get")) a b false → Reads invocation b c (λ vs. action_in vs x) (λ n. HasArguments n x)
+    → Reads run_action a c (λ vs. execution_in ts vs (run.Action x)) (λ n. HasArguments n x)
+other_read a b c ts x m r =
+    moved run_action (λ toks. invocation toks >>= λ y. Some (Runs y.0, y.1)) a b c (λ vs. execution_in ts vs (run.Action x)) (λ n. HasArguments n x) m.lists m.tokens m.fault
+    (ap (λ (o : Option Toks). elim o as (λ o. Parse Execution) [ Some t ↦ action action_kind.Get t >>= λ y. Some (Runs y.0, y.1) | None ↦ invocation (left a) >>= λ y. Some (Runs y.0, y.1) ]) (m.absent refl)
+      ∙ ap (λ t. invocation t >>= λ y. Some (Runs y.0, y.1)) (sym (m.stays refl)))
+    (wrapped invocation Runs b c (λ vs. action_in vs x) (λ n. HasArguments n x) (λ n. HasArguments n x) r (λ n h. h))
+
+-- what is run: a module, or an action
+by_module : Bool → Toks → Parse Execution
+by_module b toks = elim b [ true ↦ in_parentheses toks >>= λ m. Some (Instantiates m.0, m.1) | false ↦ run_action toks ]
+
+pub module_run : (a b : Reader) (m : ScriptModule) → is_form (codes "module") (left a) ≡ true → Decides in_parentheses a b (module_in (all_bare b) m)
+    → Reads execution a b (λ vs. execution_in (all_bare b) vs (run.Module m)) (λ n. HasExecuted n (run.Module m))
+module_run a b m is d =
+    moved execution (λ toks. in_parentheses toks >>= λ m. Some (Instantiates m.0, m.1)) a a b (λ vs. execution_in (all_bare b) vs (run.Module m)) (λ n. HasExecuted n (run.Module m)) refl refl refl
+    (ap (λ x. by_module x (left a)) is)
+    (wrapped in_parentheses Instantiates a b (λ vs. module_in (all_bare b) m) (λ n. HasExecuted n (run.Module m)) (λ n. HasExecuted n (run.Module m))
+      (decided in_parentheses a b (module_in (all_bare b) m) (λ n. HasExecuted n (run.Module m)) d (λ n. tt)) (λ n h. h))
+
+pub action_run : (a b : Reader) (part : List Value → Execution) (has : ℕ → Type 0) → is_form (codes "module") (left a) ≡ false → Reads run_action a b part has → Reads execution a b part has
+action_run a b part has is r = moved execution run_action a a b part has refl refl refl (ap (λ x. by_module x (left a)) is) r
+
+-- a part, and a part without values after it
+pub then_decides : {R S T : Type 0} (rule : Toks → Parse R) (second : Toks → Parse S) (make : R → S → T) (a b c : Reader) (part : List Value → R) (has : ℕ → Type 0) (x : S) → Reads rule a b part has → Decides second b c x
+    → Reads (λ toks. rule toks >>= λ y. second y.1 >>= λ z. Some (make y.0 z.0, z.1)) a c (λ vs. make (part vs) x) has
+then_decides {T = T} rule second make a b c part has x r d =
+    all_read (λ toks. rule toks >>= λ y. second y.1 >>= λ z. Some (make y.0 z.0, z.1)) a c (λ vs. make (part vs) x) has
+    (turned a c _ _ _
+      (both a b c _ _ _ (by_reads rule a b part has (λ y. second y.1 >>= λ z. Some (make y.0 z.0, z.1)) r)
+        (by_decides second b c x (λ z. Some (make (part (read_values b.lists)) z.0, z.1)) d))
+      (ap (λ vs. let o : T × Toks = (make (part vs) x, left c) in Some o) (ap read_values (sym d.lists))))
+    (λ h l. subst (λ (k : Lists). has (length k.values.items)) (sym d.lists) (r.within (d.clean h) l))
+
+-- a part, and a terminal after it
+pub then_expects : {R T : Type 0} (rule : Toks → Parse R) (second : Toks → Option Toks) (make : R → T) (a b c : Reader) (part : List Value → R) (has : ℕ → Type 0) → Reads rule a b part has → Expects second b c
+    → Reads (λ toks. rule toks >>= λ y. second y.1 >>= λ rest. Some (make y.0, rest)) a c (λ vs. make (part vs)) has
+then_expects {T = T} rule second make a b c part has r d =
+    all_read (λ toks. rule toks >>= λ y. second y.1 >>= λ rest. Some (make y.0, rest)) a c (λ vs. make (part vs)) has
+    (turned a c _ _ _
+      (both a b c _ _ _ (by_reads rule a b part has (λ y. second y.1 >>= λ rest. Some (make y.0, rest)) r)
+        (by_expects second b c (λ rest. Some (make (part (read_values b.lists)), rest)) d))
+      (ap (λ vs. let o : T × Toks = (make (part vs), left c) in Some o) (ap read_values (sym d.lists))))
+    (λ h l. subst (λ (k : Lists). has (length k.values.items)) (sym d.lists) (r.within (d.clean h) l))
+
+-- what is run, with the tokens of a later reader
+pub execution_later : (b c : Reader) (e : code_execution.Execution) → c.tokens ≡ b.tokens → (vs : List Value) → execution_in (all_bare b) vs e ≡ execution_in (all_bare c) vs e
+execution_later b c e same vs = ap (λ (t : Vec Placed). execution_in (map bare_placed t.items) vs e) (sym same)
+
+bare_on : (b c : Reader) → c.tokens ≡ b.tokens → all_bare b ≡ all_bare c
+bare_on b c same = ap (λ (t : Vec Placed). map bare_placed t.items) (sym same)
+
+-- `assert_exception`: what is run
+pub exception_read : (a b c : Reader) (e : code_execution.Execution) → Reads execution a b (λ vs. execution_in (all_bare b) vs e) (λ n. HasExecuted n e) → Expects rparen b c
+    → Reads exception_command a c (λ vs. AssertException (execution_in (all_bare c) vs e)) (λ n. HasExecuted n e)
+exception_read a b c e r d =
+    subst (λ ts. Reads exception_command a c (λ vs. AssertException (execution_in ts vs e)) (λ n. HasExecuted n e)) (bare_on b c d.tokens)
+    (then_expects execution rparen AssertException a b c (λ vs. execution_in (all_bare b) vs e) (λ n. HasExecuted n e) r d)
+
+-- what an assertion runs, and a message
+pub about_run_read : (a b c : Reader) (e : code_execution.Execution) (text : Bor (List ℕ)) → Reads execution a b (λ vs. execution_in (all_bare b) vs e) (λ n. HasExecuted n e) → Decides message b c text.now
+    → Reads about_run a c (λ vs. (execution_in (all_bare c) vs e, text.now)) (λ n. HasExecuted n e)
+about_run_read a b c e text r d =
+    subst (λ ts. Reads about_run a c (λ vs. (execution_in ts vs e, text.now)) (λ n. HasExecuted n e)) (bare_on b c d.tokens)
+    (then_decides execution message (λ x t. let o : Execution × List ℕ = (x, t) in o) a b c (λ vs. execution_in (all_bare b) vs e) (λ n. HasExecuted n e) text.now r d)
+
+-- a part that has no values, whatever the values are
+pub plain_decided : {T : Type 0} (rule : Toks → Parse T) (old new : Reader) (part : List Value → T) (has : ℕ → Type 0) → Decides rule old new (part []) → ((vs : List Value) → part vs ≡ part []) → ((n : ℕ) → has n)
+    → Reads rule old new part has
+plain_decided {T = T} rule old new part has d plain all = record {
+  commands = ap (λ (l : Lists). l.commands) d.lists;
+  tokens = d.tokens;
+  clean = d.clean;
+  lanes = λ h l. subst HaveLanes (sym d.lists) l;
+  values = λ h l. first_same (read_values old.lists) (read_values new.lists) (ap read_values d.lists);
+  within = λ h l. all _;
+  gives = λ h l. d.gives h ∙ ap (λ x. let o : T × Toks = (x, left new) in Some o) (sym (plain (read_values new.lists)));
+  keeps = d.keeps;
+  refuses = λ h l f. d.refuses h f;
+}

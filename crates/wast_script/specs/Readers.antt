@@ -15,7 +15,7 @@ use Rattle.wat_grammar.specs.Parts.{◌>>=◌}
 use Rattle.wat_syntax.specs.Tokens.{Toks, Parse, position_in, count, optional, with_parts}
 use Rattle.wat_laws.specs.Bare.{bare_placed}
 use Rattle.wast_script.specs.Constants.{Value, alternatives, all_alternatives}
-use Rattle.wast_script.specs.Grammar.{Module, Execution, Kind, AssertTrap, AssertSuspension, AssertMalformed, AssertMalformedCustom, AssertInvalid, AssertInvalidCustom, AssertUnlinkable, Command, form_end, form_rest, no_commands, commands_in, all_commands}
+use Rattle.wast_script.specs.Grammar.{Command, form_end, form_rest, no_commands, commands_in, all_commands}
 use Rattle.wast_script.specs.Scripts.{value_in, command_in}
 use Rattle.wast_script.specs.declared.values.Number.{Number}
 use Rattle.wast_script.specs.declared.values.Value as code_value
@@ -26,8 +26,6 @@ use Rattle.wast_script.specs.declared.commands.Execution.TheVariants as run
 use Rattle.wast_script.specs.declared.commands.CommandKind.{CommandKind}
 use Rattle.wast_script.specs.declared.commands.CommandKind.TheVariants as kind
 use Rattle.wast_script.specs.declared.commands.Command as code_command
-use Rattle.wast_script.specs.declared.words.Verb.{Verb}
-use Rattle.wast_script.specs.declared.words.Verb.TheVariants as verb
 use Rattle.wast_script.specs.declared.reader.Lists.{Lists}
 use Rattle.wast_script.specs.declared.reader.Reader.{Reader}
 
@@ -177,18 +175,6 @@ pub record Reads {T : Type 0} (rule : Toks → Parse T) (old new : Reader) (part
   pub gives : new.fault ≡ None → HaveLanes old.lists → rule (left old) ≡ Some (part (read_values new.lists), left new)
   pub keeps : old.fault ≢ None → new.fault ≡ old.fault
   pub refuses : old.fault ≡ None → HaveLanes old.lists → IsRefused new.fault → rule (left old) ≡ None
-
--- the kinds of assertions, by their verbs
-abbrev pub asserts_module : Verb → Module → List ℕ → Kind
-asserts_module verb.AssertMalformed m text = AssertMalformed m text
-asserts_module verb.AssertMalformedCustom m text = AssertMalformedCustom m text
-asserts_module verb.AssertInvalidCustom m text = AssertInvalidCustom m text
-asserts_module verb.AssertUnlinkable m text = AssertUnlinkable m text
-asserts_module v m text = AssertInvalid m text
-
-abbrev pub asserts_run : Verb → Execution → List ℕ → Kind
-asserts_run verb.AssertSuspension e text = AssertSuspension e text
-asserts_run v e text = AssertTrap e text
 
 -- A reader added a command, or stored that the allocation failed.
 pub record Pushes (old new : Reader) (c : code_command.Command) : Type 0 where

@@ -12,6 +12,7 @@ use crate::words::Use;
 
 impl<'a> Reader<'a> {
     /// Reads the arguments of an action.
+    #[tactic(auto, using(crate::proofs::Acting::no_arguments))]
     fn arguments(&mut self, kind: ActionKind) -> Part
         ensures { Reads (arguments kind) self.old self.new (part result) (λ n. result.end ≤ n) }
     {
@@ -48,6 +49,7 @@ impl<'a> Reader<'a> {
     }
 
     /// Reads an action with its parenthesis.
+    #[tactic(auto, using(crate::proofs::Acting::get_read, crate::proofs::Acting::other_read))]
     fn run_action(&mut self) -> Execution<'a>
         ensures { Reads run_action self.old self.new (λ vs. execution_in (all_bare self.new) vs result) (λ n. HasExecuted n result) }
     {
@@ -58,6 +60,7 @@ impl<'a> Reader<'a> {
     }
 
     /// Reads what an assertion runs: an action or a module.
+    #[tactic(auto, using(crate::proofs::Acting::module_run, crate::proofs::Acting::action_run))]
     pub(crate) fn execution(&mut self) -> Execution<'a>
         ensures { Reads execution self.old self.new (λ vs. execution_in (all_bare self.new) vs result) (λ n. HasExecuted n result) }
     {

@@ -536,8 +536,10 @@ impl<'a> Reader<'a> {
     }
 
     /// Returns the part of the values that no value is.
+    #[tactic(auto, using(crate::proofs::Parts::part_empty))]
     pub(crate) fn no_values(&self) -> Part
-        ensures { (vs : List ListedValue) → part result vs ≡ [] }
+        ensures none { (vs : List ListedValue) → part result vs ≡ [] }
+        ensures end { result.end ≡ 0 }
     {
         Part { start: 0, end: 0 }
     }

@@ -1,6 +1,6 @@
 //! Reads commands.
 
-ghost use Rattle.std.specs.Prelude.{◌≡◌, ◌≢◌, ◌≤◌, ◌<◌, ◌^◌, ◌-◌, [], List, suc, None, Some, codes};
+ghost use Rattle.std.specs.Prelude.{◌≡◌, ◌≢◌, ◌≤◌, ◌<◌, ◌^◌, ◌-◌, ℕ, [], List, suc, None, Some, codes};
 ghost use Rattle.wat_grammar.specs.Parts.{◌>>=◌};
 ghost use Rattle.wat_syntax.specs.Tokens.{after, position, count, peek};
 ghost use Rattle.wast_script.specs.Words.{verb_named};
@@ -9,9 +9,9 @@ ghost use Rattle.wat_tokens.specs.declared.tokens.Placed.{Placed};
 ghost use Rattle.wat_laws.specs.Bare.{bare_id, bare_id_option};
 ghost use Rattle.wast_script.specs.declared.commands.CommandKind.TheVariants as kind;
 ghost use Rattle.wast_script.specs.Grammar.{module_command, module_or_instance, instance, register_command, action_command, message, return_command, exhaustion_command, exception_command, shared_module, thread_command, wait_command, command_of, command, command_or_end, commands_in, threads_after, ends_thread, begins_command, script};
-ghost use Rattle.wast_script.specs.Grammar.{about_module, about_run, module_assertion, run_assertion, module_of_thread, all_commands, all_module};
+ghost use Rattle.wast_script.specs.Grammar.{about_module, about_run, AssertTrap, AssertSuspension, AssertMalformed, AssertMalformedCustom, AssertInvalid, AssertInvalidCustom, AssertUnlinkable, module_assertion, run_assertion, module_of_thread, all_commands, all_module};
 ghost use Rattle.wast_script.specs.Scripts.{part, module_in, execution_in, kind_in, command_in};
-ghost use Rattle.wast_script.specs.Readers.{left, all_bare, read_commands, read_values, HasExecuted, HasValues, HaveLanes, HaveValues, IsRefused, IsNew, Decides, Moves, Reads, Pushes, TakesCommand, TakesCommands, ReadsAll, asserts_module, asserts_run};
+ghost use Rattle.wast_script.specs.Readers.{left, all_bare, read_commands, read_values, HasExecuted, HasValues, HaveLanes, HaveValues, IsRefused, IsNew, Decides, Moves, Reads, Pushes, TakesCommand, TakesCommands, ReadsAll};
 
 use crate::commands::{ActionKind, Command, CommandKind, Execution, ScriptModule};
 use crate::reader::Reader;
@@ -35,7 +35,9 @@ fn threads_after(kind: CommandKind<'_>, threads: u128) -> u128
 impl<'a> Reader<'a> {
     /// Reads `(module instance` and what follows.
     fn instance(&mut self) -> CommandKind<'a>
-        ensures { Decides instance self.old self.new (kind_in (all_bare self.new) [] result) }
+        ensures decides { Decides instance self.old self.new (kind_in (all_bare self.new) [] result) }
+        ensures plain { (vs : List Value) → kind_in (all_bare self.new) vs result ≡ kind_in (all_bare self.new) [] result }
+        ensures few { (n : ℕ) → HasValues n result }
     {
         let instance = self.id();
         let module = self.id();
@@ -45,7 +47,9 @@ impl<'a> Reader<'a> {
 
     /// Reads `module` and what follows, if it is no definition.
     fn module_or_instance(&mut self, span: Span, head: Part) -> CommandKind<'a>
-        ensures { Decides (module_or_instance span (part head (all_bare self.old))) self.old self.new (kind_in (all_bare self.new) [] result) }
+        ensures decides { Decides (module_or_instance span (part head (all_bare self.old))) self.old self.new (kind_in (all_bare self.new) [] result) }
+        ensures plain { (vs : List Value) → kind_in (all_bare self.new) vs result ≡ kind_in (all_bare self.new) [] result }
+        ensures few { (n : ℕ) → HasValues n result }
     {
         if self.accept("instance") {
             return self.instance();
@@ -55,7 +59,9 @@ impl<'a> Reader<'a> {
 
     /// Reads `module` and what follows; its keyword is at a position.
     fn module_command(&mut self, span: Span, head: Part) -> CommandKind<'a>
-        ensures { Decides (module_command span (part head (all_bare self.old))) self.old self.new (kind_in (all_bare self.new) [] result) }
+        ensures decides { Decides (module_command span (part head (all_bare self.old))) self.old self.new (kind_in (all_bare self.new) [] result) }
+        ensures plain { (vs : List Value) → kind_in (all_bare self.new) vs result ≡ kind_in (all_bare self.new) [] result }
+        ensures few { (n : ℕ) → HasValues n result }
     {
         if self.accept("definition") {
             return CommandKind::Definition(self.module_after(span, head));
@@ -65,7 +71,9 @@ impl<'a> Reader<'a> {
 
     /// Reads `register` and what follows.
     fn register_command(&mut self) -> CommandKind<'a>
-        ensures { Decides register_command self.old self.new (kind_in (all_bare self.new) [] result) }
+        ensures decides { Decides register_command self.old self.new (kind_in (all_bare self.new) [] result) }
+        ensures plain { (vs : List Value) → kind_in (all_bare self.new) vs result ≡ kind_in (all_bare self.new) [] result }
+        ensures few { (n : ℕ) → HasValues n result }
     {
         let name = self.text();
         let module = self.id();
@@ -131,7 +139,9 @@ impl<'a> Reader<'a> {
 
     /// Reads `thread` and what comes before its commands.
     fn thread_command(&mut self) -> CommandKind<'a>
-        ensures { Decides thread_command self.old self.new (kind_in (all_bare self.new) [] result) }
+        ensures decides { Decides thread_command self.old self.new (kind_in (all_bare self.new) [] result) }
+        ensures plain { (vs : List Value) → kind_in (all_bare self.new) vs result ≡ kind_in (all_bare self.new) [] result }
+        ensures few { (n : ℕ) → HasValues n result }
     {
         let id = self.wanted_id();
         let shared = self.shared_module();
@@ -140,7 +150,9 @@ impl<'a> Reader<'a> {
 
     /// Reads `wait` and what follows.
     fn wait_command(&mut self) -> CommandKind<'a>
-        ensures { Decides wait_command self.old self.new (kind_in (all_bare self.new) [] result) }
+        ensures decides { Decides wait_command self.old self.new (kind_in (all_bare self.new) [] result) }
+        ensures plain { (vs : List Value) → kind_in (all_bare self.new) vs result ≡ kind_in (all_bare self.new) [] result }
+        ensures few { (n : ℕ) → HasValues n result }
     {
         let id = self.wanted_id();
         self.close();
@@ -156,18 +168,54 @@ impl<'a> Reader<'a> {
         (module, message)
     }
 
-    /// Reads an assertion about a module.
-    fn module_assertion(&mut self, verb: Verb) -> CommandKind<'a>
-        ensures { Decides (module_assertion (asserts_module verb)) self.old self.new (kind_in (all_bare self.new) [] result) }
+    /// Reads `assert_malformed` and what follows.
+    fn malformed_command(&mut self) -> CommandKind<'a>
+        ensures decides { Decides (module_assertion AssertMalformed) self.old self.new (kind_in (all_bare self.new) [] result) }
+        ensures plain { (vs : List Value) → kind_in (all_bare self.new) vs result ≡ kind_in (all_bare self.new) [] result }
+        ensures few { (n : ℕ) → HasValues n result }
     {
         let (module, message) = self.about_module();
-        match verb {
-            Verb::AssertMalformed => CommandKind::AssertMalformed(module, message),
-            Verb::AssertMalformedCustom => CommandKind::AssertMalformedCustom(module, message),
-            Verb::AssertInvalidCustom => CommandKind::AssertInvalidCustom(module, message),
-            Verb::AssertUnlinkable => CommandKind::AssertUnlinkable(module, message),
-            _ => CommandKind::AssertInvalid(module, message),
-        }
+        CommandKind::AssertMalformed(module, message)
+    }
+
+    /// Reads `assert_malformed_custom` and what follows.
+    fn malformed_custom_command(&mut self) -> CommandKind<'a>
+        ensures decides { Decides (module_assertion AssertMalformedCustom) self.old self.new (kind_in (all_bare self.new) [] result) }
+        ensures plain { (vs : List Value) → kind_in (all_bare self.new) vs result ≡ kind_in (all_bare self.new) [] result }
+        ensures few { (n : ℕ) → HasValues n result }
+    {
+        let (module, message) = self.about_module();
+        CommandKind::AssertMalformedCustom(module, message)
+    }
+
+    /// Reads `assert_invalid` and what follows.
+    fn invalid_command(&mut self) -> CommandKind<'a>
+        ensures decides { Decides (module_assertion AssertInvalid) self.old self.new (kind_in (all_bare self.new) [] result) }
+        ensures plain { (vs : List Value) → kind_in (all_bare self.new) vs result ≡ kind_in (all_bare self.new) [] result }
+        ensures few { (n : ℕ) → HasValues n result }
+    {
+        let (module, message) = self.about_module();
+        CommandKind::AssertInvalid(module, message)
+    }
+
+    /// Reads `assert_invalid_custom` and what follows.
+    fn invalid_custom_command(&mut self) -> CommandKind<'a>
+        ensures decides { Decides (module_assertion AssertInvalidCustom) self.old self.new (kind_in (all_bare self.new) [] result) }
+        ensures plain { (vs : List Value) → kind_in (all_bare self.new) vs result ≡ kind_in (all_bare self.new) [] result }
+        ensures few { (n : ℕ) → HasValues n result }
+    {
+        let (module, message) = self.about_module();
+        CommandKind::AssertInvalidCustom(module, message)
+    }
+
+    /// Reads `assert_unlinkable` and what follows.
+    fn unlinkable_command(&mut self) -> CommandKind<'a>
+        ensures decides { Decides (module_assertion AssertUnlinkable) self.old self.new (kind_in (all_bare self.new) [] result) }
+        ensures plain { (vs : List Value) → kind_in (all_bare self.new) vs result ≡ kind_in (all_bare self.new) [] result }
+        ensures few { (n : ℕ) → HasValues n result }
+    {
+        let (module, message) = self.about_module();
+        CommandKind::AssertUnlinkable(module, message)
     }
 
     /// Reads what an assertion runs, and a message.
@@ -179,15 +227,20 @@ impl<'a> Reader<'a> {
         (execution, message)
     }
 
-    /// Reads an assertion with a message about what it runs.
-    fn run_assertion(&mut self, verb: Verb) -> CommandKind<'a>
-        ensures { Reads (run_assertion (asserts_run verb)) self.old self.new (λ vs. kind_in (all_bare self.new) vs result) (λ n. HasValues n result) }
+    /// Reads `assert_trap` and what follows.
+    fn trap_command(&mut self) -> CommandKind<'a>
+        ensures { Reads (run_assertion AssertTrap) self.old self.new (λ vs. kind_in (all_bare self.new) vs result) (λ n. HasValues n result) }
     {
         let (execution, message) = self.about_run();
-        match verb {
-            Verb::AssertSuspension => CommandKind::AssertSuspension(execution, message),
-            _ => CommandKind::AssertTrap(execution, message),
-        }
+        CommandKind::AssertTrap(execution, message)
+    }
+
+    /// Reads `assert_suspension` and what follows.
+    fn suspension_command(&mut self) -> CommandKind<'a>
+        ensures { Reads (run_assertion AssertSuspension) self.old self.new (λ vs. kind_in (all_bare self.new) vs result) (λ n. HasValues n result) }
+    {
+        let (execution, message) = self.about_run();
+        CommandKind::AssertSuspension(execution, message)
     }
 
     /// Reads `assert_exhaustion` and what follows.
@@ -200,6 +253,7 @@ impl<'a> Reader<'a> {
     }
 
     /// Reads a command after its verb, whose position and tokens are given.
+    #[tactic(auto, using(crate::proofs::Acting::plain_decided))]
     fn command_of(&mut self, verb: Verb, span: Span, head: Part) -> CommandKind<'a>
         ensures { Reads (command_of verb span (part head (all_bare self.old))) self.old self.new (λ vs. kind_in (all_bare self.new) vs result) (λ n. HasValues n result) }
     {
@@ -209,14 +263,15 @@ impl<'a> Reader<'a> {
             Verb::Invoke => self.action_command(ActionKind::Invoke),
             Verb::Get => self.action_command(ActionKind::Get),
             Verb::AssertReturn => self.return_command(),
-            Verb::AssertTrap | Verb::AssertSuspension => self.run_assertion(verb),
+            Verb::AssertTrap => self.trap_command(),
             Verb::AssertExhaustion => self.exhaustion_command(),
             Verb::AssertException => self.exception_command(),
-            Verb::AssertMalformed
-            | Verb::AssertMalformedCustom
-            | Verb::AssertInvalid
-            | Verb::AssertInvalidCustom
-            | Verb::AssertUnlinkable => self.module_assertion(verb),
+            Verb::AssertSuspension => self.suspension_command(),
+            Verb::AssertMalformed => self.malformed_command(),
+            Verb::AssertMalformedCustom => self.malformed_custom_command(),
+            Verb::AssertInvalid => self.invalid_command(),
+            Verb::AssertInvalidCustom => self.invalid_custom_command(),
+            Verb::AssertUnlinkable => self.unlinkable_command(),
             Verb::Thread => self.thread_command(),
             Verb::Wait => self.wait_command(),
         }
