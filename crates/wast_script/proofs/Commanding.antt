@@ -189,7 +189,7 @@ none_closed (suc n) some = refl
 -- no thread is open, or one is
 pub all_closed : (old new : Reader) (threads : ℕ) → threads ≤ 0 → TakesCommands threads old new → ReadsAll all_commands old new
 all_closed old new threads e t = record {
-  gives = λ h. t.goes h ∙ ap (λ m. with_commands (read_commands new) (no_commands m)) (omega (arith, e)) ∙ ap Some (no_more (read_commands new));
+  gives = λ h. let none : threads ≡ 0 = omega (arith, e) in t.goes h ∙ ap (λ m. with_commands (read_commands new) (no_commands m)) none ∙ ap Some (no_more (read_commands new));
   refuses = t.refuses;
 }
 

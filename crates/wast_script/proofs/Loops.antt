@@ -58,7 +58,7 @@ form_ends old new depth e s = record {
   lists = s.lists;
   tokens = s.tokens;
   clean = λ h. sym s.fault ∙ h;
-  gives = λ h. s.goes ∙ ap (λ k. form_end 0 k (left new)) (omega (arith, e));
+  gives = λ h. let none : depth ≡ 0 = omega (arith, e) in s.goes ∙ ap (λ k. form_end 0 k (left new)) none;
   keeps = λ h. s.fault;
   refuses = λ h f. absurd (none_refused new.fault (s.fault ∙ h) f);
 }

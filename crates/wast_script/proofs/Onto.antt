@@ -193,7 +193,7 @@ all_taken old new depth few s = record {
   tokens = s.tokens;
   clean = s.clean;
   lanes = s.lanes;
-  gives = λ h l. s.goes h l ∙ ap (λ k. with_parts (read_values new.lists) (alternatives 0 k (left new))) (omega (arith, few)) ∙ ap (λ vs. let o : List Value × Toks = (vs, left new) in Some o) (no_more (read_values new.lists));
+  gives = λ h l. let none : depth ≡ 0 = omega (arith, few) in s.goes h l ∙ ap (λ k. with_parts (read_values new.lists) (alternatives 0 k (left new))) none ∙ ap (λ vs. let o : List Value × Toks = (vs, left new) in Some o) (no_more (read_values new.lists));
   keeps = s.keeps;
   refuses = s.refuses;
 }

@@ -109,10 +109,11 @@ part_between a b xs s e first all = go (nat_le s e) refl
         above m n h = leb-false m n h
     go true f =
         let few : s ≤ e = leb-true s e f in
+        let size : e - (length xs - (length xs - a)) ≡ length (drop a xs) - length (drop b xs) = omega (arith, few, first, all, ca, cb) in
         part_is (record { start = s; end = e }) xs few (omega (arith, all))
         ∙ ap (λ m. take (e - m) (drop m xs)) (first ∙ ap (λ k. length xs - k) ca)
         ∙ ap (take (e - (length xs - (length xs - a)))) (dropped a xs)
-        ∙ ap (λ m. take m (drop a xs)) (omega (arith, few, first, all, ca, cb))
+        ∙ ap (λ m. take m (drop a xs)) size
 
 pub between_is : (old new : Reader) (s e : ℕ) → new.tokens ≡ old.tokens → s ≡ length old.tokens.items - count (left old) → e ≡ length new.tokens.items - count (left new)
     → part (record { start = s; end = e }) (all_bare new) ≡ between (left old) (left new)
