@@ -11,6 +11,8 @@ pub mod Numerals
 pub mod Onto
 pub mod Parts
 pub mod Rows
+pub mod Signs
 pub mod Steps
+pub mod Unsigned
 pub mod Verbs
 pub mod Worked

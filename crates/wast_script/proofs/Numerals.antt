@@ -1,5 +1,7 @@
 -- A number: its text, and then its value.
-use Rattle.std.proofs.Common.{◌≡◌, ◌≢◌, ◌∙◌, ℕ, List, Option, None, Some, refl, sym, ap, subst}
+use Rattle.std.proofs.Common.{◌≡◌, ◌≢◌, ◌∙◌, ℕ, List, Option, None, Some, Result, Ok, Err, refl, sym, ap, subst}
+use Rattle.std.specs.Prelude.{IfOk, IfErr}
+use Rattle.wat_tokens.specs.declared.faults.TextFault.{TextFault}
 use Rattle.std.specs.Borrow.{Bor}
 use Rattle.wat_grammar.specs.Parts.{◌>>=◌}
 use Rattle.wat_tokens.specs.declared.faults.TextError.{TextError}
@@ -7,7 +9,7 @@ use Rattle.wat_syntax.specs.Tokens.{Parse}
 use Rattle.wat_syntax.specs.Values.{number_text, number}
 use Rattle.wat_syntax.specs.Seen.{seen_text}
 use Rattle.wast_script.specs.declared.reader.Reader.{Reader}
-use Rattle.wast_script.specs.Readers.{left, IsRefused, Decides}
+use Rattle.wast_script.specs.Readers.{left, IsRefusal, IsRefused, Decides}
 
 -- A reader read the text of a number, and then its value.
 pub number_read : {T : Type 0} (meaning : List ℕ → Option T) (old mid new : Reader) (text : Bor (List ℕ)) (x : T) → Decides number_text old mid (seen_text text)
@@ -28,3 +30,18 @@ number_read {T = T} meaning old mid new text x d lists tokens clean gives stays 
     go : (o : Option TextError) → mid.fault ≡ o → old.fault ≡ None → IsRefused new.fault → number meaning (left old) ≡ None
     go None e h r = ap rest (d.gives e) ∙ ap (λ o. o >>= λ n. Some (n, left mid)) (refuses e r)
     go (Some y) e h r = ap rest (d.refuses h (subst IsRefused (keeps (λ n. cc)) r))
+
+-- the value of a text, or that it has none, by what the code found
+pub ok_of : {T : Type 0} (meaning : List ℕ → Option T) (text : List ℕ) (found : Result T TextFault) (x : T) → IfOk found (λ n. meaning text ≡ Some n) → found ≡ Ok x → meaning text ≡ Some x
+ok_of meaning text (Ok y) x h e = h ∙ ap Some (same_ok e)
+  where
+    same_ok : {A : Type 0} {y x : A} → Ok {E = TextFault} y ≡ Ok x → y ≡ x
+    same_ok e = cc
+ok_of meaning text (Err f) x h e = absurd cc
+
+pub err_of : {T : Type 0} (meaning : List ℕ → Option T) (text : List ℕ) (found : Result T TextFault) (f : TextFault) → IfErr found (λ e. IsRefusal e → meaning text ≡ None) → found ≡ Err f → IsRefusal f → meaning text ≡ None
+err_of meaning text (Ok y) f h e r = absurd cc
+err_of {T = T} meaning text (Err g) f h e r = h (subst IsRefusal (sym (same_err e)) r)
+  where
+    same_err : {g f : TextFault} → Err {T = T} g ≡ Err f → g ≡ f
+    same_err e = cc

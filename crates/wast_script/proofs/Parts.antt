@@ -93,7 +93,7 @@ part_between a b xs s e first all = go (nat_le s e) refl
     none n (y ∷ ys) e = ap (λ m. take m (y ∷ ys)) e
 
     dropped : (n : ℕ) (ys : List Placed) → drop (length ys - (length ys - n)) ys ≡ drop n ys
-    dropped zero ys = ap (λ m. drop m ys) (omega arith)
+    dropped zero ys = let none : length ys - (length ys - 0) ≡ 0 = omega arith in ap (λ m. drop m ys) none
     dropped (suc n) [] = refl
     dropped (suc n) (y ∷ ys) =
         let same : length (y ∷ ys) - (length (y ∷ ys) - suc n) ≡ suc (length ys - (length ys - n)) = omega arith in
@@ -126,3 +126,33 @@ between_is old new s e same first all =
     ∙ part_between old.at new.at (all_bare old) s e (first ∙ ap (λ n. n - length (drop old.at (all_bare old))) (sym old_length))
       (all ∙ ap (λ n. n - length (drop new.at (all_bare new))) (sym new_length) ∙ ap (λ (xs : List Placed). length xs - length (drop new.at xs)) same_bare)
     ∙ ap (λ (xs : List Placed). take (length (drop old.at (all_bare old)) - length (drop new.at xs)) (drop old.at (all_bare old))) (sym same_bare)
+
+-- a part of a list that is mapped
+take_mapped : {A B : Type 0} (f : A → B) (n : ℕ) (xs : List A) → take n (map f xs) ≡ map f (take n xs)
+take_mapped f zero [] = refl
+take_mapped f zero (x ∷ xs) = refl
+take_mapped f (suc n) [] = refl
+take_mapped f (suc n) (x ∷ xs) = ap (λ ys. f x ∷ ys) (take_mapped f n xs)
+
+drop_mapped : {A B : Type 0} (f : A → B) (n : ℕ) (xs : List A) → drop n (map f xs) ≡ map f (drop n xs)
+drop_mapped f zero [] = refl
+drop_mapped f zero (x ∷ xs) = refl
+drop_mapped f (suc n) [] = refl
+drop_mapped f (suc n) (x ∷ xs) = drop_mapped f n xs
+
+pub part_mapped : {A B : Type 0} (f : A → B) (p : Part) (xs : List A) → part p (map f xs) ≡ map f (part p xs)
+part_mapped {B = B} f p xs = go (nat_le p.start p.end) (nat_le p.end (length xs)) refl refl
+  where
+    size : length (map f xs) ≡ length xs
+    size = length-map xs f
+
+    sliced : slice_range (map f xs) p.start p.end ≡ map f (slice_range xs p.start p.end)
+    sliced = ap (take (p.end - p.start)) (drop_mapped f p.start xs) ∙ take_mapped f (p.end - p.start) (drop p.start xs)
+
+    by_tests : (a b : Bool) → (if a && b then slice_range (map f xs) p.start p.end else []) ≡ map f (if a && b then slice_range xs p.start p.end else [])
+    by_tests true true = sliced
+    by_tests true false = refl
+    by_tests false b = refl
+
+    go : (a b : Bool) → nat_le p.start p.end ≡ a → nat_le p.end (length xs) ≡ b → part p (map f xs) ≡ map f (part p xs)
+    go a b e g = is_part p (map f xs) a b e (ap (nat_le p.end) size ∙ g) ∙ by_tests a b ∙ ap (map f) (sym (is_part p xs a b e g))

@@ -166,6 +166,9 @@ allowed u c = Some c
 abbrev pub value_named : Use → List ℕ → Option Constant
 value_named u word = constant_named word >>= allowed u
 
+abbrev pub value_word : Use → Option Token → Option Constant
+value_word u t = word_in t >>= value_named u
+
 abbrev pub next_constant : Use → Toks → Parse Constant
 next_constant u toks = word_that (value_named u) toks
 

@@ -301,9 +301,13 @@ one_module toks = record { span = position toks; kind = Module_ (bare_module tok
 abbrev pub all_module : Toks → Option (List Command)
 all_module toks = Some (one_module toks)
 
+-- the verb that a token is
+abbrev pub verb_in : Option Token → Option Verb
+verb_in t = word_in t >>= verb_named
+
 -- whether '(' and a verb are next
 abbrev pub begins_command : Toks → Bool
-begins_command toks = is_lparen (peek 0 toks) && is_some (word_in (peek 1 toks) >>= verb_named)
+begins_command toks = is_lparen (peek 0 toks) && is_some (verb_in (peek 1 toks))
 
 -- script ::= command* | modulefield*
 abbrev pub script : Toks → Option (List Command)

@@ -1,6 +1,6 @@
 //! Reads actions, and what assertions run.
 
-ghost use Rattle.std.specs.Prelude.{◌≡◌, codes};
+ghost use Rattle.std.specs.Prelude.{◌≤◌};
 ghost use Rattle.wast_script.specs.Grammar.{action, arguments, invocation, run_action, execution};
 ghost use Rattle.wast_script.specs.Scripts.{part, action_in, execution_in};
 ghost use Rattle.wast_script.specs.Readers.{left, all_bare, HasArguments, HasExecuted, Reads};

@@ -6,13 +6,12 @@ ghost use Rattle.wat_syntax.specs.Instructions.{signed_number, times};
 ghost use Rattle.wat_syntax.specs.Tokens.{peek, count};
 ghost use Rattle.wat_syntax.specs.Values.{number, u32, index};
 ghost use Rattle.wat_grammar.specs.Integers.{integer};
-ghost use Rattle.wat_grammar.specs.Parts.{◌>>=◌};
 ghost use Rattle.wat_laws.specs.Bare.{bare_heap, bare_index, bare_index_option};
 ghost use Rattle.wast_script.specs.Words.{shape_named, constant_named};
 ghost use Rattle.wast_script.specs.declared.values.Number.TheVariants as num;
 ghost use Rattle.wast_script.specs.declared.words.Constant.TheVariants as constant;
 ghost use Rattle.wast_script.specs.declared.words.Use.TheVariants as usage;
-ghost use Rattle.wast_script.specs.Constants.{nan_of, float_of, lane_of, lane_count, lanes, vector, word_in, word_that, abstract_heap, shared_heap, heap_type, null_type, host_number, function_index, constant_of, value_named, next_constant, value, one_value, all_alternatives, either, argument_or_result, values, Value as ListedValue};
+ghost use Rattle.wast_script.specs.Constants.{nan_of, float_of, lane_of, lane_count, lanes, vector, word_in, word_that, abstract_heap, shared_heap, heap_type, null_type, host_number, function_index, constant_of, value_word, next_constant, value, one_value, all_alternatives, either, argument_or_result, values, Value as ListedValue};
 ghost use Rattle.wast_script.specs.Scripts.{part, value_in};
 ghost use Rattle.wast_script.specs.Readers.{left, read_values, IsRefusal, IsRefused, IsFirst, HasLanes, HaveLanes, Decides, Finds, PushesLane, PushesValue, SetsEither, TakesAlternative, TakesAlternatives, ReadsLanes, ReadsValue, ReadsOnto, Reads};
 
@@ -41,6 +40,7 @@ fn nan_of(usage: Use, word: &str) -> Option<Number>
 }
 
 /// The bits of a float of 32 bits, or a NaN of a result.
+#[tactic(auto, using(crate::proofs::Signs::float_is, crate::proofs::Signs::float_not))]
 fn float_of32(alloc: Global, usage: Use, text: &str) -> Result<Number, TextFault>
     ensures gives { IfOk result (λ n. float_of binary32 usage text.now ≡ Some n) }
     ensures refuses { IfErr result (λ e. IsRefusal e → float_of binary32 usage text.now ≡ None) }
@@ -55,6 +55,7 @@ fn float_of32(alloc: Global, usage: Use, text: &str) -> Result<Number, TextFault
 }
 
 /// The bits of a float of 64 bits, or a NaN of a result.
+#[tactic(auto, using(crate::proofs::Signs::float_is, crate::proofs::Signs::float_not))]
 fn float_of64(alloc: Global, usage: Use, text: &str) -> Result<Number, TextFault>
     ensures gives { IfOk result (λ n. float_of binary64 usage text.now ≡ Some n) }
     ensures refuses { IfErr result (λ e. IsRefusal e → float_of binary64 usage text.now ≡ None) }
@@ -300,6 +301,7 @@ impl<'a> Reader<'a> {
     }
 
     /// The index of a type, which is the heap type if no word is.
+    #[tactic(auto, using(crate::proofs::Unsigned::no_index))]
     fn type_index(&mut self) -> Index<'a>
         ensures { Decides index self.old self.new (bare_index result) }
     {
@@ -366,7 +368,7 @@ impl<'a> Reader<'a> {
 
     /// The word that begins a value of this use, if it is next.
     fn allowed_word(&self, usage: Use) -> Option<Constant>
-        ensures { result ≡ (word_in (peek 0 (left self.now)) >>= value_named usage) }
+        ensures { result ≡ value_word usage (peek 0 (left self.now)) }
     {
         let word = match self.word(0) {
             Some(word) => constant_of(word)?,

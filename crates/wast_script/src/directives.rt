@@ -1,7 +1,6 @@
 //! Reads commands.
 
 ghost use Rattle.std.specs.Prelude.{◌≡◌, ◌≢◌, ◌≤◌, ◌<◌, ◌^◌, ◌-◌, ℕ, [], List, suc, None, Some, codes};
-ghost use Rattle.wat_grammar.specs.Parts.{◌>>=◌};
 ghost use Rattle.wat_syntax.specs.Tokens.{after, position, count, peek};
 ghost use Rattle.wast_script.specs.Words.{verb_named};
 ghost use Rattle.wast_script.specs.Constants.{word_in, word_that, Value};
@@ -9,7 +8,7 @@ ghost use Rattle.wat_tokens.specs.declared.tokens.Placed.{Placed};
 ghost use Rattle.wat_laws.specs.Bare.{bare_id, bare_id_option};
 ghost use Rattle.wast_script.specs.declared.commands.CommandKind.TheVariants as kind;
 ghost use Rattle.wast_script.specs.Grammar.{module_command, module_or_instance, instance, register_command, action_command, message, return_command, exhaustion_command, exception_command, shared_module, thread_command, wait_command, command_of, command, command_or_end, commands_in, threads_after, ends_thread, begins_command, script};
-ghost use Rattle.wast_script.specs.Grammar.{about_module, about_run, AssertTrap, AssertSuspension, AssertMalformed, AssertMalformedCustom, AssertInvalid, AssertInvalidCustom, AssertUnlinkable, module_assertion, run_assertion, module_of_thread, all_commands, all_module};
+ghost use Rattle.wast_script.specs.Grammar.{verb_in, about_module, about_run, AssertTrap, AssertSuspension, AssertMalformed, AssertMalformedCustom, AssertInvalid, AssertInvalidCustom, AssertUnlinkable, module_assertion, run_assertion, module_of_thread, all_commands, all_module};
 ghost use Rattle.wast_script.specs.Scripts.{part, module_in, execution_in, kind_in, command_in};
 ghost use Rattle.wast_script.specs.Readers.{left, all_bare, read_commands, read_values, HasExecuted, HasValues, HaveLanes, HaveValues, IsRefused, IsNew, Decides, Moves, Reads, Pushes, TakesCommand, TakesCommands, ReadsAll};
 
@@ -279,7 +278,7 @@ impl<'a> Reader<'a> {
 
     /// Returns the verb so far ahead, if there is one.
     fn verb(&self, ahead: usize) -> Option<Verb>
-        ensures { result ≡ (word_in (peek ahead (left self.now)) >>= verb_named) }
+        ensures { result ≡ verb_in (peek ahead (left self.now)) }
     {
         match self.word(ahead) {
             Some(word) => verb_of(word),

@@ -46,7 +46,7 @@ pub enum Shape {
 impl Shape {
     /// Returns how many lanes a vector of this shape has: 16 for `i8x16`.
     pub fn lanes(self) -> usize
-        ensures { result ≡ lane_count self.entry }
+        ensures { result ≡ lane_count self }
     {
         match self {
             Shape::I8x16 => 16,
