@@ -113,17 +113,17 @@ execution_on tokens (run.Action a) xs zs n h e f =
     ap (λ vs. Runs (record { span = a.span; kind = a.kind; «module» = bare_id_option a.«module»; name = a.name.now; arguments = vs })) (part_on a.arguments xs zs n h e f)
 execution_on tokens (run.Module m) xs zs n h e f = refl
 
-has_on : (e : code_execution.Execution) (m n : ℕ) → m ≤ n → HasExecuted m e → HasExecuted n e
+pub has_on : (e : code_execution.Execution) (m n : ℕ) → m ≤ n → HasExecuted m e → HasExecuted n e
 has_on (run.Action a) m n few h = omega (arith, few, h)
 has_on (run.Module x) m n few h = tt
 
 longer : {T : Type 0} (xs zs : List T) → IsFirst xs zs → length xs ≤ length zs
 longer xs zs f = let one : length zs ≡ length (xs ++ f.more) = ap length f.is in let two : length (xs ++ f.more) ≡ length xs + length f.more = length-append xs f.more in omega (arith, one, two)
 
-value_count : (l : Lists) → length (read_values l) ≡ length l.values.items
+pub value_count : (l : Lists) → length (read_values l) ≡ length l.values.items
 value_count l = length-map l.values.items (value_in l.lanes.items)
 
-grown : (b c : Reader) → IsFirst (read_values b.lists) (read_values c.lists) → length b.lists.values.items ≤ length c.lists.values.items
+pub grown : (b c : Reader) → IsFirst (read_values b.lists) (read_values c.lists) → length b.lists.values.items ≤ length c.lists.values.items
 grown b c f = let e : length (read_values b.lists) ≡ length b.lists.values.items = value_count b.lists in let g : length (read_values c.lists) ≡ length c.lists.values.items = value_count c.lists in
     let few : length (read_values b.lists) ≤ length (read_values c.lists) = longer (read_values b.lists) (read_values c.lists) f in omega (arith, e, g, few)
 
@@ -159,8 +159,11 @@ return_read a b c d e results runs takes close =
     bare_on : all_bare b ≡ all_bare d
     bare_on = ap (λ (t : Vec Placed). map bare_placed t.items) (sym (close.tokens ∙ takes.tokens))
 
-    in_other_words : d.fault ≡ None → HaveLanes a.lists → Some (AssertReturn (execution_in (all_bare b) (read_values b.lists) e) (part results (read_values c.lists)), left d)
-        ≡ Some (AssertReturn (execution_in (all_bare d) (read_values d.lists) e) (part results (read_values d.lists)), left d)
+    at_end : Kind → Parse Kind
+    at_end k = Some (k, left d)
+
+    in_other_words : d.fault ≡ None → HaveLanes a.lists → at_end (AssertReturn (execution_in (all_bare b) (read_values b.lists) e) (part results (read_values c.lists)))
+        ≡ at_end (AssertReturn (execution_in (all_bare d) (read_values d.lists) e) (part results (read_values d.lists)))
     in_other_words h l =
         ap (λ x. let o : Kind × Toks = (AssertReturn x (part results (read_values c.lists)), left d) in Some o)
           (sym (execution_on (all_bare b) e (read_values b.lists) (read_values c.lists) (length b.lists.values.items) (runs.within (takes.clean (close.clean h)) l) (sym (value_count b.lists)) (takes.values (close.clean h) (mid h l))))
@@ -220,7 +223,7 @@ other_read a b c ts x m r =
     (wrapped invocation Runs b c (λ vs. action_in vs x) (λ n. HasArguments n x) (λ n. HasArguments n x) r (λ n h. h))
 
 -- what is run: a module, or an action
-by_module : Bool → Toks → Parse Execution
+abbrev by_module : Bool → Toks → Parse Execution
 by_module b toks = elim b [ true ↦ in_parentheses toks >>= λ m. Some (Instantiates m.0, m.1) | false ↦ run_action toks ]
 
 pub module_run : (a b : Reader) (m : ScriptModule) → is_form (codes "module") (left a) ≡ true → Decides in_parentheses a b (module_in (all_bare b) m)

@@ -23,7 +23,7 @@ none_refused None e f = f
 none_refused (Some x) e f = absurd cc
 
 -- one step, by whether ')' is next, and whether '(' 'either' is
-branch : ℕ → ℕ → Toks → Bool → Option Toks → Parse (List Value)
+abbrev branch : ℕ → ℕ → Toks → Bool → Option Toks → Parse (List Value)
 branch n d toks closes opens = elim closes [
   | true ↦ alternatives n d (after toks)
   | false ↦ elim opens [
@@ -71,14 +71,17 @@ opens_one depth behind a b is m more = record {
   refuses = λ h l f. absurd (none_refused b.fault (m.fault ∙ h) f);
 }
 
-one_is : (p : Parse Value) (ms : List Value) (rest : Toks) → (p >>= λ v. Some (v.0 ∷ [], v.1)) ≡ Some (ms, rest) → (v : Value) × ((p ≡ Some (v, rest)) × (ms ≡ v ∷ []))
+abbrev single : Parse Value → Parse (List Value)
+single o = o >>= λ v. Some (v.0 ∷ [], v.1)
+
+one_is : (p : Parse Value) (ms : List Value) (rest : Toks) → single p ≡ Some (ms, rest) → (v : Value) × ((p ≡ Some (v, rest)) × (ms ≡ v ∷ []))
 one_is None ms rest e = absurd cc
 one_is (Some r) ms rest e = (r.0, (ap (λ t. let o : Value × Toks = (r.0, t) in Some o) (ap (λ (o : List Value × Toks). o.1) (the_same e)), sym (ap (λ (o : List Value × Toks). o.0) (the_same e))))
   where
     the_same : {A : Type 0} {x y : A} → Some x ≡ Some y → x ≡ y
     the_same e = cc
 
-none_is : (p : Parse Value) → (p >>= λ v. Some (v.0 ∷ [], v.1)) ≡ None → p ≡ None
+none_is : (p : Parse Value) → single p ≡ None → p ≡ None
 none_is None e = refl
 none_is (Some r) e = absurd cc
 

@@ -103,7 +103,7 @@ plain_read rule old new v d plain none more = record {
 }
 
 -- what a rule reads onto a list: what the list has more then
-more_is : {T : Type 0} (xs ys : List T) (p : Parse (List T)) (rest : Toks) → with_parts xs p ≡ Some (ys, rest) → (more : List T) × ((p ≡ Some (more, rest)) × (ys ≡ xs ++ more))
+pub more_is : {T : Type 0} (xs ys : List T) (p : Parse (List T)) (rest : Toks) → with_parts xs p ≡ Some (ys, rest) → (more : List T) × ((p ≡ Some (more, rest)) × (ys ≡ xs ++ more))
 more_is xs ys None rest e = absurd cc
 more_is xs ys (Some r) rest e = (r.0, (ap (λ t. let o : List _ × Toks = (r.0, t) in Some o) (ap (λ (o : List _ × Toks). o.1) (the_same e)), sym (ap (λ (o : List _ × Toks). o.0) (the_same e))))
   where

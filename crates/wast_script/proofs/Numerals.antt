@@ -33,15 +33,9 @@ number_read {T = T} meaning old mid new text x d lists tokens clean gives stays 
 
 -- the value of a text, or that it has none, by what the code found
 pub ok_of : {T : Type 0} (meaning : List ℕ → Option T) (text : List ℕ) (found : Result T TextFault) (x : T) → IfOk found (λ n. meaning text ≡ Some n) → found ≡ Ok x → meaning text ≡ Some x
-ok_of meaning text (Ok y) x h e = h ∙ ap Some (same_ok e)
-  where
-    same_ok : {A : Type 0} {y x : A} → Ok {E = TextFault} y ≡ Ok x → y ≡ x
-    same_ok e = cc
+ok_of meaning text (Ok y) x h e = h ∙ ap Some cc
 ok_of meaning text (Err f) x h e = absurd cc
 
 pub err_of : {T : Type 0} (meaning : List ℕ → Option T) (text : List ℕ) (found : Result T TextFault) (f : TextFault) → IfErr found (λ e. IsRefusal e → meaning text ≡ None) → found ≡ Err f → IsRefusal f → meaning text ≡ None
 err_of meaning text (Ok y) f h e r = absurd cc
-err_of {T = T} meaning text (Err g) f h e r = h (subst IsRefusal (sym (same_err e)) r)
-  where
-    same_err : {g f : TextFault} → Err {T = T} g ≡ Err f → g ≡ f
-    same_err e = cc
+err_of meaning text (Err g) f h e r = let same : f ≡ g = cc in h (subst IsRefusal same r)

@@ -92,9 +92,13 @@ part_between a b xs s e first all = go (nat_le s e) refl
     none n [] e = ap (λ m. take m []) e
     none n (y ∷ ys) e = ap (λ m. take m (y ∷ ys)) e
 
+    drop_none : (m : ℕ) → drop {A = Placed} m [] ≡ []
+    drop_none zero = refl
+    drop_none (suc m) = refl
+
     dropped : (n : ℕ) (ys : List Placed) → drop (length ys - (length ys - n)) ys ≡ drop n ys
     dropped zero ys = let none : length ys - (length ys - 0) ≡ 0 = omega arith in ap (λ m. drop m ys) none
-    dropped (suc n) [] = refl
+    dropped (suc n) [] = drop_none (0 - (0 - suc n))
     dropped (suc n) (y ∷ ys) =
         let same : length (y ∷ ys) - (length (y ∷ ys) - suc n) ≡ suc (length ys - (length ys - n)) = omega arith in
         ap (λ m. drop m (y ∷ ys)) same ∙ dropped n ys

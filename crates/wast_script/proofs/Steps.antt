@@ -30,7 +30,7 @@ pub first_same : {T : Type 0} (xs ys : List T) → ys ≡ xs → IsFirst xs ys
 first_same xs ys e = record { more = []; is = e ∙ sym (no_more xs) }
 
 pub first_on : {T : Type 0} (xs ys zs : List T) → IsFirst xs ys → IsFirst ys zs → IsFirst xs zs
-first_on xs ys zs p q = record { more = p.more ++ q.more; is = q.is ∙ ap (λ as. as ++ q.more) p.is ∙ append_assoc xs p.more q.more }
+first_on xs ys zs p q = record { more = p.more ++ q.more; is = q.is ∙ ap (λ us. us ++ q.more) p.is ∙ append_assoc xs p.more q.more }
 
 -- one step after another
 pub both : {T : Type 0} (a b c : Reader) (p q r : Option T) → Steps a b p q → Steps b c q r → Steps a c p r

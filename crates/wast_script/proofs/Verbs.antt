@@ -51,7 +51,7 @@ none_refused None e f = f
 none_refused (Some x) e f = absurd cc
 
 -- the rule of a command, or that of the end of a thread
-by_end : Bool → Toks → Parse Command
+abbrev by_end : Bool → Toks → Parse Command
 by_end b toks = elim b [ true ↦ Some (record { span = position toks; kind = ThreadEnd }, after toks) | false ↦ command toks ]
 
 pub end_read : (threads : ℕ) (a b : Reader) → ends_thread threads (left a) ≡ true → Moves after a b

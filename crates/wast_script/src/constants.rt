@@ -413,7 +413,7 @@ impl<'a> Reader<'a> {
 
     /// Adds a value.
     fn push_value(&mut self, value: Value<'a>)
-        ensures { PushesValue self.old self.new value }
+        ensures { PushesValue self.old self.new value.entry }
     {
         let is_pushed = self.lists.values.push(value).is_ok();
         self.took(is_pushed);

@@ -21,7 +21,7 @@ use wast_base::{Id, Span};
 /// How many threads are open after a command.
 fn threads_after(kind: CommandKind<'_>, threads: u128) -> u128
     requires { threads < 2 ^ 127 }
-    ensures after { (ts : List Placed) (vs : List Value) → result ≡ threads_after (kind_in ts vs kind) threads }
+    ensures after { (ts : List Placed) (vs : List Value) → result ≡ threads_after (kind_in ts vs kind.entry) threads }
     ensures few { result ≤ suc threads }
 {
     match kind {
@@ -341,7 +341,7 @@ impl<'a> Reader<'a> {
 
     /// Adds a command.
     fn push_command(&mut self, command: Command<'a>)
-        ensures { Pushes self.old self.new command }
+        ensures { Pushes self.old self.new command.entry }
     {
         let is_pushed = self.lists.commands.push(command).is_ok();
         self.took(is_pushed);
