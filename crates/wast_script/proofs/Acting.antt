@@ -1,12 +1,12 @@
 -- Actions, what assertions run, and commands: the steps of their rules.
-use Rattle.std.proofs.Common.{◌≡◌, ◌≢◌, ◌∙◌, ℕ, ◌+◌, ◌≤◌, Bool, true, false, List, [], ◌∷◌, ◌++◌, length, map, codes, Option, None, Some, refl, sym, ap, subst, arith, length-append}
+use Rattle.std.proofs.Common.{◌≡◌, ◌∙◌, ℕ, ◌+◌, ◌≤◌, Bool, true, false, List, [], ◌++◌, length, map, codes, Option, None, Some, refl, sym, ap, subst, arith, length-append}
 use Rattle.std.specs.Global.{Vec}
 use Rattle.std.proofs.lemmas.List.{length-map}
 use Rattle.std.specs.Borrow.{Bor}
 use Rattle.wat_grammar.specs.Parts.{◌>>=◌}
 use Rattle.wat_tokens.specs.declared.tokens.Placed.{Placed}
 use Rattle.wat_syntax.specs.Tree.{Span, Id}
-use Rattle.wat_syntax.specs.Tokens.{Toks, Parse, rparen, optional}
+use Rattle.wat_syntax.specs.Tokens.{Toks, Parse, rparen}
 use Rattle.wat_syntax.specs.Values.{id, name}
 use Rattle.wat_syntax.specs.Seen.{seen_text}
 use Rattle.wat_laws.specs.Bare.{bare_placed, bare_id_option}

@@ -1,5 +1,5 @@
 -- The alternatives of `either`: one step, and the value that counts them.
-use Rattle.std.proofs.Common.{◌≡◌, ◌≢◌, ◌∙◌, ℕ, zero, suc, ◌+◌, ◌-◌, ◌<◌, ◌≤◌, Bool, true, false, List, [], ◌∷◌, ◌++◌, length, map, codes, All, Option, None, Some, refl, sym, ap, subst, arith, length-append, append_assoc}
+use Rattle.std.proofs.Common.{◌≡◌, ◌∙◌, ℕ, zero, suc, ◌+◌, ◌-◌, ◌<◌, Bool, true, false, List, [], ◌∷◌, ◌++◌, length, map, codes, All, Option, None, Some, refl, sym, ap, subst, arith, length-append, append_assoc}
 use Rattle.std.specs.Prelude.{slice_set}
 use Rattle.std.specs.Global.{Vec}
 use Rattle.std.proofs.lemmas.List.{length-map}
@@ -7,7 +7,6 @@ use Rattle.wat_grammar.specs.Parts.{◌>>=◌}
 use Rattle.wat_tokens.specs.declared.faults.TextError.{TextError}
 use Rattle.wat_syntax.specs.Tokens.{Toks, Parse, peek, after, is_rparen, with_parts}
 use Rattle.wast_script.specs.declared.values.Number.{Number}
-use Rattle.wast_script.specs.declared.values.Value as code_value
 use Rattle.wast_script.specs.declared.values.Value.TheVariants as val
 use Rattle.wast_script.specs.declared.words.Use.TheVariants as usage
 use Rattle.wast_script.specs.declared.reader.Lists.{Lists}

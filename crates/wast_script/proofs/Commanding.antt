@@ -8,7 +8,6 @@ use Rattle.wat_tokens.specs.declared.faults.TextError.{TextError}
 use Rattle.wat_syntax.specs.Tree.{Span}
 use Rattle.wat_syntax.specs.Tokens.{Toks, count}
 use Rattle.wat_laws.specs.Bare.{bare_placed}
-use Rattle.wast_script.specs.declared.values.Part.{Part}
 use Rattle.wast_script.specs.declared.values.Number.{Number}
 use Rattle.wast_script.specs.declared.values.Value as code_value
 use Rattle.wast_script.specs.declared.commands.Action as code_action
@@ -18,9 +17,9 @@ use Rattle.wast_script.specs.declared.commands.Command as code_command
 use Rattle.wast_script.specs.declared.reader.Lists.{Lists}
 use Rattle.wast_script.specs.declared.reader.Reader.{Reader}
 use Rattle.wast_script.specs.Constants.{Value}
-use Rattle.wast_script.specs.Grammar.{Kind, Acts, AssertReturn, AssertTrap, AssertExhaustion, AssertException, AssertSuspension, Action, Command, command_or_end, threads_after, no_commands, commands_in, all_commands}
+use Rattle.wast_script.specs.Grammar.{Acts, AssertReturn, AssertTrap, AssertExhaustion, AssertException, AssertSuspension, Action, Command, command_or_end, threads_after, no_commands, commands_in, all_commands}
 use Rattle.wast_script.specs.Scripts.{part, action_in, execution_in, kind_in, command_in}
-use Rattle.wast_script.specs.Readers.{left, all_bare, read_values, read_commands, IsRefused, IsFirst, HasLanes, HasExecuted, HasValues, HaveLanes, HaveValues, Reads, Pushes, Fails, IsNew, ReadsAll, with_commands, TakesCommand, TakesCommands}
+use Rattle.wast_script.specs.Readers.{left, all_bare, read_values, read_commands, IsRefused, IsFirst, HasLanes, HasValues, HaveLanes, HaveValues, Reads, Pushes, Fails, IsNew, ReadsAll, with_commands, TakesCommand, TakesCommands}
 use Rattle.wast_script.proofs.Lists.{no_more, mapped, all_tail, all_one}
 use Rattle.wast_script.proofs.Parts.{part_on}
 use Rattle.wast_script.proofs.Acting.{execution_on, has_on, value_count, grown}

@@ -1,13 +1,11 @@
 -- Steps of a rule that does not depend on the lists of the reader, and the rules of values.
-use Rattle.std.proofs.Common.{◌≡◌, ◌≢◌, ◌∙◌, ℕ, ◌≤◌, List, [], ◌∷◌, ◌++◌, length, map, Option, None, Some, refl, sym, ap, subst, arith}
-use Rattle.std.specs.Global.{Vec}
+use Rattle.std.proofs.Common.{◌≡◌, ◌≢◌, ◌∙◌, ℕ, ◌≤◌, List, [], ◌++◌, length, Option, None, Some, refl, sym, ap, subst, arith}
 use Rattle.std.proofs.lemmas.List.{length-map}
 use Rattle.wat_grammar.specs.Parts.{◌>>=◌}
 use Rattle.wat_tokens.specs.declared.faults.TextError.{TextError}
 use Rattle.wat_syntax.specs.Tokens.{Toks, Parse, lparen, rparen, optional, with_parts}
 use Rattle.wast_script.specs.declared.values.Number.{Number}
 use Rattle.wast_script.specs.declared.values.Shape.{Shape}
-use Rattle.wast_script.specs.declared.values.Part.{Part}
 use Rattle.wast_script.specs.declared.values.Value as code_value
 use Rattle.wast_script.specs.declared.values.Value.TheVariants as val
 use Rattle.wast_script.specs.declared.words.Use.{Use}
@@ -17,7 +15,7 @@ use Rattle.wast_script.specs.declared.reader.Reader.{Reader}
 use Rattle.wast_script.specs.Words.{shape_named}
 use Rattle.wast_script.specs.Constants.{Value, V128, word_that, lanes, vector, constant_of, next_constant, value, values}
 use Rattle.wast_script.specs.Scripts.{part, value_in}
-use Rattle.wast_script.specs.Readers.{left, read_values, IsRefused, IsFirst, HasLanes, HaveLanes, Decides, Expects, Finds, ReadsLanes, ReadsValue, ReadsOnto, Reads}
+use Rattle.wast_script.specs.Readers.{left, read_values, IsRefused, IsFirst, HasLanes, Decides, Expects, Finds, ReadsLanes, ReadsValue, ReadsOnto, Reads}
 use Rattle.wast_script.proofs.Lists.{no_more}
 use Rattle.wast_script.proofs.Parts.{part_last}
 

@@ -1,5 +1,5 @@
 -- Lists of parts, as a loop reads them: one more list, and the end of the loop (as Loops in wat_text).
-use Rattle.std.proofs.Common.{◌≡◌, ◌∙◌, ℕ, zero, suc, ◌+◌, ◌<◌, ◌≤◌, Bool, true, false, List, [], ◌∷◌, ◌++◌, length, map, All, Option, None, Some, refl, sym, ap, append_assoc, arith}
+use Rattle.std.proofs.Common.{◌≡◌, ◌∙◌, ℕ, zero, suc, Bool, true, false, List, [], ◌∷◌, ◌++◌, map, All, None, Some, refl, sym, ap, append_assoc, arith}
 use Rattle.wat_grammar.specs.Parts.{◌>>=◌}
 use Rattle.wat_syntax.specs.Tokens.{Toks, Parse, many_lists, with_parts}
 

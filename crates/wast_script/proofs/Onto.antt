@@ -1,22 +1,22 @@
 -- Values that a reader adds to those that it had, and what lists that grow do to earlier values.
-use Rattle.std.proofs.Common.{◌≡◌, ◌≢◌, ◌∙◌, ℕ, zero, suc, ◌+◌, ◌-◌, ◌<◌, ◌≤◌, Bool, true, false, List, [], ◌∷◌, ◌++◌, length, map, All, Option, None, Some, refl, sym, ap, subst, arith, length-append}
+use Rattle.std.proofs.Common.{◌≡◌, ◌≢◌, ◌∙◌, ℕ, zero, suc, ◌+◌, ◌-◌, ◌<◌, ◌≤◌, true, List, [], ◌∷◌, ◌++◌, length, map, All, Option, None, Some, refl, sym, ap, subst, arith, length-append}
 use Rattle.std.specs.Global.{Vec}
 use Rattle.wat_grammar.specs.Parts.{◌>>=◌}
 use Rattle.wat_tokens.specs.declared.faults.TextFault.{TextFault}
 use Rattle.wat_tokens.specs.declared.faults.TextError.{TextError}
 use Rattle.wat_syntax.specs.Tree.{Span}
-use Rattle.wat_syntax.specs.Tokens.{Toks, Parse, count, many_lists, with_parts}
+use Rattle.wat_syntax.specs.Tokens.{Toks, Parse, many_lists, with_parts}
 use Rattle.wast_script.specs.declared.values.Number.{Number}
 use Rattle.wast_script.specs.declared.values.Value as code_value
 use Rattle.wast_script.specs.declared.values.Value.TheVariants as val
 use Rattle.wast_script.specs.declared.words.Use.{Use}
 use Rattle.wast_script.specs.declared.reader.Lists.{Lists}
 use Rattle.wast_script.specs.declared.reader.Reader.{Reader}
-use Rattle.wast_script.specs.Constants.{Value, V128, value, one_value, is_form_next, argument_or_result, values, alternatives, all_alternatives}
+use Rattle.wast_script.specs.Constants.{Value, V128, value, one_value, is_form_next, argument_or_result, alternatives, all_alternatives}
 use Rattle.wast_script.specs.Scripts.{value_in}
 use Rattle.wast_script.specs.Readers.{left, read_values, IsRefused, IsFirst, HasLanes, HaveLanes, PushesValue, Fails, ReadsOnto, ReadsValue, TakesAlternative, TakesAlternatives}
 use Rattle.wast_script.proofs.Parts.{part_stays}
-use Rattle.wast_script.proofs.Lists.{no_more, mapped, none_after, list_more, list_none, list_end, list_last, all_tail, all_one}
+use Rattle.wast_script.proofs.Lists.{no_more, mapped, none_after, list_more, list_none, all_tail, all_one}
 
 -- a value, by lanes that were added later
 value_stays : (v : code_value.Value) (xs ys : List Number) → HasLanes (length xs) v → value_in (xs ++ ys) v ≡ value_in xs v

@@ -1,12 +1,12 @@
 -- Parts of lists: the last elements of a list, parts of a list that grows, and the tokens between two places.
-use Rattle.std.proofs.Common.{◌≡◌, ◌∙◌, ℕ, zero, suc, ◌+◌, ◌-◌, ◌<◌, ◌≤◌, Bool, true, false, ◌&&◌, List, [], ◌∷◌, ◌++◌, length, map, take, drop, Option, None, Some, refl, sym, ap, arith, length-append, length-drop}
+use Rattle.std.proofs.Common.{◌≡◌, ◌∙◌, ℕ, zero, suc, ◌+◌, ◌-◌, ◌<◌, ◌≤◌, Bool, true, false, ◌&&◌, List, [], ◌∷◌, ◌++◌, length, map, take, drop, refl, sym, ap, arith, length-append, length-drop}
 use Rattle.std.specs.Prelude.{nat_le, if◌then◌else◌, slice_range}
 use Rattle.std.proofs.lemmas.Bool.{leb-true, leb-false, le-leb}
 use Rattle.std.proofs.lemmas.List.{length-map}
 use Rattle.std.specs.Global.{Vec}
 use Rattle.wat_tokens.specs.declared.tokens.Placed.{Placed}
 use Rattle.wat_laws.specs.Bare.{bare_placed}
-use Rattle.wat_syntax.specs.Tokens.{Toks, count}
+use Rattle.wat_syntax.specs.Tokens.{count}
 use Rattle.wast_script.specs.declared.values.Part.{Part}
 use Rattle.wast_script.specs.Grammar.{between}
 use Rattle.wast_script.specs.Scripts.{part}

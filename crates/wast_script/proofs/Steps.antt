@@ -1,14 +1,14 @@
 -- Steps of a rule: after a reader has read a part, the rest of the rule has the result that its start had before.
 --
 --   (invoke "f")      after `(invoke`, the rule of actions reads on at the name
-use Rattle.std.proofs.Common.{◌≡◌, ◌≢◌, ◌∙◌, ℕ, List, [], ◌∷◌, ◌++◌, length, map, Option, None, Some, refl, sym, ap, subst, append_assoc}
+use Rattle.std.proofs.Common.{◌≡◌, ◌≢◌, ◌∙◌, ℕ, List, [], ◌∷◌, ◌++◌, length, Option, None, Some, refl, sym, ap, subst, append_assoc}
 use Rattle.wat_grammar.specs.Parts.{◌>>=◌}
 use Rattle.wat_tokens.specs.declared.faults.TextError.{TextError}
 use Rattle.wat_syntax.specs.Tokens.{Toks, Parse, optional}
 use Rattle.wast_script.specs.Constants.{Value}
 use Rattle.wast_script.specs.declared.reader.Lists.{Lists}
 use Rattle.wast_script.specs.declared.reader.Reader.{Reader}
-use Rattle.wast_script.specs.Readers.{left, read_values, IsRefused, IsFirst, HaveLanes, Decides, Expects, Accepts, Finds, Reads}
+use Rattle.wast_script.specs.Readers.{left, read_values, IsRefused, IsFirst, HaveLanes, Decides, Expects, Finds, Reads}
 
 -- A reader read a part of what a rule reads. If there is no error afterwards, the start of the rule is its rest. If the reader rejected
 -- the tokens, the start is `None`.

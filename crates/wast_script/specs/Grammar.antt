@@ -12,7 +12,6 @@ use Rattle.wat_grammar.specs.Tokens as grammar
 use Rattle.wat_tokens.specs.Words.{word_named}
 use Rattle.wat_tokens.specs.declared.tokens.Token.{Token}
 use Rattle.wat_tokens.specs.declared.tokens.Token.TheVariants as token
-use Rattle.wat_tokens.specs.declared.tokens.Annotation.TheVariants as annotation
 use Rattle.wat_tokens.specs.declared.tokens.Placed.{Placed}
 use Rattle.wat_syntax.specs.Tree.{Span, Id}
 use Rattle.wat_syntax.specs.Tokens.{Toks, Parse, peek, after, position, position_in, count, is_lparen, is_rparen, lparen, rparen, optional}

@@ -8,8 +8,8 @@ use Rattle.wat_tokens.specs.declared.tokens.Placed.{Placed}
 use Rattle.wat_syntax.specs.Tree.{Span, Id}
 use Rattle.wat_syntax.specs.Seen.{text_of}
 use Rattle.wat_syntax.specs.Worked.{num, named, quoted, toks, made}
-use Rattle.wast_script.specs.Constants.{Value, I32, F32, V128, Either, values}
-use Rattle.wast_script.specs.Grammar.{Module, Kind, Module_, Register, AssertInvalid, Acts, Thread, ThreadEnd, Wait, Command, command, in_parentheses, script_of}
+use Rattle.wast_script.specs.Constants.{I32, F32, V128, Either, values}
+use Rattle.wast_script.specs.Grammar.{Kind, Module_, Register, Acts, Thread, ThreadEnd, Wait, Command, in_parentheses, script_of}
 use Rattle.wast_script.specs.declared.commands.ActionKind.TheVariants as action_kind
 use Rattle.wast_script.specs.declared.commands.ModuleForm.TheVariants as module_form
 use Rattle.wast_script.specs.declared.values.Number.TheVariants as number
