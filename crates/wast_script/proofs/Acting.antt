@@ -94,14 +94,14 @@ pub action_read : (k : ActionKind) (a b c d e : Reader) (span : Span) (m : Optio
 action_read k a b c d e span m nm args at finds named takes close =
     all_read (action k) a e (action_in_of span k m nm args) (λ n. args.end ≤ n)
     (turned a e _ _ _
-      (both a b e _ _ _ (by_finds id a b (bare_id_option m) (λ m. name m.1 >>= λ nm. arguments k nm.1 >>= λ args. rparen args.1 >>= λ rest. at_end m.0 nm.0.now args.0 rest) finds)
-      (both b c e _ _ _ (by_decides name b c (seen_text nm) (λ nm. arguments k nm.1 >>= λ args. rparen args.1 >>= λ rest. at_end (bare_id_option m) nm.0.now args.0 rest) named)
-      (both c d e _ _ _ (by_reads (arguments k) c d (part args) (λ n. args.end ≤ n) (λ args. rparen args.1 >>= λ rest. at_end (bare_id_option m) nm.now args.0 rest) takes)
-      (by_expects rparen d e (at_end (bare_id_option m) nm.now (part args (read_values d.lists))) close))))
-      (ap (λ s. let o : Action × Toks = (record { span = s; kind = k; «module» = bare_id_option m; name = nm.now; arguments = part args (read_values d.lists) }, left e) in Some o) (sym at)
-       ∙ ap (λ vs. let o : Action × Toks = (record { span = span; kind = k; «module» = bare_id_option m; name = nm.now; arguments = part args vs }, left e) in Some o) (same_values rparen d e close)))
+    (both a b e _ _ _ (by_finds id a b (bare_id_option m) (λ m. name m.1 >>= λ nm. arguments k nm.1 >>= λ args. rparen args.1 >>= λ rest. at_end m.0 nm.0.now args.0 rest) finds)
+    (both b c e _ _ _ (by_decides name b c (seen_text nm) (λ nm. arguments k nm.1 >>= λ args. rparen args.1 >>= λ rest. at_end (bare_id_option m) nm.0.now args.0 rest) named)
+    (both c d e _ _ _ (by_reads (arguments k) c d (part args) (λ n. args.end ≤ n) (λ args. rparen args.1 >>= λ rest. at_end (bare_id_option m) nm.now args.0 rest) takes)
+    (by_expects rparen d e (at_end (bare_id_option m) nm.now (part args (read_values d.lists))) close))))
+    (ap (λ s. let o : Action × Toks = (record { span = s; kind = k; «module» = bare_id_option m; name = nm.now; arguments = part args (read_values d.lists) }, left e) in Some o) (sym at)
+    ∙ ap (λ vs. let o : Action × Toks = (record { span = span; kind = k; «module» = bare_id_option m; name = nm.now; arguments = part args vs }, left e) in Some o) (same_values rparen d e close)))
     (λ h l. subst (λ (k : Lists). args.end ≤ length k.values.items) (sym close.lists)
-      (takes.within (close.clean h) (subst HaveLanes (sym (named.lists ∙ finds.lists)) l)))
+    (takes.within (close.clean h) (subst HaveLanes (sym (named.lists ∙ finds.lists)) l)))
   where
     at_end : Option Id → List ℕ → List Value → Toks → Parse Action
     at_end m nm args rest = Some (record { span = (left a).before; kind = k; «module» = m; name = nm; arguments = args }, rest)
@@ -144,13 +144,13 @@ return_read a b c d e results runs takes close =
       refuses = s.refuses;
     })
     (λ h l. subst (λ (k : Lists). HasExecuted (length k.values.items) e × (results.end ≤ length k.values.items)) (sym close.lists)
-      (has_on e _ _ (grown b c (takes.values (close.clean h) (mid h l))) (runs.within (takes.clean (close.clean h)) l), takes.within (close.clean h) (mid h l)))
+    (has_on e _ _ (grown b c (takes.values (close.clean h) (mid h l))) (runs.within (takes.clean (close.clean h)) l), takes.within (close.clean h) (mid h l)))
   where
     s : Steps a d (return_command (left a)) (Some (AssertReturn (execution_in (all_bare b) (read_values b.lists) e) (part results (read_values c.lists)), left d))
     s = both a b d _ _ _ (by_reads execution a b (λ vs. execution_in (all_bare b) vs e) (λ n. HasExecuted n e)
-          (λ x. values usage.Result x.1 >>= λ rs. rparen rs.1 >>= λ rest. Some (AssertReturn x.0 rs.0, rest)) runs)
+        (λ x. values usage.Result x.1 >>= λ rs. rparen rs.1 >>= λ rest. Some (AssertReturn x.0 rs.0, rest)) runs)
         (both b c d _ _ _ (by_reads (values usage.Result) b c (part results) (λ n. results.end ≤ n)
-          (λ rs. rparen rs.1 >>= λ rest. Some (AssertReturn (execution_in (all_bare b) (read_values b.lists) e) rs.0, rest)) takes)
+        (λ rs. rparen rs.1 >>= λ rest. Some (AssertReturn (execution_in (all_bare b) (read_values b.lists) e) rs.0, rest)) takes)
         (by_expects rparen c d (λ rest. Some (AssertReturn (execution_in (all_bare b) (read_values b.lists) e) (part results (read_values c.lists)), rest)) close))
 
     mid : d.fault ≡ None → HaveLanes a.lists → HaveLanes b.lists
@@ -166,7 +166,7 @@ return_read a b c d e results runs takes close =
         ≡ at_end (AssertReturn (execution_in (all_bare d) (read_values d.lists) e) (part results (read_values d.lists)))
     in_other_words h l =
         ap (λ x. let o : Kind × Toks = (AssertReturn x (part results (read_values c.lists)), left d) in Some o)
-          (sym (execution_on (all_bare b) e (read_values b.lists) (read_values c.lists) (length b.lists.values.items) (runs.within (takes.clean (close.clean h)) l) (sym (value_count b.lists)) (takes.values (close.clean h) (mid h l))))
+        (sym (execution_on (all_bare b) e (read_values b.lists) (read_values c.lists) (length b.lists.values.items) (runs.within (takes.clean (close.clean h)) l) (sym (value_count b.lists)) (takes.values (close.clean h) (mid h l))))
         ∙ ap (λ ts. let o : Kind × Toks = (AssertReturn (execution_in ts (read_values c.lists) e) (part results (read_values c.lists)), left d) in Some o) bare_on
         ∙ ap (λ vs. let o : Kind × Toks = (AssertReturn (execution_in (all_bare d) vs e) (part results vs), left d) in Some o) (same_values rparen c d close)
 
@@ -219,7 +219,7 @@ pub other_read : (a b c : Reader) (ts : List Placed) (x : code_action.Action) �
 other_read a b c ts x m r =
     moved run_action (λ toks. invocation toks >>= λ y. Some (Runs y.0, y.1)) a b c (λ vs. execution_in ts vs (run.Action x)) (λ n. HasArguments n x) m.lists m.tokens m.fault
     (ap (λ (o : Option Toks). elim o as (λ o. Parse Execution) [ Some t ↦ action action_kind.Get t >>= λ y. Some (Runs y.0, y.1) | None ↦ invocation (left a) >>= λ y. Some (Runs y.0, y.1) ]) (m.absent refl)
-      ∙ ap (λ t. invocation t >>= λ y. Some (Runs y.0, y.1)) (sym (m.stays refl)))
+    ∙ ap (λ t. invocation t >>= λ y. Some (Runs y.0, y.1)) (sym (m.stays refl)))
     (wrapped invocation Runs b c (λ vs. action_in vs x) (λ n. HasArguments n x) (λ n. HasArguments n x) r (λ n h. h))
 
 -- what is run: a module, or an action
@@ -232,7 +232,7 @@ module_run a b m is d =
     moved execution (λ toks. in_parentheses toks >>= λ m. Some (Instantiates m.0, m.1)) a a b (λ vs. execution_in (all_bare b) vs (run.Module m)) (λ n. HasExecuted n (run.Module m)) refl refl refl
     (ap (λ x. by_module x (left a)) is)
     (wrapped in_parentheses Instantiates a b (λ vs. module_in (all_bare b) m) (λ n. HasExecuted n (run.Module m)) (λ n. HasExecuted n (run.Module m))
-      (decided in_parentheses a b (module_in (all_bare b) m) (λ n. HasExecuted n (run.Module m)) d (λ n. tt)) (λ n h. h))
+    (decided in_parentheses a b (module_in (all_bare b) m) (λ n. HasExecuted n (run.Module m)) d (λ n. tt)) (λ n h. h))
 
 pub action_run : (a b : Reader) (part : List Value → Execution) (has : ℕ → Type 0) → is_form (codes "module") (left a) ≡ false → Reads run_action a b part has → Reads execution a b part has
 action_run a b part has is r = moved execution run_action a a b part has refl refl refl (ap (λ x. by_module x (left a)) is) r
@@ -243,9 +243,9 @@ pub then_decides : {R S T : Type 0} (rule : Toks → Parse R) (second : Toks →
 then_decides {T = T} rule second make a b c part has x r d =
     all_read (λ toks. rule toks >>= λ y. second y.1 >>= λ z. Some (make y.0 z.0, z.1)) a c (λ vs. make (part vs) x) has
     (turned a c _ _ _
-      (both a b c _ _ _ (by_reads rule a b part has (λ y. second y.1 >>= λ z. Some (make y.0 z.0, z.1)) r)
-        (by_decides second b c x (λ z. Some (make (part (read_values b.lists)) z.0, z.1)) d))
-      (ap (λ vs. let o : T × Toks = (make (part vs) x, left c) in Some o) (ap read_values (sym d.lists))))
+    (both a b c _ _ _ (by_reads rule a b part has (λ y. second y.1 >>= λ z. Some (make y.0 z.0, z.1)) r)
+    (by_decides second b c x (λ z. Some (make (part (read_values b.lists)) z.0, z.1)) d))
+    (ap (λ vs. let o : T × Toks = (make (part vs) x, left c) in Some o) (ap read_values (sym d.lists))))
     (λ h l. subst (λ (k : Lists). has (length k.values.items)) (sym d.lists) (r.within (d.clean h) l))
 
 -- a part, and a terminal after it
@@ -254,9 +254,9 @@ pub then_expects : {R T : Type 0} (rule : Toks → Parse R) (second : Toks → O
 then_expects {T = T} rule second make a b c part has r d =
     all_read (λ toks. rule toks >>= λ y. second y.1 >>= λ rest. Some (make y.0, rest)) a c (λ vs. make (part vs)) has
     (turned a c _ _ _
-      (both a b c _ _ _ (by_reads rule a b part has (λ y. second y.1 >>= λ rest. Some (make y.0, rest)) r)
-        (by_expects second b c (λ rest. Some (make (part (read_values b.lists)), rest)) d))
-      (ap (λ vs. let o : T × Toks = (make (part vs), left c) in Some o) (ap read_values (sym d.lists))))
+    (both a b c _ _ _ (by_reads rule a b part has (λ y. second y.1 >>= λ rest. Some (make y.0, rest)) r)
+    (by_expects second b c (λ rest. Some (make (part (read_values b.lists)), rest)) d))
+    (ap (λ vs. let o : T × Toks = (make (part vs), left c) in Some o) (ap read_values (sym d.lists))))
     (λ h l. subst (λ (k : Lists). has (length k.values.items)) (sym d.lists) (r.within (d.clean h) l))
 
 -- what is run, with the tokens of a later reader

@@ -96,8 +96,8 @@ reads_one depth a m b is not r = record {
       let more = more_is (read_values m.lists) (read_values b.lists) (one_value usage.Result (left m)) (left b) (r.gives h (at_mid l)) in
       let one = one_is (value usage.Result (left m)) more.0 (left b) more.1.0 in
       ap (with_parts (read_values a.lists)) (step_is n depth d (left a) false None e is (not.absent refl)
-        ∙ ap (λ t. value usage.Result t >>= λ v. alternatives n (suc d) v.1 >>= λ vs. Some (v.0 ∷ vs.0, vs.1)) (sym (not.stays refl))
-        ∙ ap (λ o. o >>= λ v. alternatives n (suc d) v.1 >>= λ vs. Some (v.0 ∷ vs.0, vs.1)) one.1.0)
+      ∙ ap (λ t. value usage.Result t >>= λ v. alternatives n (suc d) v.1 >>= λ vs. Some (v.0 ∷ vs.0, vs.1)) (sym (not.stays refl))
+      ∙ ap (λ o. o >>= λ v. alternatives n (suc d) v.1 >>= λ vs. Some (v.0 ∷ vs.0, vs.1)) one.1.0)
       ∙ ap (λ (l : Lists). with_parts (read_values l) (with_parts (one.0 ∷ []) (alternatives n (suc d) (left b)))) (sym not.lists)
       ∙ sym (after_both (read_values m.lists) (one.0 ∷ []) (alternatives n (suc d) (left b)))
       ∙ ap (λ vs. with_parts vs (alternatives n (suc d) (left b))) (sym (more.1.1 ∙ ap (λ ms. read_values m.lists ++ ms) one.1.1))

@@ -79,7 +79,7 @@ command_taken threads behind a b c x r p after_it few = record {
   values = λ h l v. subst (λ cs. All (λ d. HasValues (length c.lists.values.items) d.kind) cs) (sym (added h))
       (subst (λ (vs : Vec code_value.Value). All (λ d. HasValues (length vs.items) d.kind) (a.lists.commands.items ++ x ∷ [])) (sym p.values)
       (all_one (λ d. HasValues (length b.lists.values.items) d.kind) a.lists.commands.items x
-        (λ k d under. has_values_on _ _ _ (grown a b (r.values (p.clean h) l)) (v k d under)) (r.within (p.clean h) l)));
+      (λ k d under. has_values_on _ _ _ (grown a b (r.values (p.clean h) l)) (v k d under)) (r.within (p.clean h) l)));
   few = few;
   gives = λ h l v n k e.
       ap (with_commands (read_commands a)) (one_command n k threads (left a) e ∙ ap (λ o. o >>= λ c. commands_in n (threads_after c.0.kind threads) c.1 >>= λ cs. Some (c.0 ∷ cs)) (r.gives (p.clean h) l))
@@ -109,7 +109,7 @@ command_taken threads behind a b c x r p after_it few = record {
         (λ i. map (command_in (bare_same i) (same_values i)) (added h i))
         ∙ mapped (command_in (all_bare b) (read_values b.lists)) a.lists.commands.items x
         ∙ ap (λ cs. cs ++ seen b ∷ []) (ap (λ (t : Vec Placed). map (command_in (map bare_placed t.items) (read_values b.lists)) a.lists.commands.items) r.tokens
-          ∙ commands_on (all_bare a) a.lists.commands.items (read_values a.lists) (read_values b.lists) (length a.lists.values.items) v (sym (value_count a.lists)) (r.values (p.clean h) l))
+        ∙ commands_on (all_bare a) a.lists.commands.items (read_values a.lists) (read_values b.lists) (length a.lists.values.items) v (sym (value_count a.lists)) (r.values (p.clean h) l))
 
     go : (o : Option TextError) → b.fault ≡ o → a.fault ≡ None → HaveLanes a.lists → IsRefused c.fault → (n k : ℕ) → count (left a) ≡ suc k → commands_in (suc n) threads (left a) ≡ None
     go None e h l f n k few = absurd (p.memory e f)

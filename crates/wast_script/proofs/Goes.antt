@@ -123,7 +123,7 @@ vector_read u a b c s start end d l first last = record {
       ap (λ o. o >>= λ x. lanes x.0 u x.1 >>= λ ns. Some (V128 x.0 ns.0, ns.1)) (d.gives (l.clean h))
       ∙ ap (λ o. o >>= λ ns. Some (V128 s ns.0, ns.1)) m.1.0
       ∙ ap (λ ns. let o : Value × Toks = (V128 s ns, left c) in Some o)
-        (sym (ap (part (record { start = start; end = end })) m.1.1 ∙ part_last b.lists.lanes.items m.0 start end first (last ∙ ap length m.1.1)));
+      (sym (ap (part (record { start = start; end = end })) m.1.1 ∙ part_last b.lists.lanes.items m.0 start end first (last ∙ ap length m.1.1)));
   keeps = λ h. l.keeps (λ e. h (d.clean e)) ∙ d.keeps h;
   refuses = λ h f. go b.fault refl h f;
 }
@@ -150,9 +150,9 @@ values_read u old new start end first last r = record {
   within = λ h l. omega (arith, last);
   gives = λ h l. let m = more_is (read_values old.lists) (read_values new.lists) (values u (left old)) (left new) (r.gives h l) in
       m.1.0 ∙ ap (λ vs. let o : List Value × Toks = (vs, left new) in Some o)
-        (sym (ap (part (record { start = start; end = end })) m.1.1
-          ∙ part_last (read_values old.lists) m.0 start end (first ∙ sym (length-map old.lists.values.items (value_in old.lists.lanes.items)))
-            (last ∙ sym (length-map new.lists.values.items (value_in new.lists.lanes.items)) ∙ ap length m.1.1)));
+      (sym (ap (part (record { start = start; end = end })) m.1.1
+      ∙ part_last (read_values old.lists) m.0 start end (first ∙ sym (length-map old.lists.values.items (value_in old.lists.lanes.items)))
+      (last ∙ sym (length-map new.lists.values.items (value_in new.lists.lanes.items)) ∙ ap length m.1.1)));
   keeps = r.keeps;
   refuses = r.refuses;
 }

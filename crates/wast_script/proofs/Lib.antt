@@ -3,13 +3,16 @@ pub mod Alternatives
 pub mod Commanding
 pub mod Finding
 pub mod Goes
+pub mod Joining
 pub mod Lefts
 pub mod Lists
 pub mod Loops
+pub mod Meant
 pub mod Names
 pub mod Numerals
 pub mod Onto
 pub mod Parts
+pub mod Reading
 pub mod Rows
 pub mod Signs
 pub mod Steps

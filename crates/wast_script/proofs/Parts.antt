@@ -128,7 +128,7 @@ between_is old new s e same first all =
     let new_length : length (all_bare new) ≡ length new.tokens.items = length-map new.tokens.items bare_placed in
     ap (λ (xs : List Placed). part (record { start = s; end = e }) xs) same_bare
     ∙ part_between old.at new.at (all_bare old) s e (first ∙ ap (λ n. n - length (drop old.at (all_bare old))) (sym old_length))
-      (all ∙ ap (λ n. n - length (drop new.at (all_bare new))) (sym new_length) ∙ ap (λ (xs : List Placed). length xs - length (drop new.at xs)) same_bare)
+    (all ∙ ap (λ n. n - length (drop new.at (all_bare new))) (sym new_length) ∙ ap (λ (xs : List Placed). length xs - length (drop new.at xs)) same_bare)
     ∙ ap (λ (xs : List Placed). take (length (drop old.at (all_bare old)) - length (drop new.at xs)) (drop old.at (all_bare old))) (sym same_bare)
 
 -- a part of a list that is mapped

@@ -1,11 +1,11 @@
 -- What a script holds, without addresses: its commands and values as the rules of Grammar and Constants have them.
 --
 -- A `Part` is the elements of a list from a number on: of `a b c d` the part from 1 up to 3 is `b c`.
-use Rattle.std.specs.Prelude.{ℕ, nat_le, ◌&&◌, if◌then◌else◌, List, [], ◌∷◌, ◌++◌, length, slice_range, option_map}
+use Rattle.std.specs.Prelude.{ℕ, nat_le, ◌&&◌, if◌then◌else◌, List, [], ◌∷◌, ◌++◌, length, map, min, slice_range, option_map}
 use Rattle.wat_tokens.specs.declared.tokens.Token.{Token}
 use Rattle.wat_tokens.specs.declared.tokens.Token.TheVariants as token
 use Rattle.wat_tokens.specs.declared.tokens.Placed.{Placed}
-use Rattle.wat_laws.specs.Bare.{bare_id, bare_id_option, bare_heap, bare_index_option}
+use Rattle.wat_laws.specs.Bare.{bare_placed, bare_id, bare_id_option, bare_heap, bare_index_option}
 use Rattle.wast_script.specs.Constants.{Value, I32, I64, F32, F64, V128, RefNull, RefExtern, RefHost, RefFunc, Ref, Either}
 use Rattle.wast_script.specs.Grammar.{Contents, Module, Action, Execution, Runs, Instantiates, Kind, Module_, Definition, Instance, Register, Acts, AssertReturn, AssertTrap, AssertExhaustion, AssertException, AssertSuspension, AssertMalformed, AssertMalformedCustom, AssertInvalid, AssertInvalidCustom, AssertUnlinkable, Thread, ThreadEnd, Wait, Command}
 use Rattle.wast_script.specs.declared.values.Part.{Part}
@@ -20,6 +20,7 @@ use Rattle.wast_script.specs.declared.commands.Execution.TheVariants as run
 use Rattle.wast_script.specs.declared.commands.CommandKind.{CommandKind}
 use Rattle.wast_script.specs.declared.commands.CommandKind.TheVariants as kind
 use Rattle.wast_script.specs.declared.commands.Command as code_command
+use Rattle.wast_script.specs.declared.scripts.Script.{Script}
 
 -- the elements of a part of a list; none if the list has no such part
 abbrev pub part : {T : Type 0} → Part → List T → List T
@@ -86,3 +87,17 @@ string_bytes t = []
 abbrev pub joined_bytes : List Placed → List ℕ
 joined_bytes [] = []
 joined_bytes (p ∷ ps) = string_bytes p.token ++ joined_bytes ps
+
+-- a command at its position, or at the end of a text of so many bytes if it is after it
+abbrev pub placed_up_to : ℕ → code_command.Command → code_command.Command
+placed_up_to n c = record { span = record { offset = min c.span.offset n }; kind = c.kind }
+
+-- the tokens, the values and the commands of a script
+abbrev pub script_tokens : Script → List Placed
+script_tokens s = map bare_placed s.tokens.items
+
+abbrev pub values_of : Script → List Value
+values_of s = map (value_in s.lanes.items) s.values.items
+
+abbrev pub commands_of : Script → List Command
+commands_of s = map (command_in (script_tokens s) (values_of s)) s.commands.items
