@@ -1,5 +1,5 @@
 -- The loop over commands: each command that is read is added, and those before it stay the same.
-use Rattle.std.proofs.Common.{◌≡◌, ◌≢◌, ◌∙◌, ℕ, zero, suc, ◌+◌, ◌-◌, ◌<◌, ◌≤◌, List, [], ◌∷◌, ◌++◌, length, map, All, Option, None, Some, refl, sym, ap, subst, arith, append_assoc}
+use Rattle.std.proofs.Common.{◌≡◌, ◌≢◌, ◌∙◌, ℕ, zero, suc, ◌+◌, ◌-◌, ◌<◌, ◌≤◌, List, [], ◌∷◌, ◌++◌, length, map, All, Option, None, Some, refl, sym, ap, subst, arith, append_assoc, Bool, true, false}
 use Rattle.std.specs.Global.{Vec}
 use Rattle.wat_grammar.specs.Parts.{◌>>=◌}
 use Rattle.wat_tokens.specs.declared.tokens.Placed.{Placed}
@@ -11,14 +11,15 @@ use Rattle.wat_laws.specs.Bare.{bare_placed}
 use Rattle.wast_script.specs.declared.values.Number.{Number}
 use Rattle.wast_script.specs.declared.values.Value as code_value
 use Rattle.wast_script.specs.declared.commands.Action as code_action
+use Rattle.wast_script.specs.declared.commands.ScriptModule.{ScriptModule}
 use Rattle.wast_script.specs.declared.commands.CommandKind.{CommandKind}
 use Rattle.wast_script.specs.declared.commands.CommandKind.TheVariants as kind
 use Rattle.wast_script.specs.declared.commands.Command as code_command
 use Rattle.wast_script.specs.declared.reader.Lists.{Lists}
 use Rattle.wast_script.specs.declared.reader.Reader.{Reader}
 use Rattle.wast_script.specs.Constants.{Value}
-use Rattle.wast_script.specs.Grammar.{Acts, AssertReturn, AssertTrap, AssertExhaustion, AssertException, AssertSuspension, Action, Command, command_or_end, threads_after, no_commands, commands_in, all_commands}
-use Rattle.wast_script.specs.Scripts.{part, action_in, execution_in, kind_in, command_in}
+use Rattle.wast_script.specs.Grammar.{Acts, AssertReturn, AssertTrap, AssertExhaustion, AssertException, AssertSuspension, Action, Command, command_or_end, threads_after, no_commands, commands_in, all_commands, Module, Module_, bare_module, one_module, all_module, begins_command, script}
+use Rattle.wast_script.specs.Scripts.{part, action_in, execution_in, kind_in, command_in, module_in}
 use Rattle.wast_script.specs.Readers.{left, all_bare, read_values, read_commands, IsRefused, IsFirst, HasLanes, HasValues, HaveLanes, HaveValues, Reads, Pushes, Fails, IsNew, ReadsAll, with_commands, TakesCommand, TakesCommands}
 use Rattle.wast_script.proofs.Lists.{no_more, mapped, all_tail, all_one}
 use Rattle.wast_script.proofs.Parts.{part_on}
@@ -205,3 +206,30 @@ one_open old mid new threads fault span some t f = record {
     go : (o : Option TextError) → mid.fault ≡ o → IsRefused new.fault → all_commands (left old) ≡ None
     go None is g = t.goes is ∙ ap (with_commands (read_commands mid)) (none_closed threads some)
     go (Some y) is g = t.refuses (subst IsRefused (f.keeps (λ n. cc)) g)
+
+-- one module without its parentheses
+pub module_alone : (a b : Reader) (m : ScriptModule) → IsNew a → module_in (all_bare a) m ≡ bare_module (left a) → Pushes a b (record { span = m.span; kind = kind.Module m }) → ReadsAll all_module a b
+module_alone a b m new is p = record {
+  gives = λ h. ap Some (sym (all_seen h));
+  refuses = λ f. absurd (p.memory new.clean f);
+}
+  where
+    one : code_command.Command
+    one = record { span = m.span; kind = kind.Module m }
+
+    made : Module → List Command
+    made d = record { span = d.span; kind = Module_ d } ∷ []
+
+    all_seen : b.fault ≡ None → read_commands b ≡ one_module (left a)
+    all_seen h = ap (map (command_in (all_bare b) (read_values b.lists))) (p.pushed h ∙ ap (λ cs. cs ++ one ∷ []) new.commands)
+        ∙ ap (λ (t : Vec Placed). made (module_in (map bare_placed t.items) m)) p.tokens ∙ ap made is
+
+-- a script, by whether it begins with a command
+abbrev by_begin : Bool → Toks → Option (List Command)
+by_begin b toks = elim b [ true ↦ all_commands toks | false ↦ all_module toks ]
+
+pub by_commands : (a b : Reader) → begins_command (left a) ≡ true → ReadsAll all_commands a b → ReadsAll script a b
+by_commands a b is r = record { gives = λ h. ap (λ x. by_begin x (left a)) is ∙ r.gives h; refuses = λ f. ap (λ x. by_begin x (left a)) is ∙ r.refuses f }
+
+pub by_module : (a b : Reader) → begins_command (left a) ≡ false → ReadsAll all_module a b → ReadsAll script a b
+by_module a b is r = record { gives = λ h. ap (λ x. by_begin x (left a)) is ∙ r.gives h; refuses = λ f. ap (λ x. by_begin x (left a)) is ∙ r.refuses f }

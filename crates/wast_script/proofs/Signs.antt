@@ -12,6 +12,7 @@ use Rattle.wat_tokens.specs.Fractions.{UnlessMemory, MayLack}
 use Rattle.wat_tokens.specs.declared.faults.TextFault.{TextFault}
 use Rattle.wat_tokens.specs.declared.faults.TextFault.TheVariants as fault
 use Rattle.wat_tokens.proofs.Backwards.{none_first}
+use Rattle.wast_script.specs.declared.values.Number.TheVariants as num
 use Rattle.wast_script.specs.Readers.{IsRefusal}
 
 -- no number begins with a sign
@@ -80,6 +81,14 @@ signed_is N text x e = ok_is (signed text) _ x e
 
 pub signed_not : (N : ℕ) (text : List ℕ) (e : TextFault) → answer (signed text) (option_map (signed_of N) (integer N text)) ≡ Err e → option_map (signed_of N) (integer N text) ≡ None
 signed_not N text e h = err_is (signed text) _ e (λ none. ap (option_map (signed_of N)) (no_integer N text (not_signed (natural (sign text).1) (sign text).0 none))) h
+
+unmapped : {S T : Type 0} (f : S → T) (o : Option S) → option_map f o ≡ None → o ≡ None
+unmapped f None e = refl
+unmapped f (Some x) e = absurd cc
+
+-- the bits of a text that has no signed integer
+pub bits_not : (N : ℕ) (text : List ℕ) (e : TextFault) → answer (signed text) (option_map (signed_of N) (integer N text)) ≡ Err e → option_map num.Bits (integer N text) ≡ None
+bits_not N text e h = ap (option_map num.Bits) (unmapped (signed_of N) (integer N text) (signed_not N text e h))
 
 no_float : (f : Format) (text : List ℕ) → magnitude (sign text).1 ≡ None → fN f text ≡ None
 no_float f text h = rw (fN, h) refl

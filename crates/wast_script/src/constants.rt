@@ -70,6 +70,7 @@ fn float_of64(alloc: Global, usage: Use, text: &str) -> Result<Number, TextFault
 }
 
 /// The bits of an integer of 8 bits.
+#[tactic(auto, using(crate::proofs::Signs::bits_not))]
 fn bits_of8(text: &str) -> Result<Number, TextFault>
     ensures gives { IfOk result (λ n. option_map num.Bits (integer 8 text.now) ≡ Some n) }
     ensures refuses { IfErr result (λ e. IsRefusal e → option_map num.Bits (integer 8 text.now) ≡ None) }
@@ -81,6 +82,7 @@ fn bits_of8(text: &str) -> Result<Number, TextFault>
 }
 
 /// The bits of an integer of 16 bits.
+#[tactic(auto, using(crate::proofs::Signs::bits_not))]
 fn bits_of16(text: &str) -> Result<Number, TextFault>
     ensures gives { IfOk result (λ n. option_map num.Bits (integer 16 text.now) ≡ Some n) }
     ensures refuses { IfErr result (λ e. IsRefusal e → option_map num.Bits (integer 16 text.now) ≡ None) }
@@ -92,6 +94,7 @@ fn bits_of16(text: &str) -> Result<Number, TextFault>
 }
 
 /// The bits of an integer of 32 bits.
+#[tactic(auto, using(crate::proofs::Signs::bits_not))]
 fn bits_of32(text: &str) -> Result<Number, TextFault>
     ensures gives { IfOk result (λ n. option_map num.Bits (integer 32 text.now) ≡ Some n) }
     ensures refuses { IfErr result (λ e. IsRefusal e → option_map num.Bits (integer 32 text.now) ≡ None) }
@@ -103,6 +106,7 @@ fn bits_of32(text: &str) -> Result<Number, TextFault>
 }
 
 /// The bits of an integer of 64 bits.
+#[tactic(auto, using(crate::proofs::Signs::bits_not))]
 fn bits_of64(text: &str) -> Result<Number, TextFault>
     ensures gives { IfOk result (λ n. option_map num.Bits (integer 64 text.now) ≡ Some n) }
     ensures refuses { IfErr result (λ e. IsRefusal e → option_map num.Bits (integer 64 text.now) ≡ None) }
@@ -220,11 +224,14 @@ impl<'a> Reader<'a> {
     }
 
     /// Adds a lane.
+    #[tactic(auto, unfolding(crate::specs::Readers::left))]
     fn push_lane(&mut self, lane: Number)
         ensures { PushesLane self.old self.new lane }
     {
-        let is_pushed = self.lists.lanes.push(lane).is_ok();
-        self.took(is_pushed);
+        match self.lists.lanes.push(lane) {
+            Ok(()) => (),
+            Err(_) => self.no_memory(),
+        }
     }
 
     /// The lanes of a vector.
@@ -412,11 +419,14 @@ impl<'a> Reader<'a> {
     }
 
     /// Adds a value.
+    #[tactic(auto, unfolding(crate::specs::Readers::left))]
     fn push_value(&mut self, value: Value<'a>)
         ensures { PushesValue self.old self.new value.entry }
     {
-        let is_pushed = self.lists.values.push(value).is_ok();
-        self.took(is_pushed);
+        match self.lists.values.push(value) {
+            Ok(()) => (),
+            Err(_) => self.no_memory(),
+        }
     }
 
     /// Reads a value, and adds it.
@@ -473,6 +483,7 @@ impl<'a> Reader<'a> {
     }
 
     /// Counts the alternatives of `either` in its value, which has this number among all values.
+    #[tactic(auto, unfolding(crate::specs::Readers::left))]
     fn set_either(&mut self, at: usize, count: usize)
         ensures { SetsEither at count self.old self.new }
     {

@@ -340,11 +340,14 @@ impl<'a> Reader<'a> {
     }
 
     /// Adds a command.
+    #[tactic(auto, unfolding(crate::specs::Readers::left))]
     fn push_command(&mut self, command: Command<'a>)
         ensures { Pushes self.old self.new command.entry }
     {
-        let is_pushed = self.lists.commands.push(command).is_ok();
-        self.took(is_pushed);
+        match self.lists.commands.push(command) {
+            Ok(()) => (),
+            Err(_) => self.no_memory(),
+        }
     }
 
     /// Reads a command, or the end of a thread, and adds it. Returns how many threads are open then.
@@ -394,6 +397,7 @@ impl<'a> Reader<'a> {
     }
 
     /// Reads a script that is one module without its parentheses.
+    #[tactic(auto, using(crate::proofs::Commanding::module_alone))]
     fn one_module(&mut self)
         requires { IsNew self.old }
         ensures { ReadsAll all_module self.old self.new }
@@ -406,6 +410,7 @@ impl<'a> Reader<'a> {
     }
 
     /// Reads a script: its commands, or one module without its parentheses.
+    #[tactic(auto, using(crate::proofs::Commanding::by_commands, crate::proofs::Commanding::by_module))]
     pub(crate) fn script(&mut self)
         requires { IsNew self.old }
         ensures { ReadsAll script self.old self.new }

@@ -3,7 +3,7 @@
 //! A reader keeps the first fault, and from then on has no tokens left. So what reads a part always returns one, and each loop over
 //! the tokens that are left ends.
 
-ghost use Rattle.std.specs.Prelude.{◌≡◌, ◌≢◌, ◌-◌, [], true, None, Some, Ok, Err, option_map, length};
+ghost use Rattle.std.specs.Prelude.{◌≡◌, ◌≢◌, ◌-◌, [], None, Some, Ok, Err, option_map, length};
 ghost use Rattle.wat_tokens.specs.declared.faults.TextFault.TheVariants as fault;
 ghost use Rattle.wat_syntax.specs.Tokens.{peek, after, position, count, is_lparen, is_rparen, lparen, rparen};
 ghost use Rattle.wat_syntax.specs.Values.{number_text, u32, is_number, is_string, name, id};
@@ -367,19 +367,11 @@ impl<'a> Reader<'a> {
         }
     }
 
-    /// Keeps that allocation failed, unless something was added to a list.
-    pub(crate) fn took(&mut self, is_pushed: bool)
-        ensures lists { self.new.lists ≡ self.old.lists }
-        ensures tokens { self.new.tokens ≡ self.old.tokens }
-        ensures clean { self.new.fault ≡ None → self.old.fault ≡ None }
-        ensures pushed { self.new.fault ≡ None → is_pushed ≡ true }
-        ensures left { self.new.fault ≡ None → left self.new ≡ left self.old }
-        ensures keeps { self.old.fault ≢ None → self.new.fault ≡ self.old.fault }
-        ensures memory { self.old.fault ≡ None → IsRefused self.new.fault → ⊥ }
+    /// Keeps that allocation failed.
+    pub(crate) fn no_memory(&mut self)
+        ensures { Fails fault.Memory (position (left self.old)) self.old self.new }
     {
-        if !is_pushed {
-            let place = self.place();
-            self.fail_at(place, TextFault::Memory);
-        }
+        let place = self.place();
+        self.fail_at(place, TextFault::Memory);
     }
 }
