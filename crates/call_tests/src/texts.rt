@@ -37,15 +37,15 @@ fn ids_are_listed_by_index_space_and_index(rt: HostRuntime) {
         r#"(module (type $t (func)) (func) (func $z) (func $b) (memory $"a b" 1) (export "e" (func $z)))"#;
     let names = names_of_text(rt.alloc(), text, &strings).expect(&rt, "names");
     let told = [
-        (Space::Func, "z", 1_u32),
-        (Space::Func, "b", 2),
-        (Space::Memory, "a b", 0),
-        (Space::Ty, "t", 0),
+        (Space::Func, "z", 1_u32, 38_usize),
+        (Space::Func, "b", 2, 48),
+        (Space::Memory, "a b", 0, 60),
+        (Space::Ty, "t", 0, 14),
     ];
     assert!(rt; names.len() == told.len());
-    for (denoted, (space, name, number)) in names.iter().zip(&told) {
+    for (denoted, (space, name, number, offset)) in names.iter().zip(&told) {
         assert!(rt; denoted.space.is(*space) && denoted.id.name() == *name);
-        assert!(rt; denoted.number == *number);
+        assert!(rt; denoted.number == *number && denoted.id.span().offset == *offset);
     }
     let refused = names_of_text(rt.alloc(), "(module (start $f))", &strings).err();
     assert!(rt;

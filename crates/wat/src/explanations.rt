@@ -18,7 +18,7 @@ pub(crate) struct Entry {
 }
 
 /// The errors: those with a number, then those in the text format.
-const ENTRIES: [Entry; 35] = [
+const ENTRIES: [Entry; 36] = [
     Entry {
         number: "E1",
         words: "import after",
@@ -256,6 +256,13 @@ const ENTRIES: [Entry; 35] = [
         cause: "A text has one module, and something comes after its closing parenthesis.",
         example: "(module) (module)",
         fix: "Remove what comes after it, or a `)` too many. `wat2json` reads scripts of modules.",
+    },
+    Entry {
+        number: "",
+        words: "multiple start sections",
+        cause: "A module has at most one start function, and a second one is at this index.",
+        example: "(module (func) (start 0) (start 0))",
+        fix: "Remove a start field. A function that calls both can be the one start function.",
     },
     Entry {
         number: "",

@@ -1,86 +1,101 @@
--- Lists of source names, index space by index space.
-use Rattle.std.proofs.Common.{◌≡◌, ◌∙◌, ℕ, ◌+◌, ◌<◌, Bool, true, false, not, is_none, List, [], ◌∷◌, ◌++◌, map, length, take, get_or, filter, Option, Some, None, All, refl, sym, ap, subst, cond, append_assoc, append-nil}
-use Rattle.std.specs.List.Sorted.{IsPermutation, IsNonDecreasingBy}
-use Rattle.std.specs.FinMap as finmap
-use Rattle.std.proofs.lemmas.List.{map-append, take_more}
-use Rattle.std.proofs.lemmas.List.Elements.{All-map, filter_more}
-use Rattle.std.proofs.lemmas.List.Sorted.{All-permutation, IsPermutation-map}
-use Rattle.wast_base.specs.declared.ids.Id.{Id}
+-- The list that a lister makes of the items that it visits.
+use Rattle.std.proofs.Common.{◌≡◌, ◌+◌, ◌<◌, ℕ, true, false, cond, List, [], ◌∷◌, ◌++◌, map, flat_map, length, take, get_or, Option, Some, None, refl, sym, ap, ◌∙◌, subst, append_assoc, append-nil, length-append, arith}
+use Rattle.std.proofs.lemmas.List.{map-append, take_more, flat_map_more}
+use Rattle.wast_base.specs.declared.ids.Span.{Span}
 use Rattle.wast_base.specs.declared.spaces.Space.{Space}
-use Rattle.wast_base.specs.Ids.{Name, Written, Generated, name_of, is_generated}
-use Rattle.wast_base.specs.Order.{Key, key_of}
-use Rattle.wast_resolve_namespace.specs.Places.{entry_of, entries_of}
-use Rattle.wast_resolve_names.specs.Resolvers.{KnownNames, space_in}
+use Rattle.wast_base.specs.Ids.{Name, Written, Generated, Mark, mark_of, is_generated}
+use Rattle.wast_base.specs.Spaces.{same_space}
+use Rattle.wast_tree_nodes.specs.Items.{Item}
+use Rattle.wast_tree_visit.specs.Visits.{TellsEach, Visits}
+use Rattle.wast_core_name_section.specs.GivenNames.{named_from}
+use Rattle.wast_core_name_section.proofs.NameEntries.{named_append}
+use Rattle.wat_bytes.specs.Listing.{ListsOn}
+use Rattle.wat_bytes.specs.Names.{Entry, content_of, entries_in, id_in, source_mark}
+use Rattle.wat_bytes.specs.declared.lister.Lister.{Lister}
 use Rattle.wat_bytes.specs.declared.names.Denoted.{Denoted}
-use Rattle.wat_bytes.specs.Names.{AreOfSpace, AreListedIn, BeginsWith, written_in, is_written, is_written_pair, denoted_at, entry_listed}
 
--- One more index space is listed after the others.
-listed_behind : (names : KnownNames) (ss : List Space) (s : Space) (all found : List Denoted) → AreListedIn names ss all → AreOfSpace names s found → AreListedIn names (ss ++ s ∷ []) (all ++ found)
-listed_behind names [] s all found h of_space =
-    record { found = found; rest = []; joined = ap (λ a. a ++ found) h ∙ sym (append-nil found); of_space = of_space; others = refl }
-listed_behind names (t ∷ ts) s all found h of_space =
+-- An id is from the source, or it is generated.
+pub generated_id : (name : Name) (place : Span) → is_generated name ≡ true → source_mark (Some (name, place)) ≡ None
+generated_id (Written text) place is = absurd cc
+generated_id (Generated n) place is = refl
+
+pub written_id : (name : Name) (place : Span) → is_generated name ≡ false → source_mark (Some (name, place)) ≡ Some (name, place)
+written_id (Written text) place is = refl
+written_id (Generated n) place is = absurd cc
+
+-- One more item, without a source id or with one.
+pub adds_none : (a b : Lister) (id : Option Mark) → id ≡ None → b.space ≡ a.space → b.is_stopped ≡ a.is_stopped → b.next ≡ a.next + 1 → b.listed.items ≡ a.listed.items → ListsOn a (id ∷ []) b
+adds_none a b id none space stopped next listed =
     record {
-      found = h.found;
-      rest = h.rest ++ found;
-      joined = ap (λ a. a ++ found) h.joined ∙ append_assoc h.found h.rest found;
-      of_space = h.of_space;
-      others = listed_behind names ts s h.rest found h.others of_space;
+      space = space;
+      runs = λ r. sym stopped ∙ r;
+      next = λ r. next;
+      listed = λ r. ap (map content_of) listed ∙ (sym (append-nil (map content_of a.listed.items)) ∙ ap (λ o. map content_of a.listed.items ++ map (λ e. (a.space, e)) (named_from a.next (o ∷ []))) (sym none));
     }
+
+pub adds_entry : (a b : Lister) (id : Option Mark) (d : Denoted) → id ≡ Some (mark_of d.id) → d.space ≡ a.space → d.number ≡ a.next → b.space ≡ a.space → b.is_stopped ≡ a.is_stopped → b.next ≡ a.next + 1
+    → b.listed.items ≡ a.listed.items ++ d ∷ [] → ListsOn a (id ∷ []) b
+adds_entry a b id d some own number space stopped next listed =
+    let entry : content_of d ≡ (a.space, (a.next, mark_of d.id)) = λ i. (own i, (number i, mark_of d.id)) in
+    record {
+      space = space;
+      runs = λ r. sym stopped ∙ r;
+      next = λ r. next;
+      listed = λ r.
+          ap (map content_of) listed
+          ∙ (map-append content_of a.listed.items (d ∷ [])
+          ∙ (ap (λ e. map content_of a.listed.items ++ e ∷ []) entry ∙ ap (λ o. map content_of a.listed.items ++ map (λ e. (a.space, e)) (named_from a.next (o ∷ []))) (sym some)));
+    }
+
+-- After a failure nothing is said.
+pub stops : (a b : Lister) (ids : List (Option Mark)) → b.space ≡ a.space → b.is_stopped ≡ true → ListsOn a ids b
+stops a b ids space stopped = record { space = space; runs = λ r. absurd cc; next = λ r. absurd cc; listed = λ r. absurd cc }
+
+-- No item changes nothing.
+pub lists_none : (l : Lister) → ListsOn l [] l
+lists_none l = record { space = refl; runs = λ h. h; next = λ h. omega arith; listed = λ h. sym (append-nil (map content_of l.listed.items)) }
+
+-- An item is of the index space, or it is of another one.
+pub of_space : (a b : Lister) (x : Item) → same_space a.space x.space ≡ true → ListsOn a (source_mark x.id ∷ []) b → ListsOn a (id_in a.space x) b
+of_space a b x same h = subst (λ c. ListsOn a (cond c (source_mark x.id ∷ []) []) b) (sym same) h
+
+pub of_other : (a : Lister) (x : Item) → same_space a.space x.space ≡ false → ListsOn a (id_in a.space x) a
+of_other a x other = subst (λ c. ListsOn a (cond c (source_mark x.id ∷ []) []) a) (sym other) (lists_none a)
+
+-- Entries after those of other items.
+after : (s : Space) (n : ℕ) (all : List Entry) (xs ys : List (Option Mark))
+    → (all ++ map (λ e. (s, e)) (named_from n xs)) ++ map (λ e. (s, e)) (named_from (n + length xs) ys) ≡ all ++ map (λ e. (s, e)) (named_from n (xs ++ ys))
+after s n all xs ys =
+    append_assoc all (map (λ e. (s, e)) (named_from n xs)) (map (λ e. (s, e)) (named_from (n + length xs) ys))
+    ∙ ap (λ l. all ++ l) (sym (map-append (λ e. (s, e)) (named_from n xs) (named_from (n + length xs) ys)) ∙ ap (map (λ e. (s, e))) (sym (named_append n xs ys)))
+
+-- Items after others.
+pub lists_both : (a b c : Lister) (xs ys : List (Option Mark)) → ListsOn a xs b → ListsOn b ys c → ListsOn a (xs ++ ys) c
+lists_both a b c xs ys h k =
+    record {
+      space = k.space ∙ h.space;
+      runs = λ r. h.runs (k.runs r);
+      next = λ r. omega (arith, k.next r, h.next (k.runs r), length-append xs ys);
+      listed = λ r.
+          k.listed r
+          ∙ ((λ i. h.listed (k.runs r) i ++ map (λ e. (h.space i, e)) (named_from (h.next (k.runs r) i) ys))
+          ∙ after a.space a.next (map content_of a.listed.items) xs ys);
+    }
+
+lists_each : (a b : Lister) (xs : List Item) → TellsEach (λ old x new. ListsOn old (id_in old.space x) new) a xs b → ListsOn a (flat_map (id_in a.space) xs) b
+lists_each a b [] h = subst (λ l. ListsOn a [] l) (sym h) (lists_none a)
+lists_each a b (x ∷ xs) h =
+    let rest = lists_each h.0 b xs h.1.1 in
+    lists_both a h.0 b (id_in a.space x) (flat_map (id_in a.space) xs) h.1.0 (subst (λ s. ListsOn h.0 (flat_map (id_in s) xs) b) h.1.0.space rest)
+
+-- All that a lister has listed.
+pub lists_told : {a b : Lister} {xs : List Item} → Visits (λ old x new. ListsOn old (id_in old.space x) new) a xs b → ListsOn a (flat_map (id_in a.space) xs) b
+lists_told {a} {b} {xs} h = lists_each a b xs h.tells
 
 -- The step of a loop over index spaces.
-pub listed_more : (names : KnownNames) (ss : List Space) (at : ℕ) (d : Space) (all found : List Denoted) → at < length ss → AreListedIn names (take at ss) all → AreOfSpace names (get_or ss at d) found → AreListedIn names (take (at + 1) ss) (all ++ found)
-listed_more names ss at d all found within h of_space =
-    subst (λ l. AreListedIn names l (all ++ found)) (sym (take_more ss at d within)) (listed_behind names (take at ss) (get_or ss at d) all found h of_space)
-
--- What is made of pairs is of their index space.
-of_space_made : (s : Space) (es : List (Id × ℕ)) → All (λ d. d.space ≡ s) (map (denoted_at s) es)
-of_space_made s es = All-map (λ d. d.space ≡ s) (denoted_at s) es (λ k d within. refl)
-
-made_step : (s : Space) (e : Id × ℕ) (b : Bool) → map (denoted_at s) (cond b (e ∷ []) []) ≡ cond b (denoted_at s e ∷ []) []
-made_step s e true = refl
-made_step s e false = refl
-
--- The step of a loop over pairs.
-pairs_more : (s : Space) (es : List (Id × ℕ)) (at : ℕ) (d : Id × ℕ) → at < length es → map (denoted_at s) (filter is_written_pair (take (at + 1) es)) ≡ map (denoted_at s) (filter is_written_pair (take at es)) ++ cond (is_written_pair (get_or es at d)) (denoted_at s (get_or es at d) ∷ []) []
-pairs_more s es at d within =
-    let old = filter is_written_pair (take at es) in
-    let e = get_or es at d in
-    ap (map (denoted_at s)) (filter_more is_written_pair es at d within)
-    ∙ (map-append (denoted_at s) old (cond (is_written_pair e) (e ∷ []) []) ∙ ap (λ l. map (denoted_at s) old ++ l) (made_step s e (is_written_pair e)))
-
--- A source id is added, and a generated one is not.
-pub pair_put : (s : Space) (es : List (Id × ℕ)) (at : ℕ) (d : Id × ℕ) (b : Bool) (old new : List Denoted) → at < length es → b ≡ is_generated (name_of (get_or es at d).0) → b ≡ false → old ≡ map (denoted_at s) (filter is_written_pair (take at es)) → new ≡ old ++ denoted_at s (get_or es at d) ∷ [] → new ≡ map (denoted_at s) (filter is_written_pair (take (at + 1) es))
-pair_put s es at d b old new within is written h put =
-    let e = get_or es at d in
-    let passes : is_written_pair e ≡ true = ap not (sym is ∙ written) in
-    put ∙ (ap (λ l. l ++ denoted_at s e ∷ []) h ∙ sym (pairs_more s es at d within ∙ ap (λ x. map (denoted_at s) (filter is_written_pair (take at es)) ++ cond x (denoted_at s e ∷ []) []) passes))
-
-pub pair_left : (s : Space) (es : List (Id × ℕ)) (at : ℕ) (d : Id × ℕ) (b : Bool) (old : List Denoted) → at < length es → b ≡ is_generated (name_of (get_or es at d).0) → b ≡ true → old ≡ map (denoted_at s) (filter is_written_pair (take at es)) → old ≡ map (denoted_at s) (filter is_written_pair (take (at + 1) es))
-pair_left s es at d b old within is generated h =
-    let e = get_or es at d in
-    let stops : is_written_pair e ≡ false = ap not (sym is ∙ generated) in
-    h ∙ sym (pairs_more s es at d within ∙ (ap (λ x. map (denoted_at s) (filter is_written_pair (take at es)) ++ cond x (denoted_at s e ∷ []) []) stops ∙ append-nil (map (denoted_at s) (filter is_written_pair (take at es)))))
-
--- A pair is from the source if its entry is.
-same_written : (name : Name) → is_none (key_of name).1 ≡ not (is_generated name)
-same_written (Written text) = refl
-same_written (Generated n) = refl
-
-entries_step : (e : Id × ℕ) (b c : Bool) (es : List (Id × ℕ)) (ks : List (Key × ℕ)) (s : Space) → c ≡ b → ks ≡ map entry_listed (map (denoted_at s) es) → cond c (entry_of e ∷ ks) ks ≡ map entry_listed (map (denoted_at s) (cond b (e ∷ es) es))
-entries_step e true c es ks s same h = ap (λ x. cond x (entry_of e ∷ ks) ks) same ∙ ap (λ l. entry_of e ∷ l) h
-entries_step e false c es ks s same h = ap (λ x. cond x (entry_of e ∷ ks) ks) same ∙ h
-
--- The source entries of pairs are those of what is made of the source pairs.
-entries_made : (s : Space) (es : List (Id × ℕ)) → filter is_written (entries_of es) ≡ map entry_listed (map (denoted_at s) (filter is_written_pair es))
-entries_made s [] = refl
-entries_made s (e ∷ es) = entries_step e (is_written_pair e) (is_written (entry_of e)) (filter is_written_pair es) (filter is_written (entries_of es)) s (same_written (name_of e.0)) (entries_made s es)
-
--- The list of an index space, from its pairs.
-pub of_space_sorted : (names : KnownNames) (s : Space) (pairs : List (Id × ℕ)) (found : List Denoted) → entries_of pairs ≡ finmap.entries (space_in names.spaces s).names → IsPermutation (map (denoted_at s) (filter is_written_pair pairs)) found → IsNonDecreasingBy (λ d. d.number) found → AreOfSpace names s found
-of_space_sorted names s pairs found entries moved order =
-    let made = map (denoted_at s) (filter is_written_pair pairs) in
-    record {
-      of_space = All-permutation (λ d. d.space ≡ s) made found moved (of_space_made s (filter is_written_pair pairs));
-      exact = subst (λ l. IsPermutation l (map entry_listed found)) (sym (entries_made s pairs) ∙ ap (filter is_written) entries) (IsPermutation-map entry_listed made found moved);
-      order = order;
-    }
+pub listed_more : (xs : List Item) (ss : List Space) (at : ℕ) (d : Space) (all new : List Entry) → at < length ss → all ≡ flat_map (entries_in xs) (take at ss)
+    → new ≡ all ++ entries_in xs (get_or ss at d) → new ≡ flat_map (entries_in xs) (take (at + 1) ss)
+listed_more xs ss at d all new within h put =
+    put
+    ∙ (ap (λ es. es ++ entries_in xs (get_or ss at d)) h
+    ∙ (flat_map_more (entries_in xs) [] (take at ss) (get_or ss at d) ∙ ap (flat_map (entries_in xs)) (sym (take_more ss at d within))))

@@ -1,9 +1,9 @@
 -- A text has one result: a contract on a text determines it, except for failed allocations and limits of size.
 --
--- A call reads a text into a tree, which has addresses, and a contract is about that tree. These definitions say that the addresses do
--- not matter. Two calls that succeed for one text return the same bytes, the same list of names, or the same index of a name. If one
--- succeeds, another of the same function can fail only because an allocation failed (E12) or because the module is too large (E10). If
--- two calls of encode_text fail for other reasons, both return an error of the text, or both the same error of the module.
+-- A contract on a text speaks of the module of the text, which is a function of the text. Two calls that succeed for one text return the
+-- same bytes, the same list of names, or the same index of a name. If one succeeds, another of the same function can fail only because
+-- an allocation failed (E12) or because the module is too large (E10). If two calls of encode_text fail for other reasons, both return
+-- an error of the text, or both the same error of the module.
 --
 --   (module (func $f) (export "a" (func $f)))      the same bytes from each call that succeeds, and the list: $f is the function 0
 --   (module (func $f) (func $f))                   no bytes and no list from any call, but E2 at the second $f
@@ -12,12 +12,11 @@ use Rattle.std.specs.Global.{Vec}
 use Rattle.wast_base.specs.declared.faults.Fault.TheVariants as fault
 use Rattle.wast_base.specs.declared.spaces.Space.{Space}
 use Rattle.wast_base.specs.Faults.{Diagnostic, Nowhere, Memory, TooLarge, diagnostic_of, error_without_place}
-use Rattle.wast_base.specs.Order.{Key}
 use Rattle.wat_tokens.specs.declared.faults.TextFault.TheVariants as text
 use Rattle.wat_bytes.specs.declared.names.Denoted.{Denoted}
 use Rattle.wat_bytes.specs.declared.refusals.Refused.{Refused}
 use Rattle.wat_bytes.specs.declared.refusals.Refused.TheVariants as answer
-use Rattle.wat_bytes.specs.Names.{ListsText, NumbersText, entry_listed}
+use Rattle.wat_bytes.specs.Names.{ListsText, NumbersText, content_of}
 use Rattle.wat_bytes.specs.Texts.{OfText, EncodesText}
 
 -- Two calls that succeed return the same bytes.
@@ -54,11 +53,7 @@ SameNumber = (s : Space) (name bytes : List ℕ) (m n : Option ℕ) → OfText (
 abbrev pub SameLookUp : Type 0
 SameLookUp = (s : Space) (name bytes : List ℕ) (found : Option ℕ) (r : Refused) → OfText (NumbersText s name) bytes (Ok found) → OfText (NumbersText s name) bytes (Err r) → IsOfLimits r
 
--- The content of an entry in a list of names: an index space, and a name with its index. For `(func $f)` it is the function f with 0.
-abbrev pub content_of : Denoted → Space × (Key × ℕ)
-content_of d = (d.space, entry_listed d)
-
--- Two calls that succeed list the same names with the same indices, in the same order.
+-- Two calls that succeed list the same names with the same indices and positions, in the same order.
 abbrev pub SameList : Type 0
 SameList = (bytes : List ℕ) (a b : Vec Denoted) → OfText ListsText bytes (Ok a) → OfText ListsText bytes (Ok b) → map content_of a.items ≡ map content_of b.items
 

@@ -1,8 +1,14 @@
 //! Results whose content the prover computes.
 
+ghost use Rattle.wat_bytes.specs.WorkedNames.{EachKind};
 ghost use Rattle.wat_bytes.specs.WorkedResults.{Contents};
 
 /// Computes the content of a list entry and of errors: it has no address.
 pub(crate) fn worked_results()
     ensures { Contents }
+{}
+
+/// Computes the list of the ids of a module, which has the position of each.
+pub(crate) fn worked_names()
+    ensures { EachKind }
 {}

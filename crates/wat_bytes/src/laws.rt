@@ -1,20 +1,28 @@
 //! Theorems about the results of calls on texts. The functions do nothing when they run.
 
+ghost use Rattle.wat_bytes.specs.BareLaws.{Laws};
 ghost use Rattle.wat_bytes.specs.OneText.{SameBytes, SameError, SameList, SameListing, SameLookUp, SameNumber, SameSuccess};
 
 use wat_meaning::meaning_laws;
 
+/// States in one clause what `meaning_laws` states: a tree has the result of its bare tree.
+pub(crate) fn bare_laws()
+    ensures { Laws }
+{
+    meaning_laws();
+}
+
 /// A text has one result (text format: modules).
 ///
-/// A call parses a text into a tree, and a tree has addresses. Its contract is about the module that
-/// the rules of the text format read, at any addresses. These theorems say that the addresses do not
-/// matter. They are about [`encode_text`](crate::encode_text),
-/// [`names_of_text`](crate::names_of_text) and [`number_in_text`](crate::number_in_text).
+/// A contract on a text speaks of the module of the text, which is a function of the text
+/// (`module_of` in `wat_text`). So the theorems follow from what a contract says of one module. They
+/// are about [`encode_text`](crate::encode_text), [`names_of_text`](crate::names_of_text) and
+/// [`number_in_text`](crate::number_in_text).
 ///
 /// # Example
 ///
 /// For example, each call that returns bytes for `(module (func $f) (export "a" (func $f)))`
-/// returns the same bytes, and each list of its names has `$f` as function 0. For
+/// returns the same bytes, and each list of its names has `$f` at 14 as function 0. For
 /// `(module (func $f) (func $f))` no call returns bytes.
 ///
 /// # Guarantees
@@ -29,8 +37,8 @@ use wat_meaning::meaning_laws;
 ///   both return none.
 /// - `look_up`: if one call that looks a name up succeeds, another with the same text, index space and
 ///   name fails only because of E12 or E10.
-/// - `list`: two calls that list the names of one text return the same index spaces, names and
-///   indices in the same order.
+/// - `list`: two calls that list the names of one text return the same index spaces, names,
+///   positions and indices in the same order.
 /// - `listing`: if one call that lists the names of a text succeeds, another fails only because of E12
 ///   or E10.
 pub fn one_result()
@@ -41,6 +49,4 @@ pub fn one_result()
     ensures look_up { SameLookUp }
     ensures list { SameList }
     ensures listing { SameListing }
-{
-    meaning_laws();
-}
+{}

@@ -13,6 +13,7 @@
 //!
 //! - `encodes` has [`encode_text`], and [`encoded_text`] for a module that is already parsed.
 //! - `names` has [`names_of_text`] and [`number_in_text`], and the same for a parsed module.
+//!   `lister` lists the ids of the items of fields.
 //! - `refusals` has the errors, and `uncovered` finds the token of an unsupported construct.
 //! - `modules` makes a module of `wast_core` from a parsed one.
 //! - `laws` states that a text has one result, and `examples` has results that the prover computes.
@@ -25,6 +26,8 @@
 //! - [`encode_text`], `answer`: the result is that of `encode_module` for the module that the text
 //!   denotes. Otherwise it is an error of the text, which denotes no module then, or one that is not
 //!   well formed.
+//! - [`names_of_text`], `answer`: the list has the index, the name and the position of each source id
+//!   of that module.
 //! - [`one_result`]: two calls that succeed for one text return the same bytes, the same list of
 //!   names, and the same index for a name. If one call succeeds, another of the same function fails
 //!   only because an allocation failed or the module is too large. If two calls of [`encode_text`]
@@ -36,6 +39,7 @@
 mod encodes;
 mod examples;
 mod laws;
+mod lister;
 mod modules;
 mod names;
 mod refusals;

@@ -1,30 +1,33 @@
-//! The ids of a text and their indices.
+//! The ids of a text, their indices and their positions.
 
-ghost use Rattle.std.specs.Prelude.{◌≡◌, map, IfOk, IfErr};
-ghost use Rattle.std.specs.List.{filter};
+ghost use Rattle.std.specs.Prelude.{◌≡◌, IfErr};
 ghost use Rattle.wast_base.specs.Ids.{Written};
 ghost use Rattle.wast_resolve_names.specs.LookUps.{IsSettledFor};
 ghost use Rattle.wast_resolve_names.specs.Resolvers.{known_to};
 ghost use Rattle.wast_resolve_rules.specs.Resolved.{numbered_at};
+ghost use Rattle.wast_core.specs.Headline.{ResolvesKind};
 ghost use Rattle.wast_core.specs.Modules.{IsReady};
 ghost use Rattle.wat_bytes.specs.Texts.{IsPlaced, OfText};
-ghost use Rattle.wat_bytes.specs.Names.{AreListed, AreListedIn, AreOfSpace, ListsText, NumbersText, ResolvesReady, ResolvesText, denoted_at, is_written_pair};
+ghost use Rattle.wat_bytes.specs.Names.{ListsReady, ListsText, NumbersText, ResolvesReady, ResolvesText};
 
+use crate::laws::bare_laws;
+use crate::lister;
 use crate::modules::{is_ready, module_of, read_text, unready};
 use crate::refusals::Refused;
-use std::alloc::{AllocError, Global};
+use std::alloc::Global;
 use wast_core::{Module, discard_module};
 use wast_resolve::{Names, discard_names};
 use wast_tree::{Error, Gensym, Id, Index, Space, Span};
 use wat_text::{Strings, TextModule};
 
-/// An id of a text with its index space and its index (text format: indices).
+/// An id of a text with its index space, its index and its position (text format: identifiers,
+/// indices).
 ///
 /// # Example
 ///
-///     for (denoted, (space, name, number)) in names.iter().zip(&told) {
+///     for (denoted, (space, name, number, offset)) in names.iter().zip(&told) {
 ///         assert!(rt; denoted.space.is(*space) && denoted.id.name() == *name);
-///         assert!(rt; denoted.number == *number);
+///         assert!(rt; denoted.number == *number && denoted.id.span().offset == *offset);
 ///     }
 #[derive(Clone, Copy, Debug, PartialEq, Eq)]
 pub struct Denoted<'a> {
@@ -36,65 +39,11 @@ pub struct Denoted<'a> {
     pub number: u32,
 }
 
-/// Returns the source ids among pairs of ids and indices, in the order of the pairs.
-fn written_pairs<'a>(
-    alloc: Global,
-    pairs: &[(Id<'a>, u32)],
-    space: Space,
-) -> Result<Vec<Denoted<'a>>, AllocError>
-    ensures { IfOk result (λ found. found.items ≡ map (denoted_at space) (filter is_written_pair pairs.now)) }
-{
-    let mut found = Vec::new(alloc);
-    for at in 0..pairs.len() {
-        let (id, number) = pairs[at];
-        if !id.is_gensym() {
-            found.push(Denoted { space, id, number })?;
-        }
-    }
-    Ok(found)
-}
-
-/// Returns the source ids of an index space, the lowest index first.
-fn written<'a>(
-    alloc: Global,
-    names: &Names<'a>,
-    space: Space,
-) -> Result<Vec<Denoted<'a>>, AllocError>
-    ensures { IfOk result (λ found. AreOfSpace names.now space found.items) }
-{
-    let mut found = written_pairs(alloc, names.pairs(space), space)?;
-    found.sort_unstable_by_key(|denoted| denoted.number);
-    Ok(found)
-}
-
-/// Returns the source ids of some index spaces, one index space after another.
-fn written_in<'a>(
-    alloc: Global,
-    names: &Names<'a>,
-    spaces: &[Space],
-) -> Result<Vec<Denoted<'a>>, AllocError>
-    ensures { IfOk result (λ all. AreListedIn names.now spaces.now all.items) }
-{
-    let mut all = Vec::new(alloc);
-    for at in 0..spaces.len() {
-        let found = written(alloc, names, spaces[at])?;
-        all.extend_from_slice(found.as_slice())?;
-    }
-    Ok(all)
-}
-
-/// Returns the source ids of all index spaces.
-fn all_written<'a>(alloc: Global, names: &Names<'a>) -> Result<Vec<Denoted<'a>>, AllocError>
-    ensures { IfOk result (λ all. AreListed names.now all.items) }
-{
-    let spaces = Space::ALL;
-    written_in(alloc, names, &spaces)
-}
-
-/// Returns the names of a module that may be resolved with a counter at 1.
+/// Resolves a module that may be resolved with a counter at 1, and returns its names.
 fn resolved<'a>(alloc: Global, module: &mut Module<'a>) -> Result<Names<'a>, Error<'a>>
     requires ready { IsReady «module».old 1 }
-    ensures { ResolvesReady «module».old result }
+    ensures answer { ResolvesReady «module».old result }
+    ensures left { ResolvesKind 1 «module».old.kind result «module».new.kind }
 {
     let mut gensym = Gensym::new(1);
     module.resolve(alloc, &mut gensym)
@@ -116,11 +65,26 @@ fn resolved_text<'a>(alloc: Global, text: TextModule<'a>) -> Result<Names<'a>, R
     answer
 }
 
-/// Resolves a parsed module, and returns each of its ids with its index (text format: indices).
+/// Resolves a module that may be resolved with a counter at 1, and returns its source ids.
+fn listed<'a>(alloc: Global, module: &mut Module<'a>) -> Result<Vec<Denoted<'a>>, Error<'a>>
+    requires ready { IsReady «module».old 1 }
+    ensures { ListsReady «module».old result }
+{
+    match resolved(alloc, module) {
+        Ok(names) => {
+            discard_names(names);
+            lister::of_module(alloc, module)
+        }
+        Err(error) => Err(error),
+    }
+}
+
+/// Resolves a parsed module, and returns each of its ids with its index and its position (text
+/// format: identifiers, indices).
 ///
 /// The list is ordered by the index space, as [`Space::ALL`](wast_tree::Space::ALL) is, and then by
 /// the index. Ids that resolving generates are not in it. For example, for `(module (func) (func
-/// $f) (type $t (func)))` it has `$f`, the function 1, and `$t`, the type 0.
+/// $f) (type $t (func)))` it has `$f` at 21, the function 1, and `$t` at 31, the type 0.
 ///
 /// # Example
 ///
@@ -135,26 +99,26 @@ fn resolved_text<'a>(alloc: Global, text: TextModule<'a>) -> Result<Names<'a>, R
 ///
 /// # Guarantees
 ///
-/// The list has the source ids of the names that `resolve` returns for this module, each once
-/// (`ListsText`).
+/// The list has the name, the index and the position of each source id of the items of the module,
+/// and of no other (`ListsText`).
 pub fn names_of<'a>(alloc: Global, text: TextModule<'a>) -> Result<Vec<Denoted<'a>>, Refused<'a>>
     ensures { ListsText text.entry result }
 {
-    match resolved_text(alloc, text) {
-        Ok(names) => {
-            let answer = all_written(alloc, &names);
-            discard_names(names);
-            match answer {
-                Ok(all) => Ok(all),
-                Err(error) => Err(Refused::Module(Error::from(error))),
-            }
-        }
-        Err(refused) => Err(refused),
-    }
+    let mut module = module_of(text);
+    let answer = match is_ready(&mut module, false) {
+        true => match listed(alloc, &mut module) {
+            Ok(all) => Ok(all),
+            Err(error) => Err(Refused::Module(error)),
+        },
+        false => Err(Refused::Text(unready(&mut module))),
+    };
+    discard_module(module);
+    answer
 }
 
-/// Parses a module in the text format, resolves it, and returns each of its ids with its index
-/// (text format: indices), as [`names_of`] does. Strings with escapes are stored in `strings`.
+/// Parses a module in the text format, resolves it, and returns each of its ids with its index and
+/// its position (text format: identifiers, indices), as [`names_of`] does. Strings with escapes are
+/// stored in `strings`.
 ///
 /// # Example
 ///
@@ -179,6 +143,7 @@ pub fn names_of_text<'a>(
     ensures answer { OfText ListsText text.now result }
     ensures place { IfErr result (IsPlaced text.now) }
 {
+    bare_laws();
     match read_text(alloc, text, strings) {
         Ok(module) => names_of(alloc, module),
         Err(error) => Err(Refused::Text(error)),
@@ -235,6 +200,7 @@ fn number_of<'a>(names: &Names<'a>, space: Space, name: &'a str) -> Option<u32>
 ///
 /// The result is exactly what the names that `resolve` returns for this module have for the name
 /// (`NumbersText`).
+#[tactic(auto, using(crate::proofs::Resolvable::numbers_made))]
 pub fn number_in<'a>(
     alloc: Global,
     text: TextModule<'a>,
@@ -282,6 +248,7 @@ pub fn number_in_text<'a>(
     ensures answer { OfText (NumbersText space name.now) text.now result }
     ensures place { IfErr result (IsPlaced text.now) }
 {
+    bare_laws();
     match read_text(alloc, text, strings) {
         Ok(module) => number_in(alloc, module, space, name),
         Err(error) => Err(Refused::Text(error)),

@@ -16,7 +16,6 @@ pub mod Machines
 pub mod Makes
 pub mod Names
 pub mod Numbers
-pub mod OneModule
 pub mod Opened
 pub mod Parted
 pub mod Places
@@ -26,6 +25,7 @@ pub mod Quoting
 pub mod References
 pub mod Running
 pub mod Signs
+pub mod Starts
 pub mod Steps
 pub mod Taken
 pub mod Turns
