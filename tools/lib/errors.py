@@ -1,9 +1,14 @@
-"""Reads the errors that `wat --explain` knows, and writes docs/ERRORS.md from them, for `tools/errors-page` and `tools/check-docs`."""
+"""Reads the errors that `wat --explain` knows, and writes docs/ERRORS.md from them, for `tools/errors-page` and `tools/check-docs`.
+
+The page ends with the positions that differ from those of the Rust crate (`tools/lib/places.py`).
+"""
 
 import pathlib
 import re
 import subprocess
 import typing
+
+import places
 
 ROOT = pathlib.Path(__file__).resolve().parent.parent.parent
 SOURCE = ROOT / "crates/wat/src/explanations.rt"
@@ -97,7 +102,7 @@ def page(program):
     found = list(entries())
     numbered = "".join(section(program, entry) for entry in found if entry.number)
     others = "".join(section(program, entry) for entry in found if not entry.number)
-    return HEAD + WITH_NUMBER + numbered + WITHOUT_NUMBER + others
+    return HEAD + WITH_NUMBER + numbered + WITHOUT_NUMBER + others + places.section()
 
 
 def problems(program):
@@ -111,5 +116,6 @@ def problems(program):
         wanted = f"{entry.number}: {entry.words}\n" if entry.number else f"{entry.words}\n"
         if any(not it.startswith(wanted) or not it.endswith(f"\n{entry.fix}\n") for it in explained):
             yield f"{entry.number or entry.words}: --explain prints {explained}"
+    yield from places.problems(program)
     if PAGE.read_text(encoding="utf-8") != page(program):
         yield f"{PAGE.relative_to(ROOT)} is out of date, run tools/errors-page"

@@ -79,8 +79,10 @@ pub(crate) enum Detail<'a> {
     Character(char),
     /// A character that is not allowed in a string.
     InString(char),
-    /// A character after a token.
-    Adjacent(Found<'a>, char),
+    /// A character after a token, and its place.
+    Adjacent(Found<'a>, char, Place<'a>),
+    /// What was found in place of one of these names.
+    Among(Found<'a>, &'static str),
     /// An escape that is none.
     Escape(Found<'a>),
     /// An id that is defined twice, and the place of the first definition.
@@ -118,10 +120,11 @@ impl fmt::Display for Detail<'_> {
                 let named = Named(character);
                 write!(f, ": {named} has to be written as an escape")
             }
-            Detail::Adjacent(found, character) => {
+            Detail::Adjacent(found, character, place) => {
                 let named = Named(character);
-                write!(f, " {found}, found {named}")
+                write!(f, " {found}, found {named} at {place}")
             }
+            Detail::Among(found, names) => write!(f, ", found {found}; the names are {names}"),
             Detail::Escape(found) => write!(
                 f,
                 " {found}: expected two hexadecimal digits, `\\u{{..}}`, or one of t n r \" ' \\ after `\\`"

@@ -7,7 +7,7 @@ ghost use Rattle.wat_messages.specs.Ranges.{IsRange, Marks, place_at, range_of, 
 use crate::definitions::{first_definition, last_open, nearest_name, open_annotation, read_before};
 use crate::details::{Detail, Found, Hint, Place, first_character};
 use crate::lexemes::{Kind, Lexeme, bytes_from, first_bytes, lexeme_at, next_lexeme, shown};
-use crate::lists::{FIELDS, INSTRUCTIONS, words_for};
+use crate::lists::{DYLINK_NAMES, FIELDS, INSTRUCTIONS, words_for};
 use crate::near::{is_listed, nearest_of};
 use crate::numbers::{Number, number_after};
 use crate::ranges::{Range, range_in, range_of_fault, range_of_token};
@@ -87,6 +87,8 @@ enum Saying<'a> {
     Typed,
     /// The parenthesis there is open.
     Opened,
+    /// The character there touches a token.
+    Touching,
     /// Another word may be meant.
     Meant(Hint<'a>),
 }
@@ -106,6 +108,7 @@ impl fmt::Display for Note<'_> {
             Saying::Defined => f.write_str("first defined here"),
             Saying::Typed => f.write_str("defined here"),
             Saying::Opened => f.write_str("this parenthesis is open"),
+            Saying::Touching => f.write_str("it touches this character"),
             Saying::Meant(hint) => write!(f, "{hint}"),
         }
     }
@@ -131,12 +134,14 @@ fn opened_at(text: &[u8], start: usize) -> Found<'_> {
 }
 
 /// Returns what is said of a token that is followed by another one.
-fn adjacent(text: &[u8], start: usize) -> Detail<'_> {
-    let Some(token) = lexeme_at(text, start) else {
+fn adjacent(text: &str, start: usize) -> Detail<'_> {
+    let bytes = text.as_bytes();
+    let Some(token) = lexeme_at(bytes, start) else {
         return Detail::Nothing;
     };
-    match first_character(bytes_from(text, token.end)) {
-        Some(character) => Detail::Adjacent(Found(token.bytes), character),
+    let offset = token.end;
+    match first_character(bytes_from(bytes, offset)) {
+        Some(character) => Detail::Adjacent(Found(token.bytes), character, Place { text, offset }),
         None => Detail::Nothing,
     }
 }
@@ -146,17 +151,40 @@ fn character_at(text: &[u8], start: usize) -> Option<char> {
     first_character(bytes_from(text, start))
 }
 
-/// Returns what is said where something was expected.
-fn in_place<'a>(text: &'a str, start: usize, expected: &str) -> Detail<'a> {
+/// Returns what is said where a parenthesis has to be closed. An annotation has the offset of its
+/// `@`, so the parenthesis before that is its own.
+fn unclosed<'a>(text: &'a str, start: usize, found: Found<'a>) -> Detail<'a> {
     let bytes = text.as_bytes();
-    let found = found_at(bytes, start);
-    if expected == "`)`" {
-        let before = read_before(bytes, start);
-        if let Some(offset) = last_open(bytes, start, before) {
-            return Detail::Unclosed(Place { text, offset }, found);
-        }
+    let end = if found.0.starts_with(b"@") {
+        start.saturating_sub(1)
+    } else {
+        start
+    };
+    let before = read_before(bytes, end);
+    match last_open(bytes, end, before) {
+        Some(offset) => Detail::Unclosed(Place { text, offset }, found),
+        None => Detail::InPlace(found),
     }
-    Detail::InPlace(found)
+}
+
+/// Returns what is said where something was expected. A block without an `end` is at its keyword.
+fn in_place<'a>(text: &'a str, start: usize, expected: &str) -> Detail<'a> {
+    let found = found_at(text.as_bytes(), start);
+    match expected {
+        "`)`" => unclosed(text, start, found),
+        "`end` of this block" => Detail::Token(found),
+        "`dylink.0` subsection name" => Detail::Among(found, DYLINK_NAMES),
+        _ => Detail::InPlace(found),
+    }
+}
+
+/// Returns the error that is told: at the end of the text no instruction is unknown, but a
+/// parenthesis is open.
+fn told(text: &[u8], start: usize, fault: TextFault) -> TextFault {
+    match fault {
+        TextFault::Operator if found_at(text, start).0.is_empty() => TextFault::Expected("`)`"),
+        fault => fault,
+    }
 }
 
 /// Returns the bytes of an escape at an offset.
@@ -178,7 +206,7 @@ fn detail_of<'a>(text: &'a str, start: usize, fault: TextFault) -> Detail<'a> {
             Some(character) => Detail::InString(character),
             None => Detail::Nothing,
         },
-        TextFault::Adjacent => adjacent(bytes, start),
+        TextFault::Adjacent => adjacent(text, start),
         TextFault::Escape => Detail::Escape(escape_at(text, start)),
         TextFault::Expected(what) => in_place(text, start, what),
         TextFault::Number => Detail::NoNumber(found_at(bytes, start), number_at(bytes, start)),
@@ -337,12 +365,13 @@ impl<'a> Diagnostic<'a> {
         ensures text { text_of result ≡ text.now }
     {
         let start = error.span.offset;
+        let fault = told(text.as_bytes(), start, error.fault);
         Diagnostic {
             text,
             range: Some(range_of_fault(text, start, error.fault)),
-            words: Words::Text(error.fault),
-            detail: detail_of(text, start, error.fault),
-            hint: hint_of(text.as_bytes(), start, error.fault),
+            words: Words::Text(fault),
+            detail: detail_of(text, start, fault),
+            hint: hint_of(text.as_bytes(), start, fault),
         }
     }
 
@@ -430,9 +459,13 @@ impl<'a> Diagnostic<'a> {
                 saying: Saying::Typed,
                 range: range_of_token(self.text, place.offset),
             }),
-            Detail::Unclosed(open, _) => Some(Note {
+            Detail::Unclosed(open, _) | Detail::Begins(open) => Some(Note {
                 saying: Saying::Opened,
                 range: range_of_token(self.text, open.offset),
+            }),
+            Detail::Adjacent(_, _, place) => Some(Note {
+                saying: Saying::Touching,
+                range: range_in(self.text, place.offset, 1),
             }),
             _ => None,
         }

@@ -138,6 +138,10 @@ pub(crate) static PRODUCERS: &str = "language sdk processed-by";
 /// The subsections of `(@dylink.0`.
 pub(crate) static DYLINK: &str = "mem-info needed export-info import-info runtime-path";
 
+/// The same with quotes, for messages.
+pub(crate) static DYLINK_NAMES: &str =
+    "`mem-info`, `needed`, `export-info`, `import-info` and `runtime-path`";
+
 /// Returns the words that may be where a reader expected this, in its words; nothing for others.
 pub(crate) fn words_for(expected: &str) -> Option<&'static [u8]> {
     match expected {
