@@ -2,6 +2,8 @@
 //! arguments of arrays, generated ids, and fields that are not well formed.
 
 use std::alloc::Global;
+use std::process::Abort;
+use std::str;
 use wast_core::{Module, ModuleKind, discard_module};
 use wast_rows::{RunError, form_sample, run};
 use wast_tree::{
@@ -376,6 +378,28 @@ fn long_data<'a>(alloc: Global, piece: &'a [u8]) -> Result<Module<'a>, Error<'a>
     text_module(maker.finish(fields))
 }
 
+/// Returns a module with a name 4,096 times, in annotations (1), inline exports (2) or imports.
+fn long_names<'a>(alloc: Global, n: u32, name: &'a str) -> Result<Module<'a>, Error<'a>> {
+    let mut maker = TreeBuilder::new(alloc);
+    let mut fields = Seq::new(alloc);
+    for _ in 0..4096 {
+        let field = match n {
+            1 => ModuleField::Func(func(alloc, Seq::new(alloc)).with_name(name)),
+            2 => {
+                let names: [&'a str; 1] = [name];
+                let exports = maker.exports(&names);
+                ModuleField::Func(func(alloc, Seq::new(alloc)).with_exports(exports))
+            }
+            _ => {
+                let item = ItemSig::new(at(20), None, ItemKind::Func(TypeUse::none()));
+                ModuleField::Import(Imports::single(at(9), name, "", item))
+            }
+        };
+        maker.push_field(&mut fields, field);
+    }
+    text_module(maker.finish(fields))
+}
+
 /// Returns a module with one field.
 fn lone<'a>(alloc: Global, n: u32) -> Result<Module<'a>, Error<'a>> {
     let mut maker = TreeBuilder::new(alloc);
@@ -497,16 +521,24 @@ fn run_prints_lines_of_trees_without_a_text(rt: HostRuntime) {
     }
 }
 
-// 4,096 times a mebibyte does not fit in a segment.
-#[test]
-fn segment_of_four_gibibytes_is_too_large(rt: HostRuntime) {
-    let alloc = rt.alloc();
-    let piece = vec![in alloc; 0u8; 1048576].expect(&rt, "memory");
-    let made = long_data(alloc, piece.as_slice());
-    let mut module = made.expect(&rt, "memory");
+/// Checks that a module is too large to encode.
+fn is_too_large<'a>(rt: &impl Abort, alloc: Global, made: Result<Module<'a>, Error<'a>>) {
+    let mut module = made.expect(rt, "memory");
     assert!(rt; module.well_formed());
     assert!(rt; module.gensym_bound() == 0);
     let error = module.encode(alloc, &mut Gensym::new(1)).err();
     assert!(rt; error == Some(Error::refusal(Fault::TooLarge)));
     discard_module(module);
+}
+
+// 4,096 times a mebibyte does not fit in a section. `tools/refused-memory` runs it in little memory.
+#[test]
+fn section_of_four_gibibytes_is_too_large(rt: HostRuntime) {
+    let alloc = rt.alloc();
+    let piece = vec![in alloc; b'a'; 1048576].expect(&rt, "memory");
+    is_too_large(&rt, alloc, long_data(alloc, piece.as_slice()));
+    let name = str::from_utf8(piece.as_slice()).expect(&rt, "letters");
+    for n in 1..4 {
+        is_too_large(&rt, alloc, long_names(alloc, n, name));
+    }
 }

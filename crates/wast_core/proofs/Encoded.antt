@@ -1,14 +1,18 @@
 -- Encoding after resolving.
 use Rattle.std.proofs.Common.{◌≡◌, ◌<◌, ℕ, true, List, Result, Ok, Err, Option, None, Some, subst, inl, inr}
+use Rattle.std.specs.Prelude.{IfOk}
 use Rattle.std.specs.Borrow.{Bor}
 use Rattle.std.specs.Global.{Vec}
 use Rattle.wast_base.specs.declared.faults.Error.{Error}
 use Rattle.wast_base.specs.declared.faults.Form.{Form}
 use Rattle.wast_tree_nodes.specs.Generations.{greatest_generation}
 use Rattle.wast_tree_nodes.specs.WellFormed.{is_well_formed}
+use Rattle.wast_resolve_rules.specs.Explicit.{by_positions}
 use Rattle.wast_resolve_rules.specs.Finished.{resolved_fields_from}
+use Rattle.wast_resolve_rules.specs.Resolved.{resolved_fields}
 use Rattle.wast_resolve_names.specs.Resolvers.{KnownNames}
 use Rattle.wast_resolve_laws.specs.Laws.{FinishedStaysWellFormed, FinishedIsResolved, FinishedIsWrittenOut, SamePositions}
+use Rattle.wasm_out.specs.Parts.{Part}
 use Rattle.wasm_out.specs.Reads.{Reads}
 use Rattle.wast_core_conv.specs.Encodable.{is_at_rest}
 use Rattle.wast_core_conv.proofs.Ready.{fields_at_rest}
@@ -18,10 +22,12 @@ use Rattle.wast_core.specs.declared.module.ModuleKind.TheVariants as kind
 use Rattle.wast_core_sections.specs.Writable.{IsWritable}
 use Rattle.wast_core.specs.Bounded.{IsBounded}
 use Rattle.wast_core_sections.specs.Encoding.{IsUnwritten}
+use Rattle.wast_core_sections.specs.StandardOrder.{StandardOrder, PartsAreOrdered}
 use Rattle.wast_core.specs.Headline.{IsMet, ResolvesKind, EncodesKind}
 use Rattle.wast_core.specs.Modules.{bound_of_kind}
 use Rattle.wast_core_sections.specs.Uncovered.{head_of, uncovered_forms}
-use Rattle.wast_core.specs.Writing.{EncodesResolved}
+use Rattle.wast_core.specs.Meaning.{meaning}
+use Rattle.wast_core.specs.Writing.{EncodesResolved, WritesInOrder}
 use Rattle.wast_core.proofs.ByPosition.{means_what_is_written, written_where_meant}
 
 -- Well-formed fields whose checks pass are already resolved after resolving.
@@ -47,3 +53,13 @@ encodes positions n name (kind.Binary pieces) new names result above r h = binar
     binary pieces new (Ok bytes) r h = (h, r)
     binary pieces new (Err e) r h = (h, r)
 encodes positions n name (kind.Refused d) new names result above r h = absurd r
+
+-- The sections are in order, because the bytes are read as the meaning alone.
+pub in_order : PartsAreOrdered → ((bytes : List ℕ) (p q : List Part) → Reads bytes p → Reads bytes q → p ≡ q)
+    → (n : ℕ) (name : Option (List ℕ)) (old new : ModuleKind) (result : Result (Vec ℕ) Error) → EncodesKind n name old result new → IfOk result (λ bytes. WritesInOrder old bytes.items)
+in_order ordered one n name (kind.Text fs) new (Ok bytes) h ps reads = subst StandardOrder (one bytes.items (meaning name fs) ps h.2 reads) (ordered name (resolved_fields (by_positions fs)))
+in_order ordered one n name (kind.Text fs) new (Err e) h = tt
+in_order ordered one n name (kind.Binary pieces) new (Ok bytes) h = tt
+in_order ordered one n name (kind.Binary pieces) new (Err e) h = tt
+in_order ordered one n name (kind.Refused d) new (Ok bytes) h = tt
+in_order ordered one n name (kind.Refused d) new (Err e) h = tt

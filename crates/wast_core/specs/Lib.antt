@@ -1,4 +1,5 @@
 pub mod Bounded
+pub mod Checked
 pub mod Headline
 pub mod Laws
 pub mod AtRest

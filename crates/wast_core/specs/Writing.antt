@@ -7,11 +7,14 @@ use Rattle.std.specs.Global.{Vec}
 use Rattle.wast_base.specs.declared.faults.Error.{Error}
 use Rattle.wast_base.specs.Faults.{out_of_memory}
 use Rattle.wasm_ops.specs.Sinks.{SinkRules}
+use Rattle.wasm_out.specs.Parts.{Part}
+use Rattle.wasm_out.specs.Reads.{Reads}
 use Rattle.wast_core.specs.declared.module.ModuleKind.{ModuleKind}
 use Rattle.wast_core.specs.declared.module.ModuleKind.TheVariants as kind
 use Rattle.wast_core_conv.specs.Encodable.{is_at_rest}
 use Rattle.wast_core.specs.Headline.{joined_pieces}
 use Rattle.wast_core_sections.specs.Encoding.{EncodesFields, PutsFields}
+use Rattle.wast_core_sections.specs.StandardOrder.{StandardOrder}
 
 -- A text module that is already resolved. It may have unsupported constructs.
 abbrev pub IsTextAtRest : ModuleKind → Type 0
@@ -38,3 +41,9 @@ abbrev pub PutsModule : {S : Type 0} → SinkRules S → Option (List ℕ) → M
 PutsModule rules name (kind.Text fields) old new result = PutsFields rules name fields old new result
 PutsModule rules name (kind.Binary pieces) old new result = ⊥
 PutsModule rules name (kind.Refused e) old new result = ⊥
+
+-- The sections of the bytes of a text module are in the standard's order, however the bytes are read.
+abbrev pub WritesInOrder : ModuleKind → List ℕ → Type 0
+WritesInOrder (kind.Text fields) bytes = (ps : List Part) → Reads bytes ps → StandardOrder ps
+WritesInOrder (kind.Binary pieces) bytes = Unit {0}
+WritesInOrder (kind.Refused e) bytes = Unit {0}

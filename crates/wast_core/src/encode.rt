@@ -4,14 +4,15 @@ ghost use Rattle.std.specs.Prelude.{◌≡◌, ⊤, IfOk, IfErr};
 ghost use Rattle.wast_base.specs.Faults.{out_of_memory};
 ghost use Rattle.wast_core.specs.Headline.{Encodes, joined_pieces, name_of_module};
 ghost use Rattle.wast_core.specs.Modules.{IsReady};
-ghost use Rattle.wast_core.specs.Writing.{IsTextAtRest, IsAtRest, EncodesResolved, PutsModule};
+ghost use Rattle.wast_core.specs.Writing.{IsTextAtRest, IsAtRest, EncodesResolved, PutsModule, WritesInOrder};
 
+use crate::laws::one_meaning;
 use crate::module::{Module, ModuleKind};
 use std::alloc::Global;
 use wasm_ops::Sink;
 use wast_base::{Error, Gensym};
 use wast_core_name_section::given_name;
-use wast_core_sections::{encode_covered, put_fields};
+use wast_core_sections::{encode_covered, order_law, put_fields};
 use wast_resolve::{discard_names, resolved_laws};
 
 /// Joins the pieces of a binary module.
@@ -97,6 +98,8 @@ impl EncodeOptions {
     ///   definition `meaning` has for the module as it was before the call. By
     ///   [`one_meaning`](crate::laws::one_meaning) it reads them as no other module. A binary
     ///   module returns its pieces, joined, whatever they contain.
+    /// - `order`: the sections of a text module are in the standard's order, and each is there at
+    ///   most once, except custom and start sections.
     /// - `stays` and `ready`: as [`Module::resolve`].
     pub fn encode_module<'a>(
         &self,
@@ -106,10 +109,13 @@ impl EncodeOptions {
     ) -> Result<Vec<u8>, Error<'a>>
         requires { IsReady «module».old gensym.old }
         ensures answer { Encodes «module».old gensym.old result «module».new gensym.new }
+        ensures order { IfOk result (λ bytes. WritesInOrder «module».old.kind bytes.items) }
         ensures stays { «module».new ≡ record «module».old { kind = «module».new.kind } }
         ensures ready { IsReady «module».new gensym.new }
     {
         resolved_laws();
+        order_law();
+        one_meaning();
         discard_names(module.resolve(alloc, gensym)?);
         encode_resolved(alloc, module)
     }
@@ -162,6 +168,7 @@ impl<'a> Module<'a> {
     pub fn encode(&mut self, alloc: Global, gensym: &mut Gensym) -> Result<Vec<u8>, Error<'a>>
         requires { IsReady self.old gensym.old }
         ensures answer { Encodes self.old gensym.old result self.new gensym.new }
+        ensures order { IfOk result (λ bytes. WritesInOrder self.old.kind bytes.items) }
         ensures stays { self.new ≡ record self.old { kind = self.new.kind } }
         ensures ready { IsReady self.new gensym.new }
     {

@@ -12,7 +12,7 @@ ghost use Rattle.wast_core.specs.OtherForms.{RenamedForms, WrittenForms};
 
 pub use crate::rests::at_rest;
 use wasm_out::reading_laws;
-pub use wast_core_sections::{customs_law, hint_places};
+pub use wast_core_sections::{customs_law, hint_places, order_law};
 use wast_resolve::laws::naming_laws;
 use wast_resolve::resolved_laws;
 

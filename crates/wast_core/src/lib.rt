@@ -17,6 +17,7 @@
 //! - `module` has [`Module`] and [`Module::resolve`]. `wat` has [`Wat`]: a module or a component.
 //! - `encode` has [`EncodeOptions`], and `spelled` has [`Encode`]. `wast_core_sections` writes the
 //!   sections.
+//! - `checked` has the same calls with a check of what they require, and [`CheckError`].
 //! - [`laws`] and `rests` have theorems about modules, for callers' proofs.
 //! - `examples` has example modules whose meaning the prover computes.
 //!
@@ -32,6 +33,7 @@
 //! - [`one_meaning`]: it reads the bytes as no other module.
 #![tactic(auto)]
 
+mod checked;
 mod encode;
 mod examples;
 pub mod laws;
@@ -40,9 +42,10 @@ mod rests;
 mod spelled;
 mod wat;
 
+pub use checked::{CheckError, NotReady};
 pub use encode::EncodeOptions;
 pub use laws::{
-    at_rest, bounded_law, customs_law, hint_places, meaning_law, one_meaning, renaming,
+    at_rest, bounded_law, customs_law, hint_places, meaning_law, one_meaning, order_law, renaming,
 };
 pub use module::{Module, ModuleKind, discard_module};
 pub use spelled::Encode;

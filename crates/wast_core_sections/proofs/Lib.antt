@@ -1,4 +1,5 @@
 pub mod Appended
+pub mod Capping
 pub mod CountedFirst
 pub mod Counting
 pub mod CustomParts
@@ -8,6 +9,8 @@ pub mod EncodedFields
 pub mod GivenNames
 pub mod Hinting
 pub mod Listed
+pub mod OneMove
+pub mod Ordered
 pub mod Pointing
 pub mod Putting
 pub mod Readings

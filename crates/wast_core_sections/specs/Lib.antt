@@ -5,6 +5,7 @@ pub mod Hints
 pub mod Putting
 pub mod Sections
 pub mod Slots
+pub mod StandardOrder
 pub mod Tree
 pub mod Uncovered
 pub mod Utf8Names

@@ -3,7 +3,8 @@
 --
 --   (data "x")                                       writable
 --   a data segment of 2^32 bytes                     not writable
-use Rattle.std.specs.Prelude.{ℕ, ◌+◌, ◌<◌, ◌^◌, ◌++◌, List, length, Option, All}
+use Rattle.std.specs.Prelude.{◌≡◌, ℕ, ◌+◌, ◌<◌, ◌^◌, ◌++◌, List, length, Option, All}
+use Rattle.std.specs.Global.{Vec}
 use Rattle.std.specs.List.{flat_map}
 use Rattle.wasm_out.specs.Parts.{part, InRangePart}
 use Rattle.wasm_out.specs.Reads.{header}
@@ -42,3 +43,7 @@ InRangeModule name fields = All (InRangeSlot name fields) order
 pub record IsWritable (name : Option (List ℕ)) (fields : List ModuleField) : Type 0 where
   pub in_range : InRangeModule name fields
   pub length : length (bytes_of name fields) < 2 ^ 64
+
+-- these bytes were written
+abbrev pub IsWritten : Option (List ℕ) → List ModuleField → Vec ℕ → Type 0
+IsWritten name fields v = (v.items ≡ bytes_of name fields) × InRangeModule name fields

@@ -1,6 +1,7 @@
 //! The bytes of resolved fields, as a vector or in a sink.
 
-ghost use Rattle.std.specs.Prelude.{◌≡◌, All, IfOk, IfErr, IsTrue};
+ghost use Rattle.std.specs.Prelude.{◌≡◌, All, IfOk, IfErr, IfSome, IsTrue};
+ghost use Rattle.wasm_ops.specs.Sinks.{refused_as};
 ghost use Rattle.wasm_ops.specs.declared.sink.Refusal.TheVariants as refusal;
 ghost use Rattle.wasm_out.specs.Built.{IsRefused};
 ghost use Rattle.wasm_out.specs.Reads.{Reads};
@@ -10,14 +11,15 @@ ghost use Rattle.wast_core_sections.specs.DataCounts.{may_be_counted};
 ghost use Rattle.wast_core_sections.specs.Encoding.{EncodesFields, PutsFields};
 ghost use Rattle.wast_core_sections.specs.Sections.{parts};
 ghost use Rattle.wast_core_sections.specs.Utf8Names.{HasUtf8Names};
-ghost use Rattle.wast_core_sections.specs.Writable.{IsWritable};
+ghost use Rattle.wast_core_sections.specs.Writable.{IsWritable, IsWritten};
 
+use crate::capped::Capped;
 use crate::sections::put_sections;
 use crate::utf8_names::names_law;
 use std::alloc::Global;
 use wasm_ops::{Length, Refusal, Sink};
 use wast_base::{Error, Fault};
-use wast_tree_nodes::{Custom, ModuleField};
+use wast_tree_nodes::ModuleField;
 use wast_tree_visit::scan_for_encoding;
 
 /// Returns the vector unchanged. It lets a proof use that each item of a returned vector is a byte.
@@ -27,50 +29,90 @@ fn as_it_is(bytes: Vec<u8>) -> Vec<u8>
     bytes
 }
 
-/// Returns how many bytes the pieces of a data segment or a custom section have, at most the
-/// largest `u64`.
-fn pieces_length(field: &ModuleField) -> u64 {
-    let mut sum = 0u64;
-    match field {
-        ModuleField::Data(data) => {
-            for piece in &data.bytes {
-                sum = sum.saturating_add(piece.len() as u64);
-            }
-        }
-        ModuleField::Custom(Custom::Raw(section)) => {
-            for piece in &section.bytes {
-                sum = sum.saturating_add(piece.len() as u64);
-            }
-        }
-        _ => {}
-    }
-    sum
-}
-
-/// Returns whether the pieces of the module have 4 GiB or more together. They can have more bytes
-/// than memory holds, because a slice may be in many pieces.
-fn is_huge(fields: &[ModuleField]) -> bool {
-    let mut sum = 0u64;
-    for field in fields {
-        sum = sum.saturating_add(pieces_length(field));
-    }
-    sum > u64::from(u32::MAX)
-}
-
 /// Counts the bytes of a module without writing them, and fails if the module is too large.
 /// Requires what writing them requires.
 fn count_sections(
     fields: &[ModuleField],
     name: Option<&str>,
     has_data_index: bool,
-) -> Result<(), Refusal>
+) -> Result<u64, Refusal>
     requires encodable { IsTrue (is_encodable fields.now) }
     requires data { IsTrue (may_be_counted fields.now has_data_index) }
     ensures { IfErr result (λ e. (e ≡ refusal.TooLarge)
         × (IsWritable (text_seen name.entry) fields.now → ⊥)) }
 {
     let mut length = Length::new();
-    put_sections(fields, name, has_data_index, &mut length)
+    match put_sections(fields, name, has_data_index, &mut length) {
+        Ok(()) => Ok(length.count()),
+        Err(refusal) => Err(refusal),
+    }
+}
+
+/// Writes a module, or returns `None` if its long pieces do not fit in the limit of [`Capped`].
+/// Requires what writing requires.
+fn write_short(
+    alloc: Global,
+    fields: &[ModuleField],
+    name: Option<&str>,
+    has_data_index: bool,
+) -> Result<Option<Vec<u8>>, Refusal>
+    requires encodable { IsTrue (is_encodable fields.now) }
+    requires data { IsTrue (may_be_counted fields.now has_data_index) }
+    ensures bytes { IfOk result (λ found. IfSome found (IsWritten (text_seen name.entry) fields.now)) }
+    ensures refusal { IfErr result (λ e. IsRefused (IsWritable (text_seen name.entry) fields.now) (refused_as e)) }
+{
+    let mut out = Capped::new(alloc);
+    match put_sections(fields, name, has_data_index, &mut out) {
+        Ok(()) => Ok(Some(out.finish())),
+        Err(refusal) => {
+            if out.is_full() {
+                return Ok(None);
+            }
+            Err(refusal)
+        }
+    }
+}
+
+/// Counts a module, and writes it into as much memory. Requires what writing requires.
+fn write_counted(
+    alloc: Global,
+    fields: &[ModuleField],
+    name: Option<&str>,
+    has_data_index: bool,
+) -> Result<Vec<u8>, Refusal>
+    requires encodable { IsTrue (is_encodable fields.now) }
+    requires data { IsTrue (may_be_counted fields.now has_data_index) }
+    ensures bytes { IfOk result (IsWritten (text_seen name.entry) fields.now) }
+    ensures refusal { IfErr result (λ e. IsRefused (IsWritable (text_seen name.entry) fields.now) (refused_as e)) }
+{
+    let size = count_sections(fields, name, has_data_index)?;
+    let mut out = Capped::reserve(alloc, size)?;
+    match put_sections(fields, name, has_data_index, &mut out) {
+        Ok(()) => Ok(out.finish()),
+        Err(refusal) => Err(refusal),
+    }
+}
+
+/// Writes a module. Requires what writing requires.
+///
+/// A module with many long pieces is counted first, because otherwise 4 GiB would be written before
+/// a section is found to be too large.
+fn write(
+    alloc: Global,
+    fields: &[ModuleField],
+    name: Option<&str>,
+    has_data_index: bool,
+) -> Result<Vec<u8>, Refusal>
+    requires encodable { IsTrue (is_encodable fields.now) }
+    requires data { IsTrue (may_be_counted fields.now has_data_index) }
+    ensures bytes { IfOk result (IsWritten (text_seen name.entry) fields.now) }
+    ensures refusal { IfErr result (λ e. IsRefused (IsWritable (text_seen name.entry) fields.now) (refused_as e)) }
+{
+    match write_short(alloc, fields, name, has_data_index) {
+        Ok(Some(bytes)) => Ok(bytes),
+        Ok(None) => write_counted(alloc, fields, name, has_data_index),
+        Err(refusal) => Err(refusal),
+    }
 }
 
 /// Returns the bytes of a resolved module with this name. Requires names that are UTF-8, and
@@ -87,13 +129,7 @@ fn encode_fields<'e>(
     ensures bytes { IfOk result (λ v. Reads v.items (parts (text_seen name.entry) fields.now)) }
     ensures refusal { IfErr result (IsRefused (IsWritable (text_seen name.entry) fields.now)) }
 {
-    if is_huge(fields) {
-        // Count first, because otherwise 4 GiB would be written before a section is found to be too
-        // large.
-        count_sections(fields, name, has_data_index)?;
-    }
-    let mut bytes = Vec::new(alloc);
-    put_sections(fields, name, has_data_index, &mut bytes)?;
+    let bytes = write(alloc, fields, name, has_data_index)?;
     let written = as_it_is(bytes);
     Ok(written)
 }

@@ -2,6 +2,7 @@
 
 ghost use Rattle.wast_core_sections.specs.HintPlaces.{HintsPointAtInstructions};
 ghost use Rattle.wast_core_sections.specs.Slots.{CustomsStandOnce};
+ghost use Rattle.wast_core_sections.specs.StandardOrder.{OrderExamples, PartsAreOrdered};
 
 /// Each custom section has one position in a module (text format: custom annotations).
 ///
@@ -19,4 +20,17 @@ pub fn customs_law()
 /// section of hints has the function by its index.
 pub fn hint_places()
     ensures { HintsPointAtInstructions }
+{}
+
+/// Sections are in the order of the standard (binary format: modules).
+///
+/// Each is there at most once. Custom sections can be anywhere, and each start field has a start
+/// section.
+pub fn order_law()
+    ensures { PartsAreOrdered }
+{}
+
+/// Computes the order of a few sections.
+pub(crate) fn order_examples()
+    ensures { OrderExamples }
 {}

@@ -11,7 +11,8 @@
 //!
 //! # Modules
 //!
-//! - `fields` returns the bytes of all fields, or appends them to a sink.
+//! - `fields` returns the bytes of all fields, or appends them to a sink. `capped` is the vector that
+//!   it writes to, and `one_move` inserts a length in it.
 //! - `sections` writes a whole module, in the order of sections that `slots` defines. `entries`,
 //!   `counts`, `customs` and `hints` write single kinds of sections, and `items` their lists.
 //! - `laws` has theorems about positions of sections and of hints. `utf8_names` has one for this
@@ -26,6 +27,7 @@
 //! - [`encode_covered`]: the grammar of the binary format reads the bytes as these parts.
 #![tactic(auto)]
 
+mod capped;
 mod counts;
 mod customs;
 mod entries;
@@ -33,10 +35,11 @@ mod fields;
 mod hints;
 mod items;
 mod laws;
+mod one_move;
 mod sections;
 mod slots;
 mod utf8_names;
 
 pub use fields::{encode_covered, put_fields};
-pub use laws::{customs_law, hint_places};
+pub use laws::{customs_law, hint_places, order_law};
 pub use slots::{SectionKind, Slot};

@@ -2,7 +2,7 @@ use Rattle.std.proofs.Common.{◌<◌, ap, subst, arith}
 use Rattle.wast_core.specs.Headline.{name_of_module}
 use Rattle.wast_core.specs.Modules.{bound_of_kind}
 use Rattle.wast_core.specs.Writing.{EncodesResolved}
-use Rattle.wast_core.proofs.Encoded.{encodes}
+use Rattle.wast_core.proofs.Encoded.{encodes, in_order}
 use Rattle.wast_core.proofs.encode.EncodeOptions.encode_module.Goals as goal
 
 pub returns-clause-answer : goal.returns-clause-answer
@@ -15,3 +15,6 @@ returns-clause-answer c =
       kind = encodes c.resolved_laws.ensures.positions c.args.gensym.now (name_of_module c.args.module.now) c.args.module.now.kind new _ c.encode_resolved.result above done.answer.kind (subst (λ n. EncodesResolved n new c.encode_resolved.result) (ap name_of_module done.stays) c.encode_resolved.ensures);
       counter = done.answer.counter;
     }
+
+pub returns-clause-order : goal.returns-clause-order
+returns-clause-order c = in_order c.order_law.ensures c.one_meaning.ensures.one_module c.args.gensym.now (name_of_module c.args.module.now) c.args.module.now.kind _ c.encode_resolved.result (returns-clause-answer c).kind
