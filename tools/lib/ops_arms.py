@@ -265,7 +265,8 @@ OPERATORS = """//! Makes instructions with indices from their keywords. `tools/o
 
 ghost use Rattle.std.specs.Prelude.{{◌≡◌}};
 ghost use Rattle.wat_syntax.specs.Operators.{{index_instr, uncovered_instr, pair_instr}};
-ghost use Rattle.wat_syntax.specs.Seen.{{seen_instr}};
+ghost use Rattle.wat_syntax.specs.Bare.{{bare_index}};
+ghost use Rattle.wat_syntax.specs.BareInstructions.{{bare_instr}};
 
 use wast_base::IndexOp;
 use wast_tree::{{
@@ -274,8 +275,7 @@ use wat_tokens::{{PairOp, UncoveredOp}};
 
 /// Returns the instruction with an index that a keyword is (text format: instructions).
 pub(crate) fn with_index<'a>(op: IndexOp, index: Index<'a>) -> Instruction<'a>
-    ensures instruction {{ result ≡ index_instr op index.entry }}
-    ensures seen {{ seen_instr result ≡ index_instr op index.entry }}
+    ensures {{ bare_instr result ≡ index_instr op (bare_index index.entry) }}
 {{
     match op {{
 {1}    }}
@@ -283,8 +283,7 @@ pub(crate) fn with_index<'a>(op: IndexOp, index: Index<'a>) -> Instruction<'a>
 
 /// Returns the instruction with an index that a keyword is. The encoder does not support these.
 pub(crate) fn with_uncovered<'a>(op: UncoveredOp, index: Index<'a>) -> Instruction<'a>
-    ensures instruction {{ result ≡ uncovered_instr op index.entry }}
-    ensures seen {{ seen_instr result ≡ uncovered_instr op index.entry }}
+    ensures {{ bare_instr result ≡ uncovered_instr op (bare_index index.entry) }}
 {{
     match op {{
 {2}    }}
@@ -293,8 +292,7 @@ pub(crate) fn with_uncovered<'a>(op: UncoveredOp, index: Index<'a>) -> Instructi
 /// Returns the instruction with two indices that a keyword is. The indices are in the order of the
 /// text (text format: instructions).
 pub(crate) fn with_pair<'a>(op: PairOp, first: Index<'a>, second: Index<'a>) -> Instruction<'a>
-    ensures instruction {{ result ≡ pair_instr op first.entry second.entry }}
-    ensures seen {{ seen_instr result ≡ pair_instr op first.entry second.entry }}
+    ensures {{ bare_instr result ≡ pair_instr op (bare_index first.entry) (bare_index second.entry) }}
 {{
     match op {{
 {3}    }}

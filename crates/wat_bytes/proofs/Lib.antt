@@ -1,8 +1,10 @@
+pub mod BareAnswers
 pub mod Listing
 pub mod OneError
 pub mod OneList
 pub mod OneText
 pub mod Ordered
 pub mod OutOfMemory
+pub mod Resolvable
 pub mod Stored
 pub mod Texts

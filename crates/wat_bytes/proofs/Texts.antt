@@ -6,11 +6,11 @@ use Rattle.wat_text.specs.declared.modules.TextKind.{TextKind}
 use Rattle.wat_text.specs.declared.modules.TextKind.TheVariants as held
 use Rattle.wat_text.specs.declared.modules.TextModule.{TextModule}
 use Rattle.wat_text.specs.Texts.{is_well_formed_text}
-use Rattle.wat_text.specs.Denotes.{Denotes, DenotesNothing, DenotesIllFormed, Explains, seen_module}
+use Rattle.wat_text.specs.Denotes.{Denotes, DenotesNothing, DenotesIllFormed, Explains}
 use Rattle.wat_bytes.specs.Texts.{IsRead, kind_of, module_of}
 
 -- What `read` returns is what parsing returns.
-pub is_read : (bytes : List ℕ) (r : Result TextModule TextError) → IfOk r (λ t. IsTrue (is_well_formed_text t.kind)) → IfOk r (λ t. Denotes bytes (seen_module t))
+pub is_read : (bytes : List ℕ) (r : Result TextModule TextError) → IfOk r (λ t. IsTrue (is_well_formed_text t.kind)) → IfOk r (Denotes bytes)
     → IfErr r (λ e. Explains (DenotesNothing bytes) (DenotesIllFormed bytes) e.fault) → IfErr r (λ e. e.span.offset ≤ length bytes) → IsRead bytes r
 unfolding IsRead
 is_read bytes (Ok t) well_formed denotes refuses placed = (denotes, well_formed)

@@ -1,3 +1,4 @@
+pub mod BareLaws
 pub mod Names
 pub mod OneText
 pub mod Texts

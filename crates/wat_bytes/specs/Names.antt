@@ -1,7 +1,7 @@
 -- The ids of a text and their indices: the names that resolving returns for the module that the text denotes.
 --
 --   (module (func) (func $f))      $f is the function 1
-use Rattle.std.specs.Prelude.{◌≡◌, ℕ, Bool, not, is_none, List, [], ◌∷◌, ◌++◌, map, All, Option, Result, Ok, Err, ◌⊎◌}
+use Rattle.std.specs.Prelude.{◌≡◌, ⊤, ℕ, Bool, not, is_none, List, [], ◌∷◌, ◌++◌, map, All, Option, Result, Ok, Err, ◌⊎◌}
 use Rattle.std.specs.List.{filter}
 use Rattle.std.specs.List.Sorted.{IsPermutation, IsNonDecreasingBy}
 use Rattle.std.specs.FinMap as finmap
@@ -13,12 +13,16 @@ use Rattle.wast_base.specs.declared.ids.Id.{Id}
 use Rattle.wast_base.specs.Ids.{Written, name_of, is_generated}
 use Rattle.wast_base.specs.Order.{Key}
 use Rattle.wast_base.specs.Spaces.{spaces}
+use Rattle.wast_tree_nodes.specs.Items.{Item, items}
+use Rattle.wast_tree_nodes.specs.Known.{id_context}
 use Rattle.wast_resolve_namespace.specs.Places.{entry_of}
 use Rattle.wast_resolve_names.specs.Resolvers.{KnownNames, known_to, space_in}
+use Rattle.wast_resolve_rules.specs.Explicit.{explicit_fields_from}
 use Rattle.wast_core.specs.declared.module.Module.{Module}
 use Rattle.wast_core.specs.declared.module.ModuleKind.{ModuleKind}
+use Rattle.wast_core.specs.declared.module.ModuleKind.TheVariants as kind
 use Rattle.wast_core.specs.Modules.{IsReady}
-use Rattle.wast_core.specs.Headline.{ResolvesKind}
+use Rattle.wast_core.specs.Headline.{IsMet, ResolvesKind}
 use Rattle.wat_text.specs.declared.modules.TextModule.{TextModule}
 use Rattle.wat_bytes.specs.declared.names.Denoted.{Denoted}
 use Rattle.wat_bytes.specs.declared.refusals.Refused.{Refused}
@@ -30,6 +34,27 @@ pub record ResolvesReady (m : Module) (r : Result KnownNames Error) : Type 0 whe
   pub ready : IsReady m 1
   pub left : ModuleKind
   pub resolves : ResolvesKind 1 m.kind r left
+
+-- The items of a module, with the ids that resolving generates from a counter at 1.
+abbrev pub items_with_ids : ModuleKind → List Item
+items_with_ids (kind.Text fields) = items (explicit_fields_from 1 fields)
+items_with_ids (kind.Binary pieces) = []
+items_with_ids (kind.Refused e) = []
+
+-- Each check of resolving passes.
+abbrev pub IsMetKind : ModuleKind → Type 0
+IsMetKind (kind.Text fields) = IsMet fields
+IsMetKind (kind.Binary pieces) = ⊤
+IsMetKind (kind.Refused e) = ⊥
+
+-- A module that resolves.
+pub record IsResolvable (m : Module) : Type 0 where
+  pub ready : IsReady m 1
+  pub met : IsMetKind m.kind
+
+-- The index of a source name in an index space of a module, if there is one.
+abbrev pub number_in : Module → Space → List ℕ → Option ℕ
+number_in m s name = (id_context (items_with_ids m.kind)).number s (Written name)
 
 -- Why a module has no names.
 abbrev pub HasNoNames : Module → Refused → Type 0
@@ -89,10 +114,11 @@ AreListedIn names (s ∷ ss) all = BeginsWith names s (AreListedIn names ss) all
 abbrev pub AreListed : KnownNames → List Denoted → Type 0
 AreListed names all = AreListedIn names spaces all
 
--- The list of the names of a module.
+-- The list of the names of a module. `names` have its source names, each with its index.
 pub record Lists (m : Module) (all : List Denoted) : Type 0 where
+  pub resolves : IsResolvable m
   pub names : KnownNames
-  pub resolves : ResolvesReady m (Ok names)
+  pub known : (s : Space) (name : List ℕ) → (known_to names).number s (Written name) ≡ number_in m s name
   pub listed : AreListed names all
 
 -- Why a module has no list of names: it has no names, or there is no memory for the list.
@@ -108,9 +134,8 @@ ListsText t (Err r) = HasNoList (module_of t) r
 
 -- The index of a name in an index space of a module, if there is one.
 pub record Numbers (space : Space) (name : List ℕ) (m : Module) (found : Option ℕ) : Type 0 where
-  pub names : KnownNames
-  pub resolves : ResolvesReady m (Ok names)
-  pub denotes : found ≡ (known_to names).number space (Written name)
+  pub resolves : IsResolvable m
+  pub denotes : found ≡ number_in m space name
 
 -- The result of looking a name up in a parsed module.
 abbrev pub NumbersText : Space → List ℕ → TextModule → Result (Option ℕ) Refused → Type 0

@@ -1,9 +1,9 @@
 -- A text has one result: a contract on a text determines it, except for failed allocations and limits of size.
 --
--- A call reads a text into a tree, which has addresses, and a contract is about that tree. These definitions say that the addresses do
--- not matter. Two calls that succeed for one text return the same bytes, the same list of names, or the same index of a name. If one
--- succeeds, another of the same function can fail only because an allocation failed (E12) or because the module is too large (E10). If
--- two calls of encode_text fail for other reasons, both return an error of the text, or both the same error of the module.
+-- A contract on a text speaks of the module of the text, which is a function of the text. Two calls that succeed for one text return the
+-- same bytes, the same list of names, or the same index of a name. If one succeeds, another of the same function can fail only because
+-- an allocation failed (E12) or because the module is too large (E10). If two calls of encode_text fail for other reasons, both return
+-- an error of the text, or both the same error of the module.
 --
 --   (module (func $f) (export "a" (func $f)))      the same bytes from each call that succeeds, and the list: $f is the function 0
 --   (module (func $f) (func $f))                   no bytes and no list from any call, but E2 at the second $f

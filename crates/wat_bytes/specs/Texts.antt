@@ -1,10 +1,10 @@
 -- The bytes of a text: what encoding returns for the module that the text denotes (text format: modules; binary format:
--- modules).
+-- modules). That module is a function of the text (module_of in wat_text), and has each name and string at address 0.
 --
 --   (module (func))      the bytes of a module with one type and one function
 --   (module (func $f) (func $f))      an error of that module: $f is a duplicate identifier
 --   (module (func)      an error of the text: it denotes no module
-use Rattle.std.specs.Prelude.{◌≡◌, ℕ, ◌≤◌, List, length, Option, Some, None, Result, Ok, Err, ⊤, IsTrue}
+use Rattle.std.specs.Prelude.{◌≡◌, ◌⊎◌, ℕ, ◌≤◌, false, List, length, Option, Some, None, Result, Ok, Err, ⊤, IsTrue}
 use Rattle.std.specs.Option.{unwrap_or}
 use Rattle.std.specs.Global.{Vec}
 use Rattle.wast_base.specs.declared.faults.Error.{Error}
@@ -20,7 +20,7 @@ use Rattle.wat_text.specs.declared.modules.TextKind.{TextKind}
 use Rattle.wat_text.specs.declared.modules.TextKind.TheVariants as held
 use Rattle.wat_text.specs.declared.modules.TextModule.{TextModule}
 use Rattle.wat_text.specs.Texts.{is_well_formed_text}
-use Rattle.wat_text.specs.Denotes.{Denotes, DenotesNothing, DenotesIllFormed, Explains, seen_module}
+use Rattle.wat_text.specs.Denotes.{module_of as denoted, Denotes, DenotesNothing, DenotesIllFormed, Explains}
 use Rattle.wast_core_sections.specs.Uncovered.{head_of, uncovered_forms}
 use Rattle.wast_core.specs.declared.module.Module.{Module}
 use Rattle.wast_core.specs.declared.module.ModuleKind.{ModuleKind}
@@ -70,19 +70,29 @@ EncodesText t r = EncodesModule (module_of t) r
 -- What parsing a text returns: the module that the text denotes, if its fields are well formed. Otherwise it is an error with a
 -- position in the text, and its fault says why: the text denotes no module, or one that is not well formed, or allocation failed.
 unfoldable pub IsRead : List ℕ → Result TextModule TextError → Type 0
-IsRead bytes (Ok t) = Denotes bytes (seen_module t) × IsTrue (is_well_formed_text t.kind)
+IsRead bytes (Ok t) = Denotes bytes t × IsTrue (is_well_formed_text t.kind)
 IsRead bytes (Err e) = Explains (DenotesNothing bytes) (DenotesIllFormed bytes) e.fault × (e.span.offset ≤ length bytes)
 
--- The result after parsing: that of the module, or the error of parsing.
-abbrev pub AfterReading : {A : Type 0} → (TextModule → Result A Refused → Type 0) → Result TextModule TextError → Result A Refused → Type 0
-AfterReading is_answer (Ok t) r = is_answer t r
-AfterReading is_answer (Err e) r = r ≡ Err (answer.Text e)
+-- The result for the module of a text: there is one, it is well formed, and this is its result.
+abbrev pub OfModule : {A : Type 0} → (TextModule → Result A Refused → Type 0) → Option TextModule → Result A Refused → Type 0
+OfModule is_answer (Some m) r = IsTrue (is_well_formed_text m.kind) × is_answer m r
+OfModule is_answer None r = ⊥
 
--- The result for a text: the result after parsing it.
-pub record OfText {A : Type 0} (is_answer : TextModule → Result A Refused → Type 0) (bytes : List ℕ) (r : Result A Refused) : Type 0 where
-  pub read : Result TextModule TextError
-  pub is_read : IsRead bytes read
-  pub answered : AfterReading is_answer read r
+-- A text has a module that is not well formed.
+abbrev pub IsIllFormedIn : Option TextModule → Type 0
+IsIllFormedIn (Some m) = is_well_formed_text m.kind ≡ false
+IsIllFormedIn None = ⊥
+
+-- Why a text has no result of a module: it has no module, or one that is not well formed, or allocation failed (Explains in wat_text).
+abbrev pub RefusesText : Option TextModule → Refused → Type 0
+RefusesText m (answer.Text e) = Explains (m ≡ None) (IsIllFormedIn m) e.fault
+RefusesText m (answer.Module e) = ⊥
+RefusesText m (answer.Uncovered u) = ⊥
+
+-- The result for a text: that of the module that the text denotes, or an error of the text.
+unfoldable pub OfText : {A : Type 0} → (TextModule → Result A Refused → Type 0) → List ℕ → Result A Refused → Type 0
+OfText is_answer bytes (Ok x) = OfModule is_answer (denoted bytes) (Ok x)
+OfText is_answer bytes (Err e) = OfModule is_answer (denoted bytes) (Err e) ⊎ RefusesText (denoted bytes) e
 
 -- An error of a text is in the text or at its end.
 abbrev pub IsPlaced : List ℕ → Refused → Type 0

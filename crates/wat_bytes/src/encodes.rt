@@ -4,6 +4,7 @@ ghost use Rattle.std.specs.Prelude.{IfErr, IsTrue};
 ghost use Rattle.wast_core.specs.Modules.{IsReady, is_well_formed};
 ghost use Rattle.wat_bytes.specs.Texts.{EncodesModule, EncodesText, IsPlaced, OfText, RefusesWith, module_of};
 
+use crate::laws::bare_laws;
 use crate::modules::{is_ready, module_of, read_text, unready};
 use crate::refusals::{Refused, UncoveredForm};
 use crate::uncovered::{as_written, first_form};
@@ -133,6 +134,7 @@ fn encoded_in<'a>(
 ///
 /// - `answer`: the result is that of [`encoded_text`] for the module that the text denotes, or an
 ///   error of the text, which denotes no module then, or one that is not well formed (`OfText`).
+///   That module is a function of the text (`module_of` in `wat_text`).
 /// - `place`: an error of the text is in the text or at its end.
 pub fn encode_text<'a>(
     alloc: Global,
@@ -142,6 +144,7 @@ pub fn encode_text<'a>(
     ensures answer { OfText EncodesText text.now result }
     ensures place { IfErr result (IsPlaced text.now) }
 {
+    bare_laws();
     match read_text(alloc, text, strings) {
         Ok(module) => encoded_in(alloc, text, strings, module),
         Err(error) => Err(Refused::Text(error)),

@@ -1,15 +1,23 @@
 //! Theorems about the results of calls on texts. The functions do nothing when they run.
 
+ghost use Rattle.wat_bytes.specs.BareLaws.{Laws};
 ghost use Rattle.wat_bytes.specs.OneText.{SameBytes, SameError, SameList, SameListing, SameLookUp, SameNumber, SameSuccess};
 
 use wat_meaning::meaning_laws;
 
+/// States in one clause what `meaning_laws` states: a tree has the result of its bare tree.
+pub(crate) fn bare_laws()
+    ensures { Laws }
+{
+    meaning_laws();
+}
+
 /// A text has one result (text format: modules).
 ///
-/// A call parses a text into a tree, and a tree has addresses. Its contract is about the module that
-/// the rules of the text format read, at any addresses. These theorems say that the addresses do not
-/// matter. They are about [`encode_text`](crate::encode_text),
-/// [`names_of_text`](crate::names_of_text) and [`number_in_text`](crate::number_in_text).
+/// A contract on a text speaks of the module of the text, which is a function of the text
+/// (`module_of` in `wat_text`). So the theorems follow from what a contract says of one module. They
+/// are about [`encode_text`](crate::encode_text), [`names_of_text`](crate::names_of_text) and
+/// [`number_in_text`](crate::number_in_text).
 ///
 /// # Example
 ///
@@ -41,6 +49,4 @@ pub fn one_result()
     ensures look_up { SameLookUp }
     ensures list { SameList }
     ensures listing { SameListing }
-{
-    meaning_laws();
-}
+{}

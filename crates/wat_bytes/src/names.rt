@@ -10,6 +10,7 @@ ghost use Rattle.wast_core.specs.Modules.{IsReady};
 ghost use Rattle.wat_bytes.specs.Texts.{IsPlaced, OfText};
 ghost use Rattle.wat_bytes.specs.Names.{AreListed, AreListedIn, AreOfSpace, ListsText, NumbersText, ResolvesReady, ResolvesText, denoted_at, is_written_pair};
 
+use crate::laws::bare_laws;
 use crate::modules::{is_ready, module_of, read_text, unready};
 use crate::refusals::Refused;
 use std::alloc::{AllocError, Global};
@@ -137,6 +138,7 @@ fn resolved_text<'a>(alloc: Global, text: TextModule<'a>) -> Result<Names<'a>, R
 ///
 /// The list has the source ids of the names that `resolve` returns for this module, each once
 /// (`ListsText`).
+#[tactic(auto, using(crate::proofs::Resolvable::lists_made))]
 pub fn names_of<'a>(alloc: Global, text: TextModule<'a>) -> Result<Vec<Denoted<'a>>, Refused<'a>>
     ensures { ListsText text.entry result }
 {
@@ -179,6 +181,7 @@ pub fn names_of_text<'a>(
     ensures answer { OfText ListsText text.now result }
     ensures place { IfErr result (IsPlaced text.now) }
 {
+    bare_laws();
     match read_text(alloc, text, strings) {
         Ok(module) => names_of(alloc, module),
         Err(error) => Err(Refused::Text(error)),
@@ -235,6 +238,7 @@ fn number_of<'a>(names: &Names<'a>, space: Space, name: &'a str) -> Option<u32>
 ///
 /// The result is exactly what the names that `resolve` returns for this module have for the name
 /// (`NumbersText`).
+#[tactic(auto, using(crate::proofs::Resolvable::numbers_made))]
 pub fn number_in<'a>(
     alloc: Global,
     text: TextModule<'a>,
@@ -282,6 +286,7 @@ pub fn number_in_text<'a>(
     ensures answer { OfText (NumbersText space name.now) text.now result }
     ensures place { IfErr result (IsPlaced text.now) }
 {
+    bare_laws();
     match read_text(alloc, text, strings) {
         Ok(module) => number_in(alloc, module, space, name),
         Err(error) => Err(Refused::Text(error)),

@@ -12,7 +12,6 @@ use Rattle.wast_base.specs.declared.ids.Name.TheVariants as id_name
 use Rattle.wast_tree_nodes.specs.Sites.{BodyContext, constant_context, context_after, param_marks, local_marks, body_here}
 use Rattle.wast_tree_map.specs.Mapped.{Change, mapped_heap, mapped_ref, mapped_val, mapped_storage, named_param, named_struct_field, mapped_array, named_inner, mapped_type, mapped_rec, mapped_table_type, mapped_global_type, mapped_tag_type, mapped_target, mapped_mem_arg, mapped_select, mapped_indirect, mapped_block, mapped_caught, mapped_catch, mapped_try_table, mapped_br_table, mapped_access, mapped_handle, mapped_handlers, mapped_instr, mapped_instrs, mapped_expression, mapped_constant, mapped_local, mapped_func_kind, mapped_func, mapped_item_kind, mapped_sig, mapped_import_items, mapped_payload, mapped_table_kind, mapped_table, mapped_memory, mapped_global_kind, mapped_global, mapped_tag, mapped_elem_kind, mapped_elem, mapped_data_kind, mapped_data, mapped_export, mapped_field}
 use Rattle.wast_resolve_laws.specs.Renaming.{IsRenaming, renamed_index, renamed_type, renamed_use, renaming, renamed_fields}
-use Rattle.wat_syntax.specs.Seen.{seen_param, seen_function_type, seen_type_use, seen_struct_field, seen_composite, seen_type, seen_rec, seen_block, seen_call, seen_try_table, seen_import, seen_exports, seen_local, seen_tag_type, seen_tag, seen_item_kind, seen_item_sig, seen_item, seen_items, seen_export, seen_text, seen_name_option}
 use Rattle.wat_syntax.specs.Tree.{Id, Index, NameAnnotation, ValType, RefType, HeapType, StorageType, StructField, ArrayType, FunctionType, TypeUse, InnerTypeKind, Rec, BlockType, BrTableIndices, TryTable, TryTableCatch, TryTableCatchKind, CallIndirect, SelectTypes, MemArg, MemArgTarget, StructAccess, Handle, ResumeTable, Instruction, Expression, TableType, GlobalType, TagType, ImportItems, ItemSig, ItemKind, Elem, ElemKind, ElemPayload, Data, DataKind, Local, FuncKind, Func, Table, TableKind, Memory, MemoryKind, Global, GlobalKind, Tag, Export, Custom, ModuleField}
 use Rattle.wat_syntax.specs.Tree.index
 use Rattle.wat_syntax.specs.Tree.value
@@ -36,9 +35,11 @@ use Rattle.wat_syntax.specs.Tree.memory
 use Rattle.wat_syntax.specs.Tree.global
 use Rattle.wat_syntax.specs.Tree.custom
 use Rattle.wat_syntax.specs.Tree.field
-use Rattle.wat_laws.specs.Bare.{bare_id, bare_id_name, bare_index, bare_heap, bare_ref, bare_val, bare_storage, bare_param, bare_function_type, bare_type_use, bare_struct_field, bare_array_type, bare_composite, bare_type, bare_rec, bare_table_type, bare_global_type, bare_tag_type, bare_target, bare_mem_arg, bare_access, bare_handle, bare_resume_table, bare_br_table, bare_select, bare_call, bare_block, bare_caught, bare_catch, bare_try_table, bare_instr, bare_expression, bare_item_kind, bare_item_sig, bare_import_item, bare_import_items, bare_local, bare_func_kind, bare_func, bare_elem_kind, bare_payload, bare_elem, bare_data_kind, bare_data, bare_table_kind, bare_table, bare_memory_kind, bare_memory, bare_global_kind, bare_global, bare_tag, bare_export, bare_custom, bare_field, bare_fields}
+use Rattle.wat_syntax.specs.Bare.{bare_array_type, bare_composite, bare_function_type, bare_global_type, bare_heap, bare_id, bare_id_name, bare_index, bare_name_option, bare_param, bare_rec, bare_ref, bare_storage, bare_struct_field, bare_table_type, bare_tag_type, bare_text, bare_type, bare_type_use, bare_val}
+use Rattle.wat_syntax.specs.BareFields.{bare_custom, bare_data, bare_data_kind, bare_elem, bare_elem_kind, bare_export, bare_exports, bare_field, bare_fields, bare_func, bare_func_kind, bare_global, bare_global_kind, bare_import, bare_import_item, bare_import_items, bare_item_kind, bare_item_sig, bare_local, bare_memory, bare_memory_kind, bare_payload, bare_table, bare_table_kind, bare_tag}
+use Rattle.wat_syntax.specs.BareInstructions.{bare_access, bare_block, bare_br_table, bare_call, bare_catch, bare_caught, bare_expression, bare_handle, bare_instr, bare_mem_arg, bare_resume_table, bare_select, bare_target, bare_try_table}
+use Rattle.wat_meaning.specs.Shown.{shown_block, shown_call, shown_composite, shown_custom, shown_data, shown_data_kind, shown_elem, shown_elem_kind, shown_export, shown_expression, shown_field, shown_fields, shown_func, shown_func_kind, shown_function_type, shown_global, shown_global_kind, shown_instr, shown_item, shown_item_kind, shown_item_sig, shown_items, shown_local, shown_memory, shown_memory_kind, shown_param, shown_payload, shown_rec, shown_struct_field, shown_table, shown_table_kind, shown_tag, shown_tag_type, shown_try_table, shown_type, shown_type_use}
 use Rattle.wat_meaning.specs.Erasing.{erasing}
-use Rattle.wat_meaning.specs.Shown.{shown_instr, shown_expression, shown_func_kind, shown_func, shown_payload, shown_elem_kind, shown_elem, shown_data_kind, shown_data, shown_table_kind, shown_table, shown_memory_kind, shown_memory, shown_global_kind, shown_global, shown_custom, shown_field, shown_fields}
 
 -- Each id keeps its name and its position.
 pub name_kept : (n : code.Name) → named_by (bare_id_name n) ≡ named_by n
@@ -104,42 +105,42 @@ storage_is t = refl
 abbrev Param : Type 0
 Param = Option Id × Option NameAnnotation × ValType
 
-param_is : (p : Param) → bare_param p ≡ seen_param (named_param erased.own erased.index p)
-param_is p = ap (λ (t : ValType). (option_map bare_id p.0, seen_name_option p.1, t)) (val_is p.2)
+param_is : (p : Param) → bare_param p ≡ shown_param (named_param erased.own erased.index p)
+param_is p = ap (λ (t : ValType). (option_map bare_id p.0, bare_name_option p.1, t)) (val_is p.2)
 
-signature_is : (t : FunctionType) → bare_function_type t ≡ seen_function_type (renamed_type erasing t)
+signature_is : (t : FunctionType) → bare_function_type t ≡ shown_function_type (renamed_type erasing t)
 signature_is t = λ i. record {
-  params = each_both bare_param (named_param erased.own erased.index) seen_param param_is t.params i;
+  params = each_both bare_param (named_param erased.own erased.index) shown_param param_is t.params i;
   results = vals_are t.results i;
 }
 
-use_is : (u : TypeUse FunctionType) → bare_type_use u ≡ seen_type_use (renamed_use erasing u)
+use_is : (u : TypeUse FunctionType) → bare_type_use u ≡ shown_type_use (renamed_use erasing u)
 use_is u = λ i. record {
   index = index_if u.index i;
-  inline = option_both bare_function_type (renamed_type erasing) seen_function_type signature_is u.inline i;
+  inline = option_both bare_function_type (renamed_type erasing) shown_function_type signature_is u.inline i;
 }
 
-struct_field_is : (f : StructField) → bare_struct_field f ≡ seen_struct_field (named_struct_field erased.own erased.index f)
+struct_field_is : (f : StructField) → bare_struct_field f ≡ shown_struct_field (named_struct_field erased.own erased.index f)
 struct_field_is f =
-    ap (λ (t : StorageType). record { id = option_map bare_id f.id; name = seen_name_option f.name; mutable = f.mutable; ty = t })
+    ap (λ (t : StorageType). record { id = option_map bare_id f.id; name = bare_name_option f.name; mutable = f.mutable; ty = t })
     (storage_is f.ty)
 
 array_is : (t : ArrayType) → bare_array_type t ≡ mapped_array erased.index t
 array_is t = ap (λ (s : StorageType). record t { ty = s }) (storage_is t.ty)
 
-composite_is : (t : InnerTypeKind) → bare_composite t ≡ seen_composite (named_inner erased.own erased.index t)
+composite_is : (t : InnerTypeKind) → bare_composite t ≡ shown_composite (named_inner erased.own erased.index t)
 composite_is (inner.Func t) = ap inner.Func (signature_is t)
 composite_is (inner.Struct t) = λ i. inner.Struct (record {
-  fields = each_both bare_struct_field (named_struct_field erased.own erased.index) seen_struct_field struct_field_is t.fields i;
+  fields = each_both bare_struct_field (named_struct_field erased.own erased.index) shown_struct_field struct_field_is t.fields i;
 })
 composite_is (inner.Array t) = ap inner.Array (array_is t)
 composite_is (inner.Cont t) = λ i. inner.Cont (record { 0 = index_is t.0 i })
 
-type_is : (t : ty.Type) → bare_type t ≡ seen_type (mapped_type erased t)
+type_is : (t : ty.Type) → bare_type t ≡ shown_type (mapped_type erased t)
 type_is t = λ i. record {
   span = t.span;
   id = option_map bare_id t.id;
-  name = seen_name_option t.name;
+  name = bare_name_option t.name;
   def = record {
     kind = composite_is t.def.kind i;
     shared = t.def.shared;
@@ -150,8 +151,8 @@ type_is t = λ i. record {
   };
 }
 
-rec_is : (r : Rec) → bare_rec r ≡ seen_rec (mapped_rec erased r)
-rec_is r = λ i. record { span = r.span; types = each_both bare_type (mapped_type erased) seen_type type_is r.types i }
+rec_is : (r : Rec) → bare_rec r ≡ shown_rec (mapped_rec erased r)
+rec_is r = λ i. record { span = r.span; types = each_both bare_type (mapped_type erased) shown_type type_is r.types i }
 
 table_type_is : (t : TableType) → bare_table_type t ≡ mapped_table_type erased.index t
 table_type_is t = ap (λ (r : RefType). record t { elem = r }) (ref_is t.elem)
@@ -159,7 +160,7 @@ table_type_is t = ap (λ (r : RefType). record t { elem = r }) (ref_is t.elem)
 global_type_is : (t : GlobalType) → bare_global_type t ≡ mapped_global_type erased.index t
 global_type_is t = ap (λ (v : ValType). record t { ty = v }) (val_is t.ty)
 
-tag_type_is : (t : TagType) → bare_tag_type t ≡ seen_tag_type (mapped_tag_type erased t)
+tag_type_is : (t : TagType) → bare_tag_type t ≡ shown_tag_type (mapped_tag_type erased t)
 tag_type_is (tag.Exception u) = ap tag.Exception (use_is u)
 
 -- immediates of instructions
@@ -176,12 +177,12 @@ access_is a = λ i. record { owner = index_is a.owner i; field = index_is a.fiel
 select_is : (s : SelectTypes) → bare_select s ≡ mapped_select erased.index s
 select_is s = λ i. record { tys = option_is (map bare_val) (map (mapped_val erased.index)) vals_are s.tys i }
 
-call_is : (c : CallIndirect) → bare_call c ≡ seen_call (mapped_indirect erased c)
+call_is : (c : CallIndirect) → bare_call c ≡ shown_call (mapped_indirect erased c)
 call_is c = λ i. record { table = index_is c.table i; ty = use_is c.ty i }
 
-block_is : (b : BlockType) → bare_block b ≡ seen_block (mapped_block erased b)
+block_is : (b : BlockType) → bare_block b ≡ shown_block (mapped_block erased b)
 block_is b =
-    ap (λ (u : TypeUse FunctionType). record { label = option_map bare_id b.label; label_name = seen_name_option b.label_name; ty = u })
+    ap (λ (u : TypeUse FunctionType). record { label = option_map bare_id b.label; label_name = bare_name_option b.label_name; ty = u })
     (use_is b.ty)
 
 caught_is : (c : TryTableCatchKind) → bare_caught c ≡ mapped_caught erased.index c
@@ -194,7 +195,7 @@ module _ (blocks : Blocks) where
   catch_is : (c : TryTableCatch) → bare_catch c ≡ mapped_catch erased blocks c
   catch_is c = λ i. record { kind = caught_is c.kind i; label = index_is c.label i }
 
-  try_table_is : (t : TryTable) → bare_try_table t ≡ seen_try_table (mapped_try_table erased blocks t)
+  try_table_is : (t : TryTable) → bare_try_table t ≡ shown_try_table (mapped_try_table erased blocks t)
   try_table_is t =
       λ i. record { block = block_is t.block i; catches = each_is bare_catch (mapped_catch erased blocks) catch_is t.catches i }
 
@@ -319,7 +320,7 @@ constant_is : (e : Expression) → bare_expression e ≡ shown_expression (mappe
 constant_is e = expression_is constant_context e
 
 -- imports
-item_kind_is : (k : ItemKind) → bare_item_kind k ≡ seen_item_kind (mapped_item_kind erased k)
+item_kind_is : (k : ItemKind) → bare_item_kind k ≡ shown_item_kind (mapped_item_kind erased k)
 item_kind_is (kind.Func u) = ap kind.Func (use_is u)
 item_kind_is (kind.FuncExact u) = ap kind.FuncExact (use_is u)
 item_kind_is (kind.Table t) = ap kind.Table (table_type_is t)
@@ -327,40 +328,40 @@ item_kind_is (kind.Memory t) = refl
 item_kind_is (kind.Global t) = ap kind.Global (global_type_is t)
 item_kind_is (kind.Tag t) = ap kind.Tag (tag_type_is t)
 
-sig_is : (s : ItemSig) → bare_item_sig s ≡ seen_item_sig (mapped_sig erased s)
+sig_is : (s : ItemSig) → bare_item_sig s ≡ shown_item_sig (mapped_sig erased s)
 sig_is s =
-    ap (λ (k : ItemKind). record { span = s.span; id = option_map bare_id s.id; name = seen_name_option s.name; kind = k })
+    ap (λ (k : ItemKind). record { span = s.span; id = option_map bare_id s.id; name = bare_name_option s.name; kind = k })
     (item_kind_is s.kind)
 
 abbrev Named : Type 0
 Named = Bor (List ℕ) × ItemSig
 
-import_items_are : (x : ImportItems) → bare_import_items x ≡ seen_items (mapped_import_items erased x)
-import_items_are (import_items.Single source name sig) = ap (import_items.Single (seen_text source) (seen_text name)) (sig_is sig)
+import_items_are : (x : ImportItems) → bare_import_items x ≡ shown_items (mapped_import_items erased x)
+import_items_are (import_items.Single source name sig) = ap (import_items.Single (bare_text source) (bare_text name)) (sig_is sig)
 import_items_are (import_items.Group1 source items) =
-    ap (import_items.Group1 (seen_text source))
-    (each_both bare_import_item (λ (p : Named). (p.0, mapped_sig erased p.1)) seen_item
-    (λ p. ap (λ (s : ItemSig). (seen_text p.0, s)) (sig_is p.1)) items)
-import_items_are (import_items.Group2 source sig []) = ap (λ (s : ItemSig). import_items.Group2 (seen_text source) s []) (sig_is sig)
+    ap (import_items.Group1 (bare_text source))
+    (each_both bare_import_item (λ (p : Named). (p.0, mapped_sig erased p.1)) shown_item
+    (λ p. ap (λ (s : ItemSig). (bare_text p.0, s)) (sig_is p.1)) items)
+import_items_are (import_items.Group2 source sig []) = ap (λ (s : ItemSig). import_items.Group2 (bare_text source) s []) (sig_is sig)
 import_items_are (import_items.Group2 source sig (name ∷ names)) =
-    ap (λ (s : ItemSig). import_items.Group2 (seen_text source) s (map seen_text (name ∷ names))) (sig_is sig)
+    ap (λ (s : ItemSig). import_items.Group2 (bare_text source) s (map bare_text (name ∷ names))) (sig_is sig)
 
 -- functions
-local_is : (l : Local) → bare_local l ≡ seen_local (mapped_local erased l)
-local_is l = ap (λ (t : ValType). record { id = option_map bare_id l.id; name = seen_name_option l.name; ty = t }) (val_is l.ty)
+local_is : (l : Local) → bare_local l ≡ shown_local (mapped_local erased l)
+local_is l = ap (λ (t : ValType). record { id = option_map bare_id l.id; name = bare_name_option l.name; ty = t }) (val_is l.ty)
 
 func_kind_is : (u : TypeUse FunctionType) (k : FuncKind) → bare_func_kind k ≡ shown_func_kind (mapped_func_kind erased u k)
 func_kind_is u (func.Import source exact) = refl
 func_kind_is u (func.Inline locals e) =
-    λ i. func.Inline (each_both bare_local (mapped_local erased) seen_local local_is locals i)
+    λ i. func.Inline (each_both bare_local (mapped_local erased) shown_local local_is locals i)
     (expression_is (body_here u (param_marks u.inline ++ local_marks locals)) e i)
 
 func_is : (f : Func) → bare_func f ≡ shown_func (mapped_func erased f)
 func_is f = λ i. record {
   span = f.span;
   id = option_map bare_id f.id;
-  name = seen_name_option f.name;
-  exports = seen_exports f.exports;
+  name = bare_name_option f.name;
+  exports = bare_exports f.exports;
   kind = func_kind_is f.ty f.kind i;
   ty = use_is f.ty i;
 }
@@ -380,7 +381,7 @@ elem_is : (e : Elem) → bare_elem e ≡ shown_elem (mapped_elem erased e)
 elem_is e = λ i. record {
   span = e.span;
   id = option_map bare_id e.id;
-  name = seen_name_option e.name;
+  name = bare_name_option e.name;
   kind = elem_kind_is e.kind i;
   payload = payload_is e.payload i;
 }
@@ -394,7 +395,7 @@ data_is d = ap (λ (k : DataKind). record (bare_data d) { kind = k }) (data_kind
 
 -- tables, memories, globals and tags
 table_kind_is : (k : TableKind) → bare_table_kind k ≡ shown_table_kind (mapped_table_kind erased k)
-table_kind_is (table.Import source t) = ap (table.Import (seen_import source)) (table_type_is t)
+table_kind_is (table.Import source t) = ap (table.Import (bare_import source)) (table_type_is t)
 table_kind_is (table.Normal t init) =
     λ i. table.Normal (table_type_is t i) (option_both bare_expression (mapped_constant erased) shown_expression constant_is init i)
 table_kind_is (table.Inline t is64 shared p) = λ i. table.Inline (ref_is t i) is64 shared (payload_is p i)
@@ -416,10 +417,10 @@ global_kind_is (global.Inline e) = ap global.Inline (constant_is e)
 global_is : (g : Global) → bare_global g ≡ shown_global (mapped_global erased g)
 global_is g = λ i. record (bare_global g) { ty = global_type_is g.ty i; kind = global_kind_is g.kind i }
 
-tag_is : (t : Tag) → bare_tag t ≡ seen_tag (mapped_tag erased t)
+tag_is : (t : Tag) → bare_tag t ≡ shown_tag (mapped_tag erased t)
 tag_is t = ap (λ (u : TagType). record (bare_tag t) { ty = u }) (tag_type_is t.ty)
 
-export_is : (e : Export) → bare_export e ≡ seen_export (mapped_export erased e)
+export_is : (e : Export) → bare_export e ≡ shown_export (mapped_export erased e)
 export_is e = ap (λ (x : Index). record (bare_export e) { item = x }) (index_is e.item)
 
 -- custom sections

@@ -26,7 +26,7 @@ use Rattle.wast_core.specs.Tree.func
 use Rattle.wast_core.specs.Tree.field
 use Rattle.wast_core.proofs.Fronts.{same_space_of, sigs_changed}
 use Rattle.wast_core.proofs.ToldTypes.{each_alike}
-use Rattle.wat_laws.specs.Bare.{bare_id}
+use Rattle.wat_syntax.specs.Bare.{bare_id}
 use Rattle.wat_meaning.specs.Erasing.{erasing}
 use Rattle.wat_meaning.proofs.Erased.{name_kept}
 

@@ -6,7 +6,6 @@ pub mod ErasedRules
 pub mod OneMeaning
 pub mod SameNumbers
 pub mod SameParts
-pub mod SeenBare
 pub mod ShownAnswers
 pub mod ShownCustoms
 pub mod ShownDemands

@@ -1,4 +1,4 @@
--- Trees that differ in addresses alone have the same items, and so each source id denotes the same index.
+-- A tree has the items of its bare tree, and so each source id denotes the same index.
 --
 -- The counter of resolving adds generated ids to items without one, so the index of a source id is that before. For example, in
 -- `(module (func) (func $g))` the first function gets a generated id, and `$g` stays 1.
@@ -15,12 +15,13 @@ use Rattle.wast_resolve_laws.proofs.ExpandedItems.{expanded_position}
 use Rattle.wast_resolve_laws.proofs.Renamed.{same_explicit}
 use Rattle.wast_resolve_laws.proofs.WrittenItems.{written_position}
 use Rattle.wast_core.specs.Tree.{Space, ModuleField}
+use Rattle.wat_syntax.specs.BareFields.{bare_fields}
 use Rattle.wat_meaning.specs.Erasing.{erasing}
-use Rattle.wat_meaning.specs.Laws.{AreAlike, SameNumbers}
+use Rattle.wat_meaning.specs.Laws.{SameNumbers}
 use Rattle.wat_meaning.specs.Shown.{shown_fields}
 use Rattle.wat_meaning.proofs.Erased.{is_renaming}
 use Rattle.wat_meaning.proofs.ErasedRules.{items_erased}
-use Rattle.wat_meaning.proofs.OneMeaning.{alike_all, same_generation}
+use Rattle.wat_meaning.proofs.OneMeaning.{of_bare, same_generation}
 use Rattle.wat_meaning.proofs.ShownItems.{items_shown}
 use Rattle.wat_meaning.proofs.ShownResolved.{shown_explicit}
 
@@ -39,11 +40,11 @@ shown_before xs = ap items (shown_explicit xs) ∙ items_shown (explicit_fields 
 erased_before : (xs : List ModuleField) → items (explicit_fields (renamed_fields erasing xs)) ≡ items (explicit_fields xs)
 erased_before xs = ap items (same_explicit erasing is_renaming xs) ∙ items_erased (explicit_fields xs)
 
-same_items : (xs ys : List ModuleField) → AreAlike xs ys → items (explicit_fields xs) ≡ items (explicit_fields ys)
-same_items xs ys alike = alike_all (λ zs. items (explicit_fields zs)) shown_before erased_before xs ys alike
+same_items : (xs : List ModuleField) → items (explicit_fields (bare_fields xs)) ≡ items (explicit_fields xs)
+same_items xs = of_bare (λ zs. items (explicit_fields zs)) shown_before xs (erased_before xs)
 
 pub same_numbers : SameNumbers
-same_numbers n xs ys alike above s text =
-    without_generated n xs s text above
-    ∙ (ap (λ (is : List Item). (id_context is).number s (Written text)) (same_items xs ys alike)
-    ∙ sym (without_generated n ys s text (subst (λ (k : ℕ). k < n) (same_generation xs ys alike) above)))
+same_numbers n xs above s text =
+    without_generated n (bare_fields xs) s text (subst (λ (k : ℕ). k < n) (sym (same_generation xs)) above)
+    ∙ (ap (λ (is : List Item). (id_context is).number s (Written text)) (same_items xs)
+    ∙ sym (without_generated n xs s text above))

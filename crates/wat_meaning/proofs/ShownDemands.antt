@@ -15,12 +15,11 @@ use Rattle.wast_resolve_rules.specs.Scopes.{Scope, module_scope, denoted, type_a
 use Rattle.wast_resolve_rules.specs.Matches.{same_type}
 use Rattle.wast_resolve_rules.specs.ImportOrder.{imported_at, import_place, unless_import, last_defined, nothing_defined, order_demand}
 use Rattle.wast_resolve_rules.specs.Demands.{first_unmet, known_index, each_after, item_demands, ask_demands, match_with, match_demands, match_if, use_demand, site_demand, site_demands, name_demands, order_demands, demands, item_counts, kind_marks, declared_ids, local_counts_in, open_counts_at, open_counts, body_counts_in, body_counts}
-use Rattle.wat_syntax.specs.Seen.{seen_function_type, seen_type_use}
 use Rattle.wat_syntax.specs.Tree.{Index, FunctionType, TypeUse, FuncKind, ModuleField}
 use Rattle.wat_syntax.specs.Tree.space
 use Rattle.wat_syntax.specs.Tree.func
 use Rattle.wat_syntax.specs.Tree.field
-use Rattle.wat_meaning.specs.Shown.{shown_func_kind, shown_field, shown_fields}
+use Rattle.wat_meaning.specs.Shown.{shown_field, shown_fields, shown_func_kind, shown_function_type, shown_type_use}
 use Rattle.wat_meaning.specs.ShownSites.{shown_locals, shown_site}
 use Rattle.wat_meaning.proofs.ShownLists.{flat_same}
 use Rattle.wat_meaning.proofs.ShownTypeParts.{use_asks, params_shown, locals_shown}
@@ -31,18 +30,18 @@ use Rattle.wat_meaning.proofs.ShownResolved.{scope_shown, implicit_shown}
 
 -- Sites, in one scope.
 module _ (c : Scope) where
-  if_shown : (i : Option Index) (t : Option FunctionType) → match_if c i (option_map seen_function_type t) ≡ match_if c i t
+  if_shown : (i : Option Index) (t : Option FunctionType) → match_if c i (option_map shown_function_type t) ≡ match_if c i t
   if_shown None None = refl
   if_shown None (Some t) = refl
   if_shown (Some i) None = refl
   if_shown (Some i) (Some t) = match_shown i t
     where
-      match_shown : (i : Index) (t : FunctionType) → match_demands c i (seen_function_type t) ≡ match_demands c i t
+      match_shown : (i : Index) (t : FunctionType) → match_demands c i (shown_function_type t) ≡ match_demands c i t
       match_shown i t =
           let there = type_at c.types (denoted (c.known.number space.Ty) i) in
           ap (λ (s : Signature). match_with (same_signature_by (same_type c.known) s) (span_of_index i) there) (signature_shown t)
 
-  use_shown : (u : TypeUse FunctionType) → use_demand c (seen_type_use u) ≡ use_demand c u
+  use_shown : (u : TypeUse FunctionType) → use_demand c (shown_type_use u) ≡ use_demand c u
   use_shown u = λ i. ask_demands c.known (use_asks u i) ++ if_shown u.index u.inline i
 
   local_shown : (l : Locals) → local_number c (shown_locals l) ≡ local_number c l
@@ -110,7 +109,7 @@ kind_marks_shown (func.Import source exact) = refl
 kind_marks_shown (func.Inline locals e) = locals_shown locals
 
 declared_same : (t : Option FunctionType) (k : FuncKind)
-    → declared_ids (option_map seen_function_type t) (shown_func_kind k) ≡ declared_ids t k
+    → declared_ids (option_map shown_function_type t) (shown_func_kind k) ≡ declared_ids t k
 declared_same t k = λ i. params_shown t i ++ kind_marks_shown k i
 
 open_same : (s : Site) → open_counts_at (shown_site s) ≡ open_counts_at s

@@ -20,7 +20,6 @@ use Rattle.wast_core_sections.specs.DataCounts.{instrs_of, body_needs_count, nee
 use Rattle.wast_core_sections.specs.Hints.{if_hinted, imported_func, functions_in, hinted_functions}
 use Rattle.wast_core_sections.specs.Sections.{contribution_of, no_contribution, as_data, as_element_mode, as_element_items, as_data_mode}
 use Rattle.wast_core.proofs.ToldTypes.{each_alike, option_alike}
-use Rattle.wat_syntax.specs.Seen.{seen_param, seen_function_type, seen_struct_field, seen_composite, seen_type_def, seen_type, seen_block, seen_local, seen_tag_type, seen_item_kind, seen_item_sig, seen_items}
 use Rattle.wat_syntax.specs.Tree.{Id, Index, NameAnnotation, ValType, StructField, FunctionType, InnerTypeKind, TypeDef, BlockType, Instruction, Expression, TagType, ItemKind, ImportItems, Local, FuncKind, TableKind, MemoryKind, GlobalKind, ElemKind, ElemPayload, Data, DataKind, ModuleField}
 use Rattle.wat_syntax.specs.Tree.space
 use Rattle.wat_syntax.specs.Tree.ty
@@ -32,7 +31,7 @@ use Rattle.wat_syntax.specs.Tree.global
 use Rattle.wat_syntax.specs.Tree.elem
 use Rattle.wat_syntax.specs.Tree.data_kind
 use Rattle.wat_syntax.specs.Tree.field
-use Rattle.wat_meaning.specs.Shown.{shown_instr, shown_expression, shown_func_kind, shown_payload, shown_elem_kind, shown_data_kind, shown_data, shown_table_kind, shown_memory_kind, shown_global_kind, shown_field, shown_fields}
+use Rattle.wat_meaning.specs.Shown.{shown_block, shown_composite, shown_data, shown_data_kind, shown_elem_kind, shown_expression, shown_field, shown_fields, shown_func_kind, shown_function_type, shown_global_kind, shown_instr, shown_item_kind, shown_item_sig, shown_items, shown_local, shown_memory_kind, shown_param, shown_payload, shown_struct_field, shown_table_kind, shown_tag_type, shown_type, shown_type_def}
 use Rattle.wat_meaning.proofs.ShownInline.{bytes_shown}
 use Rattle.wat_meaning.proofs.ShownItems.{kind_space}
 use Rattle.wat_meaning.proofs.ShownNames.{sigs_shown}
@@ -41,38 +40,38 @@ use Rattle.wat_meaning.proofs.ShownNames.{sigs_shown}
 abbrev Param : Type 0
 Param = Option Id × Option NameAnnotation × ValType
 
-params_same : (ps : List Param) → map (λ (p : Param). as_val_type p.2) (map seen_param ps) ≡ map (λ (p : Param). as_val_type p.2) ps
-params_same ps = each_alike seen_param (λ p. as_val_type p.2) (λ p. refl) ps
+params_same : (ps : List Param) → map (λ (p : Param). as_val_type p.2) (map shown_param ps) ≡ map (λ (p : Param). as_val_type p.2) ps
+params_same ps = each_alike shown_param (λ p. as_val_type p.2) (λ p. refl) ps
 
-fields_same : (fs : List StructField) → map as_field_type (map seen_struct_field fs) ≡ map as_field_type fs
-fields_same fs = each_alike seen_struct_field as_field_type (λ f. refl) fs
+fields_same : (fs : List StructField) → map as_field_type (map shown_struct_field fs) ≡ map as_field_type fs
+fields_same fs = each_alike shown_struct_field as_field_type (λ f. refl) fs
 
-inner_same : (t : InnerTypeKind) → as_inner_type (seen_composite t) ≡ as_inner_type t
+inner_same : (t : InnerTypeKind) → as_inner_type (shown_composite t) ≡ as_inner_type t
 inner_same t = grind (arith, common_steps, params_same, fields_same)
 
-def_same : (d : TypeDef) → as_sub_type (seen_type_def d) ≡ as_sub_type d
+def_same : (d : TypeDef) → as_sub_type (shown_type_def d) ≡ as_sub_type d
 def_same d = grind (arith, common_steps, inner_same)
 
 group_same : (ts : List ty.«Type»)
-    → map (λ (t : ty.«Type»). as_sub_type t.def) (map seen_type ts) ≡ map (λ (t : ty.«Type»). as_sub_type t.def) ts
-group_same ts = each_alike seen_type (λ t. as_sub_type t.def) (λ t. def_same t.def) ts
+    → map (λ (t : ty.«Type»). as_sub_type t.def) (map shown_type ts) ≡ map (λ (t : ty.«Type»). as_sub_type t.def) ts
+group_same ts = each_alike shown_type (λ t. as_sub_type t.def) (λ t. def_same t.def) ts
 
-tag_same : (t : TagType) → as_tag_type (seen_tag_type t) ≡ as_tag_type t
+tag_same : (t : TagType) → as_tag_type (shown_tag_type t) ≡ as_tag_type t
 tag_same (tag.Exception u) = refl
 
-entity_same : (k : ItemKind) → as_entity_type (seen_item_kind k) ≡ as_entity_type k
+entity_same : (k : ItemKind) → as_entity_type (shown_item_kind k) ≡ as_entity_type k
 entity_same k = grind (arith, common_steps, tag_same)
 
-import_same : (x : ImportItems) → as_imports (seen_items x) ≡ as_imports x
+import_same : (x : ImportItems) → as_imports (shown_items x) ≡ as_imports x
 import_same x = grind (arith, common_steps, entity_same)
 
 -- bodies
-use_same : (i : Option Index) (t : Option FunctionType) → use_as_block i (option_map seen_function_type t) ≡ use_as_block i t
+use_same : (i : Option Index) (t : Option FunctionType) → use_as_block i (option_map shown_function_type t) ≡ use_as_block i t
 use_same (Some i) t = refl
 use_same None None = refl
 use_same None (Some t) = refl
 
-block_same : (b : BlockType) → as_block_type (seen_block b) ≡ as_block_type b
+block_same : (b : BlockType) → as_block_type (shown_block b) ≡ as_block_type b
 block_same b = use_same b.ty.index b.ty.inline
 
 instr_same : (i : Instruction) → as_instr (shown_instr i) ≡ as_instr i
@@ -89,8 +88,8 @@ instrs_same is = each_alike shown_instr as_instr instr_same is
 expression_same : (e : Expression) → as_expression (shown_expression e) ≡ as_expression e
 expression_same e = instrs_same e.instrs
 
-locals_same : (ls : List Local) → map (λ (l : Local). as_val_type l.ty) (map seen_local ls) ≡ map (λ (l : Local). as_val_type l.ty) ls
-locals_same ls = each_alike seen_local (λ l. as_val_type l.ty) (λ l. refl) ls
+locals_same : (ls : List Local) → map (λ (l : Local). as_val_type l.ty) (map shown_local ls) ≡ map (λ (l : Local). as_val_type l.ty) ls
+locals_same ls = each_alike shown_local (λ l. as_val_type l.ty) (λ l. refl) ls
 
 body_same : (k : FuncKind) → as_body (shown_func_kind k) ≡ as_body k
 body_same (func.Import source exact) = refl
@@ -155,10 +154,10 @@ hints_same (func.Inline locals e) =
     ap (λ (b : Body). if not (length e.branch_hints == 0) then Some (record { body = b; hints = e.branch_hints }) else None)
     (body_same (func.Inline locals e))
 
-imported_same : (x : ImportItems) → flat_map imported_func (item_sigs (seen_items x)) ≡ flat_map imported_func (item_sigs x)
+imported_same : (x : ImportItems) → flat_map imported_func (item_sigs (shown_items x)) ≡ flat_map imported_func (item_sigs x)
 imported_same x =
     ap (flat_map imported_func) (sigs_shown x)
-    ∙ each_like seen_item_sig imported_func imported_func
+    ∙ each_like shown_item_sig imported_func imported_func
     (λ s. ap (λ k. if same_space space.Func k then None ∷ [] else []) (kind_space s.kind)) (item_sigs x)
 
 functions_same : (x : ModuleField) → functions_in (shown_field x) ≡ functions_in x

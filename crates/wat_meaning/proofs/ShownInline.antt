@@ -26,16 +26,17 @@ use Rattle.wat_syntax.specs.Tree.global
 use Rattle.wat_syntax.specs.Tree.tag_kind
 use Rattle.wat_syntax.specs.Tree.export
 use Rattle.wat_syntax.specs.Tree.field
-use Rattle.wat_syntax.specs.Seen.{seen_text, seen_exports, seen_tag, seen_tag_kind}
-use Rattle.wat_meaning.specs.Shown.{shown_expression, shown_payload, shown_data_val, shown_func_kind, shown_func, shown_table_kind, shown_table, shown_memory_kind, shown_memory, shown_global_kind, shown_global, shown_field, shown_fields}
+use Rattle.wat_syntax.specs.Bare.{bare_text}
+use Rattle.wat_syntax.specs.BareFields.{bare_exports, bare_tag_kind}
+use Rattle.wat_meaning.specs.Shown.{shown_data_val, shown_expression, shown_field, shown_fields, shown_func, shown_func_kind, shown_global, shown_global_kind, shown_memory, shown_memory_kind, shown_payload, shown_table, shown_table_kind, shown_tag}
 use Rattle.wat_meaning.proofs.ShownInlineLists.{map_changed}
 use Rattle.wat_meaning.proofs.ShownItems.{items_of_shown}
 use Rattle.wat_meaning.proofs.ShownLists.{flat_same, flat_changed, both_changed}
 
 -- The exports, and the segment of inline data or elements.
 exports_shown : (span : Span) (kind : ExportKind) (item : Index) (exports : InlineExport)
-    → exports_of span kind item (seen_exports exports) ≡ shown_fields (exports_of span kind item exports)
-exports_shown span kind item exports = map_changed seen_text shown_field (export_of span kind item) (λ text. refl) exports.names
+    → exports_of span kind item (bare_exports exports) ≡ shown_fields (exports_of span kind item exports)
+exports_shown span kind item exports = map_changed bare_text shown_field (export_of span kind item) (λ text. refl) exports.names
 
 data_shown : (k : MemoryKind) (span : Span) (item : Index) → data_in (shown_memory_kind k) span item ≡ shown_fields (data_in k span item)
 data_shown (memory.Inline false pieces exponent) span item = refl
@@ -88,7 +89,7 @@ global_shown : (g : Global) (k : GlobalKind) → global_alone (shown_global g) (
 global_shown g (global.Import source) = refl
 global_shown g (global.Inline e) = refl
 
-tag_shown : (t : Tag) (k : TagKind) → tag_alone (seen_tag t) (seen_tag_kind k) ≡ shown_field (tag_alone t k)
+tag_shown : (t : Tag) (k : TagKind) → tag_alone (shown_tag t) (bare_tag_kind k) ≡ shown_field (tag_alone t k)
 tag_shown t (tag_kind.Import source) = refl
 tag_shown t tag_kind.Inline = refl
 
@@ -96,7 +97,7 @@ tag_shown t tag_kind.Inline = refl
 module _ (r : Reference) where
   -- the exports, and the fields after them
   one_shown : (span : Span) (kind : ExportKind) (item : Index) (exports : InlineExport) (rest : List ModuleField) {after : List ModuleField}
-      → after ≡ shown_fields rest → exports_of span kind item (seen_exports exports) ++ after
+      → after ≡ shown_fields rest → exports_of span kind item (bare_exports exports) ++ after
       ≡ shown_fields (exports_of span kind item exports ++ rest)
   one_shown span kind item exports rest h =
       both_changed shown_field (exports_of span kind item exports) rest _ _ (exports_shown span kind item exports) h
@@ -133,8 +134,8 @@ pub shown_desugared : (xs : List ModuleField) → desugared_by_position (shown_f
 shown_desugared xs = after_shown [] xs
 
 -- References by id, from a counter. The same items need a generated id.
-some_exported : (e : InlineExport) → exports_some (seen_exports e) ≡ exports_some e
-some_exported e = ap (λ (n : ℕ). not (n == 0)) (length-map e.names seen_text)
+some_exported : (e : InlineExport) → exports_some (bare_exports e) ≡ exports_some e
+some_exported e = ap (λ (n : ℕ). not (n == 0)) (length-map e.names bare_text)
 
 with_bytes : (k : MemoryKind) → has_bytes (shown_memory_kind k) ≡ has_bytes k
 with_bytes (memory.Import source ty) = refl

@@ -8,7 +8,6 @@ use Rattle.wast_base.specs.Ids.{mark_of_option}
 use Rattle.wast_tree_nodes.specs.Imports.{defined_space}
 use Rattle.wast_tree_nodes.specs.Items.{space_of_kind, item_of_sig, items_of_type, items_of_import, items_in, items}
 use Rattle.wast_tree_nodes.specs.Profiles.{is_imported_func, is_imported_table, is_imported_memory, is_imported_global, is_imported_tag}
-use Rattle.wat_syntax.specs.Seen.{seen_text, seen_type, seen_item_kind, seen_item_sig, seen_item, seen_items, seen_tag_kind}
 use Rattle.wat_syntax.specs.Tree.{FuncKind, TableKind, MemoryKind, GlobalKind, TagKind, ItemKind, ItemSig, ImportItems, ModuleField}
 use Rattle.wat_syntax.specs.Tree.space
 use Rattle.wat_syntax.specs.Tree.ty
@@ -20,42 +19,44 @@ use Rattle.wat_syntax.specs.Tree.tag_kind
 use Rattle.wat_syntax.specs.Tree.kind
 use Rattle.wat_syntax.specs.Tree.import_items
 use Rattle.wat_syntax.specs.Tree.field
-use Rattle.wat_meaning.specs.Shown.{shown_func_kind, shown_table_kind, shown_memory_kind, shown_global_kind, shown_field, shown_fields}
+use Rattle.wat_syntax.specs.Bare.{bare_text}
+use Rattle.wat_syntax.specs.BareFields.{bare_tag_kind}
+use Rattle.wat_meaning.specs.Shown.{shown_field, shown_fields, shown_func_kind, shown_global_kind, shown_item, shown_item_kind, shown_item_sig, shown_items, shown_memory_kind, shown_table_kind, shown_type}
 use Rattle.wat_meaning.proofs.ShownLists.{flat_same}
 use Rattle.wat_meaning.proofs.ShownTypeParts.{fields_shown}
 
 -- the item of a type
-pub type_items : (t : ty.«Type») → items_of_type (seen_type t) ≡ items_of_type t
+pub type_items : (t : ty.«Type») → items_of_type (shown_type t) ≡ items_of_type t
 type_items t = λ i. record { space = space.Ty; id = mark_of_option t.id; fields = fields_shown t.def.kind i } ∷ []
 
 -- imported items
-pub kind_space : (k : ItemKind) → space_of_kind (seen_item_kind k) ≡ space_of_kind k
+pub kind_space : (k : ItemKind) → space_of_kind (shown_item_kind k) ≡ space_of_kind k
 kind_space (kind.Func u) = refl
 kind_space x = refl
 
-sig_item : (s : ItemSig) → item_of_sig (seen_item_sig s) ≡ item_of_sig s
+sig_item : (s : ItemSig) → item_of_sig (shown_item_sig s) ≡ item_of_sig s
 sig_item s = λ i. record { space = kind_space s.kind i; id = mark_of_option s.id; fields = [] }
 
 -- a signature that names share
 shared_items : (s : ItemSig) (names : List (Bor (List ℕ)))
-    → flat_map (λ (name : Bor (List ℕ)). item_of_sig (seen_item_sig s) ∷ []) (map seen_text names)
+    → flat_map (λ (name : Bor (List ℕ)). item_of_sig (shown_item_sig s) ∷ []) (map bare_text names)
     ≡ flat_map (λ (name : Bor (List ℕ)). item_of_sig s ∷ []) names
 shared_items s [] = refl
 shared_items s (name ∷ names) = λ i. sig_item s i ∷ shared_items s names i
 
-import_items_same : (m : ImportItems) → items_of_import (seen_items m) ≡ items_of_import m
+import_items_same : (m : ImportItems) → items_of_import (shown_items m) ≡ items_of_import m
 import_items_same (import_items.Single source name sig) = λ i. sig_item sig i ∷ []
 import_items_same (import_items.Group1 source items) =
-    flat_same seen_item (λ (p : Bor (List ℕ) × ItemSig). item_of_sig p.1 ∷ []) (λ p i. sig_item p.1 i ∷ []) items
+    flat_same shown_item (λ (p : Bor (List ℕ) × ItemSig). item_of_sig p.1 ∷ []) (λ p i. sig_item p.1 i ∷ []) items
 import_items_same (import_items.Group2 source sig names) = shared_items sig names
 
 -- the items of a field, and of all fields
 pub items_of_shown : (x : ModuleField) → items_in (shown_field x) ≡ items_in x
 items_of_shown (field.Ty t) = type_lone t
   where
-    type_lone : (t : ty.«Type») → flat_map items_of_type (seen_type t ∷ []) ≡ flat_map items_of_type (t ∷ [])
+    type_lone : (t : ty.«Type») → flat_map items_of_type (shown_type t ∷ []) ≡ flat_map items_of_type (t ∷ [])
     type_lone t = λ i. type_items t i ++ []
-items_of_shown (field.Rec r) = flat_same seen_type items_of_type type_items r.types
+items_of_shown (field.Rec r) = flat_same shown_type items_of_type type_items r.types
 items_of_shown (field.Import m) = import_items_same m.items
 items_of_shown x = refl
 
@@ -84,6 +85,6 @@ pub global_imported : (k : GlobalKind) → is_imported_global (shown_global_kind
 global_imported (global.Import source) = refl
 global_imported (global.Inline e) = refl
 
-pub tag_imported : (k : TagKind) → is_imported_tag (seen_tag_kind k) ≡ is_imported_tag k
+pub tag_imported : (k : TagKind) → is_imported_tag (bare_tag_kind k) ≡ is_imported_tag k
 tag_imported (tag_kind.Import source) = refl
 tag_imported tag_kind.Inline = refl

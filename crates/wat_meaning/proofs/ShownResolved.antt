@@ -24,8 +24,7 @@ use Rattle.wat_syntax.specs.Tree.space
 use Rattle.wat_syntax.specs.Tree.inner
 use Rattle.wat_syntax.specs.Tree.ty
 use Rattle.wat_syntax.specs.Tree.field
-use Rattle.wat_syntax.specs.Seen.{seen_function_type, seen_type_use, seen_composite, seen_type}
-use Rattle.wat_meaning.specs.Shown.{shown_field, shown_fields}
+use Rattle.wat_meaning.specs.Shown.{shown_composite, shown_field, shown_fields, shown_function_type, shown_type, shown_type_use}
 use Rattle.wat_meaning.proofs.ShownInline.{shown_desugared, shown_desugared_from, shown_reference_count}
 use Rattle.wat_meaning.proofs.ShownItems.{items_shown}
 use Rattle.wat_meaning.proofs.ShownLists.{map_same, flat_same}
@@ -51,7 +50,7 @@ pub shown_count : (xs : List ModuleField) → generated_id_count (shown_fields x
 shown_count xs = λ i. shown_reference_count xs i + (ap type_id_count (shown_desugared xs) ∙ shown_type_count (desugared_by_position xs)) i
 
 -- The identifier context, and the types by index.
-shape_shown : (k : InnerTypeKind) → shape_of (seen_composite k) ≡ shape_of k
+shape_shown : (k : InnerTypeKind) → shape_of (shown_composite k) ≡ shape_of k
 shape_shown (inner.Func t) = ap Function (signature_shown t)
 shape_shown (inner.Struct t) = ap (λ ids. struct_shape (map name_if ids)) (field_ids_shown t.fields)
 shape_shown (inner.Array t) = refl
@@ -59,7 +58,7 @@ shape_shown (inner.Cont t) = refl
 
 shapes_in_shown : (x : ModuleField) → shapes_in (shown_field x) ≡ shapes_in x
 shapes_in_shown (field.Ty t) = ap (λ (s : Shape). s ∷ []) (shape_shown t.def.kind)
-shapes_in_shown (field.Rec r) = map_same seen_type (λ (t : ty.«Type»). shape_of t.def.kind) (λ t. shape_shown t.def.kind) r.types
+shapes_in_shown (field.Rec r) = map_same shown_type (λ (t : ty.«Type»). shape_of t.def.kind) (λ t. shape_shown t.def.kind) r.types
 shapes_in_shown x = refl
 
 pub shapes_shown : (xs : List ModuleField) → shapes_of_types (shown_fields xs) ≡ shapes_of_types xs
@@ -71,36 +70,36 @@ scope_shown xs = λ i. record { known = id_context (items_shown xs i); types = s
 -- Numbers in a type use.
 module _ (k : IdContext) where
   signature_numbered : (t : Option FunctionType)
-      → option_map (mapped_signature (numbered_at k)) (option_map seen_function_type t)
-      ≡ option_map seen_function_type (option_map (mapped_signature (numbered_at k)) t)
+      → option_map (mapped_signature (numbered_at k)) (option_map shown_function_type t)
+      ≡ option_map shown_function_type (option_map (mapped_signature (numbered_at k)) t)
   signature_numbered None = refl
   signature_numbered (Some t) = ap Some (mapped.signature_shown (λ o. o) (numbered_at k) t)
 
-  numbered_shown : (u : TypeUse FunctionType) → numbered_use k (seen_type_use u) ≡ seen_type_use (numbered_use k u)
+  numbered_shown : (u : TypeUse FunctionType) → numbered_use k (shown_type_use u) ≡ shown_type_use (numbered_use k u)
   numbered_shown u = λ i. record { index = option_map (numbered_at k space.Ty) u.index; inline = signature_numbered u.inline i }
 
   alone_shown : (o : Option Index) (t : Option FunctionType)
-      → inline_alone o (option_map seen_function_type t) ≡ option_map seen_function_type (inline_alone o t)
+      → inline_alone o (option_map shown_function_type t) ≡ option_map shown_function_type (inline_alone o t)
   alone_shown None t = refl
   alone_shown (Some i) t = refl
 
-  once_shown : (u : TypeUse FunctionType) → said_once (seen_type_use u) ≡ seen_type_use (said_once u)
+  once_shown : (u : TypeUse FunctionType) → said_once (shown_type_use u) ≡ shown_type_use (said_once u)
   once_shown u = λ i. record { index = u.index; inline = alone_shown u.index u.inline i }
 
-  use_shown : (w : Where) (u : TypeUse FunctionType) → resolved_use k w (seen_type_use u) ≡ seen_type_use (resolved_use k w u)
+  use_shown : (w : Where) (u : TypeUse FunctionType) → resolved_use k w (shown_type_use u) ≡ shown_type_use (resolved_use k w u)
   use_shown OfItem u = numbered_shown u
   use_shown OfCall u = ap said_once (numbered_shown u) ∙ once_shown (numbered_use k u)
   use_shown OfBlock u = ap said_once (numbered_shown u) ∙ once_shown (numbered_use k u)
 
 -- Numbers of locals: how many parameters a function has by its index alone.
 unsaid_shown : (c : Scope) (o : Option Index) (t : Option FunctionType)
-    → unsaid_params c o (option_map seen_function_type t) ≡ unsaid_params c o t
+    → unsaid_params c o (option_map shown_function_type t) ≡ unsaid_params c o t
 unsaid_shown c o (Some t) = refl
 unsaid_shown c None None = refl
 unsaid_shown c (Some i) None = refl
 
 pub implicit_shown : (c : Scope) (o : Option (TypeUse FunctionType))
-    → implicit_param_count c (option_map seen_type_use o) ≡ implicit_param_count c o
+    → implicit_param_count c (option_map shown_type_use o) ≡ implicit_param_count c o
 implicit_shown c None = refl
 implicit_shown c (Some u) = unsaid_shown c u.index u.inline
 

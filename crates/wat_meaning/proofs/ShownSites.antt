@@ -13,8 +13,6 @@ use Rattle.wast_base.specs.Spaces.{name_if}
 use Rattle.wast_tree_nodes.specs.Clauses.{hints_stand, stand_from, is_segment_type_allowed}
 use Rattle.wast_tree_nodes.specs.Instrs.{turn_of, block_effects}
 use Rattle.wast_tree_nodes.specs.Sites.{Check, Clause, Covered, BodyContext, constant_context, Where, OfItem, OfBlock, Site, Asked, Used, Declared, LabelAt, Begins, context_after_site, after_all, check_sites, if_there, uncovered_check, at_index, at_label, in_heap, in_ref, in_pair, in_mem_arg, in_select, in_cast, in_handlers, in_use, in_caught, in_catch, in_handle, in_try_table, in_br_table, in_instr, context_after, in_instrs, in_expression, in_constant, in_local, param_marks, local_marks, declaration_sites, body_here, in_func_kind, in_func, in_table_type, in_global_type, in_tag_type, in_item_kind, in_sig, in_shared_id, in_import, in_payload, in_table_kind, in_memory_kind, in_global_kind, in_global, in_elem_kind, in_elem, in_type, in_rec, in_data_kind, in_subsection, in_custom, in_field, in_module, asked_in, checks_of}
-use Rattle.wat_syntax.specs.Seen.{seen_text, seen_type_use, seen_type, seen_rec, seen_try_table, seen_local, seen_tag_type, seen_item_kind, seen_item, seen_items}
-use Rattle.wat_syntax.specs.SeenCustoms.{seen_subsection}
 use Rattle.wat_syntax.specs.Tree.{Id, TryTable, TryTableCatch, BrTableIndices, Handle, ResumeTable, RefType, Index, TypeUse, FunctionType, Instruction, Expression, Local, FuncKind, Func, ItemKind, ItemSig, ImportItems, TagType, TableKind, MemoryKind, GlobalKind, Global, ElemKind, ElemPayload, Elem, DataKind, Custom, Dylink0Subsection, ModuleField}
 use Rattle.wat_syntax.specs.Tree.form
 use Rattle.wat_syntax.specs.Tree.space
@@ -33,7 +31,9 @@ use Rattle.wat_syntax.specs.Tree.data_kind
 use Rattle.wat_syntax.specs.Tree.custom
 use Rattle.wat_syntax.specs.Tree.dylink
 use Rattle.wat_syntax.specs.Tree.field
-use Rattle.wat_meaning.specs.Shown.{shown_instr, shown_expression, shown_func_kind, shown_func, shown_payload, shown_elem_kind, shown_elem, shown_data_kind, shown_table_kind, shown_memory_kind, shown_global_kind, shown_global, shown_custom, shown_field, shown_fields}
+use Rattle.wat_syntax.specs.Bare.{bare_text}
+use Rattle.wat_syntax.specs.BareFields.{bare_subsection}
+use Rattle.wat_meaning.specs.Shown.{shown_custom, shown_data_kind, shown_elem, shown_elem_kind, shown_expression, shown_field, shown_fields, shown_func, shown_func_kind, shown_global, shown_global_kind, shown_instr, shown_item, shown_item_kind, shown_items, shown_local, shown_memory_kind, shown_payload, shown_rec, shown_table_kind, shown_tag_type, shown_try_table, shown_type, shown_type_use}
 use Rattle.wat_meaning.specs.ShownSites.{shown_context, shown_site}
 use Rattle.wat_meaning.proofs.ShownLists.{map_same, flat_same, flat_changed, option_changed, both_changed}
 use Rattle.wat_meaning.proofs.ShownTypeParts.{use_asks, params_shown, type_asks, rec_asks, locals_asks, locals_shown}
@@ -66,14 +66,14 @@ pair_shown xs ys a b = both_changed shown_site xs ys xs ys a b
 
 -- `try_table`, `br_table`, branches on casts, and the handlers of `resume`.
 use_before : (w : Where) (u : TypeUse FunctionType) (ss ts : List Site) → ss ≡ map shown_site ts
-    → in_use w (seen_type_use u) ++ ss ≡ map shown_site (in_use w u ++ ts)
-use_before w u ss ts e = λ i. Used w (seen_type_use u) ∷ e i
+    → in_use w (shown_type_use u) ++ ss ≡ map shown_site (in_use w u ++ ts)
+use_before w u ss ts e = λ i. Used w (shown_type_use u) ∷ e i
 
 catches_shown : (blocks : Blocks) (cs : List TryTableCatch)
     → flat_map (in_catch blocks) cs ≡ map shown_site (flat_map (in_catch blocks) cs)
 catches_shown blocks cs = flat_shown (in_catch blocks) (catch_shown blocks) cs
 
-try_table_shown : (blocks : Blocks) (t : TryTable) → in_try_table blocks (seen_try_table t) ≡ map shown_site (in_try_table blocks t)
+try_table_shown : (blocks : Blocks) (t : TryTable) → in_try_table blocks (shown_try_table t) ≡ map shown_site (in_try_table blocks t)
 try_table_shown blocks t =
     let begin = Begins blocks (mark_of_option t.block.label) ∷ [] in
     let rest = flat_map (in_catch blocks) t.catches ++ begin in
@@ -174,18 +174,18 @@ declared_shown before [] = refl
 declared_shown before (m ∷ ms) = λ i. Declared before m ∷ declared_shown (before ++ name_if m ∷ []) ms i
 
 marks_shown : (u : TypeUse FunctionType) (ls : List Local)
-    → param_marks (seen_type_use u).inline ++ local_marks (map seen_local ls) ≡ param_marks u.inline ++ local_marks ls
+    → param_marks (shown_type_use u).inline ++ local_marks (map shown_local ls) ≡ param_marks u.inline ++ local_marks ls
 marks_shown u ls = λ i. params_shown u.inline i ++ locals_shown ls i
 
 func_kind_shown : (u : TypeUse FunctionType) (k : FuncKind)
-    → in_func_kind (seen_type_use u) (shown_func_kind k) ≡ map shown_site (in_func_kind u k)
+    → in_func_kind (shown_type_use u) (shown_func_kind k) ≡ map shown_site (in_func_kind u k)
 func_kind_shown u (func.Import source exact) = refl
 func_kind_shown u (func.Inline ls e) =
     let marks = param_marks u.inline ++ local_marks ls in
     let asks = flat_map in_local ls in
-    let new_asks = flat_map in_local (map seen_local ls) in
+    let new_asks = flat_map in_local (map shown_local ls) in
     let body = in_expression (body_here u marks) e in
-    let new_body : List (Option Mark) → List Site = λ ms. in_expression (body_here (seen_type_use u) ms) (shown_expression e) in
+    let new_body : List (Option Mark) → List Site = λ ms. in_expression (body_here (shown_type_use u) ms) (shown_expression e) in
     ap (λ (ms : List (Option Mark)). check_sites new_asks ++ (declaration_sites [] ms ++ new_body ms)) (marks_shown u ls)
     ∙ both_changed shown_site (check_sites asks) (declaration_sites [] marks ++ body) _ _ (asks_shown new_asks asks (locals_asks ls))
     (both_changed shown_site (declaration_sites [] marks) body _ _ (declared_shown [] marks) (expression_shown (body_here u marks) e))
@@ -194,30 +194,30 @@ func_shown : (f : Func) → in_func (shown_func f) ≡ map shown_site (in_func f
 func_shown f = use_before OfItem f.ty _ (in_func_kind f.ty f.kind) (func_kind_shown f.ty f.kind)
 
 -- An import.
-tag_shown : (t : TagType) → in_tag_type (seen_tag_type t) ≡ map shown_site (in_tag_type t)
+tag_shown : (t : TagType) → in_tag_type (shown_tag_type t) ≡ map shown_site (in_tag_type t)
 tag_shown (tag.Exception u) = refl
 
-item_kind_shown : (k : ItemKind) → in_item_kind (seen_item_kind k) ≡ map shown_site (in_item_kind k)
+item_kind_shown : (k : ItemKind) → in_item_kind (shown_item_kind k) ≡ map shown_site (in_item_kind k)
 item_kind_shown (kind.Table t) = asked_shown (in_table_type t)
 item_kind_shown (kind.Global t) = asked_shown (in_global_type t)
 item_kind_shown (kind.Tag t) = tag_shown t
 item_kind_shown x = refl
 
-shared_id_shown : (names : List (Bor (List ℕ))) (id : Option Id) → in_shared_id (map seen_text names) id ≡ in_shared_id names id
+shared_id_shown : (names : List (Bor (List ℕ))) (id : Option Id) → in_shared_id (map bare_text names) id ≡ in_shared_id names id
 shared_id_shown [] id = refl
 shared_id_shown (name ∷ names) id = refl
 
-import_shown : (m : ImportItems) → in_import (seen_items m) ≡ map shown_site (in_import m)
+import_shown : (m : ImportItems) → in_import (shown_items m) ≡ map shown_site (in_import m)
 import_shown (import_items.Single source name sig) = item_kind_shown sig.kind
 import_shown (import_items.Group1 source items) =
     let group = check_sites (uncovered_check form.CompactImports) in
     let signature : Bor (List ℕ) × ItemSig → List Site = λ p. in_sig p.1 in
-    both_changed shown_site (flat_map signature items) group _ _ (flat_changed seen_item signature shown_site (λ p. item_kind_shown p.1.kind) items) refl
+    both_changed shown_site (flat_map signature items) group _ _ (flat_changed shown_item signature shown_site (λ p. item_kind_shown p.1.kind) items) refl
 import_shown (import_items.Group2 source sig names) =
     let rest = uncovered_check form.CompactImports in
     let old = in_shared_id names sig.id ++ rest in
     both_changed shown_site (in_sig sig) (check_sites old) _ _ (item_kind_shown sig.kind)
-    (asks_shown (in_shared_id (map seen_text names) sig.id ++ rest) old (ap (λ z. z ++ rest) (shared_id_shown names sig.id)))
+    (asks_shown (in_shared_id (map bare_text names) sig.id ++ rest) old (ap (λ z. z ++ rest) (shared_id_shown names sig.id)))
 
 -- The elements of a segment, tables, memories and globals.
 payload_shown : (p : ElemPayload) → in_payload (shown_payload p) ≡ map shown_site (in_payload p)
@@ -273,7 +273,7 @@ data_kind_shown data_kind.Passive = refl
 data_kind_shown (data_kind.Active x e) = λ i. at_index space.Memory x ++ constant_shown e i
 
 -- Custom sections: a subsection is supported or not as before.
-subsection_shown : (s : Dylink0Subsection) → in_subsection (seen_subsection s) ≡ in_subsection s
+subsection_shown : (s : Dylink0Subsection) → in_subsection (bare_subsection s) ≡ in_subsection s
 subsection_shown (dylink.MemInfo memory_size memory_align table_size table_align) = refl
 subsection_shown x = refl
 
@@ -281,13 +281,13 @@ custom_shown : (c : Custom) → in_custom (shown_custom c) ≡ map shown_site (i
 custom_shown (custom.Raw section) = refl
 custom_shown (custom.Producers producers) = refl
 custom_shown (custom.Dylink0 info) =
-    asks_shown (flat_map in_subsection (map seen_subsection info.subsections)) (flat_map in_subsection info.subsections)
-    (flat_same seen_subsection in_subsection subsection_shown info.subsections)
+    asks_shown (flat_map in_subsection (map bare_subsection info.subsections)) (flat_map in_subsection info.subsections)
+    (flat_same bare_subsection in_subsection subsection_shown info.subsections)
 
 -- A field, and the list of all fields.
 pub field_shown : (x : ModuleField) → in_field (shown_field x) ≡ map shown_site (in_field x)
-field_shown (field.Ty t) = asks_shown (in_type (seen_type t)) (in_type t) (type_asks t)
-field_shown (field.Rec r) = asks_shown (in_rec (seen_rec r)) (in_rec r) (rec_asks r)
+field_shown (field.Ty t) = asks_shown (in_type (shown_type t)) (in_type t) (type_asks t)
+field_shown (field.Rec r) = asks_shown (in_rec (shown_rec r)) (in_rec r) (rec_asks r)
 field_shown (field.Import m) = import_shown m.items
 field_shown (field.Func f) = func_shown f
 field_shown (field.Table t) = table_shown t.kind

@@ -28,8 +28,7 @@ use Rattle.wat_syntax.specs.Tree.space
 use Rattle.wat_syntax.specs.Tree.inner
 use Rattle.wat_syntax.specs.Tree.ty
 use Rattle.wat_syntax.specs.Tree.field
-use Rattle.wat_syntax.specs.Seen.{seen_param, seen_function_type, seen_composite, seen_type_def, seen_type}
-use Rattle.wat_meaning.specs.Shown.{shown_field, shown_fields}
+use Rattle.wat_meaning.specs.Shown.{shown_composite, shown_field, shown_fields, shown_function_type, shown_param, shown_type, shown_type_def}
 use Rattle.wat_meaning.proofs.ShownInline.{filled_shown, missing_shown}
 use Rattle.wat_meaning.specs.ShownSites.{shown_site}
 use Rattle.wat_meaning.proofs.ShownItems.{items_shown}
@@ -38,24 +37,24 @@ use Rattle.wat_meaning.proofs.ShownSites.{sites_shown}
 use Rattle.wat_meaning.proofs.ShownTypesMapped.{IgnoresNames, shown_mapped}
 
 -- The signature of a function type, and whether it is short.
-pub signature_shown : (t : FunctionType) → signature_of (seen_function_type t) ≡ signature_of t
-signature_shown t = ap (λ (vs : List ValType). (vs, t.results)) (map_same seen_param type_of_param (λ p. refl) t.params)
+pub signature_shown : (t : FunctionType) → signature_of (shown_function_type t) ≡ signature_of t
+signature_shown t = ap (λ (vs : List ValType). (vs, t.results)) (map_same shown_param type_of_param (λ p. refl) t.params)
 
-inline_shown : (t : Option FunctionType) → inline_signature (option_map seen_function_type t) ≡ inline_signature t
+inline_shown : (t : Option FunctionType) → inline_signature (option_map shown_function_type t) ≡ inline_signature t
 inline_shown None = refl
 inline_shown (Some t) = signature_shown t
 
-short_shown : (t : FunctionType) → is_short (seen_function_type t) ≡ is_short t
-short_shown t = ap (λ (n : ℕ). n == 0 && nat_lt (length t.results) 2) (length-map t.params seen_param)
+short_shown : (t : FunctionType) → is_short (shown_function_type t) ≡ is_short t
+short_shown t = ap (λ (n : ℕ). n == 0 && nat_lt (length t.results) 2) (length-map t.params shown_param)
 
-needs_shown : (w : Where) (t : Option FunctionType) → needs_type w (option_map seen_function_type t) ≡ needs_type w t
+needs_shown : (w : Where) (t : Option FunctionType) → needs_type w (option_map shown_function_type t) ≡ needs_type w t
 needs_shown OfBlock None = refl
 needs_shown OfBlock (Some t) = ap not (short_shown t)
 needs_shown x t = refl
 
 -- The signatures that type uses need.
 without_shown : (w : Where) (o : Option Index) (t : Option FunctionType)
-    → needed_without w o (option_map seen_function_type t) ≡ needed_without w o t
+    → needed_without w o (option_map shown_function_type t) ≡ needed_without w o t
 without_shown w None t = λ i. needed_if (needs_shown w t i) (inline_shown t i)
 without_shown w (Some i) t = refl
 
@@ -71,12 +70,12 @@ pub type_names_shown : (xs : List ModuleField) → type_names (shown_fields xs) 
 type_names_shown xs = ap (λ its. (id_context its).number space.Ty) (items_shown xs)
 
 -- The signatures of eligible types.
-kind_shown : (t : InnerTypeKind) → kind_signature (seen_composite t) ≡ kind_signature t
+kind_shown : (t : InnerTypeKind) → kind_signature (shown_composite t) ≡ kind_signature t
 kind_shown (inner.Func t) = ap Some (signature_shown t)
 kind_shown x = refl
 
 module _ (k : TypeNames) where
-  taken_shown : (d : TypeDef) → taken_by k (seen_type_def d) ≡ taken_by k d
+  taken_shown : (d : TypeDef) → taken_by k (shown_type_def d) ≡ taken_by k d
   taken_shown d = ap (λ (o : Option Signature). if is_eligible d then option_map (numbered_signature k) o else None) (kind_shown d.kind)
 
   eligible_shown : (x : ModuleField) → eligible_in k (shown_field x) ≡ eligible_in k x
@@ -88,7 +87,7 @@ module _ (k : TypeNames) where
 
   entries_shown : (x : ModuleField) → types_in k (shown_field x) ≡ types_in k x
   entries_shown (field.Ty t) = ap (λ (o : Option Signature). o ∷ []) (taken_shown t.def)
-  entries_shown (field.Rec r) = map_same seen_type (λ (t : ty.«Type»). no_signature) (λ t. refl) r.types
+  entries_shown (field.Rec r) = map_same shown_type (λ (t : ty.«Type»). no_signature) (λ t. refl) r.types
   entries_shown x = refl
 
   bindings_in_shown : (x : ModuleField) → bindings_in k (shown_field x) ≡ bindings_in k x
@@ -110,7 +109,7 @@ with_params s ps =
     let d = record (def_of s false) { kind = inner.Func (record { params = ps; results = s.1 }) } in
     field.Ty (record { span = start_of_text; id = None; name = None; def = d })
 
-no_names : (vs : List ValType) → map seen_param (map unnamed_param vs) ≡ map unnamed_param vs
+no_names : (vs : List ValType) → map shown_param (map unnamed_param vs) ≡ map unnamed_param vs
 no_names [] = refl
 no_names (v ∷ vs) = ap (λ ps. unnamed_param v ∷ ps) (no_names vs)
 
@@ -144,12 +143,12 @@ position_shown xs = λ i s. option_map (λ k. index.Num k start_of_text) (index_
 -- A type use with the index of its type keeps its names.
 module _ (find : LookUp) where
   bound_shown : (w : Where) (o : Option Index) (t : Option FunctionType)
-      → bound_index find w o (option_map seen_function_type t) ≡ bound_index find w o t
+      → bound_index find w o (option_map shown_function_type t) ≡ bound_index find w o t
   bound_shown w None t = λ i. bound_if (needs_shown w t i) (find (inline_shown t i))
   bound_shown w (Some i) t = refl
 
   inline_bound : (w : Where) (o : Option Index) (t : Option FunctionType)
-      → bound_inline w o (option_map seen_function_type t) ≡ option_map seen_function_type (bound_inline w o t)
+      → bound_inline w o (option_map shown_function_type t) ≡ option_map shown_function_type (bound_inline w o t)
   inline_bound OfBlock (Some i) t = refl
   inline_bound OfBlock None (Some t) = refl
   inline_bound OfBlock None None = refl

@@ -27,8 +27,8 @@ use Rattle.wat_syntax.specs.Tree.elem
 use Rattle.wat_syntax.specs.Tree.payload
 use Rattle.wat_syntax.specs.Tree.data_kind
 use Rattle.wat_syntax.specs.Tree.field
-use Rattle.wat_syntax.specs.Seen.{seen_text, seen_param, seen_function_type, seen_type_use, seen_struct_field, seen_composite, seen_type_def, seen_type, seen_block, seen_call, seen_try_table, seen_local, seen_tag_type, seen_tag, seen_item_kind, seen_item_sig, seen_item, seen_items}
-use Rattle.wat_meaning.specs.Shown.{shown_instr, shown_expression, shown_func_kind, shown_func, shown_payload, shown_elem_kind, shown_elem, shown_data_kind, shown_data, shown_table_kind, shown_table, shown_global_kind, shown_global, shown_field, shown_fields}
+use Rattle.wat_syntax.specs.Bare.{bare_text}
+use Rattle.wat_meaning.specs.Shown.{shown_block, shown_call, shown_composite, shown_data, shown_data_kind, shown_elem, shown_elem_kind, shown_expression, shown_field, shown_fields, shown_func, shown_func_kind, shown_function_type, shown_global, shown_global_kind, shown_instr, shown_item, shown_item_kind, shown_item_sig, shown_items, shown_local, shown_param, shown_payload, shown_struct_field, shown_table, shown_table_kind, shown_tag, shown_tag_type, shown_try_table, shown_type, shown_type_def, shown_type_use}
 use Rattle.wat_meaning.specs.ShownSites.{shown_locals, shown_context}
 use Rattle.wat_meaning.proofs.ShownInlineLists.{map_changed, option_mapped}
 use Rattle.wat_meaning.proofs.ShownSites.{next_shown}
@@ -36,40 +36,40 @@ use Rattle.wat_meaning.proofs.ShownTypeParts.{params_shown, locals_shown}
 
 -- The change does not look at the addresses of names.
 pub record IgnoresNames (f : Change) : Type 0 where
-  pub used : (w : Where) (u : TypeUse FunctionType) → f.used w (seen_type_use u) ≡ seen_type_use (f.used w u)
+  pub used : (w : Where) (u : TypeUse FunctionType) → f.used w (shown_type_use u) ≡ shown_type_use (f.used w u)
   pub local : (l : Locals) (i : Index) → f.local (shown_locals l) i ≡ f.local l i
 
 -- Types. Their names are those of parameters and of fields of structs.
 module _ (own : Option Id → Option Id) (f : Indices) where
-  pub signature_shown : (t : FunctionType) → named_signature own f (seen_function_type t) ≡ seen_function_type (named_signature own f t)
+  pub signature_shown : (t : FunctionType) → named_signature own f (shown_function_type t) ≡ shown_function_type (named_signature own f t)
   signature_shown t =
       ap (λ (ps : List (Option Id × Option NameAnnotation × ValType)). record { params = ps; results = map (mapped_val f) t.results })
-      (map_changed seen_param seen_param (named_param own f) (λ p. refl) t.params)
+      (map_changed shown_param shown_param (named_param own f) (λ p. refl) t.params)
 
   struct_shown : (fs : List StructField)
-      → map (named_struct_field own f) (map seen_struct_field fs) ≡ map seen_struct_field (map (named_struct_field own f) fs)
-  struct_shown fs = map_changed seen_struct_field seen_struct_field (named_struct_field own f) (λ x. refl) fs
+      → map (named_struct_field own f) (map shown_struct_field fs) ≡ map shown_struct_field (map (named_struct_field own f) fs)
+  struct_shown fs = map_changed shown_struct_field shown_struct_field (named_struct_field own f) (λ x. refl) fs
 
-  inner_shown : (t : InnerTypeKind) → named_inner own f (seen_composite t) ≡ seen_composite (named_inner own f t)
+  inner_shown : (t : InnerTypeKind) → named_inner own f (shown_composite t) ≡ shown_composite (named_inner own f t)
   inner_shown (inner.Func t) = ap inner.Func (signature_shown t)
   inner_shown (inner.Struct t) = ap (λ (fs : List StructField). inner.Struct (record { fields = fs })) (struct_shown t.fields)
   inner_shown (inner.Array t) = refl
   inner_shown (inner.Cont t) = refl
 
-  def_shown : (d : TypeDef) → named_def own f (seen_type_def d) ≡ seen_type_def (named_def own f d)
+  def_shown : (d : TypeDef) → named_def own f (shown_type_def d) ≡ shown_type_def (named_def own f d)
   def_shown d = ap (λ (k : InnerTypeKind). record (named_def own f d) { kind = k }) (inner_shown d.kind)
 
 module _ (f : Change) (is : IgnoresNames f) where
   -- Instructions.
-  block_shown : (b : BlockType) → mapped_block f (seen_block b) ≡ seen_block (mapped_block f b)
-  block_shown b = ap (λ (u : TypeUse FunctionType). record (seen_block (mapped_block f b)) { ty = u }) (is.used OfBlock b.ty)
+  block_shown : (b : BlockType) → mapped_block f (shown_block b) ≡ shown_block (mapped_block f b)
+  block_shown b = ap (λ (u : TypeUse FunctionType). record (shown_block (mapped_block f b)) { ty = u }) (is.used OfBlock b.ty)
 
   try_table_shown : (blocks : Blocks) (t : TryTable)
-      → mapped_try_table f blocks (seen_try_table t) ≡ seen_try_table (mapped_try_table f blocks t)
-  try_table_shown blocks t = ap (λ (b : BlockType). record (seen_try_table (mapped_try_table f blocks t)) { block = b }) (block_shown t.block)
+      → mapped_try_table f blocks (shown_try_table t) ≡ shown_try_table (mapped_try_table f blocks t)
+  try_table_shown blocks t = ap (λ (b : BlockType). record (shown_try_table (mapped_try_table f blocks t)) { block = b }) (block_shown t.block)
 
-  call_shown : (c : CallIndirect) → mapped_indirect f (seen_call c) ≡ seen_call (mapped_indirect f c)
-  call_shown c = ap (λ (u : TypeUse FunctionType). record (seen_call (mapped_indirect f c)) { ty = u }) (is.used OfCall c.ty)
+  call_shown : (c : CallIndirect) → mapped_indirect f (shown_call c) ≡ shown_call (mapped_indirect f c)
+  call_shown c = ap (λ (u : TypeUse FunctionType). record (shown_call (mapped_indirect f c)) { ty = u }) (is.used OfCall c.ty)
 
   instr_shown : (h : BodyContext) (i : Instruction) → mapped_instr f (shown_context h) (shown_instr i) ≡ shown_instr (mapped_instr f h i)
   instr_shown h (instr.block b) = ap instr.block (block_shown b)
@@ -98,15 +98,15 @@ module _ (f : Change) (is : IgnoresNames f) where
   constant_shown e = expression_shown constant_context e
 
   -- Functions.
-  locals_mapped : (locals : List Local) → map (mapped_local f) (map seen_local locals) ≡ map seen_local (map (mapped_local f) locals)
-  locals_mapped locals = map_changed seen_local seen_local (mapped_local f) (λ l. refl) locals
+  locals_mapped : (locals : List Local) → map (mapped_local f) (map shown_local locals) ≡ map shown_local (map (mapped_local f) locals)
+  locals_mapped locals = map_changed shown_local shown_local (mapped_local f) (λ l. refl) locals
 
   kind_shown : (u : TypeUse FunctionType) (k : FuncKind)
-      → mapped_func_kind f (seen_type_use u) (shown_func_kind k) ≡ shown_func_kind (mapped_func_kind f u k)
+      → mapped_func_kind f (shown_type_use u) (shown_func_kind k) ≡ shown_func_kind (mapped_func_kind f u k)
   kind_shown u (func.Import source exact) = refl
   kind_shown u (func.Inline locals e) =
       λ i. func.Inline (locals_mapped locals i)
-      ((ap (λ (ms : List (Option Mark)). mapped_expression f (body_here (seen_type_use u) ms) (shown_expression e))
+      ((ap (λ (ms : List (Option Mark)). mapped_expression f (body_here (shown_type_use u) ms) (shown_expression e))
       (λ j. params_shown u.inline j ++ locals_shown locals j)
       ∙ expression_shown (body_here u (param_marks u.inline ++ local_marks locals)) e) i)
 
@@ -114,31 +114,31 @@ module _ (f : Change) (is : IgnoresNames f) where
   func_shown x = λ i. record (shown_func (mapped_func f x)) { kind = kind_shown x.ty x.kind i; ty = is.used OfItem x.ty i }
 
   -- Imports.
-  tag_type_shown : (t : TagType) → mapped_tag_type f (seen_tag_type t) ≡ seen_tag_type (mapped_tag_type f t)
+  tag_type_shown : (t : TagType) → mapped_tag_type f (shown_tag_type t) ≡ shown_tag_type (mapped_tag_type f t)
   tag_type_shown (tag.Exception u) = ap tag.Exception (is.used OfItem u)
 
-  item_kind_shown : (k : ItemKind) → mapped_item_kind f (seen_item_kind k) ≡ seen_item_kind (mapped_item_kind f k)
+  item_kind_shown : (k : ItemKind) → mapped_item_kind f (shown_item_kind k) ≡ shown_item_kind (mapped_item_kind f k)
   item_kind_shown (kind.Func u) = ap kind.Func (is.used OfItem u)
   item_kind_shown (kind.FuncExact u) = ap kind.FuncExact (is.used OfItem u)
   item_kind_shown (kind.Tag t) = ap kind.Tag (tag_type_shown t)
   item_kind_shown x = refl
 
-  sig_shown : (s : ItemSig) → mapped_sig f (seen_item_sig s) ≡ seen_item_sig (mapped_sig f s)
-  sig_shown s = ap (λ (k : ItemKind). record (seen_item_sig (mapped_sig f s)) { kind = k }) (item_kind_shown s.kind)
+  sig_shown : (s : ItemSig) → mapped_sig f (shown_item_sig s) ≡ shown_item_sig (mapped_sig f s)
+  sig_shown s = ap (λ (k : ItemKind). record (shown_item_sig (mapped_sig f s)) { kind = k }) (item_kind_shown s.kind)
 
-  shared_shown : (names : List (Bor (List ℕ))) (id : Option Id) → mapped_shared_id f (map seen_text names) id ≡ mapped_shared_id f names id
+  shared_shown : (names : List (Bor (List ℕ))) (id : Option Id) → mapped_shared_id f (map bare_text names) id ≡ mapped_shared_id f names id
   shared_shown [] id = refl
   shared_shown (name ∷ names) id = refl
 
-  import_shown : (x : ImportItems) → mapped_import_items f (seen_items x) ≡ seen_items (mapped_import_items f x)
-  import_shown (import_items.Single source name sig) = ap (import_items.Single (seen_text source) (seen_text name)) (sig_shown sig)
+  import_shown : (x : ImportItems) → mapped_import_items f (shown_items x) ≡ shown_items (mapped_import_items f x)
+  import_shown (import_items.Single source name sig) = ap (import_items.Single (bare_text source) (bare_text name)) (sig_shown sig)
   import_shown (import_items.Group1 source items) =
-      ap (import_items.Group1 (seen_text source))
-      (map_changed seen_item seen_item (λ (p : Bor (List ℕ) × ItemSig). (p.0, mapped_sig f p.1))
-      (λ p. ap (λ (s : ItemSig). (seen_text p.0, s)) (sig_shown p.1)) items)
+      ap (import_items.Group1 (bare_text source))
+      (map_changed shown_item shown_item (λ (p : Bor (List ℕ) × ItemSig). (p.0, mapped_sig f p.1))
+      (λ p. ap (λ (s : ItemSig). (bare_text p.0, s)) (sig_shown p.1)) items)
   import_shown (import_items.Group2 source sig names) =
-      λ i. import_items.Group2 (seen_text source)
-      (record (seen_item_sig sig) { id = shared_shown names sig.id i; kind = item_kind_shown sig.kind i }) (map seen_text names)
+      λ i. import_items.Group2 (bare_text source)
+      (record (shown_item_sig sig) { id = shared_shown names sig.id i; kind = item_kind_shown sig.kind i }) (map bare_text names)
 
   -- Segments, tables and globals.
   payload_shown : (p : ElemPayload) → mapped_payload f (shown_payload p) ≡ shown_payload (mapped_payload f p)
@@ -165,15 +165,15 @@ module _ (f : Change) (is : IgnoresNames f) where
   global_kind_shown (global.Import source) = refl
   global_kind_shown (global.Inline e) = ap global.Inline (constant_shown e)
 
-  type_shown : (t : ty.«Type») → mapped_type f (seen_type t) ≡ seen_type (mapped_type f t)
-  type_shown t = ap (λ (d : TypeDef). record (seen_type (mapped_type f t)) { def = d }) (def_shown f.own f.index t.def)
+  type_shown : (t : ty.«Type») → mapped_type f (shown_type t) ≡ shown_type (mapped_type f t)
+  type_shown t = ap (λ (d : TypeDef). record (shown_type (mapped_type f t)) { def = d }) (def_shown f.own f.index t.def)
 
   -- Fields.
   pub field_shown : (x : ModuleField) → mapped_field f (shown_field x) ≡ shown_field (mapped_field f x)
   field_shown (field.Ty x) = ap field.Ty (type_shown x)
   field_shown (field.Rec x) =
       ap (λ (ts : List ty.«Type»). field.Rec (record { span = x.span; types = ts }))
-      (map_changed seen_type seen_type (mapped_type f) type_shown x.types)
+      (map_changed shown_type shown_type (mapped_type f) type_shown x.types)
   field_shown (field.Import x) = ap (λ (is : ImportItems). field.Import (record { span = x.span; items = is })) (import_shown x.items)
   field_shown (field.Func x) = ap field.Func (func_shown x)
   field_shown (field.Table x) =
@@ -185,7 +185,7 @@ module _ (f : Change) (is : IgnoresNames f) where
   field_shown (field.Data x) =
       ap (λ (k : DataKind). field.Data (record (shown_data (mapped_data f x)) { kind = k })) (data_kind_shown x.kind)
   field_shown (field.Tag x) =
-      ap (λ (t : TagType). field.Tag (record (seen_tag (mapped_tag f x)) { ty = t })) (tag_type_shown x.ty)
+      ap (λ (t : TagType). field.Tag (record (shown_tag (mapped_tag f x)) { ty = t })) (tag_type_shown x.ty)
   field_shown x = refl
 
   pub shown_mapped : (xs : List ModuleField) → all_mapped f (shown_fields xs) ≡ shown_fields (all_mapped f xs)

@@ -4,8 +4,8 @@
 -- proved of other ids holds for other addresses of the same ids.
 --
 --   (func $f), with `$f` at any address      (func $f), with `$f` at address 0
-use Rattle.wat_laws.specs.Bare.{bare_id}
 use Rattle.wast_resolve_laws.specs.Renaming.{Renaming}
+use Rattle.wat_syntax.specs.Bare.{bare_id}
 
 abbrev pub erasing : Renaming
 erasing = record { name = λ n. n; id = bare_id }

@@ -11,7 +11,7 @@ use Rattle.wast_core.specs.Meaning.{meaning}
 use Rattle.wast_core.specs.Tree.{ModuleField}
 use Rattle.wast_core.specs.Tree.func
 use Rattle.wast_core.specs.Tree.field
-use Rattle.wat_meaning.specs.Laws.{AreAlike}
+use Rattle.wat_syntax.specs.BareFields.{bare_fields}
 
 -- `(func $f)` at 8, without a type
 abbrev func_alone : Address → ModuleField
@@ -32,7 +32,7 @@ exported a b c = func_alone a ∷ export_field b 18 (by_id c (codes "f") 36) ∷
 -- an export, a body, and the name of the function.
 abbrev pub TwoTrees : Type 0
 TwoTrees = (a b c d e f : Address) →
-    AreAlike (exported a b c) (exported d e f)
+    (bare_fields (exported a b c) ≡ bare_fields (exported d e f))
     × (first_unmet (demands (explicit_fields (exported a b c))) ≡ None)
     × (generated_id_count (exported a b c) ≡ 1)
     × (meaning None (exported a b c) ≡ meaning None (exported d e f))

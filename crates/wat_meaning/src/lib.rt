@@ -4,20 +4,20 @@
 //!
 //! # Example
 //!
-//! For example, two trees of `(module (func $f) (export "a" (func $f)))` mean the same sections,
-//! wherever their texts are in memory, by clause `meaning` of [`meaning_laws`].
+//! For example, each tree of `(module (func $f) (export "a" (func $f)))` means the same sections,
+//! wherever its texts are in memory, by clause `meaning` of [`meaning_laws`].
 //!
 //! # Modules
 //!
-//! - `meanings`: two trees that differ in addresses alone have one meaning. The statements are in
-//!   `specs/Laws.antt`.
+//! - `meanings`: a tree means what its bare tree means, which has each text at address 0. The
+//!   statements are in `specs/Laws.antt`.
 //! - `examples`: an example module at two places in memory.
 //!
 //! # Guarantees
 //!
-//! - [`meaning_laws`]: such trees pass the same checks, or fail the same check first. They mean the
-//!   same parts, and have the same unsupported constructs. A source id refers to the same index in
-//!   both.
+//! - [`meaning_laws`]: a tree and its bare tree pass the same checks, or fail the same check first.
+//!   They mean the same parts, and have the same unsupported constructs and bounds. A source id
+//!   refers to the same index in both.
 #![tactic(auto)]
 
 mod examples;

@@ -1,20 +1,21 @@
-//! Theorems about trees that differ in addresses alone.
+//! Theorems about a tree and its bare tree, which has each text at address 0.
 
-ghost use Rattle.wat_meaning.specs.Laws.{SameAnswer, SameCount, SameForms, SameGeneration, SameMeaning, SameNumbers, SameRules, SameTooLarge};
+ghost use Rattle.wat_meaning.specs.Laws.{SameAnswer, SameBounds, SameCount, SameForms, SameGeneration, SameMeaning, SameNumbers, SameRules, SameTooLarge};
 
-use wast_core::laws::renaming;
+use wast_core::laws::{bounded_law, renaming};
 use wast_resolve::naming_laws;
 
 /// States that what a text means does not depend on the addresses of its ids, names and strings
 /// (text format: modules).
 ///
-/// A tree has addresses of the text that it was read from. Two trees of one text differ in
-/// addresses alone, so their bare trees are equal (`AreAlike`). The function does nothing. A proof
-/// calls it to obtain its clauses.
+/// A tree has addresses of the text that it was read from. Its bare tree has each text at address 0
+/// (`bare_fields`), and agrees with it in what the clauses say. So two trees of one text agree too,
+/// because they have one bare tree. The function does nothing. A proof calls it to obtain its
+/// clauses.
 ///
 /// # Example
 ///
-/// For example, two trees of `(module (func $f) (export "a" (func $f)))` mean the same sections,
+/// For example, each tree of `(module (func $f) (export "a" (func $f)))` means the same sections,
 /// wherever the texts of `$f` and "a" are in memory.
 ///
 /// # Guarantees
@@ -31,6 +32,7 @@ use wast_resolve::naming_laws;
 /// - `generation`: the greatest generation of an id is the same. So both may be resolved from the
 ///   same counters.
 /// - `large`: resolving can fail with E10 for both or for neither.
+/// - `bounds`: if the bare tree is small enough to encode (`IsBounded`), so is the tree.
 pub fn meaning_laws()
     ensures answer { SameAnswer }
     ensures meaning { SameMeaning }
@@ -40,7 +42,9 @@ pub fn meaning_laws()
     ensures rules { SameRules }
     ensures generation { SameGeneration }
     ensures large { SameTooLarge }
+    ensures bounds { SameBounds }
 {
+    bounded_law();
     naming_laws();
     renaming();
 }

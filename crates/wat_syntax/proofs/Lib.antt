@@ -1,4 +1,6 @@
+pub mod AtZero
 pub mod Numbers
+pub mod WorkedBare
 pub mod WorkedBodies
 pub mod WorkedCustoms
 pub mod WorkedFields

@@ -1,3 +1,7 @@
+pub mod AtZero
+pub mod Bare
+pub mod BareFields
+pub mod BareInstructions
 pub mod Bodies
 pub mod Customs
 pub mod Fields
@@ -6,16 +10,13 @@ pub mod Keywords
 pub mod ModuleFields
 pub mod Modules
 pub mod Operators
-pub mod Seen
-pub mod SeenCustoms
-pub mod SeenFields
-pub mod SeenModuleFields
 pub mod Segments
 pub mod Tokens
 pub mod Tree
 pub mod Types
 pub mod Values
 pub mod Worked
+pub mod WorkedBare
 pub mod WorkedBodies
 pub mod WorkedCustoms
 pub mod WorkedFields

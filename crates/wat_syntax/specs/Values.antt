@@ -14,7 +14,11 @@ use Rattle.wat_tokens.specs.declared.tokens.Token.TheVariants as token
 use Rattle.wat_tokens.specs.declared.tokens.Annotation.{Annotation}
 use Rattle.wat_tokens.specs.declared.tokens.Annotation.TheVariants as annotation
 use Rattle.wat_syntax.specs.Tokens.{Toks, Parse, peek, after, position, rparen}
-use Rattle.wat_syntax.specs.Seen.{text_of}
+
+-- A text of these bytes at address 0. A `&str` in a definition has an address beside its bytes, and `≡` compares both. Each text in the
+-- tokens that the rules read is at address 0 (Bare), so what the rules make of them has no other address either.
+abbrev pub text_of : List ℕ → Bor (List ℕ)
+text_of bytes = record { ref_ptr = (0, 0); now = bytes }
 
 -- the text of a token that can be a number
 abbrev pub number_in : Option Token → Option (Bor (List ℕ))

@@ -7,8 +7,8 @@ use Rattle.wat_tokens.specs.declared.words.Word.TheVariants as word
 use Rattle.wat_tokens.specs.declared.tokens.Token.{Token}
 use Rattle.wat_tokens.specs.declared.tokens.Token.TheVariants as token
 use Rattle.wat_tokens.specs.declared.tokens.Placed.{Placed}
-use Rattle.wat_syntax.specs.Seen.{text_of}
 use Rattle.wat_syntax.specs.Tokens.{Toks, Parse, count}
+use Rattle.wat_syntax.specs.Values.{text_of}
 
 -- the token of a keyword
 abbrev pub the : Key → Token

@@ -14,7 +14,7 @@ use Rattle.wat_syntax.specs.Tree.{BlockType}
 use Rattle.wat_syntax.specs.Tree.instr
 use Rattle.wat_syntax.specs.Tree.bare
 use Rattle.wat_syntax.specs.Tree.plain
-use Rattle.wat_syntax.specs.Seen.{text_of}
+use Rattle.wat_syntax.specs.Values.{text_of}
 use Rattle.wat_syntax.specs.Bodies.{expression, folded_expression}
 use Rattle.wat_syntax.specs.Modules.{exportfield, externtype, locals}
 use Rattle.wat_syntax.specs.Worked.{the, num, quoted, toks, made}

@@ -9,8 +9,7 @@ use Rattle.wat_syntax.specs.Tree.custom_place
 use Rattle.wat_syntax.specs.Tree.anchor
 use Rattle.wat_syntax.specs.Tree.dylink
 use Rattle.wat_syntax.specs.Tree.field
-use Rattle.wat_syntax.specs.Seen.{text_of}
-use Rattle.wat_syntax.specs.Values.{u32}
+use Rattle.wat_syntax.specs.Values.{u32, text_of}
 use Rattle.wat_syntax.specs.Customs.{customplace, strings, customfield, Language, Sdk, Version, known_field, versions_of, fields_of, producersfield, flags, entries, dylinkfield}
 use Rattle.wat_syntax.specs.ModuleFields.{modulefield, modulefields}
 use Rattle.wat_syntax.specs.Worked.{the, num, quoted, toks, made}

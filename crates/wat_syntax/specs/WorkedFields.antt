@@ -22,7 +22,7 @@ use Rattle.wat_syntax.specs.Tree.elem
 use Rattle.wat_syntax.specs.Tree.payload
 use Rattle.wat_syntax.specs.Tree.data_kind
 use Rattle.wat_syntax.specs.Tree.bytes
-use Rattle.wat_syntax.specs.Seen.{text_of}
+use Rattle.wat_syntax.specs.Values.{text_of}
 use Rattle.wat_syntax.specs.Segments.{elemfield, datafield}
 use Rattle.wat_syntax.specs.Fields.{funcfield, tablefield, memoryfield, globalfield}
 use Rattle.wat_syntax.specs.Worked.{the, num, named, quoted, toks, made}

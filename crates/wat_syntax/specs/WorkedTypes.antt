@@ -11,8 +11,7 @@ use Rattle.wat_syntax.specs.Tree.heap
 use Rattle.wat_syntax.specs.Tree.abstract
 use Rattle.wat_syntax.specs.Tree.storage
 use Rattle.wat_syntax.specs.Tree.inner
-use Rattle.wat_syntax.specs.Seen.{text_of}
-use Rattle.wat_syntax.specs.Values.{u32, string, name, name_annotation, index, index_or_zero}
+use Rattle.wat_syntax.specs.Values.{u32, string, name, name_annotation, index, index_or_zero, text_of}
 use Rattle.wat_syntax.specs.Types.{heaptype, reftype, valtype, fieldtype, functype, comptype, subtype, limits, addrtype, tabletype, memtype, globaltype, typeuse}
 use Rattle.wat_syntax.specs.Worked.{the, num, named, quoted, toks, made}
 

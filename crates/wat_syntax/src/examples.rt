@@ -1,6 +1,7 @@
 //! Tokens, and what the rules make of them.
 
 ghost use Rattle.wat_syntax.specs.Keywords.{AreDistinct};
+ghost use Rattle.wat_syntax.specs.WorkedBare.{Addresses, Texts};
 ghost use Rattle.wat_syntax.specs.WorkedBodies.{Folds, Blocks, Hints, Tries, Fields};
 ghost use Rattle.wat_syntax.specs.WorkedFields.{Functions, Tables, Memories, Globals, Elements, Bytes};
 ghost use Rattle.wat_syntax.specs.WorkedTypes.{Values, References, Composites, Externals};
@@ -18,6 +19,13 @@ pub(crate) fn types()
     ensures references { References }
     ensures composites { Composites }
     ensures externals { Externals }
+{}
+
+/// Tokens and trees at addresses, and the tokens of texts.
+#[tactic(auto, using(crate::proofs::WorkedBare::addresses, crate::proofs::WorkedBare::texts))]
+pub(crate) fn addresses()
+    ensures addresses { Addresses }
+    ensures texts { Texts }
 {}
 
 /// Keywords that compare as the same are equal.

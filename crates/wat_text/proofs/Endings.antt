@@ -10,9 +10,10 @@ use Rattle.wat_tokens.specs.declared.faults.TextFault.TheVariants as fault
 use Rattle.wat_syntax.specs.Tree.{Span, ModuleField}
 use Rattle.wat_syntax.specs.Tokens.{Toks, Parse, after}
 use Rattle.wat_syntax.specs.Customs.{strings}
-use Rattle.wat_syntax.specs.SeenModuleFields.{seen_field}
+use Rattle.wat_syntax.specs.Bare.{bare_text, bare_name_option, bare_id_option}
+use Rattle.wat_syntax.specs.BareFields.{bare_fields}
 use Rattle.wat_text.specs.Readers.{left, IsClean, IsRefusal, IsRefused, Reads, Expects}
-use Rattle.wat_text.specs.Denotes.{Explains, IsIllFormed, AreFields, rest_of_fields, pieces_of, module_end, module_position, fields_module, binary_module, is_well_formed_module, seen_module, seen_opening}
+use Rattle.wat_text.specs.Denotes.{Explains, IsIllFormed, AreFields, rest_of_fields, pieces_of, module_end, module_position, fields_module, binary_module, is_well_formed_module, bare_opening, IsModule}
 use Rattle.wat_text.specs.Finishes.{Finishes, IsClauseFault, WasRefused}
 use Rattle.wat_text.specs.declared.modules.ModuleHead.{ModuleHead}
 use Rattle.wat_text.specs.declared.modules.TextKind.TheVariants as kind
@@ -110,15 +111,15 @@ gives_all is_well denoted nothing rule a c x s r clean gives well = record {
 
 -- fields that are returned unless they are not well formed
 pub fields_finish : (rule : Option (List ModuleField)) (a c : Reader) (fields : List ModuleField) (error : Option TextError) (result : Result (List ModuleField) TextError)
-    → ReadsAll rule a c (map seen_field fields) → Finished c error
+    → ReadsAll rule a c (bare_fields fields) → Finished c error
     → IfOk result (λ same. (error ≡ None) × (same ≡ fields) × (is_well_formed same ≡ true))
     → IfErr result (λ e. WasRefused error (is_well_formed fields) e)
     → Finishes is_well_formed (AreFields rule) (rule ≡ None) a result
 fields_finish rule a c fields error (Ok same) r f ok err =
-    gives_all is_well_formed (AreFields rule) (rule ≡ None) rule a c (map seen_field fields) same r (f.clean ok.0) (λ e. e ∙ ap (λ xs. Some (map seen_field xs)) (sym ok.1)) ok.2
+    gives_all is_well_formed (AreFields rule) (rule ≡ None) rule a c (bare_fields fields) same r (f.clean ok.0) (λ e. e ∙ ap (λ xs. Some (bare_fields xs)) (sym ok.1)) ok.2
 fields_finish rule a c fields (Some x) (Err e) r f ok err =
     subst (λ y. Finishes is_well_formed (AreFields rule) (rule ≡ None) a (Err y)) (sym err)
-    (fails_all is_well_formed (AreFields rule) (rule ≡ None) rule a c (map seen_field fields) x r f.refused (λ h. h))
+    (fails_all is_well_formed (AreFields rule) (rule ≡ None) rule a c (bare_fields fields) x r f.refused (λ h. h))
 fields_finish rule a c fields None (Err e) r f ok err =
     let clean : IsClean c = f.clean refl in
     record {
@@ -152,16 +153,16 @@ module _ (span : Span) (h : ModuleHead) (toks : Toks) where
   rule_of = rest_of_fields (is_some h.keyword) toks
 
   abbrev denotes_module : TextModule → Type 0
-  denotes_module m = fields_module span (seen_opening h) toks ≡ Some (seen_module m)
+  denotes_module = IsModule (fields_module span (bare_opening h) toks)
 
   pub module_err : (is_written : Bool) (a : Reader) (e : TextError) → is_written ≡ is_some h.keyword
       → Finishes is_well_formed (AreFields (rest_of_fields is_written toks)) (rest_of_fields is_written toks ≡ None) a (Err e)
-      → Finishes is_well_formed_module denotes_module (fields_module span (seen_opening h) toks ≡ None) a (Err e)
+      → Finishes is_well_formed_module denotes_module (fields_module span (bare_opening h) toks ≡ None) a (Err e)
   module_err is_written a e same f =
-      finish_err is_well_formed (AreFields rule_of) (rule_of ≡ None) is_well_formed_module denotes_module (fields_module span (seen_opening h) toks ≡ None) a e
+      finish_err is_well_formed (AreFields rule_of) (rule_of ≡ None) is_well_formed_module denotes_module (fields_module span (bare_opening h) toks ≡ None) a e
       (subst (λ w. Finishes is_well_formed (AreFields (rest_of_fields w toks)) (rest_of_fields w toks ≡ None) a (Err e)) same f)
-      (λ e. ap (λ o. o >>= λ fs. Some (module_with span (seen_opening h) fs)) e)
-      (λ i. record { part = module_with span h i.part; denotes = ap (λ o. o >>= λ fs. Some (module_with span (seen_opening h) fs)) i.denotes; ill = i.ill })
+      (λ e. ap (λ o. o >>= λ fs. Some (module_with span (bare_opening h) fs)) e)
+      (λ i. record { part = module_with span h i.part; denotes = ap (λ o. o >>= λ fs. Some (module_with span (bare_opening h) fs)) i.denotes; ill = i.ill })
 
 -- a rule after a token that is skipped
 pub skipped : {T : Type 0} (rule : Toks → Parse T) (end : Toks → Option Toks) (r s a b : Reader) (x : T) → left s ≡ after (left r) → s.fault ≡ r.fault → s.make ≡ r.make
@@ -171,24 +172,25 @@ skipped rule end r s a b x same fault make reads ends =
     (subst (λ t. ReadsAll (to_end (rule t) end) s b x) same (reads_all rule end s a b x reads ends))
 
 module _ (h : ModuleHead) (r : Reader) where
-  abbrev denotes_binary : TextModule → Type 0
-  denotes_binary m = binary_module (seen_opening h) (left r) ≡ Some (seen_module m)
-
   abbrev of_pieces : Span → List (Bor (List ℕ)) → TextModule
   of_pieces span ps = record { span = span; id = h.id; name = h.name; kind = kind.Binary ps }
 
+  -- the same with pieces that have no addresses
+  abbrev with_pieces : Span → List (Bor (List ℕ)) → TextModule
+  with_pieces span ps = record { span = span; id = bare_id_option h.id; name = bare_name_option h.name; kind = kind.Binary ps }
+
   pub binary_err : (s a b : Reader) (pieces : List (Bor (List ℕ))) (e : TextError) → left s ≡ after (left r) → s.fault ≡ r.fault → s.make ≡ r.make
-      → Reads strings s a pieces → Expects (module_end true) a b → (e.fault ≢ fault.Memory → (b.make ≡ false) × (b.fault ≡ Some e))
-      → Finishes is_well_formed_module denotes_binary (binary_module (seen_opening h) (left r) ≡ None) r (Err e)
+      → Reads strings s a (map bare_text pieces) → Expects (module_end true) a b → (e.fault ≢ fault.Memory → (b.make ≡ false) × (b.fault ≡ Some e))
+      → Finishes is_well_formed_module (IsModule (binary_module (bare_opening h) (left r))) (binary_module (bare_opening h) (left r) ≡ None) r (Err e)
   binary_err s a b pieces e same fault make reads ends f =
-      fails_all is_well_formed_module denotes_binary (binary_module (seen_opening h) (left r) ≡ None) (pieces_of (left r)) r b pieces e
-      (skipped strings (module_end true) r s a b pieces same fault make reads ends) f
-      (λ n. ap (λ o. o >>= λ ps. Some (seen_module (of_pieces (module_position h) ps))) n)
+      fails_all is_well_formed_module (IsModule (binary_module (bare_opening h) (left r))) (binary_module (bare_opening h) (left r) ≡ None) (pieces_of (left r)) r b (map bare_text pieces) e
+      (skipped strings (module_end true) r s a b (map bare_text pieces) same fault make reads ends) f
+      (λ n. ap (λ o. o >>= λ ps. Some (with_pieces (module_position h) ps)) n)
 
   pub binary_ok : (s a b : Reader) (pieces : List (Bor (List ℕ))) (span : Span) → span ≡ module_position h → left s ≡ after (left r) → s.fault ≡ r.fault → s.make ≡ r.make
-      → Reads strings s a pieces → Expects (module_end true) a b → IsClean b
-      → Finishes is_well_formed_module denotes_binary (binary_module (seen_opening h) (left r) ≡ None) r (Ok (of_pieces span pieces))
+      → Reads strings s a (map bare_text pieces) → Expects (module_end true) a b → IsClean b
+      → Finishes is_well_formed_module (IsModule (binary_module (bare_opening h) (left r))) (binary_module (bare_opening h) (left r) ≡ None) r (Ok (of_pieces span pieces))
   binary_ok s a b pieces span at same fault make reads ends clean =
-      gives_all is_well_formed_module denotes_binary (binary_module (seen_opening h) (left r) ≡ None) (pieces_of (left r)) r b pieces (of_pieces span pieces)
-      (skipped strings (module_end true) r s a b pieces same fault make reads ends) clean
-      (λ g. ap (λ o. o >>= λ ps. Some (seen_module (of_pieces (module_position h) ps))) g ∙ ap (λ p. Some (seen_module (of_pieces p pieces))) (sym at)) refl
+      gives_all is_well_formed_module (IsModule (binary_module (bare_opening h) (left r))) (binary_module (bare_opening h) (left r) ≡ None) (pieces_of (left r)) r b (map bare_text pieces) (of_pieces span pieces)
+      (skipped strings (module_end true) r s a b (map bare_text pieces) same fault make reads ends) clean
+      (λ g. ap (λ o. o >>= λ ps. Some (with_pieces (module_position h) ps)) g ∙ ap (λ p. Some (with_pieces p (map bare_text pieces))) (sym at)) refl

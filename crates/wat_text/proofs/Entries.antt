@@ -8,7 +8,7 @@ use Rattle.wat_syntax.specs.Customs.{again, entries}
 use Rattle.wat_text.specs.Readers.{left, IsClean, IsRefused, Reads, ReadsOnto, Accepts, Pushes}
 use Rattle.wat_text.specs.declared.reader.Reader.{Reader}
 use Rattle.wat_text.proofs.Loops.{no_more, after_both, none_after}
-use Rattle.wat_text.proofs.Steps.{Steps, Puts, both_steps, by_pushing, seen_puts}
+use Rattle.wat_text.proofs.Steps.{Steps, Puts, both_steps, by_pushing, mapped_puts}
 
 module _ {T : Type 0} (k : Key) (entry : Toks → Parse T) where
   -- an entry, and what follows it
@@ -79,13 +79,13 @@ entry_step k entry old a b new counter end x found after next few r p c =
             ∙ ap (with_parts found) (entry_none k entry (end - (counter + 1)) (left old) (r.refuses h (p.made m) (subst IsRefused (p.keeps (λ n. cc)) f)))
 
 -- one entry more
-pub one_entry : {S T : Type 0} (seen : S → T) (k : Key) (entry : Toks → Parse T) (start : Parse (List T)) (first old a b new : Reader) (counter end : ℕ) (x : S) (found after : List S) (next : Bool)
-    → counter < end → Reads entry old a (seen x) → Pushes a b x found after → Accepts (again k) b new next → next ≡ true
-    → Steps first old start (with_parts (map seen found) (entries k entry (end - counter) (left old)))
-    → Steps first new start (with_parts (map seen after) (entries k entry (end - (counter + 1)) (left new)))
-one_entry seen k entry start first old a b new counter end x found after next few r p c yet s =
+pub one_entry : {S T : Type 0} (bare : S → T) (k : Key) (entry : Toks → Parse T) (start : Parse (List T)) (first old a b new : Reader) (counter end : ℕ) (x : S) (found after : List S) (next : Bool)
+    → counter < end → Reads entry old a (bare x) → Pushes a b x found after → Accepts (again k) b new next → next ≡ true
+    → Steps first old start (with_parts (map bare found) (entries k entry (end - counter) (left old)))
+    → Steps first new start (with_parts (map bare after) (entries k entry (end - (counter + 1)) (left new)))
+one_entry bare k entry start first old a b new counter end x found after next few r p c yet s =
     both_steps first old new start _ _ s
-    (entry_step k entry old a b new counter end (seen x) (map seen found) (map seen after) true few r (seen_puts seen a b x found after (by_pushing a b x found after p)) (subst (Accepts (again k) b new) yet c))
+    (entry_step k entry old a b new counter end (bare x) (map bare found) (map bare after) true few r (mapped_puts bare a b x found after (by_pushing a b x found after p)) (subst (Accepts (again k) b new) yet c))
 
 -- what a loop read onto a list
 reads_onto : {T : Type 0} (rule : Toks → Parse (List T)) (first new : Reader) (before after : List T)
@@ -99,13 +99,13 @@ reads_onto rule first new before after s = record {
 }
 
 -- the last entry
-pub entry_end : {S T : Type 0} (seen : S → T) (k : Key) (entry : Toks → Parse T) (rule : Toks → Parse (List T)) (first old a b new : Reader) (counter end : ℕ) (x : S) (before found after : List S) (next : Bool)
-    → counter < end → Reads entry old a (seen x) → Pushes a b x found after → Accepts (again k) b new next → next ≡ false
-    → Steps first old (with_parts (map seen before) (rule (left first))) (with_parts (map seen found) (entries k entry (end - counter) (left old)))
-    → ReadsOnto rule first new (map seen before) (map seen after)
-entry_end seen k entry rule first old a b new counter end x before found after next few r p c ends s =
-    reads_onto rule first new (map seen before) (map seen after) (both_steps first old new _ _ _ s
-    (entry_step k entry old a b new counter end (seen x) (map seen found) (map seen after) false few r (seen_puts seen a b x found after (by_pushing a b x found after p)) (subst (Accepts (again k) b new) ends c)))
+pub entry_end : {S T : Type 0} (bare : S → T) (k : Key) (entry : Toks → Parse T) (rule : Toks → Parse (List T)) (first old a b new : Reader) (counter end : ℕ) (x : S) (before found after : List S) (next : Bool)
+    → counter < end → Reads entry old a (bare x) → Pushes a b x found after → Accepts (again k) b new next → next ≡ false
+    → Steps first old (with_parts (map bare before) (rule (left first))) (with_parts (map bare found) (entries k entry (end - counter) (left old)))
+    → ReadsOnto rule first new (map bare before) (map bare after)
+entry_end bare k entry rule first old a b new counter end x before found after next few r p c ends s =
+    reads_onto rule first new (map bare before) (map bare after) (both_steps first old new _ _ _ s
+    (entry_step k entry old a b new counter end (bare x) (map bare found) (map bare after) false few r (mapped_puts bare a b x found after (by_pushing a b x found after p)) (subst (Accepts (again k) b new) ends c)))
 
 -- no step is left
 pub entry_last : {T : Type 0} (k : Key) (entry : Toks → Parse T) (n : ℕ) (toks : Toks) (found : List T)

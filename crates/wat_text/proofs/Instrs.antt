@@ -6,8 +6,8 @@ use Rattle.wat_tokens.specs.declared.words.Word.{Word}
 use Rattle.wat_tokens.specs.declared.tokens.Token.TheVariants as token
 use Rattle.wat_syntax.specs.Tree.{Instruction}
 use Rattle.wat_syntax.specs.Tokens.{Toks, Parse, one, peek, after, with_parts}
-use Rattle.wat_syntax.specs.Seen.{seen_instr}
 use Rattle.wat_syntax.specs.Instructions.{is_plaininstr, plaininstr, instruction_of, instruction}
+use Rattle.wat_syntax.specs.BareInstructions.{bare_instr}
 use Rattle.wat_text.specs.declared.reader.Reader.{Reader}
 use Rattle.wat_text.specs.Readers.{left, IsRefused, Reads, ReadsOnto, Builds}
 use Rattle.wat_text.proofs.Loops.{mapped}
@@ -16,12 +16,12 @@ use Rattle.wat_text.proofs.Words.{not_opener}
 
 -- an instruction that the tree builds of what was read
 pub built : {S : Type 0} (rule : Toks → Parse S) (shape : S → Instruction) (old mid new : Reader) (x : S) (result i : Instruction) → Reads rule old mid x
-    → (mid.make ≡ true → new.make ≡ true) × (new.make ≡ false → result ≡ i) → seen_instr i ≡ shape x → new.fault ≡ mid.fault → left new ≡ left mid
-    → Reads (λ toks. rule toks >>= λ y. Some (shape y.0, y.1)) old new (seen_instr result)
+    → (mid.make ≡ true → new.make ≡ true) × (new.make ≡ false → result ≡ i) → bare_instr i ≡ shape x → new.fault ≡ mid.fault → left new ≡ left mid
+    → Reads (λ toks. rule toks >>= λ y. Some (shape y.0, y.1)) old new (bare_instr result)
 built {S = S} rule shape old mid new x result i r m is same stays = record {
   made = λ h. r.made (back h);
   clean = λ h. r.clean (sym same ∙ h);
-  gives = λ h. ap shaped (r.gives (sym same ∙ h.0, back h.1)) ∙ ap (λ j. Some (j, left mid)) (sym (ap seen_instr (m.1 h.1) ∙ is)) ∙ ap (λ t. Some (seen_instr result, t)) (sym stays);
+  gives = λ h. ap shaped (r.gives (sym same ∙ h.0, back h.1)) ∙ ap (λ j. Some (j, left mid)) (sym (ap bare_instr (m.1 h.1) ∙ is)) ∙ ap (λ t. Some (bare_instr result, t)) (sym stays);
   keeps = λ h. same ∙ r.keeps h;
   refuses = λ h k f. ap shaped (r.refuses h (back k) (subst IsRefused same f));
 }
@@ -33,13 +33,13 @@ built {S = S} rule shape old mid new x result i r m is same stays = record {
     back h = none_failed mid.make new.make m.0 h
 
 -- an instruction that is appended to a list
-pub put : (rule : Toks → Parse Instruction) (old mid new : Reader) (i : Instruction) (before behind : List Instruction) → Reads rule old mid (seen_instr i) → Builds mid new i before behind
-    → ReadsOnto (one rule) old new (map seen_instr before) (map seen_instr behind)
+pub put : (rule : Toks → Parse Instruction) (old mid new : Reader) (i : Instruction) (before behind : List Instruction) → Reads rule old mid (bare_instr i) → Builds mid new i before behind
+    → ReadsOnto (one rule) old new (map bare_instr before) (map bare_instr behind)
 put rule old mid new i before behind r b = record {
   made = λ h. r.made (b.made h);
   clean = λ h. r.clean (sym b.fault ∙ h);
-  gives = λ h. ap (λ p. with_parts (map seen_instr before) (listed p)) (r.gives (sym b.fault ∙ h.0, b.made h.1))
-      ∙ ap (λ is. Some (is, left mid)) (sym (ap (map seen_instr) (b.pushed h.1) ∙ mapped seen_instr before i)) ∙ ap (λ t. Some (map seen_instr behind, t)) (sym b.left);
+  gives = λ h. ap (λ p. with_parts (map bare_instr before) (listed p)) (r.gives (sym b.fault ∙ h.0, b.made h.1))
+      ∙ ap (λ is. Some (is, left mid)) (sym (ap (map bare_instr) (b.pushed h.1) ∙ mapped bare_instr before i)) ∙ ap (λ t. Some (map bare_instr behind, t)) (sym b.left);
   keeps = λ h. b.fault ∙ r.keeps h;
   refuses = λ h m f. ap listed (r.refuses h (b.made m) (subst IsRefused b.fault f));
 }

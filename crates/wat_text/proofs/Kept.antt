@@ -6,9 +6,9 @@ use Rattle.wat_tokens.specs.declared.tokens.Placed.{Placed}
 use Rattle.wat_syntax.specs.Tree.{Expression}
 use Rattle.wat_syntax.specs.Tokens.{Toks, Parse, peek, first, count, is_end, word_of, lparen}
 use Rattle.wat_syntax.specs.Values.{annotation_of}
-use Rattle.wat_syntax.specs.Seen.{seen_instr}
 use Rattle.wat_syntax.specs.Bodies.{Item, is_hint, expression, folded_expression}
 use Rattle.wat_syntax.specs.Bodies as rule
+use Rattle.wat_syntax.specs.BareInstructions.{bare_instr}
 use Rattle.wat_text.specs.declared.reader.Reader.{Reader}
 use Rattle.wat_text.specs.declared.bodies.Open.{Open}
 use Rattle.wat_text.specs.declared.bodies.Body.{Body}
@@ -123,8 +123,8 @@ held_first may old k n body same few none waits instrs hints = record {
   clean = λ h. h;
   keeps = λ h. refl;
   yet = λ h. subst (λ i. Going may Whole (expression may (left old)) (suc k) i (state_of old body)) (sym few)
-      (began may (left old) k (state_of old body) (same ∙ few) (ap reverse none) (ap (map seen_instr) waits)
-      (ap (λ is. record { instrs = map seen_instr is; branch_hints = body.hints }) instrs ∙ ap (λ hs. record { instrs = []; branch_hints = hs }) hints) refl);
+      (began may (left old) k (state_of old body) (same ∙ few) (ap reverse none) (ap (map bare_instr) waits)
+      (ap (λ is. record { instrs = map bare_instr is; branch_hints = body.hints }) instrs ∙ ap (λ hs. record { instrs = []; branch_hints = hs }) hints) refl);
   few = λ h. enough;
   lost = λ h made gone. absurd (none_refused old.fault h gone);
 }
@@ -211,9 +211,9 @@ folded_first old opened now k n before body opens does same few none waits instr
     enough = omega arith
 
     at_first : state_of opened before ≡ state [] [] nothing (left opened)
-    at_first = ap (λ ls. state (reverse ls) (map seen_instr before.waiting) (state_of opened before).read (left opened)) none
-        ∙ ap (λ ws. state [] (map seen_instr ws) (state_of opened before).read (left opened)) waits
-        ∙ ap (λ is. state [] [] (record { instrs = map seen_instr is; branch_hints = before.hints }) (left opened)) instrs
+    at_first = ap (λ ls. state (reverse ls) (map bare_instr before.waiting) (state_of opened before).read (left opened)) none
+        ∙ ap (λ ws. state [] (map bare_instr ws) (state_of opened before).read (left opened)) waits
+        ∙ ap (λ is. state [] [] (record { instrs = map bare_instr is; branch_hints = before.hints }) (left opened)) instrs
         ∙ ap (λ hs. state [] [] (record { instrs = []; branch_hints = hs }) (left opened)) hints
 
     not_opened : (o : Option Toks) → lparen (left old) ≡ o → o ≡ None → folded_expression (left old) ≡ None

@@ -9,9 +9,10 @@ use Rattle.wat_syntax.specs.Tokens.{Toks, Parse, many, with_parts}
 use Rattle.wat_syntax.specs.Values.{index}
 use Rattle.wat_syntax.specs.Types.{is_index_next}
 use Rattle.wat_syntax.specs.Instructions.{last, before_last}
+use Rattle.wat_syntax.specs.Bare.{bare_index, bare_indices}
 use Rattle.wat_text.specs.declared.reader.Reader.{Reader}
 use Rattle.wat_text.specs.Readers.{left, Reads, Decides, Pushes}
-use Rattle.wat_text.proofs.Steps.{Steps, Puts, both_steps, reads_step, by_pushing}
+use Rattle.wat_text.proofs.Steps.{Steps, Puts, both_steps, reads_step, by_pushing, mapped_puts}
 
 next_last : (old new : Reader) (l x : Index) (found after : List Index) → Puts old new l found after → Puts old new x (found ++ l ∷ []) (after ++ x ∷ [])
 next_last old new l x found after p = record {
@@ -34,12 +35,13 @@ as_read old new x d = record {
 
 -- one label more
 pub one_label : (start : Parse (List Index)) (first old a new : Reader) (counter end : ℕ) (l x : Index) (found after : List Index)
-    → counter < end → is_index_next (left old) ≡ true → Decides index old a x → Pushes a new l found after
-    → Steps first old start (with_parts (found ++ l ∷ []) (many is_index_next index (end - counter) (left old)))
-    → Steps first new start (with_parts (after ++ x ∷ []) (many is_index_next index (end - (counter + 1)) (left new)))
+    → counter < end → is_index_next (left old) ≡ true → Decides index old a (bare_index x) → Pushes a new l found after
+    → Steps first old start (with_parts (bare_indices found ++ bare_index l ∷ []) (many is_index_next index (end - counter) (left old)))
+    → Steps first new start (with_parts (bare_indices after ++ bare_index x ∷ []) (many is_index_next index (end - (counter + 1)) (left new)))
 one_label start first old a new counter end l x found after few yet r p s =
     both_steps first old new start _ _ s
-    (reads_step is_index_next index old a new counter end x (found ++ l ∷ []) (after ++ x ∷ []) few yet (as_read old a x r) (next_last a new l x found after (by_pushing a new l found after p)))
+    (reads_step is_index_next index old a new counter end (bare_index x) (bare_indices found ++ bare_index l ∷ []) (bare_indices after ++ bare_index x ∷ []) few yet (as_read old a (bare_index x) r)
+    (next_last a new (bare_index l) (bare_index x) (bare_indices found) (bare_indices after) (mapped_puts bare_index a new l found after (by_pushing a new l found after p))))
 
 ends_with : (x y : Index) (xs ys : List Index) → x ∷ xs ≡ ys ++ y ∷ [] → (before_last x xs ≡ ys) × (last x xs ≡ y)
 ends_with x y [] [] e = (refl, cc)

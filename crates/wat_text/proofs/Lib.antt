@@ -16,7 +16,6 @@ pub mod Machines
 pub mod Makes
 pub mod Names
 pub mod Numbers
-pub mod OneModule
 pub mod Opened
 pub mod Parted
 pub mod Places

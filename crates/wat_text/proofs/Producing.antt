@@ -5,9 +5,9 @@ use Rattle.wat_tokens.specs.declared.faults.TextError.{TextError}
 use Rattle.wat_syntax.specs.Tokens.{Toks, Parse, many, one, rparen}
 use Rattle.wat_syntax.specs.Types.{goes_on}
 use Rattle.wat_syntax.specs.Customs.{ProducersField, Language, Sdk, ProcessedBy, Version, producer_open, producer, all_producers, versions_of, is_same_field}
-use Rattle.wat_syntax.specs.SeenCustoms.{seen_version}
+use Rattle.wat_syntax.specs.BareFields.{bare_version}
 use Rattle.wat_text.specs.Readers.{left, IsClean, IsRefused, Decides, Expects}
-use Rattle.wat_text.specs.MadeProducers.{seen_value, IsPut, PushesValue, versions_with, ReadsProducers}
+use Rattle.wat_text.specs.MadeProducers.{IsPut, PushesValue, versions_with, ReadsProducers, bare_value}
 use Rattle.wat_text.specs.declared.customs.Made.{Made}
 use Rattle.wat_text.specs.declared.customs.Tool.{Tool}
 use Rattle.wat_text.specs.declared.customs.Tool.TheVariants as tool
@@ -69,18 +69,18 @@ producer_none f m n toks before one yet h = ap (λ k. versions_with before f (ma
 
 -- the values that are gathered, of each field
 pub record Gathers (first old : Reader) (before now : Made) (n : ℕ) : Type 0 where
-  pub languages : Steps first old (versions_with (map seen_version before.languages) Language (all_producers (left first))) (versions_with (map seen_version now.languages) Language (many goes_on producer n (left old)))
-  pub sdks : Steps first old (versions_with (map seen_version before.sdks) Sdk (all_producers (left first))) (versions_with (map seen_version now.sdks) Sdk (many goes_on producer n (left old)))
-  pub processors : Steps first old (versions_with (map seen_version before.processors) ProcessedBy (all_producers (left first))) (versions_with (map seen_version now.processors) ProcessedBy (many goes_on producer n (left old)))
+  pub languages : Steps first old (versions_with (map bare_version before.languages) Language (all_producers (left first))) (versions_with (map bare_version now.languages) Language (many goes_on producer n (left old)))
+  pub sdks : Steps first old (versions_with (map bare_version before.sdks) Sdk (all_producers (left first))) (versions_with (map bare_version now.sdks) Sdk (many goes_on producer n (left old)))
+  pub processors : Steps first old (versions_with (map bare_version before.processors) ProcessedBy (all_producers (left first))) (versions_with (map bare_version now.processors) ProcessedBy (many goes_on producer n (left old)))
 
 -- one value more
 pub gathers_more : (first old new : Reader) (before now after : Made) (counter end : ℕ)
     → counter < end → goes_on (left old) ≡ true → ReadsProducers (one producer) old new now after
     → Gathers first old before now (end - counter) → Gathers first new before after (end - (counter + 1))
 gathers_more first old new before now after counter end few yet r s = record {
-  languages = both_steps first old new _ _ _ s.languages (step Language (map seen_version now.languages) (map seen_version after.languages) r.languages);
-  sdks = both_steps first old new _ _ _ s.sdks (step Sdk (map seen_version now.sdks) (map seen_version after.sdks) r.sdks);
-  processors = both_steps first old new _ _ _ s.processors (step ProcessedBy (map seen_version now.processors) (map seen_version after.processors) r.processors);
+  languages = both_steps first old new _ _ _ s.languages (step Language (map bare_version now.languages) (map bare_version after.languages) r.languages);
+  sdks = both_steps first old new _ _ _ s.sdks (step Sdk (map bare_version now.sdks) (map bare_version after.sdks) r.sdks);
+  processors = both_steps first old new _ _ _ s.processors (step ProcessedBy (map bare_version now.processors) (map bare_version after.processors) r.processors);
 }
   where
     step : (f : ProducersField) (before after : List Version) → (IsClean new → versions_with before f (one producer (left old)) ≡ Some (after, left new))
@@ -102,11 +102,11 @@ gathered : (first new : Reader) (before after : Made) (n : ℕ) → many goes_on
 gathered first new before after n ends g = record {
   made = g.languages.made;
   clean = g.languages.clean;
-  languages = λ h. g.languages.goes h ∙ none_left Language (map seen_version after.languages);
-  sdks = λ h. g.sdks.goes h ∙ none_left Sdk (map seen_version after.sdks);
-  processors = λ h. g.processors.goes h ∙ none_left ProcessedBy (map seen_version after.processors);
+  languages = λ h. g.languages.goes h ∙ none_left Language (map bare_version after.languages);
+  sdks = λ h. g.sdks.goes h ∙ none_left Sdk (map bare_version after.sdks);
+  processors = λ h. g.processors.goes h ∙ none_left ProcessedBy (map bare_version after.processors);
   keeps = g.languages.keeps;
-  refuses = λ h m x. none_with (map seen_version before.languages) Language (all_producers (left first)) (g.languages.refuses h m x);
+  refuses = λ h m x. none_with (map bare_version before.languages) Language (all_producers (left first)) (g.languages.refuses h m x);
 }
   where
     none_left : (f : ProducersField) (versions : List Version) → versions_with versions f (many goes_on producer n (left new)) ≡ Some (versions, left new)
@@ -123,15 +123,15 @@ gathers_last first new before after n none g = gathered first new before after n
 
 -- what is appended is one value of its field, and none of the others
 put_value : (v : Tool × Version) (before after : Made) → IsPut v before after
-    → (map seen_version after.languages ≡ map seen_version before.languages ++ versions_of Language (seen_value v ∷ []))
-    × (map seen_version after.sdks ≡ map seen_version before.sdks ++ versions_of Sdk (seen_value v ∷ []))
-    × (map seen_version after.processors ≡ map seen_version before.processors ++ versions_of ProcessedBy (seen_value v ∷ []))
+    → (map bare_version after.languages ≡ map bare_version before.languages ++ versions_of Language (bare_value v ∷ []))
+    × (map bare_version after.sdks ≡ map bare_version before.sdks ++ versions_of Sdk (bare_value v ∷ []))
+    × (map bare_version after.processors ≡ map bare_version before.processors ++ versions_of ProcessedBy (bare_value v ∷ []))
 put_value (tool.Language, v) before after p =
-    (ap (map seen_version) p.0 ∙ mapped seen_version before.languages v, ap (map seen_version) p.1 ∙ sym (no_more (map seen_version before.sdks)), ap (map seen_version) p.2 ∙ sym (no_more (map seen_version before.processors)))
+    (ap (map bare_version) p.0 ∙ mapped bare_version before.languages v, ap (map bare_version) p.1 ∙ sym (no_more (map bare_version before.sdks)), ap (map bare_version) p.2 ∙ sym (no_more (map bare_version before.processors)))
 put_value (tool.Sdk, v) before after p =
-    (ap (map seen_version) p.0 ∙ sym (no_more (map seen_version before.languages)), ap (map seen_version) p.1 ∙ mapped seen_version before.sdks v, ap (map seen_version) p.2 ∙ sym (no_more (map seen_version before.processors)))
+    (ap (map bare_version) p.0 ∙ sym (no_more (map bare_version before.languages)), ap (map bare_version) p.1 ∙ mapped bare_version before.sdks v, ap (map bare_version) p.2 ∙ sym (no_more (map bare_version before.processors)))
 put_value (tool.ProcessedBy, v) before after p =
-    (ap (map seen_version) p.0 ∙ sym (no_more (map seen_version before.languages)), ap (map seen_version) p.1 ∙ sym (no_more (map seen_version before.sdks)), ap (map seen_version) p.2 ∙ mapped seen_version before.processors v)
+    (ap (map bare_version) p.0 ∙ sym (no_more (map bare_version before.languages)), ap (map bare_version) p.1 ∙ sym (no_more (map bare_version before.sdks)), ap (map bare_version) p.2 ∙ mapped bare_version before.processors v)
 
 -- a part before a ')', with something that takes no tokens between
 closed : {T : Type 0} (rule : Toks → Parse T) (old a b new : Reader) (x : T) → Decides rule old a x
@@ -157,19 +157,19 @@ closed {T = T} rule old a b new x r make clean same keeps memory e = record {
     at_b (Some y) s h f = at_a a.fault refl h (subst IsRefused (e.keeps (λ n. cc)) f)
 
 pub producer_reads : (old a b new : Reader) (v : Tool × Version) (before after : Made)
-    → Decides producer_open old a (seen_value v) → PushesValue a b v before after → Expects rparen b new → ReadsProducers (one producer) old new before after
+    → Decides producer_open old a (bare_value v) → PushesValue a b v before after → Expects rparen b new → ReadsProducers (one producer) old new before after
 producer_reads old a b new v before after r p e =
-    let d : Decides producer old new (seen_value v) = closed producer_open old a b new (seen_value v) r p.make p.clean p.left p.keeps p.memory e in
+    let d : Decides producer old new (bare_value v) = closed producer_open old a b new (bare_value v) r p.make p.clean p.left p.keeps p.memory e in
     record {
       made = λ h. sym d.make ∙ h;
       clean = d.clean;
-      languages = λ h. with_value Language (map seen_version before.languages) (d.gives h.0) ∙ ap {A = List Version} (λ xs. Some (xs, left new)) (sym (put_value v before after (p.pushed (e.clean h.0))).0);
-      sdks = λ h. with_value Sdk (map seen_version before.sdks) (d.gives h.0) ∙ ap {A = List Version} (λ xs. Some (xs, left new)) (sym (put_value v before after (p.pushed (e.clean h.0))).1);
-      processors = λ h. with_value ProcessedBy (map seen_version before.processors) (d.gives h.0) ∙ ap {A = List Version} (λ xs. Some (xs, left new)) (sym (put_value v before after (p.pushed (e.clean h.0))).2);
+      languages = λ h. with_value Language (map bare_version before.languages) (d.gives h.0) ∙ ap {A = List Version} (λ xs. Some (xs, left new)) (sym (put_value v before after (p.pushed (e.clean h.0))).0);
+      sdks = λ h. with_value Sdk (map bare_version before.sdks) (d.gives h.0) ∙ ap {A = List Version} (λ xs. Some (xs, left new)) (sym (put_value v before after (p.pushed (e.clean h.0))).1);
+      processors = λ h. with_value ProcessedBy (map bare_version before.processors) (d.gives h.0) ∙ ap {A = List Version} (λ xs. Some (xs, left new)) (sym (put_value v before after (p.pushed (e.clean h.0))).2);
       keeps = d.keeps;
       refuses = λ h m f. ap alone (d.refuses h f);
     }
   where
-    with_value : (f : ProducersField) (versions : List Version) → producer (left old) ≡ Some (seen_value v, left new)
-        → versions_with versions f (one producer (left old)) ≡ Some (versions ++ versions_of f (seen_value v ∷ []), left new)
+    with_value : (f : ProducersField) (versions : List Version) → producer (left old) ≡ Some (bare_value v, left new)
+        → versions_with versions f (one producer (left old)) ≡ Some (versions ++ versions_of f (bare_value v ∷ []), left new)
     with_value f versions h = ap (λ o. versions_with versions f (alone o)) h

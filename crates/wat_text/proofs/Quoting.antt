@@ -1,15 +1,20 @@
 -- The string of a text in quotes in which an offset is, and a loop that sets the position of each token to that of its string.
-use Rattle.std.proofs.Common.{◌≡◌, ◌∙◌, ◌⊎◌, ℕ, zero, suc, ◌+◌, ◌-◌, ◌^◌, ◌<◌, ◌≤◌, min, Bool, true, false, List, [], ◌∷◌, ◌++◌, length, take, drop, set, map, All, None, Some, refl, sym, ap, subst, arith, append_assoc, add-one, length-append, inl, inr}
+use Rattle.std.proofs.Common.{◌≡◌, ◌∙◌, ◌⊎◌, ℕ, zero, suc, ◌+◌, ◌-◌, ◌^◌, ◌<◌, ◌≤◌, min, Bool, true, false, List, [], ◌∷◌, ◌++◌, length, take, drop, set, map, All, Option, None, Some, refl, sym, ap, subst, arith, append_assoc, add-one, length-append, inl, inr}
 use Rattle.std.specs.Prelude.{nat_lt, slice_get}
 use Rattle.std.specs.Str.{IsUtf8, is_utf8}
 use Rattle.std.proofs.lemmas.Bool.{ltb-false, le-ltb}
 use Rattle.wast_base.specs.declared.ids.Span.{Span}
+use Rattle.wat_grammar.specs.Parts.{◌>>=◌}
+use Rattle.wat_grammar.specs.Tokens as grammar
 use Rattle.wat_grammar.specs.Tokens.{tokens, bytes_of}
 use Rattle.wat_tokens.specs.Scans.{seen_all, IsNamed}
 use Rattle.wat_tokens.specs.declared.tokens.Placed.{Placed}
+use Rattle.wat_syntax.specs.Bare.{bare_placed}
+use Rattle.wat_syntax.specs.AtZero.{all_at_zero, tokens_at_zero}
+use Rattle.wat_syntax.proofs.AtZero.{bare_tokens}
 use Rattle.wat_text.specs.declared.quotes.Quote.{Quote}
 use Rattle.wat_text.specs.declared.quotes.Cursor.{Cursor}
-use Rattle.wat_text.specs.Denotes.{text_in, position_of, put_in, AreTokensIf}
+use Rattle.wat_text.specs.Denotes.{text_in, position_of, put_in, tokens_if, tokens_in_quotes}
 use Rattle.wat_text.specs.Cursors.{IsAt, IsIn, span_of, position_at, bytes_at, offset_in, offset_at, put_from, put_at}
 use Rattle.wat_text.proofs.Loops.{no_more}
 use Rattle.wat_text.proofs.Names.{utf8_is, utf8_not}
@@ -147,15 +152,27 @@ placed_more none qs before items after n offset c span few was at within there p
         ∙ ap (λ k. map (put_in none qs) (take k before) ++ drop k before) (sym (add-one n))
 
 -- the tokens of the text that strings make, if it is one
-pub cut_ok : (text bytes joined : List ℕ) (found : List Placed) → text ≡ bytes → bytes ≡ joined → IsUtf8 bytes → tokens bytes_of text ≡ Some (seen_all found)
-    → All (λ p. IsNamed p.token) found → AreTokensIf (is_utf8 joined) joined (Some found)
-cut_ok text bytes joined found same made utf8 lexed named =
-    subst (λ b. AreTokensIf b joined (Some found)) (sym (ap is_utf8 (sym made) ∙ utf8_is bytes utf8))
-    (record { lexed = ap (tokens bytes_of) (sym made ∙ sym same) ∙ lexed; named = named })
+module _ (none : Span) (qs : List Quote) (text bytes : List ℕ) (same : text ≡ bytes) (made : bytes ≡ text_in qs) where
+  abbrev placed : Option (List Placed) → Option (List Placed)
+  placed o = o >>= λ found. Some (map (put_in none qs) found)
 
-pub cut_none : (text bytes joined : List ℕ) → text ≡ bytes → bytes ≡ joined → IsUtf8 bytes → tokens bytes_of text ≡ None → AreTokensIf (is_utf8 joined) joined None
-cut_none text bytes joined same made utf8 lexed =
-    subst (λ b. AreTokensIf b joined None) (sym (ap is_utf8 (sym made) ∙ utf8_is bytes utf8)) (ap (tokens bytes_of) (sym made ∙ sym same) ∙ lexed)
+  of_text : IsUtf8 bytes → tokens_in_quotes none qs ≡ placed (tokens_at_zero text)
+  of_text utf8 =
+      ap (λ b. placed (tokens_if b (text_in qs))) (ap is_utf8 (sym made) ∙ utf8_is bytes utf8)
+      ∙ ap (λ xs. placed (tokens_at_zero xs)) (sym made ∙ sym same)
 
-pub cut_not : (bytes joined : List ℕ) → bytes ≡ joined → (IsUtf8 bytes → ⊥) → AreTokensIf (is_utf8 joined) joined None
-cut_not bytes joined made not = subst (λ b. AreTokensIf b joined None) (sym (ap is_utf8 (sym made) ∙ utf8_not bytes not)) refl
+  put_bare : (found : List Placed) → map (put_in none qs) (map bare_placed found) ≡ map bare_placed (map (put_in none qs) found)
+  put_bare [] = refl
+  put_bare (p ∷ ps) = ap (λ xs. bare_placed (put_in none qs p) ∷ xs) (put_bare ps)
+
+  pub cut_ok : (found put : List Placed) → IsUtf8 bytes → tokens bytes_of text ≡ Some (seen_all found) → All (λ p. IsNamed p.token) found
+      → put ≡ map (put_in none qs) found → tokens_in_quotes none qs ≡ Some (map bare_placed put)
+  cut_ok found put utf8 lexed named is =
+      of_text utf8 ∙ ap placed (bare_tokens text found lexed named) ∙ ap Some (put_bare found ∙ ap (map bare_placed) (sym is))
+
+  pub cut_none : IsUtf8 bytes → tokens bytes_of text ≡ None → tokens_in_quotes none qs ≡ None
+  cut_none utf8 lexed = of_text utf8 ∙ ap (λ (o : Option (List grammar.Placed)). placed (o >>= λ ts. all_at_zero ts)) lexed
+
+pub cut_not : (none : Span) (qs : List Quote) (bytes : List ℕ) → bytes ≡ text_in qs → (IsUtf8 bytes → ⊥) → tokens_in_quotes none qs ≡ None
+cut_not none qs bytes made not =
+    ap (λ b. tokens_if b (text_in qs) >>= λ found. Some (map (put_in none qs) found)) (ap is_utf8 (sym made) ∙ utf8_not bytes not)

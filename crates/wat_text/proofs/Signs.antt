@@ -17,6 +17,7 @@ use Rattle.wast_base.specs.declared.ids.Span.{Span}
 use Rattle.wat_tokens.specs.declared.faults.TextError.{TextError}
 use Rattle.wat_syntax.specs.Tokens.{Parse}
 use Rattle.wat_syntax.specs.Values.{number_text, number}
+use Rattle.wat_syntax.specs.Bare.{bare_text}
 use Rattle.wat_text.specs.declared.reader.Reader.{Reader}
 use Rattle.wat_text.specs.Readers.{left, IsRefusal, IsRefused, Decides, Fails}
 
@@ -100,7 +101,7 @@ pub float_not : (f : Format) (text : List ℕ) (e : TextFault) → UnlessMemory 
 float_not f text e h refusal = err_is (magnitude (sign text).1) (fN f text) e (no_float f text) (sym (h (no_memory e _ refusal)))
 
 -- A reader read the text of a number, and then its value.
-pub number_read : {T : Type 0} (meaning : List ℕ → Option T) (old mid new : Reader) (text : Bor (List ℕ)) (x : T) → Decides number_text old mid text
+pub number_read : {T : Type 0} (meaning : List ℕ → Option T) (old mid new : Reader) (text : Bor (List ℕ)) (x : T) → Decides number_text old mid (bare_text text)
     → new.make ≡ mid.make → (new.fault ≡ None → mid.fault ≡ None) → (new.fault ≡ None → meaning text.now ≡ Some x) → (new.fault ≡ None → left new ≡ left mid)
     → (mid.fault ≢ None → new.fault ≡ mid.fault) → (mid.fault ≡ None → IsRefused new.fault → meaning text.now ≡ None) → Decides (number meaning) old new x
 number_read {T = T} meaning old mid new text x d make clean gives stays keeps refuses = record {
@@ -119,7 +120,7 @@ number_read {T = T} meaning old mid new text x d make clean gives stays keeps re
     go (Some y) e h r = ap rest (d.refuses h (subst IsRefused (keeps (λ n. cc)) r))
 
 -- A reader read the text of a number, and stored that it has no value.
-pub fault_read : {T : Type 0} (meaning : List ℕ → Option T) (old mid new : Reader) (text : Bor (List ℕ)) (x : T) (e : TextFault) (span : Span) → Decides number_text old mid text → Fails e span mid new
+pub fault_read : {T : Type 0} (meaning : List ℕ → Option T) (old mid new : Reader) (text : Bor (List ℕ)) (x : T) (e : TextFault) (span : Span) → Decides number_text old mid (bare_text text) → Fails e span mid new
     → (IsRefusal e → meaning text.now ≡ None) → Decides (number meaning) old new x
 fault_read meaning old mid new text x e span d f none = number_read meaning old mid new text x d f.make (λ h. absurd (faulty h)) (λ h. absurd (faulty h)) (λ h. absurd (faulty h)) f.keeps
     (λ h r. none (subst IsRefused (f.first h) r))

@@ -70,11 +70,11 @@ by_building old new x before after p = record {
   memory = λ h f. subst IsRefused (p.fault ∙ h) f;
 }
 
-pub seen_puts : {S T : Type 0} (seen : S → T) (old new : Reader) (x : S) (before after : List S) → Puts old new x before after → Puts old new (seen x) (map seen before) (map seen after)
-seen_puts seen old new x before after p = record {
+pub mapped_puts : {S T : Type 0} (bare : S → T) (old new : Reader) (x : S) (before after : List S) → Puts old new x before after → Puts old new (bare x) (map bare before) (map bare after)
+mapped_puts bare old new x before after p = record {
   made = p.made;
   clean = p.clean;
-  pushed = λ h. ap (map seen) (p.pushed h) ∙ mapped seen before x;
+  pushed = λ h. ap (map bare) (p.pushed h) ∙ mapped bare before x;
   left = p.left;
   keeps = p.keeps;
   memory = p.memory;
@@ -118,48 +118,33 @@ list_step is_next part old new counter end found after few yet r =
       refuses = λ h m f. list_none is_next part (end - counter) n (left old) found one yet (r.refuses h m f);
     }
 
--- The steps of a loop, by how a part is read and how it is appended. First a part that is decided.
-pub one_more : {T : Type 0} (is_next : Toks → Bool) (part : Toks → Parse T) (start : Parse (List T)) (first old a new : Reader) (counter end : ℕ) (x : T) (found after : List T)
-    → counter < end → is_next (left old) ≡ true → Decides part old a x → Pushes a new x found after
-    → Steps first old start (with_parts found (many is_next part (end - counter) (left old)))
-    → Steps first new start (with_parts after (many is_next part (end - (counter + 1)) (left new)))
-one_more is_next part start first old a new counter end x found after few yet r p s =
-    both_steps first old new start _ _ s (reads_step is_next part old a new counter end x found after few yet (decided part old a x r) (by_pushing a new x found after p))
-
--- the same for a part that the rule has without addresses
-pub one_seen : {S T : Type 0} (seen : S → T) (is_next : Toks → Bool) (part : Toks → Parse T) (start : Parse (List T)) (first old a new : Reader) (counter end : ℕ) (x : S) (found after : List S)
-    → counter < end → is_next (left old) ≡ true → Decides part old a (seen x) → Pushes a new x found after
-    → Steps first old start (with_parts (map seen found) (many is_next part (end - counter) (left old)))
-    → Steps first new start (with_parts (map seen after) (many is_next part (end - (counter + 1)) (left new)))
-one_seen seen is_next part start first old a new counter end x found after few yet r p s =
+-- The steps of a loop, by how a part is read and how it is appended. The rule has the parts without addresses. First a part that is
+-- decided.
+pub one_bare : {S T : Type 0} (bare : S → T) (is_next : Toks → Bool) (part : Toks → Parse T) (start : Parse (List T)) (first old a new : Reader) (counter end : ℕ) (x : S) (found after : List S)
+    → counter < end → is_next (left old) ≡ true → Decides part old a (bare x) → Pushes a new x found after
+    → Steps first old start (with_parts (map bare found) (many is_next part (end - counter) (left old)))
+    → Steps first new start (with_parts (map bare after) (many is_next part (end - (counter + 1)) (left new)))
+one_bare bare is_next part start first old a new counter end x found after few yet r p s =
     both_steps first old new start _ _ s
-    (reads_step is_next part old a new counter end (seen x) (map seen found) (map seen after) few yet (decided part old a (seen x) r) (seen_puts seen a new x found after (by_pushing a new x found after p)))
+    (reads_step is_next part old a new counter end (bare x) (map bare found) (map bare after) few yet (decided part old a (bare x) r) (mapped_puts bare a new x found after (by_pushing a new x found after p)))
 
 -- a part that contains lists of the tree
-pub one_read : {S T : Type 0} (seen : S → T) (is_next : Toks → Bool) (part : Toks → Parse T) (start : Parse (List T)) (first old a new : Reader) (counter end : ℕ) (x : S) (found after : List S)
-    → counter < end → is_next (left old) ≡ true → Reads part old a (seen x) → Pushes a new x found after
-    → Steps first old start (with_parts (map seen found) (many is_next part (end - counter) (left old)))
-    → Steps first new start (with_parts (map seen after) (many is_next part (end - (counter + 1)) (left new)))
-one_read seen is_next part start first old a new counter end x found after few yet r p s =
+pub one_read : {S T : Type 0} (bare : S → T) (is_next : Toks → Bool) (part : Toks → Parse T) (start : Parse (List T)) (first old a new : Reader) (counter end : ℕ) (x : S) (found after : List S)
+    → counter < end → is_next (left old) ≡ true → Reads part old a (bare x) → Pushes a new x found after
+    → Steps first old start (with_parts (map bare found) (many is_next part (end - counter) (left old)))
+    → Steps first new start (with_parts (map bare after) (many is_next part (end - (counter + 1)) (left new)))
+one_read bare is_next part start first old a new counter end x found after few yet r p s =
     both_steps first old new start _ _ s
-    (reads_step is_next part old a new counter end (seen x) (map seen found) (map seen after) few yet r (seen_puts seen a new x found after (by_pushing a new x found after p)))
+    (reads_step is_next part old a new counter end (bare x) (map bare found) (map bare after) few yet r (mapped_puts bare a new x found after (by_pushing a new x found after p)))
 
 -- a part that is appended to a list of the tree
-pub one_built : {S T : Type 0} (seen : S → T) (is_next : Toks → Bool) (part : Toks → Parse T) (start : Parse (List T)) (first old a new : Reader) (counter end : ℕ) (x : S) (found after : List S)
-    → counter < end → is_next (left old) ≡ true → Reads part old a (seen x) → Builds a new x found after
-    → Steps first old start (with_parts (map seen found) (many is_next part (end - counter) (left old)))
-    → Steps first new start (with_parts (map seen after) (many is_next part (end - (counter + 1)) (left new)))
-one_built seen is_next part start first old a new counter end x found after few yet r p s =
+pub one_built : {S T : Type 0} (bare : S → T) (is_next : Toks → Bool) (part : Toks → Parse T) (start : Parse (List T)) (first old a new : Reader) (counter end : ℕ) (x : S) (found after : List S)
+    → counter < end → is_next (left old) ≡ true → Reads part old a (bare x) → Builds a new x found after
+    → Steps first old start (with_parts (map bare found) (many is_next part (end - counter) (left old)))
+    → Steps first new start (with_parts (map bare after) (many is_next part (end - (counter + 1)) (left new)))
+one_built bare is_next part start first old a new counter end x found after few yet r p s =
     both_steps first old new start _ _ s
-    (reads_step is_next part old a new counter end (seen x) (map seen found) (map seen after) few yet r (seen_puts seen a new x found after (by_building a new x found after p)))
-
--- the same for a part that the rule has as it is
-pub one_built_plain : {T : Type 0} (is_next : Toks → Bool) (part : Toks → Parse T) (start : Parse (List T)) (first old a new : Reader) (counter end : ℕ) (x : T) (found after : List T)
-    → counter < end → is_next (left old) ≡ true → Reads part old a x → Builds a new x found after
-    → Steps first old start (with_parts found (many is_next part (end - counter) (left old)))
-    → Steps first new start (with_parts after (many is_next part (end - (counter + 1)) (left new)))
-one_built_plain is_next part start first old a new counter end x found after few yet r p s =
-    both_steps first old new start _ _ s (reads_step is_next part old a new counter end x found after few yet r (by_building a new x found after p))
+    (reads_step is_next part old a new counter end (bare x) (map bare found) (map bare after) few yet r (mapped_puts bare a new x found after (by_building a new x found after p)))
 
 -- a list of parts
 pub one_list : {T : Type 0} (is_next : Toks → Bool) (part : Toks → Parse (List T)) (start : Parse (List T)) (first old new : Reader) (counter end : ℕ) (found after : List T)

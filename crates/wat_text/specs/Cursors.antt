@@ -4,13 +4,12 @@
 -- string of the token before them or in the next one.
 --
 --   "(a" "b)"      offset 1 is in string 0, and offset 2 in string 1, which begins at 2
-use Rattle.std.specs.Prelude.{◌≡◌, ℕ, ◌-◌, ◌≤◌, List, [], length, map, take, set, Option, None, Some, slice_get}
-use Rattle.std.specs.Str.{is_utf8}
+use Rattle.std.specs.Prelude.{◌≡◌, ℕ, ◌-◌, ◌≤◌, List, [], length, take, set, Option, None, Some, slice_get}
 use Rattle.wast_base.specs.declared.ids.Span.{Span}
 use Rattle.wat_tokens.specs.declared.tokens.Placed.{Placed}
 use Rattle.wat_text.specs.declared.quotes.Quote.{Quote}
 use Rattle.wat_text.specs.declared.quotes.Cursor.{Cursor}
-use Rattle.wat_text.specs.Denotes.{text_in, position_of, put_in, AreTokensIf}
+use Rattle.wat_text.specs.Denotes.{text_in, position_of}
 
 -- the cursor at the first string
 abbrev pub start : Cursor
@@ -56,9 +55,3 @@ put_from None tokens at span = tokens
 
 abbrev pub put_at : List Placed → ℕ → Span → List Placed
 put_at tokens at span = put_from (slice_get tokens at) tokens at span
-
--- These are the tokens of the text that the strings make, each at the position of the string in which it begins.
-pub record ArePlaced (none : Span) (quotes : List Quote) (placed : List Placed) : Type 0 where
-  pub found : List Placed
-  pub lexed : AreTokensIf (is_utf8 (text_in quotes)) (text_in quotes) (Some found)
-  pub put : placed ≡ map (put_in none quotes) found

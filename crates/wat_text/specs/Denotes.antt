@@ -9,17 +9,16 @@
 --   (module quote "(start" " 0)")           the module of the text `(start 0)`
 --   (start 0) x                             no module, because a token is left
 --
--- The tokens of a text refer to parts of it, and so do the ids and the strings of a module. No definition fixes the addresses of
--- these parts. So a text is a module (Denotes) if some tokens of the text, at any addresses, are the module by the rules.
-use Rattle.std.specs.Prelude.{◌≡◌, ◌⊎◌, ⊤, ℕ, ◌-◌, nat_lt, Bool, true, false, List, [], ◌∷◌, ◌++◌, length, map, All, Option, None, Some, is_some}
+-- The tokens of a text are without addresses here, and so is its module: each text in them is at address 0 (Bare and AtZero in
+-- wat_syntax). So a text has one module at most, which `module_of` computes. What the code reads has addresses, and is the module if it
+-- is so without them (Denotes).
+use Rattle.std.specs.Prelude.{◌≡◌, ◌⊎◌, ⊤, ℕ, ◌-◌, nat_lt, Bool, true, false, List, [], ◌∷◌, ◌++◌, length, map, Option, None, Some, is_some}
 use Rattle.std.specs.Option.{option_or, unwrap_or}
 use Rattle.std.specs.Str.{is_utf8}
 use Rattle.std.specs.Borrow.{Bor}
 use Rattle.wast_base.specs.Ids.{text_start}
 use Rattle.wast_tree_nodes.specs.WellFormed.{is_well_formed}
 use Rattle.wat_grammar.specs.Parts.{◌>>=◌}
-use Rattle.wat_grammar.specs.Tokens.{tokens, bytes_of}
-use Rattle.wat_tokens.specs.Scans.{seen_all, IsNamed}
 use Rattle.wat_tokens.specs.declared.faults.TextFault.{TextFault}
 use Rattle.wat_tokens.specs.declared.faults.TextFault.TheVariants as fault
 use Rattle.wat_tokens.specs.declared.tokens.Placed.{Placed}
@@ -29,10 +28,11 @@ use Rattle.wat_syntax.specs.Tree.{Span, ModuleField}
 use Rattle.wat_syntax.specs.Tokens.{Toks, Parse, peek, after, position, position_in, count, key_of, rparen, form, optional, many}
 use Rattle.wat_syntax.specs.Values.{id, name_annotation, string}
 use Rattle.wat_syntax.specs.Types.{goes_on}
-use Rattle.wat_syntax.specs.Seen.{seen_name_option}
 use Rattle.wat_syntax.specs.Customs.{strings}
 use Rattle.wat_syntax.specs.ModuleFields.{modulefields}
-use Rattle.wat_syntax.specs.SeenModuleFields.{seen_field}
+use Rattle.wat_syntax.specs.Bare.{bare_text, bare_name_option, bare_id_option, bare_placed}
+use Rattle.wat_syntax.specs.BareFields.{bare_fields}
+use Rattle.wat_syntax.specs.AtZero.{tokens_at_zero}
 use Rattle.wat_text.specs.Texts.{is_well_formed_text}
 use Rattle.wat_text.specs.declared.modules.ModuleHead.{ModuleHead}
 use Rattle.wat_text.specs.declared.modules.TextKind.{TextKind}
@@ -40,16 +40,19 @@ use Rattle.wat_text.specs.declared.modules.TextKind.TheVariants as kind
 use Rattle.wat_text.specs.declared.modules.TextModule.{TextModule}
 use Rattle.wat_text.specs.declared.quotes.Quote.{Quote}
 
--- Modules without the addresses of their names, as in wat_syntax. The pieces of a binary module are those of its tokens.
-abbrev pub seen_kind : TextKind → TextKind
-seen_kind (kind.Fields fields) = kind.Fields (map seen_field fields)
-seen_kind (kind.Binary pieces) = kind.Binary pieces
+-- modules without addresses
+abbrev pub bare_kind : TextKind → TextKind
+bare_kind (kind.Fields fields) = kind.Fields (bare_fields fields)
+bare_kind (kind.Binary pieces) = kind.Binary (map bare_text pieces)
 
-abbrev pub seen_module : TextModule → TextModule
-seen_module m = record { span = m.span; id = m.id; name = seen_name_option m.name; kind = seen_kind m.kind }
+abbrev pub bare_module : TextModule → TextModule
+bare_module m = record { span = m.span; id = bare_id_option m.id; name = bare_name_option m.name; kind = bare_kind m.kind }
 
-abbrev pub seen_opening : ModuleHead → ModuleHead
-seen_opening h = record { keyword = h.keyword; id = h.id; name = seen_name_option h.name }
+abbrev pub bare_opening : ModuleHead → ModuleHead
+bare_opening h = record { keyword = h.keyword; id = bare_id_option h.id; name = bare_name_option h.name }
+
+abbrev pub bare_quote : Quote → Quote
+bare_quote q = record { span = q.span; bytes = bare_text q.bytes }
 
 -- '(' 'module': its value is the position of the keyword
 abbrev pub module_keyword : Toks → Parse Span
@@ -121,6 +124,10 @@ put_in first qs p = record { token = p.token; span = position_of first qs p.span
 abbrev pub all_of : List Placed → Span → Toks
 all_of found end = record { before = position_in found end; left = found; end = end }
 
+-- tokens of the code, without addresses
+abbrev pub all_bare : List Placed → Span → Toks
+all_bare found end = all_of (map bare_placed found) end
+
 -- what a module contains, by the keyword after its opening
 pub data Contents : Type 0 where
   Fields : Contents
@@ -151,59 +158,44 @@ inner_opening h o = record { keyword = o.keyword; id = option_or h.id o.id; name
 abbrev pub inner_module : ModuleHead → Toks → Option TextModule
 inner_module h toks = opening toks >>= λ o. fields_module (module_position h) (inner_opening h o.0) o.1
 
--- The tokens of a text, at any addresses. Each token has the word that its text is.
-pub record AreTokens (text : List ℕ) (found : List Placed) : Type 0 where
-  pub lexed : tokens bytes_of text ≡ Some (seen_all found)
-  pub named : All (λ p. IsNamed p.token) found
-
 -- the tokens of bytes, if the bytes are a text (in UTF-8) and the text has tokens
-abbrev pub AreTokensIf : Bool → List ℕ → Option (List Placed) → Type 0
-AreTokensIf true text (Some found) = AreTokens text found
-AreTokensIf true text None = tokens bytes_of text ≡ None
-AreTokensIf false text found = found ≡ None
+abbrev pub tokens_if : Bool → List ℕ → Option (List Placed)
+tokens_if true text = tokens_at_zero text
+tokens_if false text = None
 
--- What strings in quotes mean as a module, with the opening of the outer one: a module, or nothing. `first` is the position of the
--- first string, or of the `)` if there are none.
-pub record MeansInQuotes (h : ModuleHead) (first : Span) (qs : List Quote) (meaning : Option TextModule) : Type 0 where
-  pub inner : Option (List Placed)
-  pub lexed : AreTokensIf (is_utf8 (text_in qs)) (text_in qs) inner
-  pub gives : (inner >>= λ found. inner_module h (all_of (map (put_in first qs) found) first)) ≡ meaning
+-- The tokens of strings in quotes, each at the position of the string in which it begins. `first` is the position of the first string,
+-- or of the `)` if there are none.
+abbrev pub tokens_in_quotes : Span → List Quote → Option (List Placed)
+tokens_in_quotes first qs = tokens_if (is_utf8 (text_in qs)) (text_in qs) >>= λ found. Some (map (put_in first qs) found)
 
-abbrev pub MeansQuoted : ModuleHead → Span → Option (List Quote) → Option TextModule → Type 0
-MeansQuoted h first None meaning = meaning ≡ None
-MeansQuoted h first (Some qs) meaning = MeansInQuotes h first qs meaning
+-- the module of strings in quotes, with the opening of the outer one
+abbrev pub module_in_quotes : ModuleHead → Span → List Quote → Option TextModule
+module_in_quotes h first qs = tokens_in_quotes first qs >>= λ found. inner_module h (all_of found first)
 
--- what the tokens after an opening mean, by what the module contains
-abbrev pub MeansAs : Contents → ModuleHead → Toks → Option TextModule → Type 0
-MeansAs Fields h toks meaning = fields_module (module_position h) h toks ≡ meaning
-MeansAs Binary h toks meaning = binary_module h toks ≡ meaning
-MeansAs Quotes h toks meaning = MeansQuoted h (position (after toks)) (quotes_of toks) meaning
+-- a module after its opening, by what it contains
+abbrev pub module_as : Contents → ModuleHead → Toks → Option TextModule
+module_as Fields h toks = fields_module (module_position h) h toks
+module_as Binary h toks = binary_module h toks
+module_as Quotes h toks = quotes_of toks >>= λ qs. module_in_quotes h (position (after toks)) qs
 
-abbrev pub MeansAfter : ModuleHead → Toks → Option TextModule → Type 0
-MeansAfter h toks meaning = MeansAs (contents_of h.keyword (key_of (peek 0 toks))) h toks meaning
+abbrev pub module_after : ModuleHead → Toks → Option TextModule
+module_after h toks = module_as (contents_of h.keyword (key_of (peek 0 toks))) h toks
 
-abbrev pub MeansOpened : Option (ModuleHead × Toks) → Option TextModule → Type 0
-MeansOpened None meaning = meaning ≡ None
-MeansOpened (Some o) meaning = MeansAfter o.0 o.1 meaning
+-- the module of tokens
+abbrev pub module_of_tokens : Toks → Option TextModule
+module_of_tokens toks = opening toks >>= λ o. module_after o.0 o.1
 
--- What tokens mean: a module, or nothing.
-abbrev pub Means : Toks → Option TextModule → Type 0
-Means toks meaning = MeansOpened (opening toks) meaning
+-- the module of a text
+unfoldable pub module_of : List ℕ → Option TextModule
+module_of text = tokens_at_zero text >>= λ found. module_of_tokens (all_of found (record { offset = length text }))
 
--- the tokens of a text with its end
-abbrev pub all_in : List ℕ → List Placed → Toks
-all_in text found = all_of found (record { offset = length text })
+-- The rules read a text as this module, without its addresses.
+abbrev pub Denotes : List ℕ → TextModule → Type 0
+Denotes text m = module_of text ≡ Some (bare_module m)
 
--- The rules read a text as this module, whose names are at address 0.
-pub record Denotes (text : List ℕ) (m : TextModule) : Type 0 where
-  pub found : List Placed
-  pub tokens : AreTokens text found
-  pub means : Means (all_in text found) (Some m)
-
--- The rules read a text as no module: it has no tokens, or its tokens are no module.
-pub data DenotesNothing (text : List ℕ) : Type 0 where
-  untokened : tokens bytes_of text ≡ None → DenotesNothing text
-  unread : (found : List Placed) → AreTokens text found → Means (all_in text found) None → DenotesNothing text
+-- The rules read a text as no module.
+abbrev pub DenotesNothing : List ℕ → Type 0
+DenotesNothing text = module_of text ≡ None
 
 -- What an error states about a text, by its fault. `Memory` states nothing, because an allocation failed. `IllFormed` states that
 -- the rules produce nothing, or produce something that is not well formed. Each other fault states that the rules produce
@@ -228,13 +220,16 @@ is_well_formed_module m = is_well_formed_text m.kind
 -- The fields that a rule produces, and whether they are not well formed. Then a module that is not well formed, by its tokens and
 -- by its text.
 abbrev pub AreFields : Option (List ModuleField) → List ModuleField → Type 0
-AreFields rule fields = rule ≡ Some (map seen_field fields)
+AreFields rule fields = rule ≡ Some (bare_fields fields)
 
 abbrev pub AreIllFormed : Option (List ModuleField) → Type 0
 AreIllFormed rule = IsIllFormed is_well_formed (AreFields rule)
 
+abbrev pub IsModule : Option TextModule → TextModule → Type 0
+IsModule rule m = rule ≡ Some (bare_module m)
+
 abbrev pub MeansIllFormed : Toks → Type 0
-MeansIllFormed toks = IsIllFormed is_well_formed_module (λ m. Means toks (Some (seen_module m)))
+MeansIllFormed toks = IsIllFormed is_well_formed_module (IsModule (module_of_tokens toks))
 
 abbrev pub DenotesIllFormed : List ℕ → Type 0
-DenotesIllFormed text = IsIllFormed is_well_formed_module (λ m. Denotes text (seen_module m))
+DenotesIllFormed text = IsIllFormed is_well_formed_module (Denotes text)

@@ -4,7 +4,6 @@ pub mod Finishes
 pub mod Heads
 pub mod Machine
 pub mod MadeProducers
-pub mod OneModule
 pub mod Readers
 pub mod Texts
 pub mod WorkedCursors

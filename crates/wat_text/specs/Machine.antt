@@ -21,7 +21,7 @@ use Rattle.wat_syntax.specs.Tree.bare
 use Rattle.wat_syntax.specs.Tree.plain as plainly
 use Rattle.wat_syntax.specs.Tokens.{Toks, Parse, one, is_end, peek, after, position, word_of, key_of, is_key, keyword, rparen, with_parts}
 use Rattle.wat_syntax.specs.Values.{string, index, annotation_of}
-use Rattle.wat_syntax.specs.Seen.{seen_instr}
+use Rattle.wat_syntax.specs.BareInstructions.{bare_instr}
 use Rattle.wat_syntax.specs.Instructions.{instruction}
 use Rattle.wat_syntax.specs.Bodies as rule
 use Rattle.wat_syntax.specs.Bodies.{Item, Instr, Part, End, Else, Catch, CatchAll, Delegate, part_of, is_hint}
@@ -38,7 +38,7 @@ use Rattle.wat_text.specs.declared.bodies.Body.{Body}
 use Rattle.wat_text.specs.Readers.{left, IsClean, IsRefused}
 
 -- The open levels, the innermost first; the instructions that wait for their operands, the last one last; the instructions that
--- are read; and the tokens that are left.
+-- are read; and the tokens that are left. Instructions and tokens are without addresses.
 pub record State : Type 0 where
   pub levels : List Open
   pub waiting : List Instruction
@@ -48,8 +48,8 @@ pub record State : Type 0 where
 abbrev pub state_of : Reader → Body → State
 state_of r b = record {
   levels = reverse b.levels.items;
-  waiting = map seen_instr b.waiting;
-  read = record { instrs = map seen_instr b.instrs; branch_hints = b.hints };
+  waiting = map bare_instr b.waiting;
+  read = record { instrs = map bare_instr b.instrs; branch_hints = b.hints };
   toks = left r;
 }
 

@@ -7,7 +7,7 @@ use Rattle.std.specs.Prelude.{◌≡◌, ◌≢◌, List, [], ◌∷◌, ◌++�
 use Rattle.wat_grammar.specs.Parts.{◌>>=◌}
 use Rattle.wat_syntax.specs.Tokens.{Toks, Parse}
 use Rattle.wat_syntax.specs.Customs.{ProducersField, Language, Sdk, ProcessedBy, Version, versions_of}
-use Rattle.wat_syntax.specs.SeenCustoms.{seen_version}
+use Rattle.wat_syntax.specs.BareFields.{bare_version}
 use Rattle.wat_text.specs.declared.customs.Made.{Made}
 use Rattle.wat_text.specs.declared.customs.Tool.{Tool}
 use Rattle.wat_text.specs.declared.customs.Tool.TheVariants as tool
@@ -15,13 +15,13 @@ use Rattle.wat_text.specs.declared.reader.Reader.{Reader}
 use Rattle.wat_text.specs.Readers.{left, IsClean, IsRefused}
 
 -- a field and a value of it, as the rules have them
-abbrev pub seen_tool : Tool → ProducersField
-seen_tool tool.Language = Language
-seen_tool tool.Sdk = Sdk
-seen_tool tool.ProcessedBy = ProcessedBy
+abbrev pub tool_field : Tool → ProducersField
+tool_field tool.Language = Language
+tool_field tool.Sdk = Sdk
+tool_field tool.ProcessedBy = ProcessedBy
 
-abbrev pub seen_value : Tool × Version → ProducersField × Version
-seen_value v = (seen_tool v.0, seen_version v.1)
+abbrev pub bare_value : Tool × Version → ProducersField × Version
+bare_value v = (tool_field v.0, bare_version v.1)
 
 -- one more value, after the others of its field
 abbrev pub IsPut : Tool × Version → Made → Made → Type 0
@@ -46,8 +46,8 @@ versions_with versions f rest = rest >>= λ ps. Some (versions ++ versions_of f 
 pub record ReadsProducers (rule : Toks → Parse (List (ProducersField × Version))) (old new : Reader) (before after : Made) : Type 0 where
   pub made : new.make ≡ false → old.make ≡ false
   pub clean : new.fault ≡ None → old.fault ≡ None
-  pub languages : IsClean new → versions_with (map seen_version before.languages) Language (rule (left old)) ≡ Some (map seen_version after.languages, left new)
-  pub sdks : IsClean new → versions_with (map seen_version before.sdks) Sdk (rule (left old)) ≡ Some (map seen_version after.sdks, left new)
-  pub processors : IsClean new → versions_with (map seen_version before.processors) ProcessedBy (rule (left old)) ≡ Some (map seen_version after.processors, left new)
+  pub languages : IsClean new → versions_with (map bare_version before.languages) Language (rule (left old)) ≡ Some (map bare_version after.languages, left new)
+  pub sdks : IsClean new → versions_with (map bare_version before.sdks) Sdk (rule (left old)) ≡ Some (map bare_version after.sdks, left new)
+  pub processors : IsClean new → versions_with (map bare_version before.processors) ProcessedBy (rule (left old)) ≡ Some (map bare_version after.processors, left new)
   pub keeps : old.fault ≢ None → new.fault ≡ old.fault
   pub refuses : old.fault ≡ None → new.make ≡ false → IsRefused new.fault → rule (left old) ≡ None

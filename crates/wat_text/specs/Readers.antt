@@ -1,20 +1,29 @@
 -- The contracts of functions that read a part of a text, by a rule of the grammar.
 --
+-- The tokens of the code have addresses, and so have the parts that it makes of them. A contract speaks of tokens and parts without
+-- addresses (Bare in wat_syntax): of the bare tokens that were left before, the rule makes the bare part.
+--
 -- A rule takes tokens, and returns a value and the tokens that are left, or `None`. A contract states both directions. If the
 -- function succeeds, its result is the value of the rule. If it rejects the tokens, the rule is `None`.
 --
 --   (result i32) drop      the rule of results returns `i32`, and leaves `drop`
-use Rattle.std.specs.Prelude.{◌≡◌, ◌≢◌, ⊤, ◌-◌, Bool, true, false, List, [], ◌∷◌, ◌++◌, drop, Option, None, Some}
+use Rattle.std.specs.Prelude.{◌≡◌, ◌≢◌, ⊤, ℕ, ◌-◌, Bool, true, false, List, [], ◌∷◌, ◌++◌, map, drop, Option, None, Some}
 use Rattle.wast_base.specs.declared.ids.Span.{Span}
 use Rattle.wat_tokens.specs.declared.faults.TextFault.{TextFault}
 use Rattle.wat_tokens.specs.declared.faults.TextFault.TheVariants as fault
 use Rattle.wat_tokens.specs.declared.faults.TextError.{TextError}
+use Rattle.wat_tokens.specs.declared.tokens.Placed.{Placed}
+use Rattle.wat_syntax.specs.Bare.{bare_placed}
 use Rattle.wat_syntax.specs.Tokens.{Toks, Parse, position_in, optional, is_there, with_parts}
 use Rattle.wat_text.specs.declared.reader.Reader.{Reader}
 
--- the tokens that are left, with the position of the token before them
+-- Of some tokens without addresses, those after the first ones, with the position of the token before them.
+abbrev pub left_of : ℕ → List Placed → Span → Toks
+left_of at found end = record { before = position_in (drop (at - 1) found) end; left = drop at found; end = end }
+
+-- the tokens that are left, without addresses
 unfoldable pub left : Reader → Toks
-left r = record { before = position_in (drop (r.at - 1) r.tokens.items) r.end; left = drop r.at r.tokens.items; end = r.end }
+left r = left_of r.at (map bare_placed r.tokens.items) r.end
 
 -- There is no error, and no allocation of the tree failed.
 abbrev pub IsClean : Reader → Type 0
@@ -29,9 +38,9 @@ abbrev pub IsRefused : Option TextError → Type 0
 IsRefused None = ⊥
 IsRefused (Some e) = IsRefusal e.fault
 
--- A reader read a part by a rule. If there is no error afterwards, there was none before. Then the rule reads this part from the
--- tokens that were left before, and leaves the tokens that are left now. An error that there was before is kept. If the reader
--- rejected the tokens and no allocation of the tree failed, the rule does not produce them.
+-- A reader read a part by a rule; `part` is without addresses. If there is no error afterwards, there was none before. Then the rule
+-- reads this part from the tokens that were left before, and leaves the tokens that are left now. An error that there was before is
+-- kept. If the reader rejected the tokens and no allocation of the tree failed, the rule does not produce them.
 pub record Reads {T : Type 0} (rule : Toks → Parse T) (old new : Reader) (part : T) : Type 0 where
   pub made : new.make ≡ false → old.make ≡ false
   pub clean : new.fault ≡ None → old.fault ≡ None

@@ -6,10 +6,9 @@ use Rattle.wat_tokens.specs.declared.words.Key.TheVariants as key
 use Rattle.wat_tokens.specs.declared.tokens.Token.TheVariants as token
 use Rattle.wat_syntax.specs.Tree.{Span, Id, ModuleField}
 use Rattle.wat_syntax.specs.Tree.field
-use Rattle.wat_syntax.specs.Seen.{text_of}
+use Rattle.wat_syntax.specs.Values.{text_of}
 use Rattle.wat_syntax.specs.Worked.{the, named, quoted, toks, made}
-use Rattle.wat_text.specs.Denotes.{opening, rest_of_fields, quotes, text_in, position_of, put_in, contents_of, Fields, Binary, Quotes, Denotes, DenotesNothing}
-use Rattle.wat_text.specs.OneModule.{module_of}
+use Rattle.wat_text.specs.Denotes.{opening, rest_of_fields, quotes, text_in, position_of, put_in, contents_of, Fields, Binary, Quotes, module_of, Denotes, DenotesNothing}
 use Rattle.wat_text.specs.declared.modules.TextKind.TheVariants as kind
 use Rattle.wat_text.specs.declared.modules.TextModule.{TextModule}
 use Rattle.wat_text.specs.declared.quotes.Quote.{Quote}
@@ -86,6 +85,8 @@ Openings = (made (opening (toks (token.Open ∷ (the key.Module ∷ (named (code
     × (rest_of_fields false (toks (token.Close ∷ [])) ≡ None) × (rest_of_fields true (toks []) ≡ None)
     × (made (quotes (toks (quoted (codes "a") ∷ (token.Close ∷ [])))) ≡ Some (quote_at 0 (codes "a") ∷ [], 1))
 
--- `(start 0)` denotes its module, and `(start` nothing
+-- `(start 0)` denotes its module, and so does a module with an id at any address. `(start` and `a[` denote nothing.
 abbrev pub Denoted : Type 0
-Denoted = Denotes (codes "(start 0)") (fields_at text_start None (start_at 7 ∷ [])) × DenotesNothing (codes "(start") × DenotesNothing (codes "a[")
+Denoted = Denotes (codes "(start 0)") (fields_at text_start None (start_at 7 ∷ []))
+    × ((address : ℕ × ℕ) → Denotes (codes "(module $m)") (fields_at (at 1) (Some (source_id (record { ref_ptr = address; now = codes "m" }) (at 8))) []))
+    × DenotesNothing (codes "(start") × DenotesNothing (codes "a[")

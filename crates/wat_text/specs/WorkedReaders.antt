@@ -4,12 +4,12 @@ use Rattle.wat_tokens.specs.declared.faults.TextFault.TheVariants as fault
 use Rattle.wat_tokens.specs.declared.faults.TextFault.{TextFault}
 use Rattle.wat_tokens.specs.declared.faults.TextError.{TextError}
 use Rattle.wat_syntax.specs.Customs.{Language, Sdk, ProcessedBy, Version}
-use Rattle.wat_syntax.specs.Seen.{text_of}
+use Rattle.wat_syntax.specs.Values.{text_of}
 use Rattle.wat_syntax.specs.Worked.{toks}
 use Rattle.wat_text.specs.declared.customs.Made.{Made}
 use Rattle.wat_text.specs.declared.customs.Tool.TheVariants as tool
 use Rattle.wat_text.specs.Finishes.{IsClauseFault, WasRefused}
-use Rattle.wat_text.specs.MadeProducers.{seen_tool, IsPut, versions_with}
+use Rattle.wat_text.specs.MadeProducers.{tool_field, IsPut, versions_with}
 use Rattle.wat_text.specs.WorkedDenotes.{at}
 
 -- an error at a position
@@ -34,6 +34,6 @@ languages versions = record { languages = versions; sdks = []; processors = [] }
 
 -- `(language "S" "1")` is put behind the languages that there are; of the values that come next, those of language go behind them
 abbrev pub Producers : Type 0
-Producers = (seen_tool tool.ProcessedBy ≡ ProcessedBy) × IsPut (tool.Language, s1) (languages (r1 ∷ [])) (languages (r1 ∷ (s1 ∷ [])))
+Producers = (tool_field tool.ProcessedBy ≡ ProcessedBy) × IsPut (tool.Language, s1) (languages (r1 ∷ [])) (languages (r1 ∷ (s1 ∷ [])))
     × (versions_with (r1 ∷ []) Language (Some ((Sdk, r1) ∷ ((Language, s1) ∷ []), toks [])) ≡ Some (r1 ∷ (s1 ∷ []), toks []))
     × (versions_with (r1 ∷ []) Language None ≡ None)

@@ -7,13 +7,13 @@
 //! Each function here takes a step of the machine in specs/Machine.antt, and proofs/ ties the machine to the grammar.
 
 ghost use Rattle.std.specs.Prelude.{◌≡◌, true, false, [], None, Some, map, option_map, reverse};
-ghost use Rattle.wat_syntax.specs.Seen.{seen_instr, seen_expression};
 ghost use Rattle.wat_syntax.specs.Tokens.{keyword, peek, word_of};
 ghost use Rattle.wat_syntax.specs.Bodies.{part_of, expression as expression_rule, folded_expression};
 ghost use Rattle.wat_text.specs.Readers.{left, Reads, Decides, Expects, Refuses};
 ghost use Rattle.wat_text.specs.Machine.{Does, Finishes, in_rule};
 ghost use Rattle.wat_text.specs.Machine as machine;
 ghost use Rattle.wat_tokens.specs.declared.words.Key.TheVariants as key;
+ghost use Rattle.wat_syntax.specs.BareInstructions.{bare_expression, bare_instr};
 
 use crate::reader::Reader;
 use std::alloc::Global;
@@ -200,8 +200,8 @@ impl<'a> Body<'a> {
 
     /// The instruction that waits since last.
     fn take_waiting(&mut self, alloc: Global) -> Option<Instruction<'a>>
-        ensures last { option_map seen_instr result ≡ machine.last_of (map seen_instr self.old.waiting) }
-        ensures others { map seen_instr self.new.waiting ≡ machine.before_last (map seen_instr self.old.waiting) }
+        ensures last { option_map bare_instr result ≡ machine.last_of (map bare_instr self.old.waiting) }
+        ensures others { map bare_instr self.new.waiting ≡ machine.before_last (map bare_instr self.old.waiting) }
         ensures levels { self.new.levels ≡ self.old.levels }
         ensures instrs { self.new.instrs ≡ self.old.instrs }
         ensures hints { self.new.hints ≡ self.old.hints }
@@ -303,7 +303,7 @@ impl<'a> Reader<'a> {
 
     /// Puts an instruction.
     fn put(&mut self, body: &mut Body<'a>, instruction: Instruction<'a>)
-        ensures { Does (machine.put (seen_instr instruction.entry)) self.old self.new body.old body.new }
+        ensures { Does (machine.put (bare_instr instruction.entry)) self.old self.new body.old body.new }
     {
         self.make.push_instruction(&mut body.instrs, instruction);
     }
@@ -754,7 +754,7 @@ impl<'a> Reader<'a> {
 
     /// Reads instructions up to the end of the form (text format, expressions).
     fn instructions(&mut self, purpose: Purpose) -> Expression<'a>
-        ensures { Reads (expression_rule (machine.may_hint purpose)) self.old self.new (seen_expression result) }
+        ensures { Reads (expression_rule (machine.may_hint purpose)) self.old self.new (bare_expression result) }
     {
         let mut body = Body::new(self.alloc);
         for _ in 0..self.left() {
@@ -770,21 +770,21 @@ impl<'a> Reader<'a> {
 
     /// Reads the body of a function up to the end of the form (text format, functions).
     pub fn function_body(&mut self) -> Expression<'a>
-        ensures { Reads (expression_rule true) self.old self.new (seen_expression result) }
+        ensures { Reads (expression_rule true) self.old self.new (bare_expression result) }
     {
         self.instructions(Purpose::Body)
     }
 
     /// Reads a constant expression up to the end of the form (text format, expressions).
     pub fn expression(&mut self) -> Expression<'a>
-        ensures { Reads (expression_rule false) self.old self.new (seen_expression result) }
+        ensures { Reads (expression_rule false) self.old self.new (bare_expression result) }
     {
         self.instructions(Purpose::Constant)
     }
 
     /// Reads an expression of one folded instruction (text format, folded instructions).
     pub fn folded(&mut self) -> Expression<'a>
-        ensures { Reads folded_expression self.old self.new (seen_expression result) }
+        ensures { Reads folded_expression self.old self.new (bare_expression result) }
     {
         let mut body = Body::new(self.alloc);
         self.open();

@@ -2,13 +2,14 @@
 //! annotations; tool conventions).
 
 ghost use Rattle.std.specs.Prelude.{◌≡◌, true, false, None, Some, ◌++◌, map};
-ghost use Rattle.wat_syntax.specs.Seen.{seen_text};
-ghost use Rattle.wat_syntax.specs.SeenCustoms.{seen_version, seen_producers_field, seen_exported, seen_imported, seen_subsection, seen_custom};
 ghost use Rattle.wat_syntax.specs.Customs.{section_of, section, place_of, customplace, customfield, known_field, producer_open, producer, all_producers, named_field, fields_of, producersfield, flag_of, again, exported, imported, exports_info, imports_info, memory_info, subsection_form, subsections, dylinkfield};
 ghost use Rattle.wat_syntax.specs.Customs.{version as version_rule, flag as flag_rule, flags as flags_rule, names as names_rule, size_and_align as size_rule, subsection as subsection_rule};
 ghost use Rattle.wat_text.specs.Readers.{left, Reads, Decides, Accepts, Refuses, ReadsOnto, Pushes, Builds};
-ghost use Rattle.wat_text.specs.MadeProducers.{seen_tool, seen_value, PushesValue, ReadsProducers};
+ghost use Rattle.wat_text.specs.MadeProducers.{PushesValue, ReadsProducers};
 ghost use Rattle.wat_syntax.specs.Tokens.{one};
+ghost use Rattle.wat_syntax.specs.Bare.{bare_text};
+ghost use Rattle.wat_syntax.specs.BareFields.{bare_custom, bare_exported, bare_imported, bare_producers_field, bare_subsection, bare_version};
+ghost use Rattle.wat_text.specs.MadeProducers.{bare_value, tool_field};
 
 use crate::reader::Reader;
 use wast_tree::{
@@ -133,7 +134,7 @@ impl<'a> Reader<'a> {
 
     /// Reads the annotation `(@custom ..)`, without its `)` (text format: custom annotations).
     pub fn custom_field(&mut self) -> Custom<'a>
-        ensures { Reads customfield self.old self.new (seen_custom result) }
+        ensures { Reads customfield self.old self.new (bare_custom result) }
     {
         let span = self.place();
         self.skip();
@@ -150,7 +151,7 @@ impl<'a> Reader<'a> {
 
     /// Reads a name and a version, such as `"clang" "19"`.
     fn version(&mut self) -> (&'a str, &'a str)
-        ensures { Decides version_rule self.old self.new (seen_version result) }
+        ensures { Decides version_rule self.old self.new (bare_version result) }
     {
         (self.text(), self.text())
     }
@@ -173,7 +174,7 @@ impl<'a> Reader<'a> {
 
     /// Returns the field of `producers` that a keyword is, or fails.
     fn tool(&mut self, key: Option<Key>) -> Tool
-        ensures { Decides (known_field key) self.old self.new (seen_tool result) }
+        ensures { Decides (known_field key) self.old self.new (tool_field result) }
     {
         match key {
             Some(Key::Language) => Tool::Language,
@@ -185,7 +186,7 @@ impl<'a> Reader<'a> {
 
     /// Reads one value of a field of `producers`, without its `)`. For example, `(sdk "a" "1"`.
     fn producer_open(&mut self) -> (Tool, (&'a str, &'a str))
-        ensures { Decides producer_open self.old self.new (seen_value result) }
+        ensures { Decides producer_open self.old self.new (bare_value result) }
     {
         self.open();
         let key = self.key(0);
@@ -225,7 +226,7 @@ impl<'a> Reader<'a> {
         ensures made { self.new.make ≡ false → self.old.make ≡ false }
         ensures fault { self.new.fault ≡ self.old.fault }
         ensures left { left self.new ≡ left self.old }
-        ensures put { self.new.make ≡ false → map seen_producers_field fields.new ≡ map seen_producers_field fields.old ++ named_field name.now (map seen_version values.entry) }
+        ensures put { self.new.make ≡ false → map bare_producers_field fields.new ≡ map bare_producers_field fields.old ++ named_field name.now (map bare_version values.entry) }
     {
         if !values.is_empty() {
             self.make.push_producers(fields, name, values);
@@ -252,7 +253,7 @@ impl<'a> Reader<'a> {
         ensures made { self.new.make ≡ false → self.old.make ≡ false }
         ensures fault { self.new.fault ≡ self.old.fault }
         ensures left { left self.new ≡ left self.old }
-        ensures put { self.new.make ≡ false → map seen_producers_field result ≡ fields_of (map seen_version made.entry.languages) (map seen_version made.entry.sdks) (map seen_version made.entry.processors) }
+        ensures put { self.new.make ≡ false → map bare_producers_field result ≡ fields_of (map bare_version made.entry.languages) (map bare_version made.entry.sdks) (map bare_version made.entry.processors) }
     {
         let Made {
             languages,
@@ -269,7 +270,7 @@ impl<'a> Reader<'a> {
     /// Reads the annotation `(@producers ..)`, without its `)` (tool conventions: producers
     /// section).
     pub fn producers_field(&mut self) -> Custom<'a>
-        ensures { Reads producersfield self.old self.new (seen_custom result) }
+        ensures { Reads producersfield self.old self.new (bare_custom result) }
     {
         self.skip();
         let mut made = Made {
@@ -332,9 +333,9 @@ impl<'a> Reader<'a> {
     }
 
     /// Reads names up to the closing `)`, and appends them.
-    #[tactic(auto, using(crate::proofs::Steps::one_seen, crate::proofs::Loops::part_end, crate::proofs::Loops::part_last, crate::proofs::Loops::none_after))]
+    #[tactic(auto, using(crate::proofs::Steps::one_bare, crate::proofs::Loops::part_end, crate::proofs::Loops::part_last, crate::proofs::Loops::none_after))]
     fn all_names(&mut self, names: &mut Seq<&'a str>)
-        ensures { ReadsOnto names_rule self.old self.new (map seen_text names.old) (map seen_text names.new) }
+        ensures { ReadsOnto names_rule self.old self.new (map bare_text names.old) (map bare_text names.new) }
     {
         for _ in 0..self.left() {
             if self.is_end() {
@@ -348,7 +349,7 @@ impl<'a> Reader<'a> {
     /// Reads names up to the closing `)`.
     #[tactic(auto, using(crate::proofs::Loops::from_nothing))]
     fn names(&mut self) -> Seq<&'a str>
-        ensures { Reads names_rule self.old self.new (map seen_text result) }
+        ensures { Reads names_rule self.old self.new (map bare_text result) }
     {
         let mut names = Seq::new(self.alloc);
         self.all_names(&mut names);
@@ -373,7 +374,7 @@ impl<'a> Reader<'a> {
 
     /// Reads the name of an export and its flags (tool conventions: dynamic linking).
     fn exported(&mut self) -> (&'a str, u32)
-        ensures { Reads exported self.old self.new (seen_exported result) }
+        ensures { Reads exported self.old self.new (bare_exported result) }
     {
         (self.text(), self.flags())
     }
@@ -381,7 +382,7 @@ impl<'a> Reader<'a> {
     /// Reads the module and the name of an import and its flags (tool conventions: dynamic
     /// linking).
     fn imported(&mut self) -> (&'a str, &'a str, u32)
-        ensures { Reads imported self.old self.new (seen_imported result) }
+        ensures { Reads imported self.old self.new (bare_imported result) }
     {
         (self.text(), self.text(), self.flags())
     }
@@ -410,7 +411,7 @@ impl<'a> Reader<'a> {
     /// `(export-info ..)` are read as one.
     #[tactic(auto, using(crate::proofs::Entries::entry_last, crate::proofs::Loops::none_after))]
     fn all_exported(&mut self, items: &mut Seq<(&'a str, u32)>)
-        ensures { ReadsOnto exports_info self.old self.new (map seen_exported items.old) (map seen_exported items.new) }
+        ensures { ReadsOnto exports_info self.old self.new (map bare_exported items.old) (map bare_exported items.new) }
     {
         for _ in 0..self.left() {
             let item = self.exported();
@@ -425,7 +426,7 @@ impl<'a> Reader<'a> {
     /// `(import-info ..)` are read as one.
     #[tactic(auto, using(crate::proofs::Entries::entry_last, crate::proofs::Loops::none_after))]
     fn all_imported(&mut self, items: &mut Seq<(&'a str, &'a str, u32)>)
-        ensures { ReadsOnto imports_info self.old self.new (map seen_imported items.old) (map seen_imported items.new) }
+        ensures { ReadsOnto imports_info self.old self.new (map bare_imported items.old) (map bare_imported items.new) }
     {
         for _ in 0..self.left() {
             let item = self.imported();
@@ -440,7 +441,7 @@ impl<'a> Reader<'a> {
     /// (tool conventions: dynamic linking).
     #[tactic(auto, using(crate::proofs::Loops::from_nothing))]
     fn export_info(&mut self) -> Seq<(&'a str, u32)>
-        ensures { Reads exports_info self.old self.new (map seen_exported result) }
+        ensures { Reads exports_info self.old self.new (map bare_exported result) }
     {
         let mut items = Seq::new(self.alloc);
         self.all_exported(&mut items);
@@ -451,7 +452,7 @@ impl<'a> Reader<'a> {
     /// follow (tool conventions: dynamic linking).
     #[tactic(auto, using(crate::proofs::Loops::from_nothing))]
     fn import_info(&mut self) -> Seq<(&'a str, &'a str, u32)>
-        ensures { Reads imports_info self.old self.new (map seen_imported result) }
+        ensures { Reads imports_info self.old self.new (map bare_imported result) }
     {
         let mut items = Seq::new(self.alloc);
         self.all_imported(&mut items);
@@ -461,7 +462,7 @@ impl<'a> Reader<'a> {
     /// Reads the sizes and alignments of `mem-info`, such as `(memory 1 2) (table 3 4)` (tool
     /// conventions: dynamic linking).
     fn memory_info(&mut self) -> Dylink0Subsection<'a>
-        ensures { Decides memory_info self.old self.new (seen_subsection result) }
+        ensures { Decides memory_info self.old self.new (bare_subsection result) }
     {
         let (memory_size, memory_align) = self.size_and_align(Key::Memory);
         let (table_size, table_align) = self.size_and_align(Key::Table);
@@ -483,7 +484,7 @@ impl<'a> Reader<'a> {
 
     /// Reads a subsection of `dylink.0` after its `(` (tool conventions: dynamic linking).
     fn subsection(&mut self) -> Dylink0Subsection<'a>
-        ensures { Reads subsection_rule self.old self.new (seen_subsection result) }
+        ensures { Reads subsection_rule self.old self.new (bare_subsection result) }
     {
         let key = self.key(0);
         self.skip();
@@ -500,7 +501,7 @@ impl<'a> Reader<'a> {
 
     /// Reads the annotation `(@dylink.0 ..)`, without its `)` (tool conventions: dynamic linking).
     pub fn dylink_field(&mut self) -> Custom<'a>
-        ensures { Reads dylinkfield self.old self.new (seen_custom result) }
+        ensures { Reads dylinkfield self.old self.new (bare_custom result) }
     {
         self.skip();
         let subsections = self.subsections();
@@ -509,7 +510,7 @@ impl<'a> Reader<'a> {
 
     /// Reads a subsection of `dylink.0`, in its parentheses.
     fn subsection_form(&mut self) -> Dylink0Subsection<'a>
-        ensures { Reads subsection_form self.old self.new (seen_subsection result) }
+        ensures { Reads subsection_form self.old self.new (bare_subsection result) }
     {
         self.open();
         let subsection = self.subsection();
@@ -532,7 +533,7 @@ impl<'a> Reader<'a> {
     /// Reads subsections of `dylink.0` up to the closing `)`, and appends them.
     #[tactic(auto, using(crate::proofs::Steps::one_built, crate::proofs::Loops::part_end, crate::proofs::Loops::part_last, crate::proofs::Loops::none_after))]
     fn all_subsections(&mut self, found: &mut Seq<Dylink0Subsection<'a>>)
-        ensures { ReadsOnto subsections self.old self.new (map seen_subsection found.old) (map seen_subsection found.new) }
+        ensures { ReadsOnto subsections self.old self.new (map bare_subsection found.old) (map bare_subsection found.new) }
     {
         for _ in 0..self.left() {
             if self.is_end() {
@@ -546,7 +547,7 @@ impl<'a> Reader<'a> {
     /// Reads subsections of `dylink.0` up to the closing `)`.
     #[tactic(auto, using(crate::proofs::Loops::from_nothing))]
     fn subsections(&mut self) -> Seq<Dylink0Subsection<'a>>
-        ensures { Reads subsections self.old self.new (map seen_subsection result) }
+        ensures { Reads subsections self.old self.new (map bare_subsection result) }
     {
         let mut found = Seq::new(self.alloc);
         self.all_subsections(&mut found);

@@ -3,13 +3,14 @@
 ghost use Rattle.std.specs.Prelude.{◌≡◌, true, false, None, Some, map, option_map};
 ghost use Rattle.wat_tokens.specs.declared.words.Key.TheVariants as key;
 ghost use Rattle.wat_syntax.specs.Tokens.{is_form, form};
-ghost use Rattle.wat_syntax.specs.Seen.{seen_expression, seen_text, seen_exports, seen_import, seen_local, seen_tag_kind, seen_tag, seen_item_kind, seen_item_sig, seen_item, seen_items, seen_imports, seen_export};
 ghost use Rattle.wat_syntax.specs.Modules.{head, inline_export, export_names, inline_exports, inline_import, unnamed_local, unnamed_locals, locals_of, local, locals as locals_rule, tag_kind_of, tagfield, functype_of, externtype_of, externtype, importfield, import_items_from, import_name, import_names, import_item, import_items_of, import_group, export_kind, externidx_keyword, exportfield};
-ghost use Rattle.wat_syntax.specs.SeenFields.{seen_func_kind, seen_func_of, seen_func, seen_payload, seen_table_kind, seen_table, seen_memory_kind, seen_memory, seen_global_kind, seen_global};
 ghost use Rattle.wat_syntax.specs.Segments.{is_funcref};
 ghost use Rattle.wat_syntax.specs.Fields.{imported_func, func_body, func_of, funcfield, inline_elements, init_expression, table_of_type, table_of_elements, defined_table, table_of, tablefield, has_inline_data, inline_data, defined_memory, memory_of, memoryfield, global_of, globalfield};
-ghost use Rattle.wat_text.specs.Heads.{seen_head};
 ghost use Rattle.wat_text.specs.Readers.{left, Reads, Decides, Expects, ReadsOnto, Pushes};
+ghost use Rattle.wat_syntax.specs.Bare.{bare_ref, bare_text};
+ghost use Rattle.wat_syntax.specs.BareFields.{bare_export, bare_exports, bare_func, bare_func_kind, bare_func_of, bare_global, bare_global_kind, bare_import, bare_import_item, bare_import_items, bare_imports, bare_item_kind, bare_item_sig, bare_local, bare_memory, bare_memory_kind, bare_payload, bare_table, bare_table_kind, bare_tag, bare_tag_kind};
+ghost use Rattle.wat_syntax.specs.BareInstructions.{bare_expression};
+ghost use Rattle.wat_text.specs.Heads.{bare_head};
 
 use crate::reader::Reader;
 use wast_tree::{
@@ -31,7 +32,7 @@ pub(crate) struct Head<'a> {
 
 /// Returns whether a reference type is `funcref`, which is `(ref null func)`.
 pub(crate) fn is_funcref(ty: RefType<'_>) -> bool
-    ensures { result ≡ is_funcref ty.entry }
+    ensures { result ≡ is_funcref (bare_ref ty.entry) }
 {
     let is_func = matches!(
         ty.heap,
@@ -45,7 +46,7 @@ pub(crate) fn is_funcref(ty: RefType<'_>) -> bool
 
 /// Returns the kind of a tag, which is imported if it has an inline import.
 fn tag_kind<'a>(import: Option<InlineImport<'a>>) -> TagKind<'a>
-    ensures { seen_tag_kind result ≡ tag_kind_of (option_map seen_import import.entry) }
+    ensures { bare_tag_kind result ≡ tag_kind_of (option_map bare_import import.entry) }
 {
     match import {
         Some(import) => TagKind::Import(import),
@@ -71,7 +72,7 @@ impl<'a> Reader<'a> {
     /// Reads the keyword, the id, the name annotation and the inline exports of a field. The
     /// keyword is skipped without a check, because the caller has checked it.
     fn head(&mut self) -> Head<'a>
-        ensures { Reads head self.old self.new (seen_head result) }
+        ensures { Reads head self.old self.new (bare_head result) }
     {
         let span = self.place();
         self.skip();
@@ -88,7 +89,7 @@ impl<'a> Reader<'a> {
     /// Reads `(export "a")` in a field. Requires that `(export` is next.
     fn inline_export(&mut self) -> &'a str
         requires { is_form key.Export (left self.old) ≡ true }
-        ensures { Decides inline_export self.old self.new (seen_text result) }
+        ensures { Decides inline_export self.old self.new (bare_text result) }
     {
         self.skip();
         self.skip();
@@ -106,9 +107,9 @@ impl<'a> Reader<'a> {
     }
 
     /// Reads inline exports as long as one is next, and appends their names.
-    #[tactic(auto, using(crate::proofs::Steps::one_seen, crate::proofs::Loops::part_end, crate::proofs::Loops::part_last, crate::proofs::Loops::none_after))]
+    #[tactic(auto, using(crate::proofs::Steps::one_bare, crate::proofs::Loops::part_end, crate::proofs::Loops::part_last, crate::proofs::Loops::none_after))]
     fn export_names(&mut self, names: &mut Seq<&'a str>)
-        ensures { ReadsOnto export_names self.old self.new (map seen_text names.old) (map seen_text names.new) }
+        ensures { ReadsOnto export_names self.old self.new (map bare_text names.old) (map bare_text names.new) }
     {
         for _ in 0..self.left() {
             if !self.is_form(Key::Export) {
@@ -123,7 +124,7 @@ impl<'a> Reader<'a> {
     /// example, `(export "a") (export "b")` has the names `a` and `b`.
     #[tactic(auto, using(crate::proofs::Loops::from_nothing))]
     fn exports(&mut self) -> InlineExport<'a>
-        ensures { Reads inline_exports self.old self.new (seen_exports result) }
+        ensures { Reads inline_exports self.old self.new (bare_exports result) }
     {
         let mut names = Seq::new(self.alloc);
         self.export_names(&mut names);
@@ -133,7 +134,7 @@ impl<'a> Reader<'a> {
     /// Reads an inline import such as `(import "a" "b")`, if one is next (text format: imports,
     /// abbreviations).
     fn import(&mut self) -> Option<InlineImport<'a>>
-        ensures { Decides inline_import self.old self.new (option_map seen_import result) }
+        ensures { Decides inline_import self.old self.new (option_map bare_import result) }
     {
         if !self.accept_form(Key::Import) {
             return None;
@@ -154,16 +155,16 @@ impl<'a> Reader<'a> {
 
     /// Reads the type of a local without an id.
     fn unnamed_local(&mut self) -> Local<'a>
-        ensures { Decides unnamed_local self.old self.new (seen_local result) }
+        ensures { Decides unnamed_local self.old self.new (bare_local result) }
     {
         let ty = self.value_type();
         Local::new(None, ty)
     }
 
     /// Reads the types of locals without ids, up to the closing `)`, and appends the locals.
-    #[tactic(auto, using(crate::proofs::Steps::one_seen, crate::proofs::Loops::part_end, crate::proofs::Loops::part_last, crate::proofs::Loops::none_after))]
+    #[tactic(auto, using(crate::proofs::Steps::one_bare, crate::proofs::Loops::part_end, crate::proofs::Loops::part_last, crate::proofs::Loops::none_after))]
     fn unnamed_locals(&mut self, locals: &mut Seq<Local<'a>>)
-        ensures { ReadsOnto unnamed_locals self.old self.new (map seen_local locals.old) (map seen_local locals.new) }
+        ensures { ReadsOnto unnamed_locals self.old self.new (map bare_local locals.old) (map bare_local locals.new) }
     {
         for _ in 0..self.left() {
             if self.is_end() {
@@ -177,7 +178,7 @@ impl<'a> Reader<'a> {
     /// Reads what comes after `(local`, and appends the locals. They are one local with an id or a
     /// name annotation, as in `(local $x i32)`, or any number without, as in `(local i32 i64)`.
     fn locals_of(&mut self, locals: &mut Seq<Local<'a>>)
-        ensures { ReadsOnto locals_of self.old self.new (map seen_local locals.old) (map seen_local locals.new) }
+        ensures { ReadsOnto locals_of self.old self.new (map bare_local locals.old) (map bare_local locals.new) }
     {
         let (id, name) = (self.id(), self.name());
         if id.is_some() || name.is_some() {
@@ -192,7 +193,7 @@ impl<'a> Reader<'a> {
     #[tactic(auto, using(crate::proofs::Loops::closes))]
     fn local(&mut self, locals: &mut Seq<Local<'a>>)
         requires { is_form key.Local (left self.old) ≡ true }
-        ensures { ReadsOnto local self.old self.new (map seen_local locals.old) (map seen_local locals.new) }
+        ensures { ReadsOnto local self.old self.new (map bare_local locals.old) (map bare_local locals.new) }
     {
         self.skip();
         self.skip();
@@ -203,7 +204,7 @@ impl<'a> Reader<'a> {
     /// Reads forms `(local ..)` as long as one is next, and appends their locals.
     #[tactic(auto, using(crate::proofs::Steps::one_list, crate::proofs::Loops::list_end, crate::proofs::Loops::list_last, crate::proofs::Loops::none_after))]
     fn all_locals(&mut self, locals: &mut Seq<Local<'a>>)
-        ensures { ReadsOnto locals_rule self.old self.new (map seen_local locals.old) (map seen_local locals.new) }
+        ensures { ReadsOnto locals_rule self.old self.new (map bare_local locals.old) (map bare_local locals.new) }
     {
         for _ in 0..self.left() {
             if !self.is_form(Key::Local) {
@@ -216,7 +217,7 @@ impl<'a> Reader<'a> {
     /// Reads the locals of a function (text format: functions).
     #[tactic(auto, using(crate::proofs::Loops::from_nothing))]
     fn locals(&mut self) -> Seq<Local<'a>>
-        ensures { Reads locals_rule self.old self.new (map seen_local result) }
+        ensures { Reads locals_rule self.old self.new (map bare_local result) }
     {
         let mut locals = Seq::new(self.alloc);
         self.all_locals(&mut locals);
@@ -229,7 +230,7 @@ impl<'a> Reader<'a> {
         &mut self,
         import: InlineImport<'a>,
     ) -> (FuncKind<'a>, TypeUse<'a, FunctionType<'a>>)
-        ensures { Reads (imported_func (seen_import import.entry)) self.old self.new (seen_func_of result) }
+        ensures { Reads (imported_func (bare_import import.entry)) self.old self.new (bare_func_of result) }
     {
         let exact = self.accept_form(Key::Exact);
         let ty = self.type_use(true);
@@ -241,7 +242,7 @@ impl<'a> Reader<'a> {
 
     /// Reads the locals and the body of a function.
     fn func_body(&mut self) -> FuncKind<'a>
-        ensures { Reads func_body self.old self.new (seen_func_kind result) }
+        ensures { Reads func_body self.old self.new (bare_func_kind result) }
     {
         let locals = self.locals();
         let expression = self.function_body();
@@ -253,7 +254,7 @@ impl<'a> Reader<'a> {
         &mut self,
         import: Option<InlineImport<'a>>,
     ) -> (FuncKind<'a>, TypeUse<'a, FunctionType<'a>>)
-        ensures { Reads (func_of (option_map seen_import import.entry)) self.old self.new (seen_func_of result) }
+        ensures { Reads (func_of (option_map bare_import import.entry)) self.old self.new (bare_func_of result) }
     {
         match import {
             Some(import) => self.imported_func(import),
@@ -266,7 +267,7 @@ impl<'a> Reader<'a> {
 
     /// Reads the field `(func ..)`, without its parentheses (text format: functions).
     pub fn func_field(&mut self) -> Func<'a>
-        ensures { Reads funcfield self.old self.new (seen_func result) }
+        ensures { Reads funcfield self.old self.new (bare_func result) }
     {
         let Head {
             span,
@@ -293,7 +294,7 @@ impl<'a> Reader<'a> {
     /// because a segment of function indices has no bytes for another type. For example,
     /// `(table (ref $t) (elem $f))` has the element `ref.func $f`.
     fn inline_elements(&mut self, ty: RefType<'a>) -> ElemPayload<'a>
-        ensures { Reads (inline_elements ty.entry) self.old self.new (seen_payload result) }
+        ensures { Reads (inline_elements (bare_ref ty.entry)) self.old self.new (bare_payload result) }
     {
         if self.is_open(0) {
             return self.expressions(ty);
@@ -307,7 +308,7 @@ impl<'a> Reader<'a> {
     /// Reads the initial value of the elements of a table. Returns `None` if the closing `)` is
     /// next.
     fn init_expression(&mut self) -> Option<Expression<'a>>
-        ensures { Reads init_expression self.old self.new (option_map seen_expression result) }
+        ensures { Reads init_expression self.old self.new (option_map bare_expression result) }
     {
         match self.is_end() {
             true => None,
@@ -318,7 +319,7 @@ impl<'a> Reader<'a> {
     /// Reads the limits, the element type and the initial value of a table, after its address type.
     /// For example, `1 funcref` of `(table i64 1 funcref)`.
     fn table_of_type(&mut self, shared: bool, is64: bool) -> TableKind<'a>
-        ensures { Reads (table_of_type shared is64) self.old self.new (seen_table_kind result) }
+        ensures { Reads (table_of_type shared is64) self.old self.new (bare_table_kind result) }
     {
         let limits = self.limits(is64);
         let elem = self.ref_type();
@@ -343,7 +344,7 @@ impl<'a> Reader<'a> {
     /// Reads the element type and the inline elements of a table, after its address type (text
     /// format: tables, abbreviations). For example, `funcref (elem $f)`.
     fn table_of_elements(&mut self, shared: bool, is64: bool) -> TableKind<'a>
-        ensures { Reads (table_of_elements shared is64) self.old self.new (seen_table_kind result) }
+        ensures { Reads (table_of_elements shared is64) self.old self.new (bare_table_kind result) }
     {
         let elem = self.ref_type();
         self.elem_form();
@@ -360,7 +361,7 @@ impl<'a> Reader<'a> {
     /// Reads a table without an inline import, from `shared` or its address type on (text format:
     /// tables). If a number is next, the table has limits. Otherwise it has inline elements.
     fn table_kind(&mut self) -> TableKind<'a>
-        ensures { Reads defined_table self.old self.new (seen_table_kind result) }
+        ensures { Reads defined_table self.old self.new (bare_table_kind result) }
     {
         let shared = self.accept(Key::Shared);
         let is64 = self.is64();
@@ -373,7 +374,7 @@ impl<'a> Reader<'a> {
     /// Reads a table after its inline import, if it has one. An imported table has only a table
     /// type.
     fn table_of(&mut self, import: Option<InlineImport<'a>>) -> TableKind<'a>
-        ensures { Reads (table_of (option_map seen_import import.entry)) self.old self.new (seen_table_kind result) }
+        ensures { Reads (table_of (option_map bare_import import.entry)) self.old self.new (bare_table_kind result) }
     {
         match import {
             Some(import) => TableKind::Import {
@@ -386,7 +387,7 @@ impl<'a> Reader<'a> {
 
     /// Reads the field `(table ..)`, without its parentheses (text format: tables).
     pub fn table_field(&mut self) -> Table<'a>
-        ensures { Reads tablefield self.old self.new (seen_table result) }
+        ensures { Reads tablefield self.old self.new (bare_table result) }
     {
         let Head {
             span,
@@ -428,7 +429,7 @@ impl<'a> Reader<'a> {
     /// Reads a memory with inline data, from its address type on (text format: memories,
     /// abbreviations). For example, `i64 (pagesize 1) (data "a")`.
     fn inline_data(&mut self) -> MemoryKind<'a>
-        ensures { Reads inline_data self.old self.new (seen_memory_kind result) }
+        ensures { Reads inline_data self.old self.new (bare_memory_kind result) }
     {
         let is64 = self.is64();
         let page_size_log2 = self.page_size();
@@ -444,7 +445,7 @@ impl<'a> Reader<'a> {
 
     /// Reads a memory without an inline import, from its address type on (text format: memories).
     fn memory_kind(&mut self) -> MemoryKind<'a>
-        ensures { Reads defined_memory self.old self.new (seen_memory_kind result) }
+        ensures { Reads defined_memory self.old self.new (bare_memory_kind result) }
     {
         match self.has_inline_data() {
             true => self.inline_data(),
@@ -455,7 +456,7 @@ impl<'a> Reader<'a> {
     /// Reads a memory after its inline import, if it has one. An imported memory has only a memory
     /// type.
     fn memory_of(&mut self, import: Option<InlineImport<'a>>) -> MemoryKind<'a>
-        ensures { Reads (memory_of (option_map seen_import import.entry)) self.old self.new (seen_memory_kind result) }
+        ensures { Reads (memory_of (option_map bare_import import.entry)) self.old self.new (bare_memory_kind result) }
     {
         match import {
             Some(import) => MemoryKind::Import {
@@ -468,7 +469,7 @@ impl<'a> Reader<'a> {
 
     /// Reads the field `(memory ..)`, without its parentheses (text format: memories).
     pub fn memory_field(&mut self) -> Memory<'a>
-        ensures { Reads memoryfield self.old self.new (seen_memory result) }
+        ensures { Reads memoryfield self.old self.new (bare_memory result) }
     {
         let Head {
             span,
@@ -489,7 +490,7 @@ impl<'a> Reader<'a> {
 
     /// Reads the initial value of a global, unless it has an inline import.
     fn global_of(&mut self, import: Option<InlineImport<'a>>) -> GlobalKind<'a>
-        ensures { Reads (global_of (option_map seen_import import.entry)) self.old self.new (seen_global_kind result) }
+        ensures { Reads (global_of (option_map bare_import import.entry)) self.old self.new (bare_global_kind result) }
     {
         match import {
             Some(import) => GlobalKind::Import(import),
@@ -499,7 +500,7 @@ impl<'a> Reader<'a> {
 
     /// Reads the field `(global ..)`, without its parentheses (text format: globals).
     pub fn global_field(&mut self) -> Global<'a>
-        ensures { Reads globalfield self.old self.new (seen_global result) }
+        ensures { Reads globalfield self.old self.new (bare_global result) }
     {
         let Head {
             span,
@@ -522,7 +523,7 @@ impl<'a> Reader<'a> {
 
     /// Reads the field `(tag ..)`, without its parentheses (text format: tags).
     pub fn tag_field(&mut self) -> Tag<'a>
-        ensures { Reads tagfield self.old self.new (seen_tag result) }
+        ensures { Reads tagfield self.old self.new (bare_tag result) }
     {
         let Head {
             span,
@@ -545,7 +546,7 @@ impl<'a> Reader<'a> {
     /// Reads the type use of an imported function. It is in `(exact ..)` if the import is exact
     /// (custom descriptors proposal).
     fn func_kind(&mut self) -> ItemKind<'a>
-        ensures { Reads functype_of self.old self.new (seen_item_kind result) }
+        ensures { Reads functype_of self.old self.new (bare_item_kind result) }
     {
         if !self.accept_form(Key::Exact) {
             return ItemKind::Func(self.type_use(true));
@@ -558,7 +559,7 @@ impl<'a> Reader<'a> {
     /// Reads the type of an imported item, after its keyword, id and name annotation (text format:
     /// imports). `key` is the keyword. For example, a memory type comes after `memory`.
     fn item_kind(&mut self, key: Option<Key>) -> ItemKind<'a>
-        ensures { Reads (externtype_of key) self.old self.new (seen_item_kind result) }
+        ensures { Reads (externtype_of key) self.old self.new (bare_item_kind result) }
     {
         match key {
             Some(Key::Table) => ItemKind::Table(self.table_type()),
@@ -576,7 +577,7 @@ impl<'a> Reader<'a> {
     /// Reads what is imported, in its parentheses (text format: imports). For example,
     /// `(func $f (type 0))`.
     fn item_sig(&mut self) -> ItemSig<'a>
-        ensures { Reads externtype self.old self.new (seen_item_sig result) }
+        ensures { Reads externtype self.old self.new (bare_item_sig result) }
     {
         self.open();
         let span = self.place();
@@ -595,7 +596,7 @@ impl<'a> Reader<'a> {
 
     /// Reads the field `(import ..)`, without its parentheses (text format: imports).
     pub fn import_field(&mut self) -> Imports<'a>
-        ensures { Reads importfield self.old self.new (seen_imports result) }
+        ensures { Reads importfield self.old self.new (bare_imports result) }
     {
         let span = self.place();
         self.skip();
@@ -616,7 +617,7 @@ impl<'a> Reader<'a> {
     /// Reads the items that are imported from a module, after the name of the module. They are one
     /// item, as in `"a" (func)`, or a group of forms `(item ..)` (compact import section proposal).
     fn import_items(&mut self, module: &'a str) -> ImportItems<'a>
-        ensures { Reads (import_items_from (seen_text «module».entry)) self.old self.new (seen_items result) }
+        ensures { Reads (import_items_from (bare_text «module».entry)) self.old self.new (bare_import_items result) }
     {
         if self.is_string() {
             let name = self.text();
@@ -631,7 +632,7 @@ impl<'a> Reader<'a> {
     /// Reads `(item "a")`, and returns the name. Requires that `(item` is next.
     fn import_name(&mut self) -> &'a str
         requires { is_form key.Item (left self.old) ≡ true }
-        ensures { Decides import_name self.old self.new (seen_text result) }
+        ensures { Decides import_name self.old self.new (bare_text result) }
     {
         self.skip();
         self.skip();
@@ -641,9 +642,9 @@ impl<'a> Reader<'a> {
     }
 
     /// Reads forms `(item "a")` as long as one is next, and appends their names.
-    #[tactic(auto, using(crate::proofs::Steps::one_seen, crate::proofs::Loops::part_end, crate::proofs::Loops::part_last, crate::proofs::Loops::none_after))]
+    #[tactic(auto, using(crate::proofs::Steps::one_bare, crate::proofs::Loops::part_end, crate::proofs::Loops::part_last, crate::proofs::Loops::none_after))]
     fn import_names(&mut self, names: &mut Seq<&'a str>)
-        ensures { ReadsOnto import_names self.old self.new (map seen_text names.old) (map seen_text names.new) }
+        ensures { ReadsOnto import_names self.old self.new (map bare_text names.old) (map bare_text names.new) }
     {
         for _ in 0..self.left() {
             if !self.is_form(Key::Item) {
@@ -657,7 +658,7 @@ impl<'a> Reader<'a> {
     /// Reads `(item "a" (func))`. Requires that `(item` is next.
     fn import_item(&mut self) -> (&'a str, ItemSig<'a>)
         requires { is_form key.Item (left self.old) ≡ true }
-        ensures { Reads import_item self.old self.new (seen_item result) }
+        ensures { Reads import_item self.old self.new (bare_import_item result) }
     {
         self.skip();
         self.skip();
@@ -678,7 +679,7 @@ impl<'a> Reader<'a> {
     /// Reads forms `(item "a" (func))` as long as one is next, and appends the items.
     #[tactic(auto, using(crate::proofs::Steps::one_read, crate::proofs::Loops::part_end, crate::proofs::Loops::part_last, crate::proofs::Loops::none_after))]
     fn typed_items(&mut self, items: &mut Seq<(&'a str, ItemSig<'a>)>)
-        ensures { ReadsOnto import_items_of self.old self.new (map seen_item items.old) (map seen_item items.new) }
+        ensures { ReadsOnto import_items_of self.old self.new (map bare_import_item items.old) (map bare_import_item items.new) }
     {
         for _ in 0..self.left() {
             if !self.is_form(Key::Item) {
@@ -693,7 +694,7 @@ impl<'a> Reader<'a> {
     /// proposal). They have one type together, as in `(item "a") (item "b") (func)`, or a type
     /// each, as in `(item "a" (func)) (item "b" (memory 1))`.
     fn import_group(&mut self, module: &'a str, first: &'a str) -> ImportItems<'a>
-        ensures { Reads (import_group (seen_text «module».entry) (seen_text first.entry)) self.old self.new (seen_items result) }
+        ensures { Reads (import_group (bare_text «module».entry) (bare_text first.entry)) self.old self.new (bare_import_items result) }
     {
         if self.is_end() {
             self.close();
@@ -729,7 +730,7 @@ impl<'a> Reader<'a> {
 
     /// Reads the field `(export ..)`, without its parentheses (text format: exports).
     pub fn export_field(&mut self) -> Export<'a>
-        ensures { Decides exportfield self.old self.new (seen_export result) }
+        ensures { Decides exportfield self.old self.new (bare_export result) }
     {
         let span = self.place();
         self.skip();

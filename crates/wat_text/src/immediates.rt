@@ -1,16 +1,17 @@
 //! Reads the immediates of instructions that need more than an index: memory arguments, labels,
 //! casts and handlers (text format: instructions).
 
-ghost use Rattle.std.specs.Prelude.{◌≡◌, true, List, [], ◌∷◌, ◌++◌, ℕ, option_map};
+ghost use Rattle.std.specs.Prelude.{◌≡◌, true, List, [], ◌∷◌, ◌++◌, ℕ, option_map, map};
 ghost use Rattle.std.specs.Borrow.{Bor};
 ghost use Rattle.wat_tokens.specs.declared.words.Key.TheVariants as key;
 ghost use Rattle.wat_tokens.specs.declared.words.OwnOp.TheVariants as own;
 ghost use Rattle.wat_syntax.specs.Tokens.{peek, is_form};
-ghost use Rattle.wat_syntax.specs.Seen.{seen_call, seen_instr};
 ghost use Rattle.wat_syntax.specs.Instructions.{assignment, offset, align, memory_ordering, memarg, memarg_of, is_assigned, is_lane_alone, lane_memarg, struct_access, one_or_two, none_or_two, array_new_fixed, select, atomic_instr, atomic_of, br_table, callindirect, cast, handle, on, resumetable, own_instr};
 ghost use Rattle.wat_syntax.specs.Instructions.{handlers as handlers_rule};
 ghost use Rattle.wat_syntax.specs.Types.{indices};
 ghost use Rattle.wat_text.specs.Readers.{left, Reads, Decides, Finds, ReadsOnto, Pushes};
+ghost use Rattle.wat_syntax.specs.Bare.{bare_index, bare_indices};
+ghost use Rattle.wat_syntax.specs.BareInstructions.{bare_access, bare_call, bare_cast, bare_handle, bare_instr, bare_mem_arg, bare_mem_lane, bare_resume_table, bare_two};
 
 use crate::reader::Reader;
 use wast_tree::{
@@ -83,7 +84,7 @@ impl<'a> Reader<'a> {
     /// Reads a memory argument such as `$m offset=4 align=4` (text format: memory instructions).
     /// `natural` is the alignment if none is written.
     pub fn mem_arg(&mut self, natural: u64) -> MemArg<'a>
-        ensures { Decides (memarg natural) self.old self.new result }
+        ensures { Decides (memarg natural) self.old self.new (bare_mem_arg result) }
     {
         let ordering = self.ordering().map(MemArgOrdering::Op);
         let memory = self.index_or_zero();
@@ -97,7 +98,7 @@ impl<'a> Reader<'a> {
         memory: Index<'a>,
         ordering: Option<MemArgOrdering>,
     ) -> MemArg<'a>
-        ensures { Decides (memarg_of natural memory.entry ordering) self.old self.new result }
+        ensures { Decides (memarg_of natural (bare_index memory.entry) ordering) self.old self.new (bare_mem_arg result) }
     {
         let offset = self.offset();
         let align = self.align(natural);
@@ -132,7 +133,7 @@ impl<'a> Reader<'a> {
     /// number alone is that of the lane. For example, `v128.load8_lane 0 1` has memory 0 and lane
     /// 1.
     pub fn load_or_store_lane(&mut self, natural: u64) -> LoadOrStoreLane<'a>
-        ensures { Decides (lane_memarg natural) self.old self.new result }
+        ensures { Decides (lane_memarg natural) self.old self.new (bare_mem_lane result) }
     {
         let memarg = if self.is_lane_alone() {
             let place = self.place_before();
@@ -147,7 +148,7 @@ impl<'a> Reader<'a> {
     /// Reads the type and the field of an access to a struct, such as `$t $f` (text format:
     /// aggregate instructions).
     pub fn struct_access(&mut self) -> StructAccess<'a>
-        ensures { Decides struct_access self.old self.new result }
+        ensures { Decides struct_access self.old self.new (bare_access result) }
     {
         let owner = self.index();
         let field = self.index();
@@ -156,7 +157,7 @@ impl<'a> Reader<'a> {
 
     /// Reads an atomic access to a global, a table, a struct or an array, after its ordering.
     fn atomic_of(&mut self, op: AtomicOp, ordering: Ordering) -> Instruction<'a>
-        ensures { Decides (atomic_of op ordering) self.old self.new (seen_instr result) }
+        ensures { Decides (atomic_of op ordering) self.old self.new (bare_instr result) }
     {
         match op {
             AtomicOp::Global => {
@@ -182,7 +183,7 @@ impl<'a> Reader<'a> {
     /// Reads an atomic access to a global, a table, a struct or an array (shared-everything threads
     /// proposal). The ordering is `seq_cst` if none is written.
     pub fn atomic(&mut self, op: AtomicOp) -> Instruction<'a>
-        ensures { Decides (atomic_instr op) self.old self.new (seen_instr result) }
+        ensures { Decides (atomic_instr op) self.old self.new (bare_instr result) }
     {
         match self.ordering() {
             Some(ordering) => self.atomic_of(op, ordering),
@@ -194,7 +195,7 @@ impl<'a> Reader<'a> {
     /// appends the labels before it to the list.
     #[tactic(auto, using(crate::proofs::Labels::one_label, crate::proofs::Loops::part_end, crate::proofs::Loops::part_last, crate::proofs::Loops::none_after))]
     fn labels(&mut self, labels: &mut Seq<Index<'a>>, first: Index<'a>) -> Index<'a>
-        ensures { ReadsOnto indices self.old self.new (labels.old ++ first.entry ∷ []) (labels.new ++ result ∷ []) }
+        ensures { ReadsOnto indices self.old self.new (bare_indices labels.old ++ bare_index first.entry ∷ []) (bare_indices labels.new ++ bare_index result ∷ []) }
     {
         let mut last = first;
         for _ in 0..self.left() {
@@ -212,7 +213,7 @@ impl<'a> Reader<'a> {
     /// instructions).
     #[tactic(auto, using(crate::proofs::Labels::table_is))]
     fn br_table(&mut self) -> Instruction<'a>
-        ensures { Reads br_table self.old self.new (seen_instr result) }
+        ensures { Reads br_table self.old self.new (bare_instr result) }
     {
         let mut labels = Seq::new(self.alloc);
         let first = self.index();
@@ -223,7 +224,7 @@ impl<'a> Reader<'a> {
     /// Reads the table and the type use of an indirect call, such as `$t (type 0)` (text format:
     /// control instructions). Without an index it is table 0.
     fn call_indirect(&mut self) -> CallIndirect<'a>
-        ensures { Reads callindirect self.old self.new (seen_call result) }
+        ensures { Reads callindirect self.old self.new (bare_call result) }
     {
         let table = self.index_or_zero();
         let ty = self.type_use(false);
@@ -234,7 +235,7 @@ impl<'a> Reader<'a> {
     /// parametric instructions).
     #[tactic(auto, using(crate::proofs::Loops::from_nothing))]
     fn select(&mut self) -> Instruction<'a>
-        ensures { Reads select self.old self.new (seen_instr result) }
+        ensures { Reads select self.old self.new (bare_instr result) }
     {
         if !self.is_form(Key::Result) {
             return Instruction::select(SelectTypes { tys: None });
@@ -247,7 +248,7 @@ impl<'a> Reader<'a> {
     /// Reads two indices, of which the first can be left out. It is 0 then, at the position of the
     /// token before. For example, `memory.init $d` is `memory.init 0 $d`.
     pub fn one_or_two(&mut self) -> (Index<'a>, Index<'a>)
-        ensures { Decides one_or_two self.old self.new result }
+        ensures { Decides one_or_two self.old self.new (bare_two result) }
     {
         let place = self.place_before();
         let first = self.index();
@@ -260,7 +261,7 @@ impl<'a> Reader<'a> {
     /// Reads two indices, or none. If there is none, both are 0, at the position of the token
     /// before. For example, `memory.copy` is `memory.copy 0 0`.
     pub fn none_or_two(&mut self) -> (Index<'a>, Index<'a>)
-        ensures { Decides none_or_two self.old self.new result }
+        ensures { Decides none_or_two self.old self.new (bare_two result) }
     {
         let place = self.place_before();
         match self.optional_index() {
@@ -271,7 +272,7 @@ impl<'a> Reader<'a> {
 
     /// Reads the tag of a handler, and its label or `switch` (stack switching proposal).
     fn handle(&mut self) -> Handle<'a>
-        ensures { Decides handle self.old self.new result }
+        ensures { Decides handle self.old self.new (bare_handle result) }
     {
         let tag = self.index();
         if let Some(Word::Pair(PairOp::switch)) = self.word(0) {
@@ -285,7 +286,7 @@ impl<'a> Reader<'a> {
     /// Reads `(on $tag $label)` or `(on $tag switch)`. Requires that `(on` is next.
     fn on_clause(&mut self) -> Handle<'a>
         requires { is_form key.On (left self.old) ≡ true }
-        ensures { Decides on self.old self.new result }
+        ensures { Decides on self.old self.new (bare_handle result) }
     {
         self.skip();
         self.skip();
@@ -303,9 +304,9 @@ impl<'a> Reader<'a> {
     }
 
     /// Reads forms `(on ..)` as long as one is next, and appends the handlers.
-    #[tactic(auto, using(crate::proofs::Steps::one_more, crate::proofs::Loops::part_end, crate::proofs::Loops::part_last, crate::proofs::Loops::none_after))]
+    #[tactic(auto, using(crate::proofs::Steps::one_bare, crate::proofs::Loops::part_end, crate::proofs::Loops::part_last, crate::proofs::Loops::none_after))]
     fn on_clauses(&mut self, handlers: &mut Seq<Handle<'a>>)
-        ensures { ReadsOnto handlers_rule self.old self.new handlers.old handlers.new }
+        ensures { ReadsOnto handlers_rule self.old self.new (map bare_handle handlers.old) (map bare_handle handlers.new) }
     {
         for _ in 0..self.left() {
             if !self.is_form(Key::On) {
@@ -319,7 +320,7 @@ impl<'a> Reader<'a> {
     /// Reads the handlers of a `resume` instruction (stack switching proposal).
     #[tactic(auto, using(crate::proofs::Loops::from_nothing))]
     fn resume_table(&mut self) -> ResumeTable<'a>
-        ensures { Reads resumetable self.old self.new result }
+        ensures { Reads resumetable self.old self.new (bare_resume_table result) }
     {
         let mut handlers = Seq::new(self.alloc);
         self.on_clauses(&mut handlers);
@@ -328,7 +329,7 @@ impl<'a> Reader<'a> {
 
     /// Reads the type and the length of `array.new_fixed` (text format: aggregate instructions).
     fn array_new_fixed(&mut self) -> Instruction<'a>
-        ensures { Decides array_new_fixed self.old self.new (seen_instr result) }
+        ensures { Decides array_new_fixed self.old self.new (bare_instr result) }
     {
         let array = self.index();
         let length = self.number32();
@@ -338,7 +339,7 @@ impl<'a> Reader<'a> {
     /// Reads the label and the two types of a branch by a cast, such as `$l anyref eqref` (text
     /// format: control instructions).
     fn cast(&mut self) -> BrOnCast<'a>
-        ensures { Decides cast self.old self.new result }
+        ensures { Decides cast self.old self.new (bare_cast result) }
     {
         let label = self.index();
         let from_type = self.ref_type();
@@ -353,7 +354,7 @@ impl<'a> Reader<'a> {
     /// Reads the immediates of `br_on_cast`.
     #[tactic(auto, using(crate::proofs::Makes::none_failed), unfolding(crate::specs::Readers::left))]
     fn br_on_cast(&mut self) -> Instruction<'a>
-        ensures { Reads (own_instr own.br_on_cast) self.old self.new (seen_instr result) }
+        ensures { Reads (own_instr own.br_on_cast) self.old self.new (bare_instr result) }
     {
         let cast = self.cast();
         self.make.br_on_cast(cast)
@@ -362,7 +363,7 @@ impl<'a> Reader<'a> {
     /// Reads the immediates of `br_on_cast_fail`.
     #[tactic(auto, using(crate::proofs::Makes::none_failed), unfolding(crate::specs::Readers::left))]
     fn br_on_cast_fail(&mut self) -> Instruction<'a>
-        ensures { Reads (own_instr own.br_on_cast_fail) self.old self.new (seen_instr result) }
+        ensures { Reads (own_instr own.br_on_cast_fail) self.old self.new (bare_instr result) }
     {
         let BrOnCast {
             label,
@@ -379,7 +380,7 @@ impl<'a> Reader<'a> {
     /// Reads the immediates of `br_on_cast_desc_eq` (custom descriptors proposal).
     #[tactic(auto, using(crate::proofs::Makes::none_failed), unfolding(crate::specs::Readers::left))]
     fn br_on_cast_desc_eq(&mut self) -> Instruction<'a>
-        ensures { Reads (own_instr own.br_on_cast_desc_eq) self.old self.new (seen_instr result) }
+        ensures { Reads (own_instr own.br_on_cast_desc_eq) self.old self.new (bare_instr result) }
     {
         let BrOnCast {
             label,
@@ -396,7 +397,7 @@ impl<'a> Reader<'a> {
     /// Reads the immediates of `br_on_cast_desc_eq_fail` (custom descriptors proposal).
     #[tactic(auto, using(crate::proofs::Makes::none_failed), unfolding(crate::specs::Readers::left))]
     fn br_on_cast_desc_eq_fail(&mut self) -> Instruction<'a>
-        ensures { Reads (own_instr own.br_on_cast_desc_eq_fail) self.old self.new (seen_instr result) }
+        ensures { Reads (own_instr own.br_on_cast_desc_eq_fail) self.old self.new (bare_instr result) }
     {
         let BrOnCast {
             label,
@@ -412,7 +413,7 @@ impl<'a> Reader<'a> {
 
     /// Reads the immediates of `resume` (stack switching proposal).
     fn resume(&mut self) -> Instruction<'a>
-        ensures { Reads (own_instr own.resume) self.old self.new (seen_instr result) }
+        ensures { Reads (own_instr own.resume) self.old self.new (bare_instr result) }
     {
         let type_index = self.index();
         let table = self.resume_table();
@@ -422,7 +423,7 @@ impl<'a> Reader<'a> {
     /// Reads the immediates of `resume_throw` (stack switching proposal).
     #[tactic(auto, using(crate::proofs::Makes::none_failed), unfolding(crate::specs::Readers::left))]
     fn resume_throw(&mut self) -> Instruction<'a>
-        ensures { Reads (own_instr own.resume_throw) self.old self.new (seen_instr result) }
+        ensures { Reads (own_instr own.resume_throw) self.old self.new (bare_instr result) }
     {
         let type_index = self.index();
         let tag_index = self.index();
@@ -436,7 +437,7 @@ impl<'a> Reader<'a> {
 
     /// Reads the immediates of `resume_throw_ref` (stack switching proposal).
     fn resume_throw_ref(&mut self) -> Instruction<'a>
-        ensures { Reads (own_instr own.resume_throw_ref) self.old self.new (seen_instr result) }
+        ensures { Reads (own_instr own.resume_throw_ref) self.old self.new (bare_instr result) }
     {
         let type_index = self.index();
         let table = self.resume_table();
@@ -446,7 +447,7 @@ impl<'a> Reader<'a> {
     /// Reads the immediates of `call_indirect`.
     #[tactic(auto, using(crate::proofs::Makes::none_failed), unfolding(crate::specs::Readers::left))]
     fn indirect_call(&mut self) -> Instruction<'a>
-        ensures { Reads (own_instr own.call_indirect) self.old self.new (seen_instr result) }
+        ensures { Reads (own_instr own.call_indirect) self.old self.new (bare_instr result) }
     {
         let call = self.call_indirect();
         self.make.call_indirect(call)
@@ -455,7 +456,7 @@ impl<'a> Reader<'a> {
     /// Reads the immediates of `return_call_indirect`.
     #[tactic(auto, using(crate::proofs::Makes::none_failed), unfolding(crate::specs::Readers::left))]
     fn return_indirect_call(&mut self) -> Instruction<'a>
-        ensures { Reads (own_instr own.return_call_indirect) self.old self.new (seen_instr result) }
+        ensures { Reads (own_instr own.return_call_indirect) self.old self.new (bare_instr result) }
     {
         let call = self.call_indirect();
         self.make.return_call_indirect(call)
@@ -464,7 +465,7 @@ impl<'a> Reader<'a> {
     /// Reads the immediates of an instruction that has its own kind of them, such as `br_table` or
     /// `ref.null`, and returns the instruction (text format: instructions).
     pub fn own(&mut self, op: OwnOp) -> Instruction<'a>
-        ensures { Reads (own_instr op) self.old self.new (seen_instr result) }
+        ensures { Reads (own_instr op) self.old self.new (bare_instr result) }
     {
         match op {
             OwnOp::else_ => Instruction::else_(self.id()),

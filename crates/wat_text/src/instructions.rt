@@ -2,11 +2,12 @@
 
 ghost use Rattle.std.specs.Prelude.{◌≡◌, true, Some, map};
 ghost use Rattle.wat_syntax.specs.Tokens.{one, peek, word_of};
-ghost use Rattle.wat_syntax.specs.Seen.{seen_instr, seen_block};
 ghost use Rattle.wat_syntax.specs.Instructions.{instruction as instruction_rule, blocktype, is_catch_word, is_catch, catch_clause, catch as catch_rule, catches as catches_rule, try_table_of, opener, is_plaininstr, plaininstr};
 ghost use Rattle.wat_tokens.specs.declared.tokens.Token.TheVariants as token;
 ghost use Rattle.wat_text.specs.Readers.{left, Reads, Decides, ReadsOnto, Pushes, Builds};
 ghost use Rattle.wat_syntax.specs.Tree.instr;
+ghost use Rattle.wat_syntax.specs.Bare.{bare_text};
+ghost use Rattle.wat_syntax.specs.BareInstructions.{bare_block, bare_catch, bare_instr};
 
 use crate::operators::{with_index, with_pair, with_uncovered};
 use crate::reader::Reader;
@@ -20,7 +21,7 @@ impl<'a> Reader<'a> {
     /// Reads the label and the type of a block (text format: control instructions). For example,
     /// `$l (result i32)` of `block $l (result i32)`.
     fn block_type(&mut self) -> BlockType<'a>
-        ensures { Reads blocktype self.old self.new (seen_block result) }
+        ensures { Reads blocktype self.old self.new (bare_block result) }
     {
         let (label, label_name) = (self.id(), self.name());
         let ty = self.type_use(false);
@@ -34,7 +35,7 @@ impl<'a> Reader<'a> {
     /// Reads a clause of `try_table` after its `(`, such as `catch $e $l` (text format: control
     /// instructions).
     fn catch(&mut self) -> TryTableCatch<'a>
-        ensures { Decides catch_clause self.old self.new result }
+        ensures { Decides catch_clause self.old self.new (bare_catch result) }
     {
         let word = self.word(0);
         self.skip();
@@ -82,7 +83,7 @@ impl<'a> Reader<'a> {
     /// Reads a clause of `try_table`, in its parentheses. Requires that one is next.
     fn catch_form(&mut self) -> TryTableCatch<'a>
         requires { is_catch (left self.old) ≡ true }
-        ensures { Decides catch_rule self.old self.new result }
+        ensures { Decides catch_rule self.old self.new (bare_catch result) }
     {
         self.skip();
         let catch = self.catch();
@@ -100,9 +101,9 @@ impl<'a> Reader<'a> {
 
     /// Reads clauses of `try_table` as long as one is next, and appends them (text format: control
     /// instructions).
-    #[tactic(auto, using(crate::proofs::Steps::one_more, crate::proofs::Loops::part_end, crate::proofs::Loops::part_last, crate::proofs::Loops::none_after))]
+    #[tactic(auto, using(crate::proofs::Steps::one_bare, crate::proofs::Loops::part_end, crate::proofs::Loops::part_last, crate::proofs::Loops::none_after))]
     fn catches(&mut self, catches: &mut Seq<TryTableCatch<'a>>)
-        ensures { ReadsOnto catches_rule self.old self.new catches.old catches.new }
+        ensures { ReadsOnto catches_rule self.old self.new (map bare_catch catches.old) (map bare_catch catches.new) }
     {
         for _ in 0..self.left() {
             if !self.is_catch() {
@@ -169,7 +170,7 @@ impl<'a> Reader<'a> {
     /// Reads the clauses of `try_table`, after its block type, and appends the instruction.
     #[tactic(auto, using(crate::proofs::Loops::from_nothing, crate::proofs::Loops::mapped))]
     fn try_table(&mut self, block: BlockType<'a>, instrs: &mut Seq<Instruction<'a>>)
-        ensures { ReadsOnto (one (try_table_of (seen_block block.entry))) self.old self.new (map seen_instr instrs.old) (map seen_instr instrs.new) }
+        ensures { ReadsOnto (one (try_table_of (bare_block block.entry))) self.old self.new (map bare_instr instrs.old) (map bare_instr instrs.new) }
     {
         let mut catches = Seq::new(self.alloc);
         self.catches(&mut catches);
@@ -180,7 +181,7 @@ impl<'a> Reader<'a> {
     /// The instructions in the block are not read.
     #[tactic(auto, using(crate::proofs::Loops::mapped))]
     fn block(&mut self, op: BlockOp, instrs: &mut Seq<Instruction<'a>>)
-        ensures { ReadsOnto (one (opener op)) self.old self.new (map seen_instr instrs.old) (map seen_instr instrs.new) }
+        ensures { ReadsOnto (one (opener op)) self.old self.new (map bare_instr instrs.old) (map bare_instr instrs.new) }
     {
         let block = self.block_type();
         match op {
@@ -198,7 +199,7 @@ impl<'a> Reader<'a> {
     /// and begins no block.
     fn operator(&mut self, word: Word, name: &'a str) -> Instruction<'a>
         requires { is_plaininstr word ≡ true }
-        ensures { Reads (plaininstr word name.entry) self.old self.new (seen_instr result) }
+        ensures { Reads (plaininstr word (bare_text name.entry)) self.old self.new (bare_instr result) }
     {
         match word {
             Word::Plain(op) => Instruction::Plain(op),
@@ -233,8 +234,8 @@ impl<'a> Reader<'a> {
     /// Reads an instruction by its keyword, and appends it. Requires that the keyword is next.
     #[tactic(auto, using(crate::proofs::Words::not_opener, crate::proofs::Loops::mapped))]
     fn worded(&mut self, word: Word, name: &'a str, instrs: &mut Seq<Instruction<'a>>)
-        requires { peek 0 (left self.old) ≡ Some (token.Word word name) }
-        ensures { ReadsOnto (one instruction_rule) self.old self.new (map seen_instr instrs.old) (map seen_instr instrs.new) }
+        requires { peek 0 (left self.old) ≡ Some (token.Word word (bare_text name)) }
+        ensures { ReadsOnto (one instruction_rule) self.old self.new (map bare_instr instrs.old) (map bare_instr instrs.new) }
     {
         match word {
             Word::Key(_) => self.fail(TextFault::Operator),
@@ -253,7 +254,7 @@ impl<'a> Reader<'a> {
     /// Reads the keyword and the immediates of an instruction, and appends it (text format:
     /// instructions). Folded instructions are read in `bodies`.
     pub(crate) fn instruction(&mut self, instrs: &mut Seq<Instruction<'a>>)
-        ensures { ReadsOnto (one instruction_rule) self.old self.new (map seen_instr instrs.old) (map seen_instr instrs.new) }
+        ensures { ReadsOnto (one instruction_rule) self.old self.new (map bare_instr instrs.old) (map bare_instr instrs.new) }
     {
         match self.look(0) {
             Some(Token::Word(word, name)) => self.worded(word, name, instrs),

@@ -17,7 +17,6 @@
 //!   one instruction.
 //! - `quotes` joins the strings of `(module quote ..)`.
 //! - `reader` has the tokens that are left, and the first error.
-//! - `meanings` has the theorems.
 //!
 //! The rules of the text format are in `wat_grammar` and `wat_syntax`. In `specs/`, `Denotes` has
 //! the rules of a whole module, and `Readers` the contracts of functions that read a part of it.
@@ -28,7 +27,7 @@
 //!   returned.
 //! - [`read`], `refuses`: if the error is not [`TextFault::Memory`], the rules read the text as no
 //!   module, or as one that is not well formed.
-//! - [`module_laws`]: the rules read no text as two modules, except for addresses in memory.
+//! - A text has one module by definition (`module_of`), which is without addresses in memory.
 #![tactic(auto)]
 
 mod bodies;
@@ -37,7 +36,6 @@ mod examples;
 mod fields;
 mod immediates;
 mod instructions;
-mod meanings;
 mod modules;
 mod operators;
 mod quotes;
@@ -46,6 +44,5 @@ mod segments;
 mod types;
 mod vectors;
 
-pub use meanings::module_laws;
 pub use modules::{TextKind, TextModule, read, read_module_tokens, read_tokens};
 pub use wat_tokens::{Strings, TextError, TextFault};

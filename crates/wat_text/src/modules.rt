@@ -7,12 +7,14 @@ ghost use Rattle.wast_tree_nodes.specs.WellFormed.{is_well_formed};
 ghost use Rattle.wat_syntax.specs.Modules.{startfield};
 ghost use Rattle.wat_syntax.specs.Customs.{strings as strings_rule};
 ghost use Rattle.wat_syntax.specs.ModuleFields.{fieldform, open_field, modulefield, modulefields};
-ghost use Rattle.wat_syntax.specs.SeenModuleFields.{seen_field};
 ghost use Rattle.wat_text.specs.Readers.{left, Reads, Decides, Expects, Finds, Refuses, ReadsOnto, Pushes, Builds};
 ghost use Rattle.wat_text.specs.Texts.{is_well_formed_text};
-ghost use Rattle.wat_text.specs.Denotes.{seen_module, seen_opening, opening, fields_of_module, all_of, fields_module, Means, MeansAs, Denotes, DenotesNothing, Explains, is_well_formed_module, AreFields, AreIllFormed, MeansIllFormed, DenotesIllFormed};
+ghost use Rattle.wat_text.specs.Denotes.{opening, fields_of_module, all_bare, fields_module, module_as, module_of_tokens as tokens_rule, Denotes, DenotesNothing, Explains, is_well_formed_module, AreFields, AreIllFormed, IsModule, MeansIllFormed, DenotesIllFormed};
 ghost use Rattle.wat_text.specs.Denotes.{all_taken, module_keyword as keyword_rule, module_end as end_rule, rest_of_fields as fields_to_end, quote as quote_rule, quotes as quotes_rule, binary_module as binary_rule, Quotes as quotes_kind};
 ghost use Rattle.wat_text.specs.Finishes.{Finishes, IsClauseFault, WasRefused};
+ghost use Rattle.wat_syntax.specs.Bare.{bare_text};
+ghost use Rattle.wat_syntax.specs.BareFields.{bare_field};
+ghost use Rattle.wat_text.specs.Denotes.{bare_opening, bare_quote};
 
 use crate::quotes::{Quote, quoted_tokens};
 use crate::reader::Reader;
@@ -70,7 +72,7 @@ struct ModuleHead<'a> {
 impl<'a> Reader<'a> {
     /// Reads a field after its `(`, without its `)` (text format: modules).
     fn form(&mut self) -> ModuleField<'a>
-        ensures { Reads fieldform self.old self.new (seen_field result) }
+        ensures { Reads fieldform self.old self.new (bare_field result) }
     {
         match self.key(0) {
             Some(Key::Ty) => ModuleField::Ty(self.type_field()),
@@ -91,7 +93,7 @@ impl<'a> Reader<'a> {
 
     /// Reads the field `(start $f)`, without its parentheses (text format: start function).
     fn start_field(&mut self) -> ModuleField<'a>
-        ensures { Decides startfield self.old self.new result }
+        ensures { Decides startfield self.old self.new (bare_field result) }
     {
         self.skip();
         ModuleField::Start(self.index())
@@ -107,7 +109,7 @@ impl<'a> Reader<'a> {
 
     /// Reads a field from its `(` or its annotation on, without its `)` (text format: modules).
     fn field(&mut self) -> ModuleField<'a>
-        ensures { Reads open_field self.old self.new (seen_field result) }
+        ensures { Reads open_field self.old self.new (bare_field result) }
     {
         match self.look(0) {
             Some(Token::Open) => {
@@ -127,7 +129,7 @@ impl<'a> Reader<'a> {
 
     /// Reads a field in its parentheses (text format: modules).
     fn module_field(&mut self) -> ModuleField<'a>
-        ensures { Reads modulefield self.old self.new (seen_field result) }
+        ensures { Reads modulefield self.old self.new (bare_field result) }
     {
         let field = self.field();
         self.close();
@@ -145,7 +147,7 @@ impl<'a> Reader<'a> {
     /// Reads fields up to the closing `)` or the end of the text, and appends them.
     #[tactic(auto, using(crate::proofs::Steps::one_built, crate::proofs::Loops::part_end, crate::proofs::Loops::part_last, crate::proofs::Loops::none_after))]
     fn all_fields_of(&mut self, fields: &mut Seq<ModuleField<'a>>)
-        ensures { ReadsOnto modulefields self.old self.new (map seen_field fields.old) (map seen_field fields.new) }
+        ensures { ReadsOnto modulefields self.old self.new (map bare_field fields.old) (map bare_field fields.new) }
     {
         for _ in 0..self.left() {
             if self.is_end() {
@@ -159,7 +161,7 @@ impl<'a> Reader<'a> {
     /// Reads fields up to the closing `)` or the end of the text.
     #[tactic(auto, using(crate::proofs::Loops::from_nothing))]
     fn fields(&mut self) -> Seq<ModuleField<'a>>
-        ensures { Reads modulefields self.old self.new (map seen_field result) }
+        ensures { Reads modulefields self.old self.new (map bare_field result) }
     {
         let mut fields = Seq::new(self.alloc);
         self.all_fields_of(&mut fields);
@@ -182,7 +184,7 @@ impl<'a> Reader<'a> {
     /// Reads `(module`, an id and a name annotation, if the module is in parentheses. Otherwise it
     /// reads nothing, because a module of fields alone has no id.
     fn module_head(&mut self) -> ModuleHead<'a>
-        ensures { Decides opening self.old self.new (seen_opening result) }
+        ensures { Decides opening self.old self.new (bare_opening result) }
     {
         let keyword = self.module_keyword();
         let (id, name) = match keyword {
@@ -201,9 +203,9 @@ impl<'a> Reader<'a> {
     }
 
     /// Reads strings up to the closing `)`, and appends them.
-    #[tactic(auto, using(crate::proofs::Steps::one_more, crate::proofs::Loops::part_end, crate::proofs::Loops::part_last, crate::proofs::Loops::none_after))]
+    #[tactic(auto, using(crate::proofs::Steps::one_bare, crate::proofs::Loops::part_end, crate::proofs::Loops::part_last, crate::proofs::Loops::none_after))]
     fn all_pieces(&mut self, pieces: &mut Seq<&'a [u8]>)
-        ensures { ReadsOnto strings_rule self.old self.new pieces.old pieces.new }
+        ensures { ReadsOnto strings_rule self.old self.new (map bare_text pieces.old) (map bare_text pieces.new) }
     {
         for _ in 0..self.left() {
             if self.is_end() {
@@ -218,7 +220,7 @@ impl<'a> Reader<'a> {
     /// section.
     #[tactic(auto, using(crate::proofs::Loops::from_nothing))]
     pub(crate) fn pieces(&mut self) -> Seq<&'a [u8]>
-        ensures { Reads strings_rule self.old self.new result }
+        ensures { Reads strings_rule self.old self.new (map bare_text result) }
     {
         let mut pieces = Seq::new(self.alloc);
         self.all_pieces(&mut pieces);
@@ -227,7 +229,7 @@ impl<'a> Reader<'a> {
 
     /// Reads a string of a text in quotes, with its position.
     fn quote(&mut self) -> Quote<'a>
-        ensures { Decides quote_rule self.old self.new result }
+        ensures { Decides quote_rule self.old self.new (bare_quote result) }
     {
         let span = self.place();
         let bytes = self.bytes();
@@ -245,9 +247,9 @@ impl<'a> Reader<'a> {
     }
 
     /// Reads strings up to the closing `)`, and appends each with its position.
-    #[tactic(auto, using(crate::proofs::Steps::one_more, crate::proofs::Loops::part_end, crate::proofs::Loops::part_last, crate::proofs::Loops::none_after))]
+    #[tactic(auto, using(crate::proofs::Steps::one_bare, crate::proofs::Loops::part_end, crate::proofs::Loops::part_last, crate::proofs::Loops::none_after))]
     fn all_quotes(&mut self, quotes: &mut Vec<Quote<'a>>)
-        ensures { ReadsOnto quotes_rule self.old self.new quotes.old.items quotes.new.items }
+        ensures { ReadsOnto quotes_rule self.old self.new (map bare_quote quotes.old.items) (map bare_quote quotes.new.items) }
     {
         for _ in 0..self.left() {
             if self.is_end() {
@@ -262,7 +264,7 @@ impl<'a> Reader<'a> {
     /// `(module quote ..)`.
     #[tactic(auto, using(crate::proofs::Loops::from_nothing))]
     fn quotes(&mut self) -> Vec<Quote<'a>>
-        ensures { Reads quotes_rule self.old self.new result.items }
+        ensures { Reads quotes_rule self.old self.new (map bare_quote result.items) }
     {
         let mut quotes = Vec::new(self.alloc);
         self.all_quotes(&mut quotes);
@@ -363,7 +365,7 @@ fn module_of_fields<'a>(
     span: Span,
     head: ModuleHead<'a>,
 ) -> Result<TextModule<'a>, TextError>
-    ensures { Finishes is_well_formed_module (λ m. fields_module span (seen_opening head.entry) (left reader.entry) ≡ Some (seen_module m)) (fields_module span (seen_opening head.entry) (left reader.entry) ≡ None) reader.entry result }
+    ensures { Finishes is_well_formed_module (IsModule (fields_module span (bare_opening head.entry) (left reader.entry))) (fields_module span (bare_opening head.entry) (left reader.entry) ≡ None) reader.entry result }
 {
     match rest_of_fields(reader, head.keyword.is_some()) {
         Ok(fields) => Ok(TextModule {
@@ -388,7 +390,7 @@ fn module_place(keyword: Option<Span>) -> Span
 
 /// Reads a binary module from `binary` on, and returns its pieces.
 fn binary_module<'a>(reader: Reader<'a>, head: ModuleHead<'a>) -> Result<TextModule<'a>, TextError>
-    ensures { Finishes is_well_formed_module (λ m. binary_rule (seen_opening head.entry) (left reader.entry) ≡ Some (seen_module m)) (binary_rule (seen_opening head.entry) (left reader.entry) ≡ None) reader.entry result }
+    ensures { Finishes is_well_formed_module (IsModule (binary_rule (bare_opening head.entry) (left reader.entry))) (binary_rule (bare_opening head.entry) (left reader.entry) ≡ None) reader.entry result }
 {
     let mut reader = reader;
     reader.skip();
@@ -414,7 +416,7 @@ fn quoted_module<'a>(
     head: ModuleHead<'a>,
     strings: &'a Strings,
 ) -> Result<TextModule<'a>, TextError>
-    ensures { Finishes is_well_formed_module (λ m. MeansAs quotes_kind (seen_opening head.entry) (left reader.entry) (Some (seen_module m))) (MeansAs quotes_kind (seen_opening head.entry) (left reader.entry) None) reader.entry result }
+    ensures { Finishes is_well_formed_module (IsModule (module_as quotes_kind (bare_opening head.entry) (left reader.entry))) (module_as quotes_kind (bare_opening head.entry) (left reader.entry) ≡ None) reader.entry result }
 {
     let alloc = reader.alloc;
     let mut reader = reader;
@@ -449,8 +451,8 @@ fn fields_of_tokens<'a>(
     end: Span,
 ) -> Result<Seq<ModuleField<'a>>, TextError>
     ensures well_formed { IfOk result (λ fields. IsTrue (is_well_formed fields)) }
-    ensures denotes { IfOk result (AreFields (fields_of_module (all_of tokens.entry.items end))) }
-    ensures refuses { IfErr result (λ e. Explains (fields_of_module (all_of tokens.entry.items end) ≡ None) (AreIllFormed (fields_of_module (all_of tokens.entry.items end))) e.fault) }
+    ensures denotes { IfOk result (AreFields (fields_of_module (all_bare tokens.entry.items end))) }
+    ensures refuses { IfErr result (λ e. Explains (fields_of_module (all_bare tokens.entry.items end) ≡ None) (AreIllFormed (fields_of_module (all_bare tokens.entry.items end))) e.fault) }
 {
     let mut reader = Reader::new(alloc, tokens, end);
     let head = reader.module_head();
@@ -466,8 +468,8 @@ fn module_of_tokens<'a>(
     strings: &'a Strings,
 ) -> Result<TextModule<'a>, TextError>
     ensures well_formed { IfOk result (λ m. IsTrue (is_well_formed_text m.kind)) }
-    ensures denotes { IfOk result (λ m. Means (all_of tokens.entry.items end) (Some (seen_module m))) }
-    ensures refuses { IfErr result (λ e. Explains (Means (all_of tokens.entry.items end) None) (MeansIllFormed (all_of tokens.entry.items end)) e.fault) }
+    ensures denotes { IfOk result (IsModule (tokens_rule (all_bare tokens.entry.items end))) }
+    ensures refuses { IfErr result (λ e. Explains (tokens_rule (all_bare tokens.entry.items end) ≡ None) (MeansIllFormed (all_bare tokens.entry.items end)) e.fault) }
 {
     let mut reader = Reader::new(alloc, tokens, end);
     let head = reader.module_head();
@@ -523,7 +525,7 @@ pub fn read<'a>(
     strings: &'a Strings,
 ) -> Result<TextModule<'a>, TextError>
     ensures well_formed { IfOk result (λ m. IsTrue (is_well_formed_text m.kind)) }
-    ensures denotes { IfOk result (λ m. Denotes text.now (seen_module m)) }
+    ensures denotes { IfOk result (Denotes text.now) }
     ensures refuses { IfErr result (λ e. Explains (DenotesNothing text.now) (DenotesIllFormed text.now) e.fault) }
     ensures place { IfErr result (λ e. e.span.offset ≤ length text.now) }
 {
@@ -572,8 +574,8 @@ pub fn read_tokens<'a>(
     end: Span,
 ) -> Result<Seq<ModuleField<'a>>, TextError>
     ensures well_formed { IfOk result (λ fields. IsTrue (is_well_formed fields)) }
-    ensures denotes { IfOk result (AreFields (fields_of_module (all_of tokens.entry.items end))) }
-    ensures refuses { IfErr result (λ e. Explains (fields_of_module (all_of tokens.entry.items end) ≡ None) (AreIllFormed (fields_of_module (all_of tokens.entry.items end))) e.fault) }
+    ensures denotes { IfOk result (AreFields (fields_of_module (all_bare tokens.entry.items end))) }
+    ensures refuses { IfErr result (λ e. Explains (fields_of_module (all_bare tokens.entry.items end) ≡ None) (AreIllFormed (fields_of_module (all_bare tokens.entry.items end))) e.fault) }
     ensures place { IfErr result (λ e. e.span.offset ≤ end.offset) }
 {
     match fields_of_tokens(alloc, tokens, end) {
@@ -598,7 +600,7 @@ pub fn read_tokens<'a>(
 /// # Guarantees
 ///
 /// - `well_formed`: the fields are well formed. The bytes of a binary module are not checked.
-/// - `denotes`: the rules of the text format read the tokens as the module (`Means`).
+/// - `denotes`: the rules of the text format read the tokens as the module (`IsModule`).
 /// - `refuses`: unless the error is [`TextFault::Memory`], the rules read the tokens as no module.
 ///   If it is [`TextFault::IllFormed`], they may also read them as a module that is not well
 ///   formed.
@@ -615,8 +617,8 @@ pub fn read_module_tokens<'a>(
     strings: &'a Strings,
 ) -> Result<TextModule<'a>, TextError>
     ensures well_formed { IfOk result (λ m. IsTrue (is_well_formed_text m.kind)) }
-    ensures denotes { IfOk result (λ m. Means (all_of tokens.entry.items end) (Some (seen_module m))) }
-    ensures refuses { IfErr result (λ e. Explains (Means (all_of tokens.entry.items end) None) (MeansIllFormed (all_of tokens.entry.items end)) e.fault) }
+    ensures denotes { IfOk result (IsModule (tokens_rule (all_bare tokens.entry.items end))) }
+    ensures refuses { IfErr result (λ e. Explains (tokens_rule (all_bare tokens.entry.items end) ≡ None) (MeansIllFormed (all_bare tokens.entry.items end)) e.fault) }
     ensures place { IfErr result (λ e. e.span.offset ≤ end.offset) }
 {
     match module_of_tokens(alloc, tokens, end, strings) {

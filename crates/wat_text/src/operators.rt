@@ -2,7 +2,8 @@
 
 ghost use Rattle.std.specs.Prelude.{◌≡◌};
 ghost use Rattle.wat_syntax.specs.Operators.{index_instr, uncovered_instr, pair_instr};
-ghost use Rattle.wat_syntax.specs.Seen.{seen_instr};
+ghost use Rattle.wat_syntax.specs.Bare.{bare_index};
+ghost use Rattle.wat_syntax.specs.BareInstructions.{bare_instr};
 
 use wast_base::IndexOp;
 use wast_tree::{
@@ -13,8 +14,7 @@ use wat_tokens::{PairOp, UncoveredOp};
 
 /// Returns the instruction with an index that a keyword is (text format: instructions).
 pub(crate) fn with_index<'a>(op: IndexOp, index: Index<'a>) -> Instruction<'a>
-    ensures instruction { result ≡ index_instr op index.entry }
-    ensures seen { seen_instr result ≡ index_instr op index.entry }
+    ensures { bare_instr result ≡ index_instr op (bare_index index.entry) }
 {
     match op {
         IndexOp::Catch => Instruction::catch(index),
@@ -59,8 +59,7 @@ pub(crate) fn with_index<'a>(op: IndexOp, index: Index<'a>) -> Instruction<'a>
 
 /// Returns the instruction with an index that a keyword is. The encoder does not support these.
 pub(crate) fn with_uncovered<'a>(op: UncoveredOp, index: Index<'a>) -> Instruction<'a>
-    ensures instruction { result ≡ uncovered_instr op index.entry }
-    ensures seen { seen_instr result ≡ uncovered_instr op index.entry }
+    ensures { bare_instr result ≡ uncovered_instr op (bare_index index.entry) }
 {
     match op {
         UncoveredOp::struct_new_desc => Instruction::struct_new_desc(index),
@@ -75,8 +74,7 @@ pub(crate) fn with_uncovered<'a>(op: UncoveredOp, index: Index<'a>) -> Instructi
 /// Returns the instruction with two indices that a keyword is. The indices are in the order of the
 /// text (text format: instructions).
 pub(crate) fn with_pair<'a>(op: PairOp, first: Index<'a>, second: Index<'a>) -> Instruction<'a>
-    ensures instruction { result ≡ pair_instr op first.entry second.entry }
-    ensures seen { seen_instr result ≡ pair_instr op first.entry second.entry }
+    ensures { bare_instr result ≡ pair_instr op (bare_index first.entry) (bare_index second.entry) }
 {
     match op {
         PairOp::struct_get => Instruction::struct_get(StructAccess {

@@ -4,12 +4,12 @@
 //! The strings are joined to one text, so a token can begin in one string and end in the next. Each
 //! token has the position of the string in which it begins.
 
-ghost use Rattle.std.specs.Prelude.{◌≡◌, ◌≢◌, ◌+◌, ◌<◌, ◌≤◌, ◌^◌, ◌++◌, List, length, map, None, IfSome, IfOk, MatchResult, slice_get};
-ghost use Rattle.std.specs.Str.{is_utf8};
+ghost use Rattle.std.specs.Prelude.{◌≡◌, ◌≢◌, ◌+◌, ◌<◌, ◌≤◌, ◌^◌, ◌++◌, List, length, map, None, Some, IfSome, IfOk, MatchResult, slice_get};
 ghost use Rattle.wat_tokens.specs.declared.faults.TextFault.TheVariants as fault;
-ghost use Rattle.wat_text.specs.Denotes.{text_in, put_in, AreTokensIf};
+ghost use Rattle.wat_syntax.specs.Bare.{bare_placed};
+ghost use Rattle.wat_text.specs.Denotes.{text_in, put_in, tokens_in_quotes};
 ghost use Rattle.wat_text.specs.declared.quotes.Quote.{Quote};
-ghost use Rattle.wat_text.specs.Cursors.{IsAt, IsIn, ArePlaced, bytes_at, offset_at, position_at, put_at};
+ghost use Rattle.wat_text.specs.Cursors.{IsAt, IsIn, bytes_at, offset_at, position_at, put_at};
 
 use std::alloc::{AllocError, Global};
 use std::str;
@@ -181,7 +181,7 @@ pub(crate) fn quoted_tokens<'a>(
     none: Span,
     strings: &'a Strings,
 ) -> Result<Vec<Placed<'a>>, TextError>
-    ensures { MatchResult result (λ found. ArePlaced none quotes.now found.items) (λ e. e.fault ≢ fault.Memory → AreTokensIf (is_utf8 (text_in quotes.now)) (text_in quotes.now) None) }
+    ensures { MatchResult result (λ found. tokens_in_quotes none quotes.now ≡ Some (map bare_placed found.items)) (λ e. e.fault ≢ fault.Memory → tokens_in_quotes none quotes.now ≡ None) }
 {
     let bytes = match joined(alloc, quotes, strings) {
         Ok(bytes) => bytes,

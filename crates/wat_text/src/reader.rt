@@ -8,11 +8,12 @@
 //! closing `)`, such as `(result i32 i64)`.
 
 ghost use Rattle.std.specs.Prelude.{◌≡◌, ◌≢◌, true, false, None, Some, Ok, Err, option_map, IfSome};
-ghost use Rattle.wat_syntax.specs.Tokens.{peek, after, position, position_in, count, is_lparen, is_end, word_of, key_of, is_key, is_form, lparen, rparen, keyword, form};
+ghost use Rattle.wat_syntax.specs.Tokens.{peek, after, position, count, is_lparen, is_end, word_of, key_of, is_key, is_form, lparen, rparen, keyword, form};
 ghost use Rattle.wat_tokens.specs.declared.faults.TextFault.TheVariants as fault;
 ghost use Rattle.wat_syntax.specs.Values.{number_text, u32, is_number, is_string, is_index, string, name, id, name_annotation, index, optional_index, index_or_zero};
-ghost use Rattle.wat_syntax.specs.Seen.{seen_text, seen_name};
 ghost use Rattle.wat_text.specs.Readers.{left, IsClean, IsRefused, Decides, Expects, Accepts, Finds, Fails, Pushes};
+ghost use Rattle.wat_text.specs.Denotes.{all_bare};
+ghost use Rattle.wat_syntax.specs.Bare.{bare_id_option, bare_index, bare_index_option, bare_name_option, bare_text, bare_token};
 
 use std::alloc::{AllocError, Global};
 use wast_tree::{Id, Index, NameAnnotation, Seq, Span, TreeBuilder};
@@ -36,7 +37,7 @@ impl<'a> Reader<'a> {
     /// Makes a reader that has read no token. `end` is the position after the last token.
     #[tactic(auto, unfolding(crate::specs::Readers::left))]
     pub(crate) fn new(alloc: Global, tokens: Vec<Placed<'a>>, end: Span) -> Reader<'a>
-        ensures left { left result ≡ record { before = position_in tokens.entry.items end; left = tokens.entry.items; end = end } }
+        ensures left { left result ≡ all_bare tokens.entry.items end }
         ensures clean { IsClean result }
     {
         Reader {
@@ -62,7 +63,7 @@ impl<'a> Reader<'a> {
     }
 
     /// Returns how many tokens are left.
-    #[tactic(auto, unfolding(crate::specs::Readers::left, wat_syntax::specs::Tokens::count))]
+    #[tactic(auto, unfolding(crate::specs::Readers::left, wat_syntax::specs::Tokens::count), using(crate::proofs::Lefts::counted))]
     pub(crate) fn left(&self) -> usize
         ensures { result ≡ count (left self.now) }
     {
@@ -70,9 +71,9 @@ impl<'a> Reader<'a> {
     }
 
     /// Returns the token after `ahead` others. Returns `None` at the end, and after an error.
-    #[tactic(auto, unfolding(crate::specs::Readers::left, wat_syntax::specs::Tokens::peek))]
+    #[tactic(auto, unfolding(crate::specs::Readers::left, wat_syntax::specs::Tokens::peek), using(crate::proofs::Lefts::peeked, crate::proofs::Lefts::none_peeked))]
     pub(crate) fn look(&self, ahead: usize) -> Option<Token<'a>>
-        ensures { result ≡ peek ahead (left self.now) }
+        ensures { option_map bare_token result ≡ peek ahead (left self.now) }
     {
         match self.tokens.get(self.at.saturating_add(ahead)) {
             Some(placed) => Some(placed.token),
@@ -81,7 +82,7 @@ impl<'a> Reader<'a> {
     }
 
     /// Returns the position of the next token, or the end if no token is left.
-    #[tactic(auto, unfolding(crate::specs::Readers::left, wat_syntax::specs::Tokens::position))]
+    #[tactic(auto, unfolding(crate::specs::Readers::left, wat_syntax::specs::Tokens::position), using(crate::proofs::Lefts::placed, crate::proofs::Lefts::none_placed))]
     pub(crate) fn place(&self) -> Span
         ensures { result ≡ position (left self.now) }
     {
@@ -92,7 +93,7 @@ impl<'a> Reader<'a> {
     }
 
     /// Returns the position of the token that was read last.
-    #[tactic(auto, unfolding(crate::specs::Readers::left))]
+    #[tactic(auto, unfolding(crate::specs::Readers::left), using(crate::proofs::Lefts::placed, crate::proofs::Lefts::none_placed))]
     pub(crate) fn place_before(&self) -> Span
         ensures { result ≡ (left self.now).before }
     {
@@ -236,7 +237,7 @@ impl<'a> Reader<'a> {
 
     /// Reads an id such as `$f`, if one is next (text format: identifiers).
     pub(crate) fn id(&mut self) -> Option<Id<'a>>
-        ensures { Finds id self.old self.new result }
+        ensures { Finds id self.old self.new (bare_id_option result) }
     {
         let place = self.place();
         match self.look(0) {
@@ -251,7 +252,7 @@ impl<'a> Reader<'a> {
     /// Reads a name annotation such as `(@name "a")`, if one is next (text format: custom
     /// annotations).
     pub(crate) fn name(&mut self) -> Option<NameAnnotation<'a>>
-        ensures { Decides name_annotation self.old self.new (option_map seen_name result) }
+        ensures { Decides name_annotation self.old self.new (bare_name_option result) }
     {
         match self.look(0) {
             Some(Token::Annotation(Annotation::Name)) => {
@@ -266,7 +267,7 @@ impl<'a> Reader<'a> {
 
     /// Reads a string, and returns its bytes (text format: strings).
     pub(crate) fn bytes(&mut self) -> &'a [u8]
-        ensures { Decides string self.old self.new result }
+        ensures { Decides string self.old self.new (bare_text result) }
     {
         match self.look(0) {
             Some(Token::String(bytes)) => {
@@ -290,7 +291,7 @@ impl<'a> Reader<'a> {
     /// Reads a name, which is a string in UTF-8 (text format: names).
     #[tactic(auto, using(crate::proofs::Names::utf8_is, crate::proofs::Names::utf8_not))]
     pub(crate) fn text(&mut self) -> &'a str
-        ensures { Decides name self.old self.new (seen_text result) }
+        ensures { Decides name self.old self.new (bare_text result) }
     {
         let place = self.place();
         let bytes = self.bytes();
@@ -327,7 +328,7 @@ impl<'a> Reader<'a> {
 
     /// Reads a number, and returns its text.
     pub(crate) fn number(&mut self) -> &'a str
-        ensures { Decides number_text self.old self.new result }
+        ensures { Decides number_text self.old self.new (bare_text result) }
     {
         match self.look(0) {
             Some(Token::Other(text)) => {
@@ -373,7 +374,7 @@ impl<'a> Reader<'a> {
     /// Reads an index: an id or a number (text format: indices).
     #[tactic(auto, using(crate::proofs::Numbers::no_u32))]
     pub(crate) fn index(&mut self) -> Index<'a>
-        ensures { Decides index self.old self.new result }
+        ensures { Decides index self.old self.new (bare_index result) }
     {
         let place = self.place();
         if let Some(id) = self.id() {
@@ -387,7 +388,7 @@ impl<'a> Reader<'a> {
 
     /// Reads an index, if one is next.
     pub(crate) fn optional_index(&mut self) -> Option<Index<'a>>
-        ensures { Decides optional_index self.old self.new result }
+        ensures { Decides optional_index self.old self.new (bare_index_option result) }
     {
         if self.is_index(0) {
             return Some(self.index());
@@ -397,7 +398,7 @@ impl<'a> Reader<'a> {
 
     /// Reads an index, if one is next. Otherwise returns 0, at the position of the token before.
     pub(crate) fn index_or_zero(&mut self) -> Index<'a>
-        ensures { Decides index_or_zero self.old self.new result }
+        ensures { Decides index_or_zero self.old self.new (bare_index result) }
     {
         let place = self.place_before();
         match self.optional_index() {

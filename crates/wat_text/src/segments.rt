@@ -2,10 +2,11 @@
 
 ghost use Rattle.std.specs.Prelude.{◌≡◌, ◌≢◌, ◌++◌, None, map, OnOk};
 ghost use Rattle.wat_syntax.specs.Types.{reftype};
-ghost use Rattle.wat_syntax.specs.Seen.{seen_expression};
-ghost use Rattle.wat_syntax.specs.SeenFields.{seen_payload, seen_elem_of, seen_elem, seen_data_kind, seen_data};
 ghost use Rattle.wat_syntax.specs.Segments.{expression_in, elemexprs, funcindices, funcref_of, funcrefs, exprs_payload, funcrefs_payload, elemlist, short_elemlist, tableuse, optional_number_index, table_or_first, active_elems, is_active, elem_of, elemfield, data_number, numtype, numtype_keyword, data_numbers, numlist, datavalue, datastring, is_numlist, memuse, is_data, data_kind_of, datafield};
 ghost use Rattle.wat_text.specs.Readers.{left, IsRefused, Reads, Decides, ReadsOnto, Builds};
+ghost use Rattle.wat_syntax.specs.Bare.{bare_index, bare_index_option, bare_indices, bare_ref};
+ghost use Rattle.wat_syntax.specs.BareFields.{bare_data, bare_data_kind, bare_data_val, bare_elem, bare_elem_of, bare_payload};
+ghost use Rattle.wat_syntax.specs.BareInstructions.{bare_expression};
 
 use crate::fields::is_funcref;
 use crate::operators::with_index;
@@ -43,7 +44,7 @@ fn number_or_first<'a>(
     payload: &ElemPayload<'a>,
     place: Span,
 ) -> Option<Index<'a>>
-    ensures { result ≡ table_or_first number.entry payload.now place }
+    ensures { bare_index_option result ≡ table_or_first (bare_index_option number.entry) (bare_payload payload.now) place }
 {
     match (number, payload) {
         (None, ElemPayload::Exprs { ty, .. }) if !is_funcref(*ty) => Some(Index::Num(0, place)),
@@ -55,7 +56,7 @@ impl<'a> Reader<'a> {
     /// Reads an expression in `(`, this keyword and `)`, or else one folded instruction. It is an
     /// offset or an element, as in `(offset i32.const 0)` or `(i32.const 0)`.
     fn expression_in(&mut self, key: Key) -> Expression<'a>
-        ensures { Reads (expression_in key) self.old self.new (seen_expression result) }
+        ensures { Reads (expression_in key) self.old self.new (bare_expression result) }
     {
         if self.accept_form(key) {
             let expression = self.expression();
@@ -66,9 +67,9 @@ impl<'a> Reader<'a> {
     }
 
     /// Reads function indices up to the closing `)`, and appends them.
-    #[tactic(auto, using(crate::proofs::Steps::one_more, crate::proofs::Loops::part_end, crate::proofs::Loops::part_last, crate::proofs::Loops::none_after))]
+    #[tactic(auto, using(crate::proofs::Steps::one_bare, crate::proofs::Loops::part_end, crate::proofs::Loops::part_last, crate::proofs::Loops::none_after))]
     fn all_functions(&mut self, indices: &mut Seq<Index<'a>>)
-        ensures { ReadsOnto funcindices self.old self.new indices.old indices.new }
+        ensures { ReadsOnto funcindices self.old self.new (bare_indices indices.old) (bare_indices indices.new) }
     {
         for _ in 0..self.left() {
             if self.is_end() {
@@ -82,7 +83,7 @@ impl<'a> Reader<'a> {
     /// Reads function indices up to the closing `)` (text format: element segments).
     #[tactic(auto, using(crate::proofs::Loops::from_nothing))]
     pub(crate) fn functions(&mut self) -> Seq<Index<'a>>
-        ensures { Reads funcindices self.old self.new result }
+        ensures { Reads funcindices self.old self.new (bare_indices result) }
     {
         let mut indices = Seq::new(self.alloc);
         self.all_functions(&mut indices);
@@ -100,7 +101,7 @@ impl<'a> Reader<'a> {
     /// Reads elements up to the closing `)`, and appends them.
     #[tactic(auto, using(crate::proofs::Steps::one_built, crate::proofs::Loops::part_end, crate::proofs::Loops::part_last, crate::proofs::Loops::none_after))]
     fn all_expressions(&mut self, exprs: &mut Seq<Expression<'a>>)
-        ensures { ReadsOnto elemexprs self.old self.new (map seen_expression exprs.old) (map seen_expression exprs.new) }
+        ensures { ReadsOnto elemexprs self.old self.new (map bare_expression exprs.old) (map bare_expression exprs.new) }
     {
         for _ in 0..self.left() {
             if self.is_end() {
@@ -114,7 +115,7 @@ impl<'a> Reader<'a> {
     /// Reads elements of this type up to the closing `)` (text format: element segments).
     #[tactic(auto, using(crate::proofs::Loops::from_nothing))]
     pub(crate) fn expressions(&mut self, ty: RefType<'a>) -> ElemPayload<'a>
-        ensures { Reads (exprs_payload ty.entry) self.old self.new (seen_payload result) }
+        ensures { Reads (exprs_payload (bare_ref ty.entry)) self.old self.new (bare_payload result) }
     {
         let mut exprs = Seq::new(self.alloc);
         self.all_expressions(&mut exprs);
@@ -124,7 +125,7 @@ impl<'a> Reader<'a> {
     /// Reads a function index, as the expression `ref.func $f`.
     #[tactic(auto, using(crate::proofs::Makes::none_failed), unfolding(crate::specs::Readers::left))]
     fn function_expression(&mut self) -> Expression<'a>
-        ensures { Reads funcref_of self.old self.new (seen_expression result) }
+        ensures { Reads funcref_of self.old self.new (bare_expression result) }
     {
         let reference = with_index(IndexOp::RefFunc, self.index());
         self.make.one_instruction(reference)
@@ -133,7 +134,7 @@ impl<'a> Reader<'a> {
     /// Reads function indices up to the closing `)`, and appends them as expressions.
     #[tactic(auto, using(crate::proofs::Steps::one_built, crate::proofs::Loops::part_end, crate::proofs::Loops::part_last, crate::proofs::Loops::none_after))]
     fn all_function_expressions(&mut self, exprs: &mut Seq<Expression<'a>>)
-        ensures { ReadsOnto funcrefs self.old self.new (map seen_expression exprs.old) (map seen_expression exprs.new) }
+        ensures { ReadsOnto funcrefs self.old self.new (map bare_expression exprs.old) (map bare_expression exprs.new) }
     {
         for _ in 0..self.left() {
             if self.is_end() {
@@ -148,7 +149,7 @@ impl<'a> Reader<'a> {
     /// is `ref.func $f`.
     #[tactic(auto, using(crate::proofs::Loops::from_nothing))]
     pub(crate) fn function_expressions(&mut self, ty: RefType<'a>) -> ElemPayload<'a>
-        ensures { Reads (funcrefs_payload ty.entry) self.old self.new (seen_payload result) }
+        ensures { Reads (funcrefs_payload (bare_ref ty.entry)) self.old self.new (bare_payload result) }
     {
         let mut exprs = Seq::new(self.alloc);
         self.all_function_expressions(&mut exprs);
@@ -158,7 +159,7 @@ impl<'a> Reader<'a> {
     /// Reads the type of the elements.
     #[tactic(auto, using(crate::proofs::References::no_reftype))]
     fn element_type(&mut self) -> RefType<'a>
-        ensures { Decides reftype self.old self.new result }
+        ensures { Decides reftype self.old self.new (bare_ref result) }
     {
         if !self.is_ref_type() {
             self.expected("`func` or a reference type");
@@ -169,7 +170,7 @@ impl<'a> Reader<'a> {
     /// Reads a list of elements: `func $f $g`, or a reference type and expressions (text format:
     /// element segments).
     fn element_list(&mut self) -> ElemPayload<'a>
-        ensures { Reads elemlist self.old self.new (seen_payload result) }
+        ensures { Reads elemlist self.old self.new (bare_payload result) }
     {
         if self.accept(Key::Func) {
             return ElemPayload::Indices(self.functions());
@@ -181,7 +182,7 @@ impl<'a> Reader<'a> {
     /// Reads the list of elements of an active segment without `(table ..)`. It may leave out its
     /// `func` (text format: element segments, abbreviations).
     fn short_element_list(&mut self) -> ElemPayload<'a>
-        ensures { Reads short_elemlist self.old self.new (seen_payload result) }
+        ensures { Reads short_elemlist self.old self.new (bare_payload result) }
     {
         if self.is_key(0, Key::Func) || self.is_ref_type() {
             return self.element_list();
@@ -191,7 +192,7 @@ impl<'a> Reader<'a> {
 
     /// Reads `(table $t)`, if it is next.
     fn table_use(&mut self) -> Option<Index<'a>>
-        ensures { Decides tableuse self.old self.new result }
+        ensures { Decides tableuse self.old self.new (bare_index_option result) }
     {
         if !self.accept_form(Key::Table) {
             return None;
@@ -203,7 +204,7 @@ impl<'a> Reader<'a> {
 
     /// Reads the number of a table, if one is next.
     fn table_number(&mut self) -> Option<Index<'a>>
-        ensures { Decides optional_number_index self.old self.new result }
+        ensures { Decides optional_number_index self.old self.new (bare_index_option result) }
     {
         match self.is_number(0) {
             true => Some(self.index()),
@@ -213,7 +214,7 @@ impl<'a> Reader<'a> {
 
     /// Reads an active element segment from its table on (text format: element segments).
     fn active_elements(&mut self) -> (ElemKind<'a>, ElemPayload<'a>)
-        ensures { Reads active_elems self.old self.new (seen_elem_of result) }
+        ensures { Reads active_elems self.old self.new (bare_elem_of result) }
     {
         let place = self.place_before();
         if let Some(table) = self.table_use() {
@@ -237,7 +238,7 @@ impl<'a> Reader<'a> {
 
     /// Reads the mode of an element segment, and its elements (text format: element segments).
     fn elem_kind(&mut self) -> (ElemKind<'a>, ElemPayload<'a>)
-        ensures { Reads elem_of self.old self.new (seen_elem_of result) }
+        ensures { Reads elem_of self.old self.new (bare_elem_of result) }
     {
         if self.accept(Key::Declare) {
             return (ElemKind::Declared, self.element_list());
@@ -250,7 +251,7 @@ impl<'a> Reader<'a> {
 
     /// Reads the field `(elem ..)`, without its parentheses (text format: element segments).
     pub(crate) fn elem_field(&mut self) -> Elem<'a>
-        ensures { Reads elemfield self.old self.new (seen_elem result) }
+        ensures { Reads elemfield self.old self.new (bare_elem result) }
     {
         let span = self.place();
         self.skip();
@@ -343,7 +344,7 @@ impl<'a> Reader<'a> {
     /// Reads numbers such as `(i16 1 2)`, and returns their bytes.
     #[tactic(auto, using(crate::proofs::Loops::from_nothing))]
     fn data_numbers(&mut self) -> DataVal<'a>
-        ensures { Reads numlist self.old self.new result }
+        ensures { Reads numlist self.old self.new (bare_data_val result) }
     {
         self.open();
         let mut out = Vec::new(self.alloc);
@@ -355,7 +356,7 @@ impl<'a> Reader<'a> {
 
     /// Reads a string or numbers.
     fn data_value(&mut self) -> DataVal<'a>
-        ensures { Reads datavalue self.old self.new result }
+        ensures { Reads datavalue self.old self.new (bare_data_val result) }
     {
         match self.is_string() {
             true => DataVal::String(self.bytes()),
@@ -372,9 +373,9 @@ impl<'a> Reader<'a> {
     }
 
     /// Reads strings and numbers up to the closing `)`, and appends them.
-    #[tactic(auto, using(crate::proofs::Steps::one_built_plain, crate::proofs::Loops::part_end, crate::proofs::Loops::part_last, crate::proofs::Loops::none_after))]
+    #[tactic(auto, using(crate::proofs::Steps::one_built, crate::proofs::Loops::part_end, crate::proofs::Loops::part_last, crate::proofs::Loops::none_after))]
     fn all_data(&mut self, pieces: &mut Seq<DataVal<'a>>)
-        ensures { ReadsOnto datastring self.old self.new pieces.old pieces.new }
+        ensures { ReadsOnto datastring self.old self.new (map bare_data_val pieces.old) (map bare_data_val pieces.new) }
     {
         for _ in 0..self.left() {
             if self.is_end() {
@@ -388,7 +389,7 @@ impl<'a> Reader<'a> {
     /// Reads the bytes of a data segment up to the closing `)` (text format: data segments).
     #[tactic(auto, using(crate::proofs::Loops::from_nothing))]
     pub(crate) fn data_bytes(&mut self) -> Seq<DataVal<'a>>
-        ensures { Reads datastring self.old self.new result }
+        ensures { Reads datastring self.old self.new (map bare_data_val result) }
     {
         let mut pieces = Seq::new(self.alloc);
         self.all_data(&mut pieces);
@@ -409,7 +410,7 @@ impl<'a> Reader<'a> {
     /// Reads the memory of a data segment: `(memory $m)`, or its number alone. If none is written,
     /// it is memory 0.
     fn data_memory(&mut self) -> Index<'a>
-        ensures { Decides memuse self.old self.new result }
+        ensures { Decides memuse self.old self.new (bare_index result) }
     {
         let place = self.place_before();
         if self.accept_form(Key::Memory) {
@@ -432,7 +433,7 @@ impl<'a> Reader<'a> {
 
     /// Reads the mode of a data segment (text format: data segments).
     fn data_kind(&mut self) -> DataKind<'a>
-        ensures { Reads data_kind_of self.old self.new (seen_data_kind result) }
+        ensures { Reads data_kind_of self.old self.new (bare_data_kind result) }
     {
         if self.is_data() {
             return DataKind::Passive;
@@ -444,7 +445,7 @@ impl<'a> Reader<'a> {
 
     /// Reads the field `(data ..)`, without its parentheses (text format: data segments).
     pub(crate) fn data_field(&mut self) -> Data<'a>
-        ensures { Reads datafield self.old self.new (seen_data result) }
+        ensures { Reads datafield self.old self.new (bare_data result) }
     {
         let span = self.place();
         self.skip();

@@ -1,13 +1,13 @@
 //! Reads types and type uses (text format: types, type uses).
 
-ghost use Rattle.std.specs.Prelude.{◌≡◌, true, false, None, Some, map};
+ghost use Rattle.std.specs.Prelude.{◌≡◌, true, false, None, Some, map, option_map};
 ghost use Rattle.wat_tokens.specs.declared.words.Key.TheVariants as key;
 ghost use Rattle.wat_syntax.specs.Tokens.{keyword, keyword_in, is_form, is_key, key_of, peek};
-ghost use Rattle.wat_syntax.specs.Seen.{seen_param, seen_function_type, seen_type_use, seen_struct_field, seen_struct_type, seen_composite, seen_type_def, seen_type, seen_rec};
 ghost use Rattle.wat_syntax.specs.Values.{u64};
 ghost use Rattle.wat_syntax.specs.Types.{absheaptype, refword, numtype_or_vectype, heaptype_form, heaptype, is_reftype, shared_reftype, reftype, valtype, valtypes, storagetype, fieldtype, unnamed_param, unnamed_params, param, all_params, all_results, functype, unnamed_field, unnamed_fields, struct_fields, struct_field, all_fields, structtype, comptype_form, comptype, related, described, maybe_shared, subtype, typedef, typedef_form, typedefs, rectype, addrtype, limits, tabletype, pagesize, memtype, is_shared_ref, globaltype, type_index, typeuse};
 ghost use Rattle.wat_syntax.specs.Types.{result as a_result, indices as all_indices, params as params_of};
 ghost use Rattle.wat_text.specs.Readers.{left, Reads, Decides, Expects, Finds, Refuses, ReadsOnto, Pushes, Builds};
+ghost use Rattle.wat_syntax.specs.Bare.{bare_composite, bare_field_type, bare_function_type, bare_global_type, bare_heap, bare_index_option, bare_indices, bare_param, bare_rec, bare_ref, bare_storage, bare_struct_field, bare_struct_type, bare_table_type, bare_type, bare_type_def, bare_type_use, bare_val, bare_vals};
 
 use crate::reader::Reader;
 use wast_tree::{
@@ -66,7 +66,7 @@ fn referred(key: Key) -> Option<AbstractHeapType>
 
 /// Returns the number type or vector type that a keyword is, such as `i32`.
 fn plain_value<'a>(key: Key) -> Option<ValType<'a>>
-    ensures { result ≡ numtype_or_vectype key }
+    ensures { option_map bare_val result ≡ numtype_or_vectype key }
 {
     match key {
         Key::I32 => Some(ValType::I32),
@@ -91,7 +91,7 @@ impl<'a> Reader<'a> {
     /// Reads a heap type in parentheses: `(shared any)` (shared-everything threads proposal) or
     /// `(exact $t)` (custom descriptors proposal).
     fn heap_form(&mut self) -> HeapType<'a>
-        ensures { Decides heaptype_form self.old self.new result }
+        ensures { Decides heaptype_form self.old self.new (bare_heap result) }
     {
         let heap = if self.accept_form(Key::Shared) {
             match self.abstract_heap() {
@@ -118,7 +118,7 @@ impl<'a> Reader<'a> {
     /// Reads a heap type: a keyword, an index, or a form in parentheses (text format: heap types).
     #[tactic(auto, using(crate::proofs::Numbers::no_index))]
     pub(crate) fn heap_type(&mut self) -> HeapType<'a>
-        ensures { Decides heaptype self.old self.new result }
+        ensures { Decides heaptype self.old self.new (bare_heap result) }
     {
         if let Some(ty) = self.abstract_heap() {
             return HeapType::of(ty);
@@ -156,7 +156,7 @@ impl<'a> Reader<'a> {
     /// Reads `funcref)` of `(shared funcref)`, after `(shared` (shared-everything threads
     /// proposal).
     fn shared_ref(&mut self) -> RefType<'a>
-        ensures { Decides shared_reftype self.old self.new result }
+        ensures { Decides shared_reftype self.old self.new (bare_ref result) }
     {
         let ty = match self.ref_word() {
             Some(ty) => ty,
@@ -172,7 +172,7 @@ impl<'a> Reader<'a> {
     /// Reads a reference type: `funcref`, `(ref null $t)` or `(shared funcref)` (text format:
     /// reference types).
     pub(crate) fn ref_type(&mut self) -> RefType<'a>
-        ensures { Decides reftype self.old self.new result }
+        ensures { Decides reftype self.old self.new (bare_ref result) }
     {
         if let Some(ty) = self.ref_word() {
             return RefType::new(true, HeapType::of(ty));
@@ -191,7 +191,7 @@ impl<'a> Reader<'a> {
 
     /// Reads a number type or a vector type, if one is next.
     fn value_word(&mut self) -> Option<ValType<'a>>
-        ensures { Finds (keyword_in numtype_or_vectype) self.old self.new result }
+        ensures { Finds (keyword_in numtype_or_vectype) self.old self.new (option_map bare_val result) }
     {
         let ty = plain_value(self.key(0)?)?;
         self.skip();
@@ -201,7 +201,7 @@ impl<'a> Reader<'a> {
     /// Reads a value type (text format: value types).
     #[tactic(auto, using(crate::proofs::References::no_reftype))]
     pub(crate) fn value_type(&mut self) -> ValType<'a>
-        ensures { Decides valtype self.old self.new result }
+        ensures { Decides valtype self.old self.new (bare_val result) }
     {
         if let Some(ty) = self.value_word() {
             return ty;
@@ -215,7 +215,7 @@ impl<'a> Reader<'a> {
     /// Reads the type that a field of a struct or an element of an array has: `i8`, `i16` or a
     /// value type (text format: composite types).
     fn storage_type(&mut self) -> StorageType<'a>
-        ensures { Decides storagetype self.old self.new result }
+        ensures { Decides storagetype self.old self.new (bare_storage result) }
     {
         if self.accept(Key::I8) {
             return StorageType::I8;
@@ -229,7 +229,7 @@ impl<'a> Reader<'a> {
     /// Reads a field type, and whether the field is mutable. For example, `(mut i8)` is a mutable
     /// `i8`.
     fn field_type(&mut self) -> (bool, StorageType<'a>)
-        ensures { Decides fieldtype self.old self.new result }
+        ensures { Decides fieldtype self.old self.new (bare_field_type result) }
     {
         if self.accept_form(Key::Mut) {
             let ty = self.storage_type();
@@ -248,9 +248,9 @@ impl<'a> Reader<'a> {
     }
 
     /// Reads value types up to the closing `)`, and appends them.
-    #[tactic(auto, using(crate::proofs::Steps::one_more, crate::proofs::Loops::part_end, crate::proofs::Loops::part_last, crate::proofs::Loops::none_after))]
+    #[tactic(auto, using(crate::proofs::Steps::one_bare, crate::proofs::Loops::part_end, crate::proofs::Loops::part_last, crate::proofs::Loops::none_after))]
     pub(crate) fn values(&mut self, values: &mut Seq<ValType<'a>>)
-        ensures { ReadsOnto valtypes self.old self.new values.old values.new }
+        ensures { ReadsOnto valtypes self.old self.new (bare_vals values.old) (bare_vals values.new) }
     {
         for _ in 0..self.left() {
             if self.is_end() {
@@ -275,19 +275,19 @@ impl<'a> Reader<'a> {
 
     /// Reads the type of a parameter without an id.
     fn unnamed_param(&mut self) -> (Option<Id<'a>>, Option<NameAnnotation<'a>>, ValType<'a>)
-        ensures { Decides unnamed_param self.old self.new (seen_param result) }
+        ensures { Decides unnamed_param self.old self.new (bare_param result) }
     {
         (None, None, self.value_type())
     }
 
     /// Reads the types of parameters without ids, up to the closing `)`, and appends the
     /// parameters.
-    #[tactic(auto, using(crate::proofs::Steps::one_seen, crate::proofs::Loops::part_end, crate::proofs::Loops::part_last, crate::proofs::Loops::none_after))]
+    #[tactic(auto, using(crate::proofs::Steps::one_bare, crate::proofs::Loops::part_end, crate::proofs::Loops::part_last, crate::proofs::Loops::none_after))]
     fn unnamed_params(
         &mut self,
         params: &mut Seq<(Option<Id<'a>>, Option<NameAnnotation<'a>>, ValType<'a>)>,
     )
-        ensures { ReadsOnto unnamed_params self.old self.new (map seen_param params.old) (map seen_param params.new) }
+        ensures { ReadsOnto unnamed_params self.old self.new (map bare_param params.old) (map bare_param params.new) }
     {
         for _ in 0..self.left() {
             if self.is_end() {
@@ -306,7 +306,7 @@ impl<'a> Reader<'a> {
         params: &mut Seq<(Option<Id<'a>>, Option<NameAnnotation<'a>>, ValType<'a>)>,
         are_named: bool,
     )
-        ensures { ReadsOnto (params_of are_named) self.old self.new (map seen_param params.old) (map seen_param params.new) }
+        ensures { ReadsOnto (params_of are_named) self.old self.new (map bare_param params.old) (map bare_param params.new) }
     {
         if !are_named {
             self.unnamed_params(params);
@@ -329,7 +329,7 @@ impl<'a> Reader<'a> {
         are_named: bool,
     )
         requires { is_form key.Param (left self.old) ≡ true }
-        ensures { ReadsOnto (param are_named) self.old self.new (map seen_param params.old) (map seen_param params.new) }
+        ensures { ReadsOnto (param are_named) self.old self.new (map bare_param params.old) (map bare_param params.new) }
     {
         self.skip();
         self.skip();
@@ -344,7 +344,7 @@ impl<'a> Reader<'a> {
         params: &mut Seq<(Option<Id<'a>>, Option<NameAnnotation<'a>>, ValType<'a>)>,
         are_named: bool,
     )
-        ensures { ReadsOnto (all_params are_named) self.old self.new (map seen_param params.old) (map seen_param params.new) }
+        ensures { ReadsOnto (all_params are_named) self.old self.new (map bare_param params.old) (map bare_param params.new) }
     {
         for _ in 0..self.left() {
             if !self.is_form(Key::Param) {
@@ -358,7 +358,7 @@ impl<'a> Reader<'a> {
     #[tactic(auto, using(crate::proofs::Loops::closes))]
     fn result(&mut self, results: &mut Seq<ValType<'a>>)
         requires { is_form key.Result (left self.old) ≡ true }
-        ensures { ReadsOnto a_result self.old self.new results.old results.new }
+        ensures { ReadsOnto a_result self.old self.new (bare_vals results.old) (bare_vals results.new) }
     {
         self.skip();
         self.skip();
@@ -369,7 +369,7 @@ impl<'a> Reader<'a> {
     /// Reads forms `(result i32 i64)` as long as one is next, and appends their types.
     #[tactic(auto, using(crate::proofs::Steps::one_list, crate::proofs::Loops::list_end, crate::proofs::Loops::list_last, crate::proofs::Loops::none_after))]
     pub(crate) fn all_results(&mut self, results: &mut Seq<ValType<'a>>)
-        ensures { ReadsOnto all_results self.old self.new results.old results.new }
+        ensures { ReadsOnto all_results self.old self.new (bare_vals results.old) (bare_vals results.new) }
     {
         for _ in 0..self.left() {
             if !self.is_form(Key::Result) {
@@ -383,7 +383,7 @@ impl<'a> Reader<'a> {
     /// `(param i32) (result i32 i64)`. It is an error if `(param` comes after a result.
     #[tactic(auto, using(crate::proofs::Loops::from_nothing))]
     pub(crate) fn function_type(&mut self, are_named: bool) -> FunctionType<'a>
-        ensures { Reads (functype are_named) self.old self.new (seen_function_type result) }
+        ensures { Reads (functype are_named) self.old self.new (bare_function_type result) }
     {
         let mut params = Seq::new(self.alloc);
         let mut results = Seq::new(self.alloc);
@@ -398,7 +398,7 @@ impl<'a> Reader<'a> {
 
     /// Reads `(type $t)`, if it is next.
     fn type_index(&mut self) -> Option<Index<'a>>
-        ensures { Decides type_index self.old self.new result }
+        ensures { Decides type_index self.old self.new (bare_index_option result) }
     {
         if self.accept_form(Key::Ty) {
             let index = self.index();
@@ -412,7 +412,7 @@ impl<'a> Reader<'a> {
     /// or nothing. Parameters have ids only if `are_named` is true, which it is not for blocks and
     /// indirect calls.
     pub(crate) fn type_use(&mut self, are_named: bool) -> TypeUse<'a, FunctionType<'a>>
-        ensures { Reads (typeuse are_named) self.old self.new (seen_type_use result) }
+        ensures { Reads (typeuse are_named) self.old self.new (bare_type_use result) }
     {
         let index = self.type_index();
         let is_inline = self.is_form(Key::Param) || self.is_form(Key::Result);
@@ -434,16 +434,16 @@ impl<'a> Reader<'a> {
 
     /// Reads the type of a field without an id.
     fn unnamed_field(&mut self) -> StructField<'a>
-        ensures { Decides unnamed_field self.old self.new (seen_struct_field result) }
+        ensures { Decides unnamed_field self.old self.new (bare_struct_field result) }
     {
         let (mutable, ty) = self.field_type();
         StructField::new(None, mutable, ty)
     }
 
     /// Reads the types of fields without ids, up to the closing `)`, and appends the fields.
-    #[tactic(auto, using(crate::proofs::Steps::one_seen, crate::proofs::Loops::part_end, crate::proofs::Loops::part_last, crate::proofs::Loops::none_after))]
+    #[tactic(auto, using(crate::proofs::Steps::one_bare, crate::proofs::Loops::part_end, crate::proofs::Loops::part_last, crate::proofs::Loops::none_after))]
     fn unnamed_fields(&mut self, fields: &mut Seq<StructField<'a>>)
-        ensures { ReadsOnto unnamed_fields self.old self.new (map seen_struct_field fields.old) (map seen_struct_field fields.new) }
+        ensures { ReadsOnto unnamed_fields self.old self.new (map bare_struct_field fields.old) (map bare_struct_field fields.new) }
     {
         for _ in 0..self.left() {
             if self.is_end() {
@@ -457,7 +457,7 @@ impl<'a> Reader<'a> {
     /// Reads what comes after `(field`, and appends the fields. They are one field with an id or a
     /// name annotation, as in `(field $x i8)`, or any number without, as in `(field i8 (mut i32))`.
     fn struct_fields(&mut self, fields: &mut Seq<StructField<'a>>)
-        ensures { ReadsOnto struct_fields self.old self.new (map seen_struct_field fields.old) (map seen_struct_field fields.new) }
+        ensures { ReadsOnto struct_fields self.old self.new (map bare_struct_field fields.old) (map bare_struct_field fields.new) }
     {
         let (id, name) = (self.id(), self.name());
         if id.is_some() || name.is_some() {
@@ -478,7 +478,7 @@ impl<'a> Reader<'a> {
     #[tactic(auto, using(crate::proofs::Loops::closes))]
     fn struct_field(&mut self, fields: &mut Seq<StructField<'a>>)
         requires { is_form key.Field (left self.old) ≡ true }
-        ensures { ReadsOnto struct_field self.old self.new (map seen_struct_field fields.old) (map seen_struct_field fields.new) }
+        ensures { ReadsOnto struct_field self.old self.new (map bare_struct_field fields.old) (map bare_struct_field fields.new) }
     {
         self.skip();
         self.skip();
@@ -489,7 +489,7 @@ impl<'a> Reader<'a> {
     /// Reads forms `(field ..)` as long as one is next, and appends their fields.
     #[tactic(auto, using(crate::proofs::Steps::one_list, crate::proofs::Loops::list_end, crate::proofs::Loops::list_last, crate::proofs::Loops::none_after))]
     fn all_fields(&mut self, fields: &mut Seq<StructField<'a>>)
-        ensures { ReadsOnto all_fields self.old self.new (map seen_struct_field fields.old) (map seen_struct_field fields.new) }
+        ensures { ReadsOnto all_fields self.old self.new (map bare_struct_field fields.old) (map bare_struct_field fields.new) }
     {
         for _ in 0..self.left() {
             if !self.is_form(Key::Field) {
@@ -502,7 +502,7 @@ impl<'a> Reader<'a> {
     /// Reads the fields of a struct, after `(struct`.
     #[tactic(auto, using(crate::proofs::Loops::from_nothing))]
     fn struct_type(&mut self) -> StructType<'a>
-        ensures { Reads structtype self.old self.new (seen_struct_type result) }
+        ensures { Reads structtype self.old self.new (bare_struct_type result) }
     {
         let mut fields = Seq::new(self.alloc);
         self.all_fields(&mut fields);
@@ -511,7 +511,7 @@ impl<'a> Reader<'a> {
 
     /// Reads a composite type from its `(` on, without its `)`.
     fn composite_form(&mut self) -> InnerTypeKind<'a>
-        ensures { Reads comptype_form self.old self.new (seen_composite result) }
+        ensures { Reads comptype_form self.old self.new (bare_composite result) }
     {
         if self.accept_form(Key::Func) {
             return InnerTypeKind::Func(self.function_type(true));
@@ -535,7 +535,7 @@ impl<'a> Reader<'a> {
     /// Reads a composite type: `(func ..)`, `(struct ..)`, `(array ..)` or `(cont $t)` (text
     /// format: composite types; stack switching proposal).
     fn composite(&mut self) -> InnerTypeKind<'a>
-        ensures { Reads comptype self.old self.new (seen_composite result) }
+        ensures { Reads comptype self.old self.new (bare_composite result) }
     {
         let kind = self.composite_form();
         self.close();
@@ -545,7 +545,7 @@ impl<'a> Reader<'a> {
     /// Reads `(describes $t)` or `(descriptor $t)`, by its keyword, if it is next (custom
     /// descriptors proposal).
     fn related(&mut self, key: Key) -> Option<Index<'a>>
-        ensures { Decides (related key) self.old self.new result }
+        ensures { Decides (related key) self.old self.new (bare_index_option result) }
     {
         if self.accept_form(key) {
             let index = self.index();
@@ -563,7 +563,7 @@ impl<'a> Reader<'a> {
         final_type: Option<bool>,
         parents: Seq<Index<'a>>,
     ) -> TypeDef<'a>
-        ensures { Reads (described shared final_type parents.entry) self.old self.new (seen_type_def result) }
+        ensures { Reads (described shared final_type (bare_indices parents.entry)) self.old self.new (bare_type_def result) }
     {
         let describes = self.related(Key::Describes);
         let descriptor = self.related(Key::Descriptor);
@@ -581,7 +581,7 @@ impl<'a> Reader<'a> {
     /// Reads a type definition without `sub`, which is in `(shared ..)` if it is shared
     /// (shared-everything threads proposal).
     fn plain_def(&mut self, final_type: Option<bool>, parents: Seq<Index<'a>>) -> TypeDef<'a>
-        ensures { Reads (maybe_shared final_type parents.entry) self.old self.new (seen_type_def result) }
+        ensures { Reads (maybe_shared final_type (bare_indices parents.entry)) self.old self.new (bare_type_def result) }
     {
         if self.accept_form(Key::Shared) {
             let def = self.described(true, final_type, parents);
@@ -592,9 +592,9 @@ impl<'a> Reader<'a> {
     }
 
     /// Reads indices as long as one is next, and appends them.
-    #[tactic(auto, using(crate::proofs::Steps::one_more, crate::proofs::Loops::part_end, crate::proofs::Loops::part_last, crate::proofs::Loops::none_after))]
+    #[tactic(auto, using(crate::proofs::Steps::one_bare, crate::proofs::Loops::part_end, crate::proofs::Loops::part_last, crate::proofs::Loops::none_after))]
     fn indices(&mut self, indices: &mut Seq<Index<'a>>)
-        ensures { ReadsOnto all_indices self.old self.new indices.old indices.new }
+        ensures { ReadsOnto all_indices self.old self.new (bare_indices indices.old) (bare_indices indices.new) }
     {
         for _ in 0..self.left() {
             if !self.is_index(0) {
@@ -609,7 +609,7 @@ impl<'a> Reader<'a> {
     /// format: recursive types).
     #[tactic(auto, using(crate::proofs::Loops::from_nothing))]
     fn type_def(&mut self) -> TypeDef<'a>
-        ensures { Reads subtype self.old self.new (seen_type_def result) }
+        ensures { Reads subtype self.old self.new (bare_type_def result) }
     {
         let mut parents = Seq::new(self.alloc);
         if !self.accept_form(Key::Sub) {
@@ -634,7 +634,7 @@ impl<'a> Reader<'a> {
     /// Reads a type definition such as `type $t (func)`, without its parentheses (text format:
     /// types).
     pub(crate) fn type_field(&mut self) -> Type<'a>
-        ensures { Reads typedef self.old self.new (seen_type result) }
+        ensures { Reads typedef self.old self.new (bare_type result) }
     {
         let span = self.place();
         self.type_keyword();
@@ -650,7 +650,7 @@ impl<'a> Reader<'a> {
 
     /// Reads `(type ..)` in a `rec` group.
     fn rec_type(&mut self) -> Type<'a>
-        ensures { Reads typedef_form self.old self.new (seen_type result) }
+        ensures { Reads typedef_form self.old self.new (bare_type result) }
     {
         self.open();
         let ty = self.type_field();
@@ -669,7 +669,7 @@ impl<'a> Reader<'a> {
     /// Reads the types of a `rec` group, up to the closing `)`, and appends them.
     #[tactic(auto, using(crate::proofs::Steps::one_built, crate::proofs::Loops::part_end, crate::proofs::Loops::part_last, crate::proofs::Loops::none_after))]
     fn rec_types(&mut self, types: &mut Seq<Type<'a>>)
-        ensures { ReadsOnto typedefs self.old self.new (map seen_type types.old) (map seen_type types.new) }
+        ensures { ReadsOnto typedefs self.old self.new (map bare_type types.old) (map bare_type types.new) }
     {
         for _ in 0..self.left() {
             if self.is_end() {
@@ -685,7 +685,7 @@ impl<'a> Reader<'a> {
     #[tactic(auto, using(crate::proofs::Loops::from_nothing))]
     pub(crate) fn rec_field(&mut self) -> Rec<'a>
         requires { is_key key.Rec (key_of (peek 0 (left self.old))) ≡ true }
-        ensures { Reads rectype self.old self.new (seen_rec result) }
+        ensures { Reads rectype self.old self.new (bare_rec result) }
     {
         let span = self.place();
         self.skip();
@@ -726,7 +726,7 @@ impl<'a> Reader<'a> {
 
     /// Reads a table type such as `1 2 funcref` (text format: table types).
     pub(crate) fn table_type(&mut self) -> TableType<'a>
-        ensures { Decides tabletype self.old self.new result }
+        ensures { Decides tabletype self.old self.new (bare_table_type result) }
     {
         let shared = self.accept(Key::Shared);
         let is64 = self.is64();
@@ -774,7 +774,7 @@ impl<'a> Reader<'a> {
     /// Reads a global type such as `i32`, `(mut i32)` or `(shared mut i32)` (text format: global
     /// types).
     pub(crate) fn global_type(&mut self) -> GlobalType<'a>
-        ensures { Decides globaltype self.old self.new result }
+        ensures { Decides globaltype self.old self.new (bare_global_type result) }
     {
         if self.is_form(Key::Shared) && !self.is_shared_ref() {
             self.skip();

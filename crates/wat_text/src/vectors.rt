@@ -5,10 +5,10 @@ ghost use Rattle.std.specs.Prelude.{◌≡◌, IfOk, IfErr, None, Some};
 ghost use Rattle.std.specs.Float.{binary32, binary64};
 ghost use Rattle.wat_grammar.specs.Floats.{fN};
 ghost use Rattle.wat_syntax.specs.Tree.v128;
-ghost use Rattle.wat_syntax.specs.Seen.{seen_instr};
 ghost use Rattle.wat_syntax.specs.Instructions.{u8 as u8_rule, f32 as f32_rule, f64 as f64_rule, signed_number, laneidx, lanes, v128const};
 ghost use Rattle.wat_syntax.specs.Instructions.{shuffle as shuffle_rule};
 ghost use Rattle.wat_text.specs.Readers.{IsRefusal, Decides};
+ghost use Rattle.wat_syntax.specs.BareInstructions.{bare_instr};
 
 use crate::reader::Reader;
 use std::alloc::Global;
@@ -128,7 +128,7 @@ impl<'a> Reader<'a> {
     /// Reads the 16 lanes of `i8x16.shuffle` (text format: vector instructions).
     #[tactic(auto, using(crate::proofs::Fills::filled_begun, crate::proofs::Fills::filled_more, crate::proofs::Fills::filled_all))]
     pub fn shuffle(&mut self) -> Instruction<'a>
-        ensures { Decides shuffle_rule self.old self.new (seen_instr result) }
+        ensures { Decides shuffle_rule self.old self.new (bare_instr result) }
     {
         let mut lanes = [0; 16];
         for place in 0..16 {

@@ -4,22 +4,22 @@ use Rattle.wat_bytes.proofs.OneText.{same_bytes, same_success}
 use Rattle.wat_bytes.proofs.laws.one_result.Goals as goal
 
 pub returns-clause-bytes : goal.returns-clause-bytes
-returns-clause-bytes c = same_bytes c.meaning_laws.ensures.meaning
+returns-clause-bytes c = same_bytes
 
 pub returns-clause-success : goal.returns-clause-success
-returns-clause-success c = same_success c.meaning_laws.ensures.answer c.meaning_laws.ensures.forms c.meaning_laws.ensures.rules c.meaning_laws.ensures.generation
+returns-clause-success c = same_success
 
 pub returns-clause-error : goal.returns-clause-error
-returns-clause-error c = same_error c.meaning_laws.ensures.answer c.meaning_laws.ensures.forms c.meaning_laws.ensures.rules c.meaning_laws.ensures.generation
+returns-clause-error c = same_error
 
 pub returns-clause-number : goal.returns-clause-number
-returns-clause-number c = same_number c.meaning_laws.ensures.numbers
+returns-clause-number c = same_number
 
 pub returns-clause-look_up : goal.returns-clause-look_up
-returns-clause-look_up c = same_look_up c.meaning_laws.ensures.answer c.meaning_laws.ensures.rules c.meaning_laws.ensures.generation
+returns-clause-look_up c = same_look_up
 
 pub returns-clause-list : goal.returns-clause-list
-returns-clause-list c = same_list c.meaning_laws.ensures.numbers
+returns-clause-list c = same_list
 
 pub returns-clause-listing : goal.returns-clause-listing
-returns-clause-listing c = same_listing c.meaning_laws.ensures.answer c.meaning_laws.ensures.rules c.meaning_laws.ensures.generation
+returns-clause-listing c = same_listing

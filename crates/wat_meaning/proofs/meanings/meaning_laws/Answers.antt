@@ -1,4 +1,4 @@
-use Rattle.wat_meaning.proofs.OneMeaning.{same_answer, same_meaning, same_forms, same_count, same_rules, same_generation, same_too_large}
+use Rattle.wat_meaning.proofs.OneMeaning.{same_answer, same_meaning, same_forms, same_count, same_rules, same_generation, same_too_large, same_bounds}
 use Rattle.wat_meaning.proofs.SameNumbers.{same_numbers}
 use Rattle.wat_meaning.proofs.meanings.meaning_laws.Goals as goal
 
@@ -9,7 +9,7 @@ pub returns-clause-meaning : goal.returns-clause-meaning
 returns-clause-meaning c = same_meaning c.naming_laws.ensures.positions
 
 pub returns-clause-forms : goal.returns-clause-forms
-returns-clause-forms c = same_forms c.naming_laws.ensures.answer c.renaming.ensures.uncovered
+returns-clause-forms c = same_forms c.renaming.ensures.uncovered
 
 pub returns-clause-numbers : goal.returns-clause-numbers
 returns-clause-numbers c = same_numbers
@@ -25,3 +25,6 @@ returns-clause-generation c = same_generation
 
 pub returns-clause-large : goal.returns-clause-large
 returns-clause-large c = same_too_large c.naming_laws.ensures.large
+
+pub returns-clause-bounds : goal.returns-clause-bounds
+returns-clause-bounds c = same_bounds c.bounded_law.ensures c.naming_laws.ensures.large c.naming_laws.ensures.filled c.naming_laws.ensures.positions

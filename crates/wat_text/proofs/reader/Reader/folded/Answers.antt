@@ -1,6 +1,6 @@
 use Rattle.std.proofs.Common.{◌≡◌, ◌∙◌, ◌-◌, ◌+◌, suc, false, reverse, refl, sym, ap, arith}
 use Rattle.wat_syntax.specs.Bodies.{folded_expression}
-use Rattle.wat_syntax.specs.Seen.{seen_expression}
+use Rattle.wat_syntax.specs.BareInstructions.{bare_expression}
 use Rattle.wat_text.specs.Readers.{left}
 use Rattle.wat_text.proofs.Levels.{One}
 use Rattle.wat_text.proofs.Kept.{folded_first, held_on, one_goes, folded_last, not_both}
@@ -19,8 +19,8 @@ loop-preserved c = held_on false One (folded_expression (left c.args.self.now)) 
 
 pub returns : goal.returns
 returns c = folded_last c.args.self.now c.loop.self c.end_body.new.self
-    (suc (c.left-end.result - c.loop.counter)) (suc c.left-end.result) c.loop.body c.is_closed-2.result (seen_expression c.finish.result)
-    c.loop.invariant c.is_closed-2.ensures c.end_body.ensures (ap seen_expression c.finish.ensures)
+    (suc (c.left-end.result - c.loop.counter)) (suc c.left-end.result) c.loop.body c.is_closed-2.result (bare_expression c.finish.result)
+    c.loop.invariant c.is_closed-2.ensures c.end_body.ensures (ap bare_expression c.finish.ensures)
     (λ e. elim c.loop-test.branch as (λ w. suc (c.left-end.result - c.loop.counter) ≡ 1) [
       | else-loop-test w ↦ omega (arith, w.loop-test)
       | then-loop-test+then-is_closed w ↦ absurd (not_both (sym c.is_closed-2.ensures ∙ e) (sym w.is_closed.ensures ∙ w.if-is_closed.true))

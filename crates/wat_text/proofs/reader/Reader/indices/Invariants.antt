@@ -3,9 +3,10 @@ use Rattle.std.proofs.Common.{◌-◌}
 use Rattle.wat_syntax.specs.Tokens.{many, with_parts}
 use Rattle.wat_syntax.specs.Types.{is_index_next, indices}
 use Rattle.wat_syntax.specs.Values.{index}
+use Rattle.wat_syntax.specs.Bare.{bare_indices}
 use Rattle.wat_text.specs.Readers.{left}
 use Rattle.wat_text.proofs.Steps.{Steps}
 use Rattle.wat_text.proofs.reader.Reader.indices.Given as goal
 
 abbrev pub invariant-loop : goal.invariant-loop
-invariant-loop l = Steps l.fn.self l.self (with_parts l.fn.indices (indices (left l.fn.self))) (with_parts l.indices (many is_index_next index (l.end - l.counter) (left l.self)))
+invariant-loop l = Steps l.fn.self l.self (with_parts (bare_indices l.fn.indices) (indices (left l.fn.self))) (with_parts (bare_indices l.indices) (many is_index_next index (l.end - l.counter) (left l.self)))

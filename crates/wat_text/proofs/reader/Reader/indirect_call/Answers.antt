@@ -1,8 +1,8 @@
 -- The goal of `indirect_call` that tactics leave open, closed by lemmas of Instrs.
 use Rattle.std.proofs.Common.{refl}
 use Rattle.wat_syntax.specs.Tree.instr
-use Rattle.wat_syntax.specs.Seen.{seen_call}
 use Rattle.wat_syntax.specs.Instructions.{callindirect}
+use Rattle.wat_syntax.specs.BareInstructions.{bare_call}
 use Rattle.wat_text.specs.Readers.{left}
 use Rattle.wat_text.proofs.Instrs.{built}
 use Rattle.wat_text.proofs.reader.Reader.indirect_call.Goals as goal
@@ -11,4 +11,4 @@ pub returns : goal.returns
 unfolding left
 returns c =
     let call = c.call_indirect-call in
-    built callindirect (λ x. instr.call_indirect x) c.args.self.now call.new.self _ (seen_call call.result) c.call_indirect.result (instr.call_indirect call.result) call.ensures c.call_indirect.ensures.made refl refl refl
+    built callindirect (λ x. instr.call_indirect x) c.args.self.now call.new.self _ (bare_call call.result) c.call_indirect.result (instr.call_indirect call.result) call.ensures c.call_indirect.ensures.made refl refl refl

@@ -1,6 +1,6 @@
 use Rattle.std.proofs.Common.{◌≡◌, ◌∙◌, ◌-◌, ◌+◌, suc, reverse, refl, sym, ap, arith}
 use Rattle.wat_syntax.specs.Bodies.{expression}
-use Rattle.wat_syntax.specs.Seen.{seen_expression}
+use Rattle.wat_syntax.specs.BareInstructions.{bare_expression}
 use Rattle.wat_text.specs.Readers.{left}
 use Rattle.wat_text.specs.Machine.{may_hint}
 use Rattle.wat_text.proofs.Levels.{Whole}
@@ -19,8 +19,8 @@ loop-preserved c = held_on (may_hint c.args.purpose) Whole (expression (may_hint
 
 pub returns : goal.returns
 returns c = whole_last (may_hint c.args.purpose) c.args.self.now c.loop.self c.end_body.new.self
-    (suc (c.left-end.result - c.loop.counter)) (c.left-end.result - c.loop.counter) c.left-end.result c.loop.body c.is_done-is_done.result (seen_expression c.finish.result)
-    c.loop.invariant refl c.is_done-is_done.ensures c.end_body.ensures (ap seen_expression c.finish.ensures)
+    (suc (c.left-end.result - c.loop.counter)) (c.left-end.result - c.loop.counter) c.left-end.result c.loop.body c.is_done-is_done.result (bare_expression c.finish.result)
+    c.loop.invariant refl c.is_done-is_done.ensures c.end_body.ensures (ap bare_expression c.finish.ensures)
     (λ e. elim c.loop-test.branch as (λ w. suc (c.left-end.result - c.loop.counter) ≡ 1) [
       | else-loop-test w ↦ omega (arith, w.loop-test)
       | then-loop-test+then-is_done w ↦ absurd (not_both (sym c.is_done-is_done.ensures ∙ e) (sym w.is_done.ensures ∙ w.if-is_done.true))

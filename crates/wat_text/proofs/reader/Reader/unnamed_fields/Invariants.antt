@@ -2,11 +2,11 @@
 -- far.
 use Rattle.std.proofs.Common.{◌-◌, map}
 use Rattle.wat_syntax.specs.Tokens.{many, with_parts}
-use Rattle.wat_syntax.specs.Seen.{seen_struct_field}
 use Rattle.wat_syntax.specs.Types.{goes_on, unnamed_field, unnamed_fields}
+use Rattle.wat_syntax.specs.Bare.{bare_struct_field}
 use Rattle.wat_text.specs.Readers.{left}
 use Rattle.wat_text.proofs.Steps.{Steps}
 use Rattle.wat_text.proofs.reader.Reader.unnamed_fields.Given as goal
 
 abbrev pub invariant-loop : goal.invariant-loop
-invariant-loop l = Steps l.fn.self l.self (with_parts (map seen_struct_field l.fn.fields) (unnamed_fields (left l.fn.self))) (with_parts (map seen_struct_field l.fields) (many goes_on unnamed_field (l.end - l.counter) (left l.self)))
+invariant-loop l = Steps l.fn.self l.self (with_parts (map bare_struct_field l.fn.fields) (unnamed_fields (left l.fn.self))) (with_parts (map bare_struct_field l.fields) (many goes_on unnamed_field (l.end - l.counter) (left l.self)))
