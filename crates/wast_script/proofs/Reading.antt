@@ -1,0 +1,75 @@
+-- A script of a text: the tokens of the text without addresses, and its commands at their positions.
+use Rattle.std.proofs.Common.{◌≡◌, ◌≢◌, ◌∙◌, ℕ, suc, ◌<◌, List, [], ◌∷◌, ◌++◌, length, map, All, Option, None, Some, refl, sym, ap, subst, arith}
+use Rattle.std.specs.Global.{Vec}
+use Rattle.wat_grammar.specs.Parts.{◌>>=◌}
+use Rattle.wat_grammar.specs.Tokens as grammar
+use Rattle.wat_tokens.specs.Scans.{IsNamed, seen_all}
+use Rattle.wat_tokens.specs.Words.{word_named}
+use Rattle.wat_tokens.specs.declared.tokens.Token.{Token}
+use Rattle.wat_tokens.specs.declared.tokens.Token.TheVariants as token
+use Rattle.wat_tokens.specs.declared.tokens.Placed.{Placed}
+use Rattle.wat_laws.specs.Bare.{bare_placed}
+use Rattle.wat_laws.specs.AtZero.{all_at_zero, IsOfTable, AreOfTable}
+use Rattle.wat_laws.proofs.AtZero.{tokens_at_zero}
+use Rattle.wast_script.specs.declared.commands.Command as code_command
+use Rattle.wat_syntax.specs.Tree.{Span}
+use Rattle.wast_script.specs.declared.values.Number.{Number}
+use Rattle.wast_script.specs.declared.values.Value as code_value
+use Rattle.wast_script.specs.declared.reader.Reader.{Reader}
+use Rattle.wast_script.specs.declared.scripts.Script.{Script}
+use Rattle.wast_script.specs.Constants.{Value}
+use Rattle.wast_script.specs.Grammar.{Command, up_to, all_of, script, script_in, script_of}
+use Rattle.wast_script.specs.Scripts.{value_in, command_in, placed_up_to, script_tokens, commands_of}
+use Rattle.wast_script.specs.Readers.{left, all_bare, read_values, IsRefused, ReadsAll}
+
+-- commands at their positions
+pub all_placed : (n : ℕ) (ts : List Placed) (vs : List Value) (cs : List code_command.Command) → map (command_in ts vs) (map (placed_up_to n) cs) ≡ map (up_to n) (map (command_in ts vs) cs)
+all_placed n ts vs [] = refl
+all_placed n ts vs (c ∷ cs) = ap (λ ds. up_to n (command_in ts vs c) ∷ ds) (all_placed n ts vs cs)
+
+-- tokens that have the words of their texts are those of the table (as in wat_text)
+is_of_table : (t : Token) → IsNamed t → IsOfTable word_named t
+is_of_table (token.Word w text) h = h
+is_of_table (token.Other text) h = h
+is_of_table x h = tt
+
+fits : (found : List Placed) → All (λ p. IsNamed p.token) found → AreOfTable word_named found
+fits [] h = tt
+fits (p ∷ ps) h = (is_of_table p.token (h 0 p (omega arith)), fits ps (λ k d under. h (suc k) d (omega (arith, under))))
+
+-- the script of the tokens of a text is that of the text
+pub script_is : (text : List ℕ) (found : List Placed) → grammar.tokens grammar.bytes_of text ≡ Some (seen_all found) → All (λ p. IsNamed p.token) found
+    → script_of text ≡ script_in text (map bare_placed found)
+script_is text found lexed named =
+    ap (λ (o : Option (List grammar.Placed)). o >>= λ ts. all_at_zero word_named ts >>= λ ps. script_in text ps) lexed
+    ∙ ap (λ (o : Option (List Placed)). o >>= λ ps. script_in text ps) (tokens_at_zero word_named found (fits found named))
+
+-- a text without tokens is no script
+pub no_tokens : (text : List ℕ) → grammar.tokens grammar.bytes_of text ≡ None → script_of text ≡ None
+no_tokens text e = ap (λ (o : Option (List grammar.Placed)). o >>= λ ts. all_at_zero word_named ts >>= λ ps. script_in text ps) e
+
+-- the tokens that a reader begins with
+begins : (text : List ℕ) (toks : Vec Placed) (new : Reader) (end : Span) → new.tokens ≡ toks → left new ≡ all_of (all_bare new) end → end ≡ record { offset = length text }
+    → all_of (map bare_placed toks.items) (record { offset = length text }) ≡ left new
+begins text toks new end same at_left at_end =
+    ap (all_of (map bare_placed toks.items)) (sym at_end) ∙ ap (λ (t : Vec Placed). all_of (map bare_placed t.items) end) (sym same) ∙ sym at_left
+
+-- the commands of a script are those that were read
+pub script_made : (text : List ℕ) (toks : Vec Placed) (new done : Reader) (s : Script) (end : Span) → new.tokens ≡ toks → left new ≡ all_of (all_bare new) end → end ≡ record { offset = length text } → ReadsAll script new done → done.fault ≡ None
+    → s.commands.items ≡ map (placed_up_to (length text)) done.lists.commands.items → s.values ≡ done.lists.values → s.lanes ≡ done.lists.lanes → s.tokens ≡ done.tokens
+    → script_in text (map bare_placed toks.items) ≡ Some (commands_of s)
+script_made text toks new done s end same at_left at_end r clean commands values lanes tokens =
+    ap (λ t. script t >>= λ cs. Some (map (up_to (length text)) cs)) (begins text toks new end same at_left at_end)
+    ∙ ap (λ o. o >>= λ cs. Some (map (up_to (length text)) cs)) (r.gives clean)
+    ∙ ap Some (sym (all_placed (length text) (all_bare done) (read_values done.lists) done.lists.commands.items)
+    ∙ ap (map (command_in (all_bare done) (read_values done.lists))) (sym commands)
+    ∙ ap (λ (t : Vec Placed). map (command_in (map bare_placed t.items) (read_values done.lists)) s.commands.items) (sym tokens)
+    ∙ ap (λ (v : Vec code_value.Value). map (command_in (script_tokens s) (map (value_in done.lists.lanes.items) v.items)) s.commands.items) (sym values)
+    ∙ ap (λ (n : Vec Number). map (command_in (script_tokens s) (map (value_in n.items) s.values.items)) s.commands.items) (sym lanes))
+
+-- a text that the reader rejected is no script
+pub no_script : (text : List ℕ) (toks : Vec Placed) (new done : Reader) (end : Span) → new.tokens ≡ toks → left new ≡ all_of (all_bare new) end → end ≡ record { offset = length text } → ReadsAll script new done → IsRefused done.fault
+    → script_in text (map bare_placed toks.items) ≡ None
+no_script text toks new done end same at_left at_end r f =
+    ap (λ t. script t >>= λ cs. Some (map (up_to (length text)) cs)) (begins text toks new end same at_left at_end)
+    ∙ ap (λ o. o >>= λ cs. Some (map (up_to (length text)) cs)) (r.refuses f)
