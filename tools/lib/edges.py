@@ -71,6 +71,9 @@ EDGES = r"""
 (func)^)	not read at ^: unexpected token after module
 (module (func^	not read at ^: expected `)`
 (module) ^(module)	not read at ^: unexpected token after module
+(module (func) (start 0) (func) (start ^1))	not read at ^: multiple start sections
+(module quote "(func) (start 0)" ^"(start 0)")	not read at ^: multiple start sections
+(func) (start 0)	0061736d01000000010401600000030201000801000a040102000b
 (module (func ^"a"))	not read at ^: unknown operator or unexpected token
 (module (func) ^"a")	not read at ^: expected valid module field
 (module ^definition (func))	not read at ^: expected valid module field
@@ -96,7 +99,6 @@ EDGES = r"""
 (module (func (export "a") (import "b" "c")))	0061736d0100000001040160000002070101620163000007050101610000
 (module (memory (import "a" "b") 1 ^(data "x")))	not read at ^: expected `)`
 (module (global $a (mut i32)))	0061736d010000000604017f010b000b046e616d65070401000161
-(module (start 0) (start 0) (func))	0061736d01000000010401600000030201000801000801000a040102000b
 (module (table 1 funcref (ref.null func)))	0061736d010000000409014000700001d0700b
 (module (table funcref^))	not read at ^: expected `(elem`
 (module (import "a" "b" (func) ^(func)))	not read at ^: expected `)`

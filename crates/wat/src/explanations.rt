@@ -259,6 +259,13 @@ const ENTRIES: [Entry; 35] = [
     },
     Entry {
         number: "",
+        words: "multiple start sections",
+        cause: "A module has at most one start function, and a second one is at this index.",
+        example: "(module (func) (start 0) (start 0))",
+        fix: "Remove a start field. A function that calls both can be the one start function.",
+    },
+    Entry {
+        number: "",
         words: "unbalanced blocks in constant expression",
         cause: "A constant expression has an `end` without a block, or a block without an `end`.",
         example: "(module (global i32 i32.const 0 end))",

@@ -13,7 +13,7 @@ use Rattle.wat_syntax.specs.Customs.{strings}
 use Rattle.wat_syntax.specs.Bare.{bare_text, bare_name_option, bare_id_option}
 use Rattle.wat_syntax.specs.BareFields.{bare_fields}
 use Rattle.wat_text.specs.Readers.{left, IsClean, IsRefusal, IsRefused, Reads, Expects}
-use Rattle.wat_text.specs.Denotes.{Explains, IsIllFormed, AreFields, rest_of_fields, pieces_of, module_end, module_position, fields_module, binary_module, is_well_formed_module, bare_opening, IsModule}
+use Rattle.wat_text.specs.Denotes.{Explains, IsIllFormed, AreFields, has_one_start, if_one_start, where_it_holds, rest_of_fields, pieces_of, module_end, module_position, fields_module, binary_module, is_well_formed_module, bare_opening, IsModule}
 use Rattle.wat_text.specs.Finishes.{Finishes, IsClauseFault, WasRefused}
 use Rattle.wat_text.specs.declared.modules.ModuleHead.{ModuleHead}
 use Rattle.wat_text.specs.declared.modules.TextKind.TheVariants as kind
@@ -64,6 +64,29 @@ reads_all rule end a b c x r e = record {
     go : (o : Option TextError) → b.fault ≡ o → a.fault ≡ None → b.make ≡ false → IsRefused c.fault → to_end (rule (left a)) end ≡ None
     go None n h m f = ap (λ p. to_end p end) (r.gives (n, m)) ∙ ap (λ o. o >>= λ rest. Some x) (e.refuses n f)
     go (Some y) s h m f = ap (λ p. to_end p end) (r.refuses h m (subst IsRefused (e.keeps (λ n. cc)) f))
+
+-- the same, and at most one field is a start function
+pub all_checked : (rule : Option (List ModuleField)) (a b c : Reader) (fs : List ModuleField)
+    → ReadsAll rule a b fs → Expects (where_it_holds (has_one_start fs)) b c → ReadsAll (rule >>= if_one_start) a c fs
+all_checked rule a b c fs r e = record {
+  made = λ h. r.made (sym e.make ∙ h);
+  clean = λ h. r.clean (e.clean h);
+  gives = λ h. ap (λ o. o >>= if_one_start) (r.gives (e.clean h.0, sym e.make ∙ h.1)) ∙ held (has_one_start fs) (e.gives h.0);
+  keeps = λ h. e.keeps (λ n. h (r.clean n)) ∙ r.keeps h;
+  refuses = λ h m f. go b.fault refl h (sym e.make ∙ m) f;
+}
+  where
+    held : (ok : Bool) → where_it_holds ok (left b) ≡ Some (left c) → elim ok [ true ↦ Some fs | false ↦ None ] ≡ Some fs
+    held true h = refl
+    held false h = absurd cc
+
+    not_held : (ok : Bool) → where_it_holds ok (left b) ≡ None → elim ok [ true ↦ Some fs | false ↦ None ] ≡ None
+    not_held true h = absurd cc
+    not_held false h = refl
+
+    go : (o : Option TextError) → b.fault ≡ o → a.fault ≡ None → b.make ≡ false → IsRefused c.fault → (rule >>= if_one_start) ≡ None
+    go None n h m f = ap (λ o. o >>= if_one_start) (r.gives (n, m)) ∙ not_held (has_one_start fs) (e.refuses n f)
+    go (Some y) s h m f = ap (λ o. o >>= if_one_start) (r.refuses h m (subst IsRefused (e.keeps (λ n. cc)) f))
 
 -- the same before a step that only takes tokens
 pub all_after : {T : Type 0} (rule : Option T) (a b c : Reader) (x : T) → b.fault ≡ a.fault → b.make ≡ a.make → ReadsAll rule b c x → ReadsAll rule a c x

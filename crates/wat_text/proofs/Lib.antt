@@ -25,6 +25,7 @@ pub mod Quoting
 pub mod References
 pub mod Running
 pub mod Signs
+pub mod Starts
 pub mod Steps
 pub mod Taken
 pub mod Turns

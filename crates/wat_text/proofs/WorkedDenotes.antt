@@ -12,7 +12,7 @@ use Rattle.wat_text.specs.WorkedDenotes.{Modules, Binaries, InQuotes, Positions,
 
 pub modules : Modules
 unfolding module_of backwards parts words peek after position count
-modules = (refl, refl, refl, refl, refl, refl, refl)
+modules = (refl, refl, refl, refl, refl, refl, refl, refl, refl, refl, refl)
 
 pub binaries : Binaries
 unfolding module_of backwards parts string_length elements words peek after position count

@@ -12,7 +12,7 @@
 -- The tokens of a text are without addresses here, and so is its module: each text in them is at address 0 (Bare and AtZero in
 -- wat_syntax). So a text has one module at most, which `module_of` computes. What the code reads has addresses, and is the module if it
 -- is so without them (Denotes).
-use Rattle.std.specs.Prelude.{◌≡◌, ◌⊎◌, ⊤, ℕ, ◌-◌, nat_lt, Bool, true, false, List, [], ◌∷◌, ◌++◌, length, map, Option, None, Some, is_some}
+use Rattle.std.specs.Prelude.{◌≡◌, ◌⊎◌, ⊤, ℕ, ◌-◌, ◌&&◌, not, nat_lt, Bool, true, false, List, [], ◌∷◌, ◌++◌, length, map, Option, None, Some, is_some}
 use Rattle.std.specs.Option.{option_or, unwrap_or}
 use Rattle.std.specs.Str.{is_utf8}
 use Rattle.std.specs.Borrow.{Bor}
@@ -25,6 +25,7 @@ use Rattle.wat_tokens.specs.declared.tokens.Placed.{Placed}
 use Rattle.wat_tokens.specs.declared.words.Key.{Key}
 use Rattle.wat_tokens.specs.declared.words.Key.TheVariants as key
 use Rattle.wat_syntax.specs.Tree.{Span, ModuleField}
+use Rattle.wat_syntax.specs.Tree.field
 use Rattle.wat_syntax.specs.Tokens.{Toks, Parse, peek, after, position, position_in, count, key_of, rparen, form, optional, many}
 use Rattle.wat_syntax.specs.Values.{id, name_annotation, string}
 use Rattle.wat_syntax.specs.Types.{goes_on}
@@ -78,9 +79,36 @@ all_taken toks = taken_in toks.left toks
 abbrev pub module_end : Bool → Toks → Option Toks
 module_end is_written toks = elim is_written [ true ↦ rparen toks >>= λ rest. all_taken rest | false ↦ all_taken toks ]
 
--- the fields of a module after its opening, to the end of the tokens
+-- the fields after the opening of a module, to the end of the tokens
+abbrev pub fields_to_end : Bool → Toks → Option (List ModuleField)
+fields_to_end is_written toks = modulefields toks >>= λ fs. module_end is_written fs.1 >>= λ rest. Some fs.0
+
+-- A field is a start function.
+abbrev pub is_start : ModuleField → Bool
+is_start (field.Start x) = true
+is_start f = false
+
+-- No field is a start function.
+abbrev pub has_no_start : List ModuleField → Bool
+has_no_start [] = true
+has_no_start (f ∷ fs) = not (is_start f) && has_no_start fs
+
+-- At most one field is a start function, as modules may only be composed if one of them has none (text format: modules). So
+-- `(start 0) (start 0)` is no module.
+abbrev pub has_one_start : List ModuleField → Bool
+has_one_start [] = true
+has_one_start (f ∷ fs) = elim (is_start f) [ true ↦ has_no_start fs | false ↦ has_one_start fs ]
+
+abbrev pub if_one_start : List ModuleField → Option (List ModuleField)
+if_one_start fs = elim (has_one_start fs) [ true ↦ Some fs | false ↦ None ]
+
+-- the fields of a module after its opening
 abbrev pub rest_of_fields : Bool → Toks → Option (List ModuleField)
-rest_of_fields is_written toks = modulefields toks >>= λ fs. module_end is_written fs.1 >>= λ rest. Some fs.0
+rest_of_fields is_written toks = fields_to_end is_written toks >>= if_one_start
+
+-- the tokens that are left, if a condition holds
+abbrev pub where_it_holds : Bool → Toks → Option Toks
+where_it_holds holds toks = elim holds [ true ↦ Some toks | false ↦ None ]
 
 -- m ::= '(' 'module' id? modulefield* ')', or modulefield* alone (text format: modules): its value is the fields
 abbrev pub fields_of_module : Toks → Option (List ModuleField)

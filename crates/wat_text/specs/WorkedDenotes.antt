@@ -8,7 +8,7 @@ use Rattle.wat_syntax.specs.Tree.{Span, Id, ModuleField}
 use Rattle.wat_syntax.specs.Tree.field
 use Rattle.wat_syntax.specs.Values.{text_of}
 use Rattle.wat_syntax.specs.Worked.{the, named, quoted, toks, made}
-use Rattle.wat_text.specs.Denotes.{opening, rest_of_fields, quotes, text_in, position_of, put_in, contents_of, Fields, Binary, Quotes, module_of, Denotes, DenotesNothing}
+use Rattle.wat_text.specs.Denotes.{opening, has_no_start, has_one_start, rest_of_fields, quotes, text_in, position_of, put_in, contents_of, Fields, Binary, Quotes, module_of, Denotes, DenotesNothing}
 use Rattle.wat_text.specs.declared.modules.TextKind.TheVariants as kind
 use Rattle.wat_text.specs.declared.modules.TextModule.{TextModule}
 use Rattle.wat_text.specs.declared.quotes.Quote.{Quote}
@@ -30,7 +30,8 @@ abbrev pub fields_at : Span → Option Id → List ModuleField → TextModule
 fields_at span id fields = record { span = span; id = id; name = None; kind = kind.Fields fields }
 
 -- `(start 0)` is a module without an id, and so is an empty text. The position of `(module $m (start 0))` is that of its keyword.
--- `(start` has no `)`, in `(start 0) x` and `(module) (start 0)` tokens are left, and `a[` has no tokens.
+-- `(start` has no `)`, in `(start 0) x` and `(module) (start 0)` tokens are left, and `a[` has no tokens. `(start 0) (start 0)` has two
+-- start functions, after the second of which none may come.
 abbrev pub Modules : Type 0
 Modules = (module_of (codes "(start 0)") ≡ Some (fields_at text_start None (start_at 7 ∷ [])))
     × (module_of [] ≡ Some (fields_at text_start None []))
@@ -39,6 +40,8 @@ Modules = (module_of (codes "(start 0)") ≡ Some (fields_at text_start None (st
     × (module_of (codes "(start 0) x") ≡ None)
     × (module_of (codes "(module) (start 0)") ≡ None)
     × (module_of (codes "a[") ≡ None)
+    × (module_of (codes "(start 0) (start 0)") ≡ None)
+    × (has_no_start (start_at 7 ∷ []) ≡ false) × (has_one_start (start_at 7 ∷ []) ≡ true) × (has_one_start (start_at 7 ∷ (start_at 17 ∷ [])) ≡ false)
 
 -- `(module binary "\00asm" "\01")` has two pieces, which are bytes. Without `(module` before it, `binary` is no module; after it come
 -- strings alone.

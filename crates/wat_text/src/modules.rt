@@ -1,6 +1,6 @@
 //! Reads a whole module, and its fields one after another (text format: modules).
 
-ghost use Rattle.std.specs.Prelude.{◌≡◌, ◌≤◌, true, false, None, Some, length, map, is_none, IsTrue, IfOk, IfErr, IfSome};
+ghost use Rattle.std.specs.Prelude.{◌≡◌, ◌≤◌, true, false, None, Some, length, map, is_none, is_some, IsTrue, IfOk, IfErr, IfSome};
 ghost use Rattle.std.specs.Option.{unwrap_or};
 ghost use Rattle.wast_base.specs.Ids.{text_start};
 ghost use Rattle.wast_tree_nodes.specs.WellFormed.{is_well_formed};
@@ -10,10 +10,10 @@ ghost use Rattle.wat_syntax.specs.ModuleFields.{fieldform, open_field, modulefie
 ghost use Rattle.wat_text.specs.Readers.{left, Reads, Decides, Expects, Finds, Refuses, ReadsOnto, Pushes, Builds};
 ghost use Rattle.wat_text.specs.Texts.{is_well_formed_text};
 ghost use Rattle.wat_text.specs.Denotes.{opening, fields_of_module, all_bare, fields_module, module_as, module_of_tokens as tokens_rule, Denotes, DenotesNothing, Explains, is_well_formed_module, AreFields, AreIllFormed, IsModule, MeansIllFormed, DenotesIllFormed};
-ghost use Rattle.wat_text.specs.Denotes.{all_taken, module_keyword as keyword_rule, module_end as end_rule, rest_of_fields as fields_to_end, quote as quote_rule, quotes as quotes_rule, binary_module as binary_rule, Quotes as quotes_kind};
+ghost use Rattle.wat_text.specs.Denotes.{all_taken, module_keyword as keyword_rule, module_end as end_rule, has_one_start, is_start, where_it_holds, rest_of_fields as fields_rule, quote as quote_rule, quotes as quotes_rule, binary_module as binary_rule, Quotes as quotes_kind};
 ghost use Rattle.wat_text.specs.Finishes.{Finishes, IsClauseFault, WasRefused};
 ghost use Rattle.wat_syntax.specs.Bare.{bare_text};
-ghost use Rattle.wat_syntax.specs.BareFields.{bare_field};
+ghost use Rattle.wat_syntax.specs.BareFields.{bare_field, bare_fields};
 ghost use Rattle.wat_text.specs.Denotes.{bare_opening, bare_quote};
 
 use crate::quotes::{Quote, quoted_tokens};
@@ -281,6 +281,17 @@ impl<'a> Reader<'a> {
         }
     }
 
+    /// Checks that at most one field is a start function, or fails (text format: modules).
+    #[tactic(auto, using(crate::proofs::Starts::one_holds, crate::proofs::Starts::one_fails))]
+    fn one_start(&mut self, fields: &mut Seq<ModuleField<'a>>)
+        ensures checks { Expects (where_it_holds (has_one_start (bare_fields fields.old))) self.old self.new }
+        ensures stays { fields.new ≡ fields.old }
+    {
+        if let Some(span) = second_start_in(fields) {
+            self.fail_at(span, TextFault::Starts);
+        }
+    }
+
     /// Reads the end of a module and of the text. If the module is in parentheses, its `)` comes
     /// first.
     fn module_end(&mut self, is_written: bool)
@@ -293,6 +304,43 @@ impl<'a> Reader<'a> {
         self.close();
         self.text_end();
     }
+}
+
+/// Returns the position of the index of a start function, if the field is one.
+fn start_place(field: &ModuleField<'_>) -> Option<Span>
+    ensures { is_some result ≡ is_start field.now }
+{
+    match field {
+        ModuleField::Start(index) => Some(index.span()),
+        _ => None,
+    }
+}
+
+/// Returns the position of the second start function, if there are several.
+#[tactic(auto, using(crate::proofs::Starts::one_at_end, crate::proofs::Starts::one_found, crate::proofs::Starts::one_passed, crate::proofs::Starts::second_found))]
+fn second_start(fields: &[ModuleField<'_>]) -> Option<Span>
+    ensures { is_none result ≡ has_one_start fields.now }
+{
+    let mut found = false;
+    for field in fields {
+        if let Some(span) = start_place(field) {
+            if found {
+                return Some(span);
+            }
+            found = true;
+        }
+    }
+    None
+}
+
+/// Returns the position of the second start function in a list, and leaves the list unchanged. It
+/// borrows the list mutably, because the prover would compare the type of the whole tree with itself
+/// for a shared borrow.
+fn second_start_in<'a>(fields: &mut Seq<ModuleField<'a>>) -> Option<Span>
+    ensures one { is_none result ≡ has_one_start fields.old }
+    ensures stays { fields.new ≡ fields.old }
+{
+    second_start(fields.as_slice())
 }
 
 /// Returns the error of fields that are not well formed. The fields are borrowed mutably and not
@@ -351,11 +399,12 @@ fn rest_of_fields<'a>(
     reader: Reader<'a>,
     is_written: bool,
 ) -> Result<Seq<ModuleField<'a>>, TextError>
-    ensures { Finishes is_well_formed (AreFields (fields_to_end is_written (left reader.entry))) (fields_to_end is_written (left reader.entry) ≡ None) reader.entry result }
+    ensures { Finishes is_well_formed (AreFields (fields_rule is_written (left reader.entry))) (fields_rule is_written (left reader.entry) ≡ None) reader.entry result }
 {
     let mut reader = reader;
-    let fields = reader.fields();
+    let mut fields = reader.fields();
     reader.module_end(is_written);
+    reader.one_start(&mut fields);
     unless(reader.finish(), fields)
 }
 

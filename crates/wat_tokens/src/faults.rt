@@ -51,6 +51,8 @@ pub enum TextFault {
     ParamBehindResult,
     /// A token comes after the module.
     Trailing,
+    /// Several fields are start functions.
+    Starts,
     /// The fields are not well formed, by the clause of this number.
     IllFormed(u8),
 }
@@ -79,6 +81,7 @@ impl TextFault {
             TextFault::Hint => "invalid value for branch hint",
             TextFault::ParamBehindResult => "`param` must come before `result`",
             TextFault::Trailing => "unexpected token after module",
+            TextFault::Starts => "multiple start sections",
             TextFault::IllFormed(clause) => clause_text(clause),
         }
     }
