@@ -8,8 +8,7 @@ use Rattle.wat_tokens.specs.declared.tokens.Placed.{Placed}
 use Rattle.wat_syntax.specs.Tree.{Span, Id}
 use Rattle.wat_syntax.specs.Tokens.{Toks, Parse, rparen}
 use Rattle.wat_syntax.specs.Values.{id, name}
-use Rattle.wat_syntax.specs.Seen.{seen_text}
-use Rattle.wat_laws.specs.Bare.{bare_placed, bare_id_option}
+use Rattle.wat_syntax.specs.Bare.{bare_text, bare_placed, bare_id_option}
 use Rattle.wast_script.specs.declared.values.Part.{Part}
 use Rattle.wat_tokens.specs.declared.faults.TextError.{TextError}
 use Rattle.wast_script.specs.declared.commands.ActionKind.{ActionKind}
@@ -89,13 +88,13 @@ action_in_of span k m nm args vs = record { span = span; kind = k; «module» = 
 
 -- an action
 pub action_read : (k : ActionKind) (a b c d e : Reader) (span : Span) (m : Option Id) (nm : Bor (List ℕ)) (args : Part) → span ≡ (left a).before → Finds id a b (bare_id_option m)
-    → Decides name b c (seen_text nm) → Reads (arguments k) c d (part args) (λ n. args.end ≤ n) → Expects rparen d e
+    → Decides name b c (bare_text nm) → Reads (arguments k) c d (part args) (λ n. args.end ≤ n) → Expects rparen d e
     → Reads (action k) a e (action_in_of span k m nm args) (λ n. args.end ≤ n)
 action_read k a b c d e span m nm args at finds named takes close =
     all_read (action k) a e (action_in_of span k m nm args) (λ n. args.end ≤ n)
     (turned a e _ _ _
     (both a b e _ _ _ (by_finds id a b (bare_id_option m) (λ m. name m.1 >>= λ nm. arguments k nm.1 >>= λ args. rparen args.1 >>= λ rest. at_end m.0 nm.0.now args.0 rest) finds)
-    (both b c e _ _ _ (by_decides name b c (seen_text nm) (λ nm. arguments k nm.1 >>= λ args. rparen args.1 >>= λ rest. at_end (bare_id_option m) nm.0.now args.0 rest) named)
+    (both b c e _ _ _ (by_decides name b c (bare_text nm) (λ nm. arguments k nm.1 >>= λ args. rparen args.1 >>= λ rest. at_end (bare_id_option m) nm.0.now args.0 rest) named)
     (both c d e _ _ _ (by_reads (arguments k) c d (part args) (λ n. args.end ≤ n) (λ args. rparen args.1 >>= λ rest. at_end (bare_id_option m) nm.now args.0 rest) takes)
     (by_expects rparen d e (at_end (bare_id_option m) nm.now (part args (read_values d.lists))) close))))
     (ap (λ s. let o : Action × Toks = (record { span = s; kind = k; «module» = bare_id_option m; name = nm.now; arguments = part args (read_values d.lists) }, left e) in Some o) (sym at)

@@ -7,7 +7,7 @@ use Rattle.wat_tokens.specs.declared.faults.TextFault.{TextFault}
 use Rattle.wat_tokens.specs.declared.faults.TextError.{TextError}
 use Rattle.wat_syntax.specs.Tree.{Span}
 use Rattle.wat_syntax.specs.Tokens.{Toks, count}
-use Rattle.wat_laws.specs.Bare.{bare_placed}
+use Rattle.wat_syntax.specs.Bare.{bare_placed}
 use Rattle.wast_script.specs.declared.values.Number.{Number}
 use Rattle.wast_script.specs.declared.values.Value as code_value
 use Rattle.wast_script.specs.declared.commands.Action as code_action
@@ -18,7 +18,7 @@ use Rattle.wast_script.specs.declared.commands.Command as code_command
 use Rattle.wast_script.specs.declared.reader.Lists.{Lists}
 use Rattle.wast_script.specs.declared.reader.Reader.{Reader}
 use Rattle.wast_script.specs.Constants.{Value}
-use Rattle.wast_script.specs.Grammar.{Acts, AssertReturn, AssertTrap, AssertExhaustion, AssertException, AssertSuspension, Action, Command, command_or_end, threads_after, no_commands, commands_in, all_commands, Module, Module_, bare_module, one_module, all_module, begins_command, script}
+use Rattle.wast_script.specs.Grammar.{Acts, AssertReturn, AssertTrap, AssertExhaustion, AssertException, AssertSuspension, Action, Command, command_or_end, threads_after, no_commands, commands_in, all_commands, Module, Module_, lone_module, one_module, all_module, begins_command, script}
 use Rattle.wast_script.specs.Scripts.{part, action_in, execution_in, kind_in, command_in, module_in}
 use Rattle.wast_script.specs.Readers.{left, all_bare, read_values, read_commands, IsRefused, IsFirst, HasLanes, HasValues, HaveLanes, HaveValues, Reads, Pushes, Fails, IsNew, ReadsAll, with_commands, TakesCommand, TakesCommands}
 use Rattle.wast_script.proofs.Lists.{no_more, mapped, all_tail, all_one}
@@ -208,7 +208,7 @@ one_open old mid new threads fault span some t f = record {
     go (Some y) is g = t.refuses (subst IsRefused (f.keeps (λ n. cc)) g)
 
 -- one module without its parentheses
-pub module_alone : (a b : Reader) (m : ScriptModule) → IsNew a → module_in (all_bare a) m ≡ bare_module (left a) → Pushes a b (record { span = m.span; kind = kind.Module m }) → ReadsAll all_module a b
+pub module_alone : (a b : Reader) (m : ScriptModule) → IsNew a → module_in (all_bare a) m ≡ lone_module (left a) → Pushes a b (record { span = m.span; kind = kind.Module m }) → ReadsAll all_module a b
 module_alone a b m new is p = record {
   gives = λ h. ap Some (sym (all_seen h));
   refuses = λ f. absurd (p.memory new.clean f);

@@ -7,7 +7,7 @@ use Rattle.wat_tokens.specs.declared.tokens.Placed.{Placed}
 use Rattle.wat_syntax.specs.Tree.{Span, Id}
 use Rattle.wat_syntax.specs.Tokens.{Toks, Parse, position, count, lparen, rparen, optional}
 use Rattle.wat_syntax.specs.Values.{id}
-use Rattle.wat_laws.specs.Bare.{bare_placed, bare_id_option}
+use Rattle.wat_syntax.specs.Bare.{bare_placed, bare_id_option}
 use Rattle.wast_script.specs.declared.values.Part.{Part}
 use Rattle.wast_script.specs.declared.commands.ModuleForm.{ModuleForm}
 use Rattle.wast_script.specs.declared.commands.ScriptModule.{ScriptModule}

@@ -3,7 +3,7 @@ use Rattle.std.proofs.Common.{◌≡◌, ◌∙◌, ℕ, zero, suc, ◌+◌, ◌
 use Rattle.wat_tokens.specs.declared.tokens.Token.{Token}
 use Rattle.wat_tokens.specs.declared.tokens.Token.TheVariants as token
 use Rattle.wat_tokens.specs.declared.tokens.Placed.{Placed}
-use Rattle.wat_laws.specs.Bare.{bare_token, bare_placed}
+use Rattle.wat_syntax.specs.Bare.{bare_token, bare_placed}
 use Rattle.wast_script.specs.Scripts.{string_bytes, joined_bytes}
 use Rattle.wast_script.proofs.Lists.{no_more}
 

@@ -3,7 +3,7 @@ use Rattle.std.proofs.Common.{◌≡◌, ◌∙◌, ℕ, zero, suc, ◌+◌, ◌
 use Rattle.wast_base.specs.declared.ids.Span.{Span}
 use Rattle.wat_tokens.specs.declared.tokens.Placed.{Placed}
 use Rattle.wat_syntax.specs.Tokens.{Toks, first, position_in, after_first}
-use Rattle.wat_laws.specs.Bare.{bare_token, bare_placed}
+use Rattle.wat_syntax.specs.Bare.{bare_token, bare_placed}
 use Rattle.wast_script.specs.Readers.{left_of}
 
 -- the token after so many others

@@ -1,5 +1,6 @@
 pub mod Acting
 pub mod Alternatives
+pub mod Bits
 pub mod Commanding
 pub mod Finding
 pub mod Goes

@@ -1,38 +1,55 @@
--- A module of a script, by its tokens at the addresses that the code has.
-use Rattle.std.proofs.Common.{◌≡◌, ◌∙◌, List, ◌++◌, map, Result, Some, None, Ok, Err, sym, subst}
+-- A module of a script, by its tokens that the code gives to wat_text.
+use Rattle.std.proofs.Common.{◌≡◌, ◌∙◌, ℕ, ◌-◌, ◌<◌, ◌≤◌, List, [], ◌∷◌, ◌++◌, length, map, drop, get_or, Result, None, Ok, Err, refl, sym, ap, subst, arith}
+use Rattle.std.proofs.lemmas.List.{length-map, map-append}
 use Rattle.std.specs.Prelude.{IfOk, IfErr}
 use Rattle.wast_base.specs.Ids.{text_start}
 use Rattle.wat_tokens.specs.declared.faults.TextError.{TextError}
 use Rattle.wat_tokens.specs.declared.faults.TextFault.TheVariants as fault
-use Rattle.wat_syntax.specs.Tree.{Span}
-use Rattle.wat_text.specs.Denotes.{seen_module, all_of, Means, Explains, MeansIllFormed}
-use Rattle.std.proofs.lemmas.List.{map-append}
-use Rattle.wat_tokens.specs.declared.faults.TextFault.{TextFault}
 use Rattle.wat_tokens.specs.declared.tokens.Placed.{Placed}
-use Rattle.wat_laws.specs.Bare.{bare_placed}
+use Rattle.wat_syntax.specs.Tree.{Span}
+use Rattle.wat_syntax.specs.Tokens.{Toks, position_in}
+use Rattle.wat_syntax.specs.Bare.{bare_placed}
+use Rattle.wat_text.specs.Denotes.{all_of, all_bare, module_of_tokens, IsModule, Explains, MeansIllFormed}
 use Rattle.wat_text.specs.declared.modules.TextModule.{TextModule}
 use Rattle.wast_script.specs.declared.commands.ScriptModule.{ScriptModule}
+use Rattle.wast_script.specs.Grammar.{Module}
 use Rattle.wast_script.specs.Scripts.{part, module_in}
-use Rattle.wast_script.specs.Modules.{module_tokens, IsModule, IsNoModule, IsModuleOf, IsNoModuleOf}
+use Rattle.wast_script.specs.Modules.{last_position, toks_of, IsModuleOf, IsNoModuleOf}
+use Rattle.wast_script.proofs.Lefts.{placed, none_placed}
 use Rattle.wast_script.proofs.Parts.{part_mapped}
 
-same_tokens : (tokens : List Placed) (m : ScriptModule) → map bare_placed (module_tokens tokens m) ≡ (module_in (map bare_placed tokens) m).tokens
-same_tokens tokens m = map-append bare_placed (part m.head tokens) (part m.rest tokens) ∙ (λ i. sym (part_mapped bare_placed m.head tokens) i ++ sym (part_mapped bare_placed m.rest tokens) i)
+-- the position of the last token
+pub last_is : (found : List Placed) (k : ℕ) (p : Placed) → k ≡ length found - 1 → k < length found → p ≡ get_or found k p → p.span ≡ last_position (map bare_placed found)
+last_is found k p at few is =
+    placed k found text_start p few is
+    ∙ ap (λ n. position_in (drop n (map bare_placed found)) text_start) (at ∙ ap (λ n. n - 1) (sym (length-map found bare_placed)))
 
-pub module_of : (tokens : List Placed) (m : ScriptModule) (t : TextModule) → IsModule (module_tokens tokens m) t → IsModuleOf (module_in (map bare_placed tokens) m) t
-module_of tokens m t is = record { found = module_tokens tokens m; bare = same_tokens tokens m; is = is }
+pub no_last : (found : List Placed) → length found ≤ 0 → last_position (map bare_placed found) ≡ text_start
+no_last [] h = refl
+no_last (x ∷ xs) h = absurd (omega (arith, h))
 
-pub no_module_of : (tokens : List Placed) (m : ScriptModule) (fault : TextFault) → IsNoModule (module_tokens tokens m) fault → IsNoModuleOf (module_in (map bare_placed tokens) m) fault
-no_module_of tokens m fault is = record { found = module_tokens tokens m; bare = same_tokens tokens m; is = is }
+-- the tokens that the code puts together are those of the module
+module _ (tokens found : List Placed) (m : ScriptModule) (end : Span) (same : found ≡ part m.head tokens ++ part m.rest tokens) (at : end ≡ last_position (map bare_placed found)) where
+  abbrev of : Module
+  of = module_in (map bare_placed tokens) m
 
--- what the code of wat_text says of tokens that are those of the module
-pub all_modules : (tokens found : List Placed) (end : Span) (r : Result TextModule TextError) → found ≡ tokens → IfOk r (λ m. Means (all_of found end) (Some (seen_module m))) → IfOk r (IsModule tokens)
-all_modules tokens found end (Ok m) e h = record { end = end; means = subst (λ ts. Means (all_of ts end) (Some (seen_module m))) e h }
-all_modules tokens found end (Err f) e h = tt
+  same_tokens : map bare_placed found ≡ of.tokens
+  same_tokens =
+      ap (map bare_placed) same ∙ map-append bare_placed (part m.head tokens) (part m.rest tokens)
+      ∙ (λ i. sym (part_mapped bare_placed m.head tokens) i ++ sym (part_mapped bare_placed m.rest tokens) i)
 
-pub all_faults : (tokens found : List Placed) (end : Span) (r : Result TextModule TextError) → found ≡ tokens → IfErr r (λ f. Explains (Means (all_of found end) None) (MeansIllFormed (all_of found end)) f.fault) → IfErr r (λ f. IsNoModule tokens f.fault)
-all_faults tokens found end (Ok m) e h = tt
-all_faults tokens found end (Err f) e h = record { end = end; explains = subst (λ ts. Explains (Means (all_of ts end) None) (MeansIllFormed (all_of ts end)) f.fault) e h }
+  same_toks : all_bare found end ≡ toks_of of
+  same_toks = ap (λ e. all_bare found e) at ∙ ap (λ ts. all_of ts (last_position ts)) same_tokens
 
-pub no_memory : (tokens : List Placed) (f : TextError) → f.fault ≡ fault.Memory → IsNoModule tokens f.fault
-no_memory tokens f e = subst (IsNoModule tokens) (sym e) (record { end = text_start; explains = tt })
+  pub is_module : (r : Result TextModule TextError) → IfOk r (IsModule (module_of_tokens (all_bare found end))) → IfOk r (IsModuleOf of)
+  is_module (Ok t) h = subst (λ toks. IsModule (module_of_tokens toks) t) same_toks h
+  is_module (Err e) h = tt
+
+  pub is_no_module : (r : Result TextModule TextError)
+      → IfErr r (λ e. Explains (module_of_tokens (all_bare found end) ≡ None) (MeansIllFormed (all_bare found end)) e.fault) → IfErr r (λ e. IsNoModuleOf of e.fault)
+  is_no_module (Ok t) h = tt
+  is_no_module (Err e) h = subst (λ toks. Explains (module_of_tokens toks ≡ None) (MeansIllFormed toks) e.fault) same_toks h
+
+-- a failed allocation states nothing of a module
+pub no_memory : (d : Module) (e : TextError) → e.fault ≡ fault.Memory → IsNoModuleOf d e.fault
+no_memory d e h = subst (IsNoModuleOf d) (sym h) tt

@@ -7,12 +7,12 @@ use Rattle.wat_grammar.specs.Parts.{◌>>=◌}
 use Rattle.wat_tokens.specs.declared.faults.TextError.{TextError}
 use Rattle.wat_syntax.specs.Tokens.{Parse}
 use Rattle.wat_syntax.specs.Values.{number_text, number}
-use Rattle.wat_syntax.specs.Seen.{seen_text}
+use Rattle.wat_syntax.specs.Bare.{bare_text}
 use Rattle.wast_script.specs.declared.reader.Reader.{Reader}
 use Rattle.wast_script.specs.Readers.{left, IsRefusal, IsRefused, Decides}
 
 -- A reader read the text of a number, and then its value.
-pub number_read : {T : Type 0} (meaning : List ℕ → Option T) (old mid new : Reader) (text : Bor (List ℕ)) (x : T) → Decides number_text old mid (seen_text text)
+pub number_read : {T : Type 0} (meaning : List ℕ → Option T) (old mid new : Reader) (text : Bor (List ℕ)) (x : T) → Decides number_text old mid (bare_text text)
     → new.lists ≡ mid.lists → new.tokens ≡ mid.tokens → (new.fault ≡ None → mid.fault ≡ None) → (new.fault ≡ None → meaning text.now ≡ Some x) → (new.fault ≡ None → left new ≡ left mid)
     → (mid.fault ≢ None → new.fault ≡ mid.fault) → (mid.fault ≡ None → IsRefused new.fault → meaning text.now ≡ None) → Decides (number meaning) old new x
 number_read {T = T} meaning old mid new text x d lists tokens clean gives stays keeps refuses = record {

@@ -5,7 +5,7 @@ use Rattle.std.proofs.lemmas.Bool.{leb-true, leb-false, le-leb}
 use Rattle.std.proofs.lemmas.List.{length-map}
 use Rattle.std.specs.Global.{Vec}
 use Rattle.wat_tokens.specs.declared.tokens.Placed.{Placed}
-use Rattle.wat_laws.specs.Bare.{bare_placed}
+use Rattle.wat_syntax.specs.Bare.{bare_placed}
 use Rattle.wat_syntax.specs.Tokens.{count}
 use Rattle.wast_script.specs.declared.values.Part.{Part}
 use Rattle.wast_script.specs.Grammar.{between}

@@ -1,16 +1,14 @@
 -- A script of a text: the tokens of the text without addresses, and its commands at their positions.
-use Rattle.std.proofs.Common.{◌≡◌, ◌≢◌, ◌∙◌, ℕ, suc, ◌<◌, List, [], ◌∷◌, ◌++◌, length, map, All, Option, None, Some, refl, sym, ap, subst, arith}
+use Rattle.std.proofs.Common.{◌≡◌, ◌∙◌, ℕ, List, [], ◌∷◌, length, map, All, Option, None, Some, refl, sym, ap}
 use Rattle.std.specs.Global.{Vec}
 use Rattle.wat_grammar.specs.Parts.{◌>>=◌}
 use Rattle.wat_grammar.specs.Tokens as grammar
 use Rattle.wat_tokens.specs.Scans.{IsNamed, seen_all}
-use Rattle.wat_tokens.specs.Words.{word_named}
-use Rattle.wat_tokens.specs.declared.tokens.Token.{Token}
-use Rattle.wat_tokens.specs.declared.tokens.Token.TheVariants as token
 use Rattle.wat_tokens.specs.declared.tokens.Placed.{Placed}
-use Rattle.wat_laws.specs.Bare.{bare_placed}
-use Rattle.wat_laws.specs.AtZero.{all_at_zero, IsOfTable, AreOfTable}
-use Rattle.wat_laws.proofs.AtZero.{tokens_at_zero}
+use Rattle.wat_syntax.specs.Bare.{bare_placed}
+use Rattle.wat_syntax.specs.AtZero.{all_at_zero}
+use Rattle.wat_syntax.proofs.AtZero.{bare_tokens}
+use Rattle.wat_text.specs.Denotes.{all_of}
 use Rattle.wast_script.specs.declared.commands.Command as code_command
 use Rattle.wat_syntax.specs.Tree.{Span}
 use Rattle.wast_script.specs.declared.values.Number.{Number}
@@ -18,7 +16,7 @@ use Rattle.wast_script.specs.declared.values.Value as code_value
 use Rattle.wast_script.specs.declared.reader.Reader.{Reader}
 use Rattle.wast_script.specs.declared.scripts.Script.{Script}
 use Rattle.wast_script.specs.Constants.{Value}
-use Rattle.wast_script.specs.Grammar.{Command, up_to, all_of, script, script_in, script_of}
+use Rattle.wast_script.specs.Grammar.{Command, up_to, script, script_in, script_of}
 use Rattle.wast_script.specs.Scripts.{value_in, command_in, placed_up_to, script_tokens, commands_of}
 use Rattle.wast_script.specs.Readers.{left, all_bare, read_values, IsRefused, ReadsAll}
 
@@ -27,26 +25,16 @@ pub all_placed : (n : ℕ) (ts : List Placed) (vs : List Value) (cs : List code_
 all_placed n ts vs [] = refl
 all_placed n ts vs (c ∷ cs) = ap (λ ds. up_to n (command_in ts vs c) ∷ ds) (all_placed n ts vs cs)
 
--- tokens that have the words of their texts are those of the table (as in wat_text)
-is_of_table : (t : Token) → IsNamed t → IsOfTable word_named t
-is_of_table (token.Word w text) h = h
-is_of_table (token.Other text) h = h
-is_of_table x h = tt
-
-fits : (found : List Placed) → All (λ p. IsNamed p.token) found → AreOfTable word_named found
-fits [] h = tt
-fits (p ∷ ps) h = (is_of_table p.token (h 0 p (omega arith)), fits ps (λ k d under. h (suc k) d (omega (arith, under))))
-
 -- the script of the tokens of a text is that of the text
 pub script_is : (text : List ℕ) (found : List Placed) → grammar.tokens grammar.bytes_of text ≡ Some (seen_all found) → All (λ p. IsNamed p.token) found
     → script_of text ≡ script_in text (map bare_placed found)
-script_is text found lexed named =
-    ap (λ (o : Option (List grammar.Placed)). o >>= λ ts. all_at_zero word_named ts >>= λ ps. script_in text ps) lexed
-    ∙ ap (λ (o : Option (List Placed)). o >>= λ ps. script_in text ps) (tokens_at_zero word_named found (fits found named))
+unfolding script_of
+script_is text found lexed named = ap (λ (o : Option (List Placed)). o >>= λ ps. script_in text ps) (bare_tokens text found lexed named)
 
 -- a text without tokens is no script
 pub no_tokens : (text : List ℕ) → grammar.tokens grammar.bytes_of text ≡ None → script_of text ≡ None
-no_tokens text e = ap (λ (o : Option (List grammar.Placed)). o >>= λ ts. all_at_zero word_named ts >>= λ ps. script_in text ps) e
+unfolding script_of
+no_tokens text e = ap (λ (o : Option (List grammar.Placed)). (o >>= λ ts. all_at_zero ts) >>= λ ps. script_in text ps) e
 
 -- the tokens that a reader begins with
 begins : (text : List ℕ) (toks : Vec Placed) (new : Reader) (end : Span) → new.tokens ≡ toks → left new ≡ all_of (all_bare new) end → end ≡ record { offset = length text }

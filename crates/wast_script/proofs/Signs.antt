@@ -1,7 +1,7 @@
 -- The value of a signed integer or a floating-point number in the code is that of the rule, and a text that the code rejects has
 -- none by the rule.
 use Rattle.std.proofs.Common.{◌≡◌, ◌∙◌, ℕ, ◌==◌, Bool, true, false, List, [], ◌∷◌, Option, None, Some, Ok, Err, eqb-true, refl, sym, ap, subst}
-use Rattle.std.specs.Prelude.{◌^◌, nat_lt, if◌then◌else◌, ℤ, option_map, codes}
+use Rattle.std.specs.Prelude.{◌^◌, nat_lt, ◌&&◌, if◌then◌else◌, ℤ, pos, neg_ℤ, int_le, int_lt, option_map, codes}
 use Rattle.std.specs.Float.{Format}
 use Rattle.wat_grammar.specs.Parts.{◌>>=◌, after}
 use Rattle.wat_grammar.specs.Characters.{digit}
@@ -23,14 +23,18 @@ no_plus : (cs : List ℕ) → natural (0x2b ∷ cs) ≡ None
 no_plus cs = none_first digit 10 0x2b cs refl refl
 
 -- an unsigned integer, a signed one, and either of them, by their numbers of any size
-abbrev unsigned_in : ℕ → Option ℕ → Option ℕ
+abbrev pub unsigned_in : ℕ → Option ℕ → Option ℕ
 unsigned_in N o = o >>= λ n. if nat_lt n (2 ^ N) then Some n else None
 
-abbrev signed_in : ℕ → Bool → Option ℕ → Option ℕ
+abbrev pub signed_in : ℕ → Bool → Option ℕ → Option ℕ
 signed_in N is_negative o = option_map (bits_of N) ((o >>= λ n. Some (with_sign is_negative n)) >>= λ i. if is_signed N i then Some i else None)
 
-abbrev first_some : Option ℕ → Option ℕ → Option ℕ → Option ℕ
+abbrev pub first_some : Option ℕ → Option ℕ → Option ℕ → Option ℕ
 first_some o p q = elim (elim o as (λ x. Option ℕ) [ Some n ↦ Some n | None ↦ p ]) as (λ x. Option ℕ) [ Some n ↦ Some n | None ↦ q ]
+
+-- the range of an sN, by half its numbers
+abbrev pub is_within : ℕ → ℤ → Bool
+is_within half i = int_le (neg_ℤ (pos half)) i && int_lt i (pos half)
 
 -- an integer, by its sign and by what is after a '+'
 abbrev from_sign : ℕ → List ℕ → Bool × List ℕ → Option (List ℕ) → Option ℕ

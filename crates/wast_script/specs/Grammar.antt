@@ -1,5 +1,5 @@
--- Which commands a text is, if it is a script (test scripts of the reference interpreter). It is read from the tokens of the text, at
--- address 0 as in wat_laws. The fields of modules are not read here: a module is the tokens that it has.
+-- Which commands a text is, if it is a script (test scripts of the reference interpreter). It is read from the tokens of the text without
+-- addresses (AtZero in wat_syntax). The fields of modules are not read here: a module is the tokens that it has.
 --
 --   (module $m (func)) (assert_invalid (module (func)) "a")    a module with the id $m, and an assertion about another
 --   (register "a" $m) (invoke "f" (i32.const 1))               two commands
@@ -8,15 +8,14 @@
 --   (module (func)                                             None, because a `)` is missing
 use Rattle.std.specs.Prelude.{ℕ, zero, suc, ◌-◌, min, Bool, true, false, ◌&&◌, List, [], ◌∷◌, ◌++◌, length, map, take, Option, None, Some, is_some, codes}
 use Rattle.wat_grammar.specs.Parts.{◌>>=◌}
-use Rattle.wat_grammar.specs.Tokens as grammar
-use Rattle.wat_tokens.specs.Words.{word_named}
 use Rattle.wat_tokens.specs.declared.tokens.Token.{Token}
 use Rattle.wat_tokens.specs.declared.tokens.Token.TheVariants as token
 use Rattle.wat_tokens.specs.declared.tokens.Placed.{Placed}
 use Rattle.wat_syntax.specs.Tree.{Span, Id}
-use Rattle.wat_syntax.specs.Tokens.{Toks, Parse, peek, after, position, position_in, count, is_lparen, is_rparen, lparen, rparen, optional}
+use Rattle.wat_syntax.specs.Tokens.{Toks, Parse, peek, after, position, count, is_lparen, is_rparen, lparen, rparen, optional}
 use Rattle.wat_syntax.specs.Values.{id, name, is_string, is_name, annotation_of}
-use Rattle.wat_laws.specs.AtZero.{all_at_zero}
+use Rattle.wat_syntax.specs.AtZero.{tokens_at_zero}
+use Rattle.wat_text.specs.Denotes.{all_of}
 use Rattle.wast_script.specs.Words.{verb_named}
 use Rattle.wast_script.specs.Constants.{Value, word_in, the_word, is_form, form, word_that, values}
 use Rattle.wast_script.specs.declared.commands.ActionKind.{ActionKind}
@@ -291,11 +290,11 @@ abbrev pub all_commands : Toks → Option (List Command)
 all_commands toks = commands_in (count toks) 0 toks
 
 -- a script that is one module without its parentheses
-abbrev pub bare_module : Toks → Module
-bare_module toks = record { span = position toks; id = None; form = module_form.Fields; tokens = toks.left; strings = [] }
+abbrev pub lone_module : Toks → Module
+lone_module toks = record { span = position toks; id = None; form = module_form.Fields; tokens = toks.left; strings = [] }
 
 abbrev pub one_module : Toks → List Command
-one_module toks = record { span = position toks; kind = Module_ (bare_module toks) } ∷ []
+one_module toks = record { span = position toks; kind = Module_ (lone_module toks) } ∷ []
 
 abbrev pub all_module : Toks → Option (List Command)
 all_module toks = Some (one_module toks)
@@ -312,10 +311,6 @@ begins_command toks = is_lparen (peek 0 toks) && is_some (verb_in (peek 1 toks))
 abbrev pub script : Toks → Option (List Command)
 script toks = elim (begins_command toks) [ true ↦ all_commands toks | false ↦ all_module toks ]
 
--- the tokens of a text, of which none is read
-abbrev pub all_of : List Placed → Span → Toks
-all_of found end = record { before = position_in found end; left = found; end = end }
-
 -- The commands of a text, if it is a script. No command is after the end of its text; here its position is the end if it were.
 abbrev pub up_to : ℕ → Command → Command
 up_to n c = record { span = record { offset = min c.span.offset n }; kind = c.kind }
@@ -323,5 +318,5 @@ up_to n c = record { span = record { offset = min c.span.offset n }; kind = c.ki
 abbrev pub script_in : List ℕ → List Placed → Option (List Command)
 script_in text found = script (all_of found (record { offset = length text })) >>= λ cs. Some (map (up_to (length text)) cs)
 
-abbrev pub script_of : List ℕ → Option (List Command)
-script_of text = grammar.tokens grammar.bytes_of text >>= λ ts. all_at_zero word_named ts >>= λ found. script_in text found
+unfoldable pub script_of : List ℕ → Option (List Command)
+script_of text = tokens_at_zero text >>= λ found. script_in text found

@@ -13,7 +13,7 @@ use Rattle.wat_tokens.specs.declared.tokens.Placed.{Placed}
 use Rattle.wat_syntax.specs.Tree.{Span}
 use Rattle.wat_grammar.specs.Parts.{◌>>=◌}
 use Rattle.wat_syntax.specs.Tokens.{Toks, Parse, position_in, count, optional, with_parts}
-use Rattle.wat_laws.specs.Bare.{bare_placed}
+use Rattle.wat_syntax.specs.Bare.{bare_placed}
 use Rattle.wast_script.specs.Constants.{Value, alternatives, all_alternatives}
 use Rattle.wast_script.specs.Grammar.{Command, form_end, form_rest, no_commands, commands_in, all_commands}
 use Rattle.wast_script.specs.Scripts.{value_in, command_in}

@@ -5,7 +5,7 @@ use Rattle.std.specs.Prelude.{ℕ, nat_le, ◌&&◌, if◌then◌else◌, List, 
 use Rattle.wat_tokens.specs.declared.tokens.Token.{Token}
 use Rattle.wat_tokens.specs.declared.tokens.Token.TheVariants as token
 use Rattle.wat_tokens.specs.declared.tokens.Placed.{Placed}
-use Rattle.wat_laws.specs.Bare.{bare_placed, bare_id, bare_id_option, bare_heap, bare_index_option}
+use Rattle.wat_syntax.specs.Bare.{bare_placed, bare_id, bare_id_option, bare_heap, bare_index_option}
 use Rattle.wast_script.specs.Constants.{Value, I32, I64, F32, F64, V128, RefNull, RefExtern, RefHost, RefFunc, Ref, Either}
 use Rattle.wast_script.specs.Grammar.{Contents, Module, Action, Execution, Runs, Instantiates, Kind, Module_, Definition, Instance, Register, Acts, AssertReturn, AssertTrap, AssertExhaustion, AssertException, AssertSuspension, AssertMalformed, AssertMalformedCustom, AssertInvalid, AssertInvalidCustom, AssertUnlinkable, Thread, ThreadEnd, Wait, Command}
 use Rattle.wast_script.specs.declared.values.Part.{Part}

@@ -6,7 +6,7 @@ use Rattle.wat_tokens.specs.declared.tokens.Token.{Token}
 use Rattle.wat_tokens.specs.declared.tokens.Token.TheVariants as token
 use Rattle.wat_tokens.specs.declared.tokens.Placed.{Placed}
 use Rattle.wat_syntax.specs.Tree.{Span, Id}
-use Rattle.wat_syntax.specs.Seen.{text_of}
+use Rattle.wat_syntax.specs.Values.{text_of}
 use Rattle.wat_syntax.specs.Worked.{num, named, quoted, toks, made}
 use Rattle.wast_script.specs.Constants.{I32, F32, V128, Either, values}
 use Rattle.wast_script.specs.Grammar.{Kind, Module_, Register, Acts, Thread, ThreadEnd, Wait, Command, in_parentheses, script_of}

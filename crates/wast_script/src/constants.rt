@@ -6,7 +6,7 @@ ghost use Rattle.wat_syntax.specs.Instructions.{signed_number, times};
 ghost use Rattle.wat_syntax.specs.Tokens.{peek, count};
 ghost use Rattle.wat_syntax.specs.Values.{number, u32, index};
 ghost use Rattle.wat_grammar.specs.Integers.{integer};
-ghost use Rattle.wat_laws.specs.Bare.{bare_heap, bare_index, bare_index_option};
+ghost use Rattle.wat_syntax.specs.Bare.{bare_heap, bare_index, bare_index_option};
 ghost use Rattle.wast_script.specs.Words.{shape_named, constant_named};
 ghost use Rattle.wast_script.specs.declared.values.Number.TheVariants as num;
 ghost use Rattle.wast_script.specs.declared.words.Constant.TheVariants as constant;
@@ -70,7 +70,7 @@ fn float_of64(alloc: Global, usage: Use, text: &str) -> Result<Number, TextFault
 }
 
 /// The bits of an integer of 8 bits.
-#[tactic(auto, using(crate::proofs::Signs::bits_not))]
+#[tactic(auto, using(crate::proofs::Bits::bits8, crate::proofs::Signs::bits_not))]
 fn bits_of8(text: &str) -> Result<Number, TextFault>
     ensures gives { IfOk result (λ n. option_map num.Bits (integer 8 text.now) ≡ Some n) }
     ensures refuses { IfErr result (λ e. IsRefusal e → option_map num.Bits (integer 8 text.now) ≡ None) }
@@ -82,7 +82,7 @@ fn bits_of8(text: &str) -> Result<Number, TextFault>
 }
 
 /// The bits of an integer of 16 bits.
-#[tactic(auto, using(crate::proofs::Signs::bits_not))]
+#[tactic(auto, using(crate::proofs::Bits::bits16, crate::proofs::Signs::bits_not))]
 fn bits_of16(text: &str) -> Result<Number, TextFault>
     ensures gives { IfOk result (λ n. option_map num.Bits (integer 16 text.now) ≡ Some n) }
     ensures refuses { IfErr result (λ e. IsRefusal e → option_map num.Bits (integer 16 text.now) ≡ None) }
@@ -94,7 +94,7 @@ fn bits_of16(text: &str) -> Result<Number, TextFault>
 }
 
 /// The bits of an integer of 32 bits.
-#[tactic(auto, using(crate::proofs::Signs::bits_not))]
+#[tactic(auto, using(crate::proofs::Bits::bits32, crate::proofs::Signs::bits_not))]
 fn bits_of32(text: &str) -> Result<Number, TextFault>
     ensures gives { IfOk result (λ n. option_map num.Bits (integer 32 text.now) ≡ Some n) }
     ensures refuses { IfErr result (λ e. IsRefusal e → option_map num.Bits (integer 32 text.now) ≡ None) }
@@ -106,7 +106,7 @@ fn bits_of32(text: &str) -> Result<Number, TextFault>
 }
 
 /// The bits of an integer of 64 bits.
-#[tactic(auto, using(crate::proofs::Signs::bits_not))]
+#[tactic(auto, using(crate::proofs::Bits::bits64, crate::proofs::Signs::bits_not))]
 fn bits_of64(text: &str) -> Result<Number, TextFault>
     ensures gives { IfOk result (λ n. option_map num.Bits (integer 64 text.now) ≡ Some n) }
     ensures refuses { IfErr result (λ e. IsRefusal e → option_map num.Bits (integer 64 text.now) ≡ None) }

@@ -5,7 +5,7 @@ ghost use Rattle.wat_syntax.specs.Tokens.{after, position, count, peek};
 ghost use Rattle.wast_script.specs.Words.{verb_named};
 ghost use Rattle.wast_script.specs.Constants.{word_in, word_that, Value};
 ghost use Rattle.wat_tokens.specs.declared.tokens.Placed.{Placed};
-ghost use Rattle.wat_laws.specs.Bare.{bare_id, bare_id_option};
+ghost use Rattle.wat_syntax.specs.Bare.{bare_id, bare_id_option};
 ghost use Rattle.wast_script.specs.declared.commands.CommandKind.TheVariants as kind;
 ghost use Rattle.wast_script.specs.Grammar.{module_command, module_or_instance, instance, register_command, action_command, message, return_command, exhaustion_command, exception_command, shared_module, thread_command, wait_command, command_of, command, command_or_end, commands_in, threads_after, ends_thread, begins_command, script};
 ghost use Rattle.wast_script.specs.Grammar.{verb_in, about_module, about_run, AssertTrap, AssertSuspension, AssertMalformed, AssertMalformedCustom, AssertInvalid, AssertInvalidCustom, AssertUnlinkable, module_assertion, run_assertion, module_of_thread, all_commands, all_module};
@@ -402,7 +402,7 @@ impl<'a> Reader<'a> {
         requires { IsNew self.old }
         ensures { ReadsAll all_module self.old self.new }
     {
-        let module = self.bare_module();
+        let module = self.lone_module();
         self.push_command(Command {
             span: module.span,
             kind: CommandKind::Module(module),

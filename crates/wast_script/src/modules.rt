@@ -2,7 +2,7 @@
 
 ghost use Rattle.std.specs.Prelude.{◌≡◌, ◌<◌, ◌-◌, ◌^◌};
 ghost use Rattle.wat_syntax.specs.Tokens.{peek, after};
-ghost use Rattle.wast_script.specs.Grammar.{depth_after, is_name_next, after_name, behind_strings, form_rest, strings_to_end, contents, contents_of, module_after, in_parentheses, bare_module};
+ghost use Rattle.wast_script.specs.Grammar.{depth_after, is_name_next, after_name, behind_strings, form_rest, strings_to_end, contents, contents_of, module_after, in_parentheses, lone_module};
 ghost use Rattle.wast_script.specs.Scripts.{part, contents_in, module_in};
 ghost use Rattle.wast_script.specs.Readers.{left, all_bare, Decides, Expects, Moves, Skips};
 
@@ -150,9 +150,9 @@ impl<'a> Reader<'a> {
     }
 
     /// The script as one module without its parentheses.
-    pub(crate) fn bare_module(&self) -> ScriptModule<'a>
+    pub(crate) fn lone_module(&self) -> ScriptModule<'a>
         requires { (left self.now).left ≡ all_bare self.now }
-        ensures { module_in (all_bare self.now) result ≡ bare_module (left self.now) }
+        ensures { module_in (all_bare self.now) result ≡ lone_module (left self.now) }
     {
         ScriptModule {
             span: self.place(),

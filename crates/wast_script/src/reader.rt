@@ -7,10 +7,9 @@ ghost use Rattle.std.specs.Prelude.{◌≡◌, ◌≢◌, ◌-◌, [], None, Som
 ghost use Rattle.wat_tokens.specs.declared.faults.TextFault.TheVariants as fault;
 ghost use Rattle.wat_syntax.specs.Tokens.{peek, after, position, count, is_lparen, is_rparen, lparen, rparen};
 ghost use Rattle.wat_syntax.specs.Values.{number_text, u32, is_number, is_string, name, id};
-ghost use Rattle.wat_laws.specs.Bare.{bare_token, bare_id, bare_id_option};
-ghost use Rattle.wat_syntax.specs.Seen.{seen_text};
+ghost use Rattle.wat_syntax.specs.Bare.{bare_text, bare_token, bare_id, bare_id_option};
 ghost use Rattle.wast_script.specs.Constants.{word_in, is_word, is_form, is_id, the_word, form};
-ghost use Rattle.wast_script.specs.Grammar.{all_of};
+ghost use Rattle.wat_text.specs.Denotes.{all_of};
 ghost use Rattle.wast_script.specs.Readers.{left, all_bare, IsRefusal, IsRefused, Decides, Expects, Accepts, Finds, Moves, Fails};
 
 use crate::commands::Command;
@@ -296,7 +295,7 @@ impl<'a> Reader<'a> {
     /// Reads a string in UTF-8 (text format, names).
     #[tactic(auto, using(crate::proofs::Names::utf8_is, crate::proofs::Names::utf8_not))]
     pub(crate) fn text(&mut self) -> &'a str
-        ensures { Decides name self.old self.new (seen_text result) }
+        ensures { Decides name self.old self.new (bare_text result) }
     {
         let place = self.place();
         let Some(Token::String(bytes)) = self.look(0) else {
@@ -334,7 +333,7 @@ impl<'a> Reader<'a> {
 
     /// Reads the text of a number.
     pub(crate) fn number(&mut self) -> &'a str
-        ensures { Decides number_text self.old self.new (seen_text result) }
+        ensures { Decides number_text self.old self.new (bare_text result) }
     {
         match self.look(0) {
             Some(Token::Other(text)) => {

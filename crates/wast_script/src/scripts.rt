@@ -3,9 +3,9 @@
 ghost use Rattle.std.specs.Prelude.{◌≡◌, ◌≤◌, ◌++◌, length, map, min, All, IsTrue, IfOk, IfErr, OnOk, None, Some};
 ghost use Rattle.wat_text.specs.Texts.{is_well_formed_text};
 ghost use Rattle.wast_script.specs.Grammar.{script_in, script_of};
-ghost use Rattle.wat_laws.specs.Bare.{bare_placed};
+ghost use Rattle.wat_syntax.specs.Bare.{bare_placed};
 ghost use Rattle.wast_script.specs.Scripts.{part, module_in, string_bytes, joined_bytes, placed_up_to, script_tokens, commands_of};
-ghost use Rattle.wast_script.specs.Modules.{module_tokens, IsModule, IsModuleOf, IsNoModule, IsNoModuleOf};
+ghost use Rattle.wast_script.specs.Modules.{last_position, IsModuleOf, IsNoModuleOf};
 ghost use Rattle.wast_script.specs.Readers.{IsRefusal, IsNew};
 
 use crate::commands::{Command, ScriptModule};
@@ -203,9 +203,12 @@ fn add_string(out: &mut Vec<u8>, token: Token<'_>) -> Result<(), AllocError>
     }
 }
 
-/// The position of the last token of a part, or the start of the text if it has none.
-fn last_place(tokens: &[Placed<'_>], of: Part) -> Span {
-    match part_of(tokens, of).last() {
+/// The position of the last of some tokens, or the start of the text if there is none.
+#[tactic(auto, using(crate::proofs::Meant::last_is, crate::proofs::Meant::no_last))]
+fn last_place(tokens: &[Placed<'_>]) -> Span
+    ensures { result ≡ last_position (map bare_placed tokens.now) }
+{
+    match tokens.get(tokens.len().saturating_sub(1)) {
         Some(placed) => placed.span,
         None => Span::default(),
     }
@@ -232,7 +235,7 @@ impl<'a> Script<'a> {
         alloc: Global,
         module: &ScriptModule<'a>,
     ) -> Result<Vec<Placed<'a>>, AllocError>
-        ensures { IfOk result (λ found. found.items ≡ module_tokens self.now.tokens.items «module».now) }
+        ensures { IfOk result (λ found. found.items ≡ part «module».now.head self.now.tokens.items ++ part «module».now.rest self.now.tokens.items) }
     {
         let mut tokens = Vec::new(alloc);
         add_tokens(&mut tokens, self.tokens.as_slice(), module.head)?;
@@ -240,8 +243,13 @@ impl<'a> Script<'a> {
         Ok(tokens)
     }
 
+    /// The position of the last token of a module.
+    fn last_of(&self, module: &ScriptModule<'a>) -> Span {
+        last_place(part_of(self.tokens.as_slice(), module.rest))
+    }
+
     /// Reads a module, wherever its faults are.
-    #[tactic(auto, using(crate::proofs::Meant::all_modules, crate::proofs::Meant::all_faults, crate::proofs::Meant::no_memory))]
+    #[tactic(auto, using(crate::proofs::Meant::is_module, crate::proofs::Meant::is_no_module, crate::proofs::Meant::no_memory))]
     fn read_module(
         &self,
         alloc: Global,
@@ -249,13 +257,15 @@ impl<'a> Script<'a> {
         strings: &'a Strings,
     ) -> Result<TextModule<'a>, TextError>
         ensures well_formed { IfOk result (λ m. IsTrue (is_well_formed_text m.kind)) }
-        ensures denotes { IfOk result (IsModule (module_tokens self.now.tokens.items «module».now)) }
-        ensures refuses { IfErr result (λ e. IsNoModule (module_tokens self.now.tokens.items «module».now) e.fault) }
+        ensures denotes { IfOk result (IsModuleOf (module_in (script_tokens self.now) «module».now)) }
+        ensures refuses { IfErr result (λ e. IsNoModuleOf (module_in (script_tokens self.now) «module».now) e.fault) }
     {
-        let end = last_place(self.tokens.as_slice(), module.rest);
         match self.tokens_of(alloc, module) {
-            Ok(tokens) => read_module_tokens(alloc, tokens, end, strings),
-            Err(_) => Err(TextError::new(end, TextFault::Memory)),
+            Ok(tokens) => {
+                let end = last_place(tokens.as_slice());
+                read_module_tokens(alloc, tokens, end, strings)
+            }
+            Err(_) => Err(TextError::new(self.last_of(module), TextFault::Memory)),
         }
     }
 
@@ -273,7 +283,6 @@ impl<'a> Script<'a> {
     /// - `denotes`: the rules of the text format read the tokens of this module of the script as the module that is returned.
     /// - `refuses`: unless the error is [`TextFault::Memory`], they read these tokens as no module, or as one that is not well formed.
     /// - `place`: the position of an error is in the text of the script or at its end.
-    #[tactic(auto, using(crate::proofs::Meant::module_of, crate::proofs::Meant::no_module_of))]
     pub fn read(
         &self,
         alloc: Global,
@@ -325,9 +334,7 @@ impl<'a> Script<'a> {
     fn end(&self, module: &ScriptModule<'a>) -> usize {
         match module.head.start == module.head.end {
             true => self.text.len(),
-            false => last_place(self.tokens.as_slice(), module.rest)
-                .offset
-                .saturating_add(1),
+            false => self.last_of(module).offset.saturating_add(1),
         }
     }
 
