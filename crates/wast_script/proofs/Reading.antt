@@ -1,9 +1,13 @@
 -- A script of a text: the tokens of the text without addresses, and its commands at their positions.
-use Rattle.std.proofs.Common.{◌≡◌, ◌∙◌, ℕ, List, [], ◌∷◌, length, map, All, Option, None, Some, refl, sym, ap}
+use Rattle.std.proofs.Common.{◌≡◌, ◌≢◌, ◌∙◌, ℕ, zero, suc, ◌+◌, ◌<◌, ◌≤◌, min, List, [], ◌∷◌, ◌++◌, length, map, take, get_or, All, Option, None, Some, Result, Ok, Err, refl, sym, ap, subst, arith}
 use Rattle.std.specs.Global.{Vec}
+use Rattle.std.proofs.lemmas.List.{take_more}
+use Rattle.std.specs.Prelude.{IfOk, IfErr}
 use Rattle.wat_grammar.specs.Parts.{◌>>=◌}
 use Rattle.wat_grammar.specs.Tokens as grammar
 use Rattle.wat_tokens.specs.Scans.{IsNamed, seen_all}
+use Rattle.wat_tokens.specs.declared.faults.TextFault.TheVariants as fault
+use Rattle.wat_tokens.specs.declared.faults.TextError.{TextError}
 use Rattle.wat_tokens.specs.declared.tokens.Placed.{Placed}
 use Rattle.wat_syntax.specs.Bare.{bare_placed}
 use Rattle.wat_syntax.specs.AtZero.{all_at_zero}
@@ -11,6 +15,7 @@ use Rattle.wat_syntax.proofs.AtZero.{bare_tokens}
 use Rattle.wat_text.specs.Denotes.{all_of}
 use Rattle.wast_script.specs.declared.commands.Command as code_command
 use Rattle.wat_syntax.specs.Tree.{Span}
+use Rattle.wat_syntax.specs.Tokens.{Toks}
 use Rattle.wast_script.specs.declared.values.Number.{Number}
 use Rattle.wast_script.specs.declared.values.Value as code_value
 use Rattle.wast_script.specs.declared.reader.Reader.{Reader}
@@ -18,7 +23,8 @@ use Rattle.wast_script.specs.declared.scripts.Script.{Script}
 use Rattle.wast_script.specs.Constants.{Value}
 use Rattle.wast_script.specs.Grammar.{Command, up_to, script, script_in, script_of}
 use Rattle.wast_script.specs.Scripts.{value_in, command_in, placed_up_to, script_tokens, commands_of}
-use Rattle.wast_script.specs.Readers.{left, all_bare, read_values, IsRefused, ReadsAll}
+use Rattle.wast_script.proofs.Lists.{mapped}
+use Rattle.wast_script.specs.Readers.{left, all_bare, read_values, IsRefusal, IsRefused, IsNew, ReadsAll}
 
 -- commands at their positions
 pub all_placed : (n : ℕ) (ts : List Placed) (vs : List Value) (cs : List code_command.Command) → map (command_in ts vs) (map (placed_up_to n) cs) ≡ map (up_to n) (map (command_in ts vs) cs)
@@ -26,15 +32,30 @@ all_placed n ts vs [] = refl
 all_placed n ts vs (c ∷ cs) = ap (λ ds. up_to n (command_in ts vs c) ∷ ds) (all_placed n ts vs cs)
 
 -- the script of the tokens of a text is that of the text
-pub script_is : (text : List ℕ) (found : List Placed) → grammar.tokens grammar.bytes_of text ≡ Some (seen_all found) → All (λ p. IsNamed p.token) found
+script_is : (text : List ℕ) (found : List Placed) → grammar.tokens grammar.bytes_of text ≡ Some (seen_all found) → All (λ p. IsNamed p.token) found
     → script_of text ≡ script_in text (map bare_placed found)
 unfolding script_of
 script_is text found lexed named = ap (λ (o : Option (List Placed)). o >>= λ ps. script_in text ps) (bare_tokens text found lexed named)
 
+pub text_ok : (text : List ℕ) (found : List Placed) (r : Result Script TextError) → grammar.tokens grammar.bytes_of text ≡ Some (seen_all found) → All (λ p. IsNamed p.token) found
+    → IfOk r (λ s. script_in text (map bare_placed found) ≡ Some (commands_of s)) → IfOk r (λ s. script_of text ≡ Some (commands_of s))
+text_ok text found (Ok s) lexed named h = script_is text found lexed named ∙ h
+text_ok text found (Err e) lexed named h = tt
+
+pub text_err : (text : List ℕ) (found : List Placed) (r : Result Script TextError) → grammar.tokens grammar.bytes_of text ≡ Some (seen_all found) → All (λ p. IsNamed p.token) found
+    → IfErr r (λ e. IsRefusal e.fault → script_in text (map bare_placed found) ≡ None) → IfErr r (λ e. IsRefusal e.fault → script_of text ≡ None)
+text_err text found (Ok s) lexed named h = tt
+text_err text found (Err e) lexed named h = λ r. script_is text found lexed named ∙ h r
+
 -- a text without tokens is no script
-pub no_tokens : (text : List ℕ) → grammar.tokens grammar.bytes_of text ≡ None → script_of text ≡ None
+pub no_tokens : (text : List ℕ) (e : TextError) → (e.fault ≢ fault.Memory → grammar.tokens grammar.bytes_of text ≡ None) → IsRefusal e.fault → script_of text ≡ None
 unfolding script_of
-no_tokens text e = ap (λ (o : Option (List grammar.Placed)). (o >>= λ ts. all_at_zero ts) >>= λ ps. script_in text ps) e
+no_tokens text e lexed r =
+    ap (λ (o : Option (List grammar.Placed)). (o >>= λ ts. all_at_zero ts) >>= λ ps. script_in text ps) (lexed (λ same. subst IsRefusal same r))
+
+-- a reader that begins has read nothing
+pub is_new : (r : Reader) (end : Span) → left r ≡ all_of (all_bare r) end → r.fault ≡ None → r.lists.commands.items ≡ [] → r.lists.values.items ≡ [] → IsNew r
+is_new r end begins clean commands values = record { commands = commands; values = values; clean = clean; all = ap (λ (t : Toks). t.left) begins }
 
 -- the tokens that a reader begins with
 begins : (text : List ℕ) (toks : Vec Placed) (new : Reader) (end : Span) → new.tokens ≡ toks → left new ≡ all_of (all_bare new) end → end ≡ record { offset = length text }
@@ -56,8 +77,25 @@ script_made text toks new done s end same at_left at_end r clean commands values
     ∙ ap (λ (n : Vec Number). map (command_in (script_tokens s) (map (value_in n.items) s.values.items)) s.commands.items) (sym lanes))
 
 -- a text that the reader rejected is no script
-pub no_script : (text : List ℕ) (toks : Vec Placed) (new done : Reader) (end : Span) → new.tokens ≡ toks → left new ≡ all_of (all_bare new) end → end ≡ record { offset = length text } → ReadsAll script new done → IsRefused done.fault
-    → script_in text (map bare_placed toks.items) ≡ None
-no_script text toks new done end same at_left at_end r f =
+pub no_script : (text : List ℕ) (toks : Vec Placed) (new done : Reader) (end : Span) (e : TextError) → new.tokens ≡ toks → left new ≡ all_of (all_bare new) end → end ≡ record { offset = length text }
+    → ReadsAll script new done → done.fault ≡ Some e → IsRefusal e.fault → script_in text (map bare_placed toks.items) ≡ None
+no_script text toks new done end e same at_left at_end r is f =
     ap (λ t. script t >>= λ cs. Some (map (up_to (length text)) cs)) (begins text toks new end same at_left at_end)
-    ∙ ap (λ o. o >>= λ cs. Some (map (up_to (length text)) cs)) (r.refuses f)
+    ∙ ap (λ o. o >>= λ cs. Some (map (up_to (length text)) cs)) (r.refuses (subst IsRefused (sym is) f))
+
+-- the loop that moves positions
+pub placed_more : (n k : ℕ) (cs found more : List code_command.Command) (d : code_command.Command) (span : Span) → k < length cs → found ≡ map (placed_up_to n) (take k cs)
+    → span ≡ record { offset = min (get_or cs k d).span.offset n } → more ≡ found ++ record { span = span; kind = (get_or cs k d).kind } ∷ []
+    → more ≡ map (placed_up_to n) (take (k + 1) cs)
+placed_more n k cs found more d span few so_far at is =
+    is ∙ (λ i. so_far i ++ record { span = at i; kind = (get_or cs k d).kind } ∷ [])
+    ∙ sym (ap (map (placed_up_to n)) (take_more cs k d few) ∙ mapped (placed_up_to n) (take k cs) (get_or cs k d))
+
+-- positions that were moved are in the text
+pub all_within : (n : ℕ) (cs found : List code_command.Command) → found ≡ map (placed_up_to n) cs → All (λ c. c.span.offset ≤ n) found
+all_within n cs found is = subst (All (λ c. c.span.offset ≤ n)) (sym is) (go cs)
+  where
+    go : (cs : List code_command.Command) → All (λ c. c.span.offset ≤ n) (map (placed_up_to n) cs)
+    go [] k d under = absurd (omega (arith, under))
+    go (c ∷ cs) zero d under = omega arith
+    go (c ∷ cs) (suc k) d under = go cs k d (omega (arith, under))

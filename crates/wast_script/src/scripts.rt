@@ -54,6 +54,7 @@ fn error_within(text: &str, error: TextError) -> TextError
 }
 
 /// Moves the positions of commands to the end of the text, if they are after it.
+#[tactic(auto, using(crate::proofs::Reading::placed_more, crate::proofs::Reading::all_within))]
 fn commands_within<'a>(
     alloc: Global,
     text: &str,
@@ -100,7 +101,7 @@ fn script_read<'a>(
 }
 
 /// The script of the tokens of a text.
-#[tactic(auto, using(crate::proofs::Reading::script_made, crate::proofs::Reading::no_script))]
+#[tactic(auto, using(crate::proofs::Reading::is_new, crate::proofs::Reading::script_made, crate::proofs::Reading::no_script))]
 fn script_of_tokens<'a>(
     alloc: Global,
     text: &'a str,
@@ -123,7 +124,7 @@ fn script_of_tokens<'a>(
 }
 
 /// The script of a text, wherever its faults are.
-#[tactic(auto, using(crate::proofs::Reading::script_is, crate::proofs::Reading::no_tokens))]
+#[tactic(auto, using(crate::proofs::Reading::text_ok, crate::proofs::Reading::text_err, crate::proofs::Reading::no_tokens))]
 fn script_of<'a>(
     alloc: Global,
     text: &'a str,
