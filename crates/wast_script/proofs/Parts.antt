@@ -30,7 +30,7 @@ drop_first : {T : Type 0} (xs ys : List T) → drop (length xs) (xs ++ ys) ≡ y
 drop_first [] ys = refl
 drop_first (x ∷ xs) ys = drop_first xs ys
 
-take_whole : {T : Type 0} (xs : List T) (n : ℕ) → length xs ≤ n → take n xs ≡ xs
+pub take_whole : {T : Type 0} (xs : List T) (n : ℕ) → length xs ≤ n → take n xs ≡ xs
 take_whole [] zero h = refl
 take_whole [] (suc n) h = refl
 take_whole (x ∷ xs) zero h = absurd (omega (arith, h))

@@ -174,6 +174,7 @@ pub fn read_script<'a>(
 }
 
 /// The elements of a part of a list; none if the list has no such part.
+#[tactic(auto, using(crate::proofs::Parts::part_is))]
 fn part_of<T: Copy>(list: &[T], of: Part) -> &[T]
     ensures { result.now ≡ part of list.now }
 {
@@ -311,12 +312,13 @@ impl<'a> Script<'a> {
     /// # Guarantees
     ///
     /// - `strings`: the bytes are those of the strings of this module, one after another.
-    #[tactic(auto, using(crate::proofs::Joining::joined_more, crate::proofs::Joining::joined_bare, crate::proofs::Parts::part_mapped))]
+    #[tactic(auto, using(crate::proofs::Joining::joined_none, crate::proofs::Joining::joined_next, crate::proofs::Joining::joined_all))]
     pub fn bytes(&self, alloc: Global, module: &ScriptModule<'a>) -> Result<Vec<u8>, AllocError>
         ensures strings { IfOk result (λ b. b.items ≡ joined_bytes (module_in (script_tokens self.now) «module».now).strings) }
     {
+        let tokens = part_of(self.tokens.as_slice(), module.strings);
         let mut bytes = Vec::new(alloc);
-        for placed in part_of(self.tokens.as_slice(), module.strings) {
+        for placed in tokens {
             add_string(&mut bytes, placed.token)?;
         }
         Ok(bytes)
