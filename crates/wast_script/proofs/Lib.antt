@@ -13,6 +13,7 @@ pub mod Names
 pub mod Numerals
 pub mod Onto
 pub mod Parts
+pub mod Pushing
 pub mod Reading
 pub mod Rows
 pub mod Signs

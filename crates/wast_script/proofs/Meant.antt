@@ -53,3 +53,7 @@ module _ (tokens found : List Placed) (m : ScriptModule) (end : Span) (same : fo
 -- a failed allocation states nothing of a module
 pub no_memory : (d : Module) (e : TextError) → e.fault ≡ fault.Memory → IsNoModuleOf d e.fault
 no_memory d e h = subst (IsNoModuleOf d) (sym h) tt
+
+-- the same error at another position
+pub moved : (d : Module) (e other : TextError) → other.fault ≡ e.fault → IsNoModuleOf d e.fault → IsNoModuleOf d other.fault
+moved d e other same h = subst (IsNoModuleOf d) (sym same) h

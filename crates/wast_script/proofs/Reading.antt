@@ -53,6 +53,10 @@ unfolding script_of
 no_tokens text e lexed r =
     ap (λ (o : Option (List grammar.Placed)). (o >>= λ ts. all_at_zero ts) >>= λ ps. script_in text ps) (lexed (λ same. subst IsRefusal same r))
 
+-- the same error at another position
+pub moved : (text : List ℕ) (e other : TextError) → other.fault ≡ e.fault → (IsRefusal e.fault → script_of text ≡ None) → IsRefusal other.fault → script_of text ≡ None
+moved text e other same h r = h (subst IsRefusal same r)
+
 -- a reader that begins has read nothing
 pub is_new : (r : Reader) (end : Span) → left r ≡ all_of (all_bare r) end → r.fault ≡ None → r.lists.commands.items ≡ [] → r.lists.values.items ≡ [] → IsNew r
 is_new r end begins clean commands values = record { commands = commands; values = values; clean = clean; all = ap (λ (t : Toks). t.left) begins }

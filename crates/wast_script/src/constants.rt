@@ -224,7 +224,7 @@ impl<'a> Reader<'a> {
     }
 
     /// Adds a lane.
-    #[tactic(auto, unfolding(crate::specs::Readers::left))]
+    #[tactic(auto, unfolding(crate::specs::Readers::left), using(crate::proofs::Pushing::lane_pushed, crate::proofs::Pushing::lane_failed))]
     fn push_lane(&mut self, lane: Number)
         ensures { PushesLane self.old self.new lane }
     {
@@ -419,7 +419,7 @@ impl<'a> Reader<'a> {
     }
 
     /// Adds a value.
-    #[tactic(auto, unfolding(crate::specs::Readers::left))]
+    #[tactic(auto, unfolding(crate::specs::Readers::left), using(crate::proofs::Pushing::value_pushed, crate::proofs::Pushing::value_failed))]
     fn push_value(&mut self, value: Value<'a>)
         ensures { PushesValue self.old self.new value.entry }
     {

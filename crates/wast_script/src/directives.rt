@@ -340,7 +340,7 @@ impl<'a> Reader<'a> {
     }
 
     /// Adds a command.
-    #[tactic(auto, unfolding(crate::specs::Readers::left))]
+    #[tactic(auto, unfolding(crate::specs::Readers::left), using(crate::proofs::Pushing::command_pushed, crate::proofs::Pushing::command_failed))]
     fn push_command(&mut self, command: Command<'a>)
         ensures { Pushes self.old self.new command.entry }
     {

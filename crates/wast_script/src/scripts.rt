@@ -157,6 +157,7 @@ fn script_of<'a>(
 /// - `refuses`: unless the error is [`TextFault::Memory`], the rules read the text as no script.
 /// - `places`: the position of each command is in the text or at its end.
 /// - `place`: and so is that of an error.
+#[tactic(auto, using(crate::proofs::Reading::moved))]
 pub fn read_script<'a>(
     alloc: Global,
     text: &'a str,
@@ -285,6 +286,7 @@ impl<'a> Script<'a> {
     /// - `denotes`: the rules of the text format read the tokens of this module of the script as the module that is returned.
     /// - `refuses`: unless the error is [`TextFault::Memory`], they read these tokens as no module, or as one that is not well formed.
     /// - `place`: the position of an error is in the text of the script or at its end.
+    #[tactic(auto, using(crate::proofs::Meant::moved))]
     pub fn read(
         &self,
         alloc: Global,
