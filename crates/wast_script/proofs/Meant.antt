@@ -29,7 +29,8 @@ no_last [] h = refl
 no_last (x ∷ xs) h = absurd (omega (arith, h))
 
 -- the tokens that the code puts together are those of the module
-module _ (tokens found : List Placed) (m : ScriptModule) (end : Span) (same : found ≡ part m.head tokens ++ part m.rest tokens) (at : end ≡ last_position (map bare_placed found)) where
+module _ (tokens found lent : List Placed) (m : ScriptModule) (end : Span) (same : found ≡ part m.head tokens ++ part m.rest tokens) (lend : lent ≡ found)
+    (at : end ≡ last_position (map bare_placed lent)) where
   abbrev of : Module
   of = module_in (map bare_placed tokens) m
 
@@ -39,7 +40,7 @@ module _ (tokens found : List Placed) (m : ScriptModule) (end : Span) (same : fo
       ∙ (λ i. sym (part_mapped bare_placed m.head tokens) i ++ sym (part_mapped bare_placed m.rest tokens) i)
 
   same_toks : all_bare found end ≡ toks_of of
-  same_toks = ap (λ e. all_bare found e) at ∙ ap (λ ts. all_of ts (last_position ts)) same_tokens
+  same_toks = ap (λ e. all_bare found e) (at ∙ ap (λ ts. last_position (map bare_placed ts)) lend) ∙ ap (λ ts. all_of ts (last_position ts)) same_tokens
 
   pub is_module : (r : Result TextModule TextError) → IfOk r (IsModule (module_of_tokens (all_bare found end))) → IfOk r (IsModuleOf of)
   is_module (Ok t) h = subst (λ toks. IsModule (module_of_tokens toks) t) same_toks h

@@ -198,7 +198,7 @@ fn add_tokens<'a>(
 
 /// Adds the bytes of a string to others; no bytes of another token.
 fn add_string(out: &mut Vec<u8>, token: Token<'_>) -> Result<(), AllocError>
-    ensures { OnOk result (out.new.items ≡ out.old.items ++ string_bytes token) }
+    ensures { OnOk result (out.new.items ≡ out.old.items ++ string_bytes token.entry) }
 {
     match token {
         Token::String(piece) => out.extend_from_slice(piece),
