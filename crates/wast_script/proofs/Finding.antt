@@ -1,6 +1,7 @@
 -- Modules as their tokens: the steps of the rules that find them.
-use Rattle.std.proofs.Common.{◌≡◌, ◌≢◌, ◌∙◌, ℕ, ◌-◌, List, ◌++◌, length, map, codes, Option, None, Some, refl, sym, ap, subst}
+use Rattle.std.proofs.Common.{◌≡◌, ◌≢◌, ◌∙◌, ℕ, ◌-◌, List, [], ◌++◌, length, map, codes, Option, None, Some, refl, sym, ap, subst}
 use Rattle.std.specs.Global.{Vec}
+use Rattle.std.proofs.lemmas.List.{length-map}
 use Rattle.wat_grammar.specs.Parts.{◌>>=◌}
 use Rattle.wat_tokens.specs.declared.faults.TextError.{TextError}
 use Rattle.wat_tokens.specs.declared.tokens.Placed.{Placed}
@@ -9,14 +10,14 @@ use Rattle.wat_syntax.specs.Tokens.{Toks, Parse, position, count, lparen, rparen
 use Rattle.wat_syntax.specs.Values.{id}
 use Rattle.wat_syntax.specs.Bare.{bare_placed, bare_id_option}
 use Rattle.wast_script.specs.declared.values.Part.{Part}
-use Rattle.wast_script.specs.declared.commands.ModuleForm.{ModuleForm}
+use Rattle.wast_script.specs.declared.commands.ModuleForm.TheVariants as module_form
 use Rattle.wast_script.specs.declared.commands.ScriptModule.{ScriptModule}
 use Rattle.wast_script.specs.declared.reader.Reader.{Reader}
 use Rattle.wast_script.specs.Constants.{the_word}
-use Rattle.wast_script.specs.Grammar.{Module, Contents, between, behind_strings, strings_to_end, contents, module_after, in_parentheses}
+use Rattle.wast_script.specs.Grammar.{Module, Contents, between, behind_strings, strings_to_end, contents, module_after, in_parentheses, lone_module}
 use Rattle.wast_script.specs.Scripts.{part, contents_in, module_in}
 use Rattle.wast_script.specs.Readers.{left, all_bare, IsRefused, Decides, Expects, Finds, Moves}
-use Rattle.wast_script.proofs.Parts.{between_is}
+use Rattle.wast_script.proofs.Parts.{part_empty, part_last, between_is}
 use Rattle.wast_script.proofs.Goes.{Goes, chain, decides, expects, finds}
 
 bare_same : (a b : Reader) → b.tokens ≡ a.tokens → all_bare b ≡ all_bare a
@@ -83,3 +84,18 @@ parentheses_read a b c d span s e x first opens at word last r = record {
     g : Goes a d (in_parentheses (left a)) (Some (x, left d))
     g = chain a b d _ _ _ (expects lparen a b (λ t. the_word (codes "module") t >>= λ k. module_after (position t) (between (left a) k) k) opens)
         (chain b c d _ _ _ (expects (the_word (codes "module")) b c (λ k. module_after (position (left b)) (between (left a) k) k) word) all)
+
+-- a script that is one module without its parentheses: it has all tokens
+whole : (r : Reader) (n : ℕ) → n ≡ length r.tokens.items → part (record { start = 0; end = n }) (all_bare r) ≡ all_bare r
+whole r n size = part_last [] (all_bare r) 0 n refl (size ∙ sym (length-map r.tokens.items bare_placed))
+
+pub lone_is : (r : Reader) (n : ℕ) (span : Span) → span ≡ position (left r) → n ≡ length r.tokens.items → (left r).left ≡ all_bare r
+    → module_in (all_bare r) (record { span = span; id = None; form = module_form.Fields; head = record { start = 0; end = 0 }; rest = record { start = 0; end = n }; strings = record { start = 0; end = 0 } })
+    ≡ lone_module (left r)
+lone_is r n span at size begins = λ i. record {
+  span = at i;
+  id = None;
+  form = module_form.Fields;
+  tokens = (ap (λ xs. xs ++ part (record { start = 0; end = n }) (all_bare r)) (part_empty (all_bare r)) ∙ whole r n size ∙ sym begins) i;
+  strings = part_empty (all_bare r) i;
+}

@@ -13,11 +13,11 @@ use Rattle.wast_script.specs.Readers.{left, IsRefused, Fails, Pushes, PushesLane
 -- The allocation failed: there is a fault now.
 module _ (old mid new : Reader) (span : Span) (f : Fails fault.Memory span mid new) (same : mid.fault ≡ old.fault) where
   faulty : new.fault ≡ None → ⊥
-  faulty h = go mid.fault refl
+  faulty h = go mid.fault refl h
     where
-      go : (o : Option TextError) → mid.fault ≡ o → ⊥
-      go None e = absurd (cc (f.first e))
-      go (Some y) e = absurd (cc (f.keeps (λ n. cc)))
+      go : (o : Option TextError) → mid.fault ≡ o → new.fault ≡ None → ⊥
+      go None e h = absurd (cc (f.first e))
+      go (Some y) e h = absurd (cc (f.keeps (λ n. cc)))
 
   kept : old.fault ≢ None → new.fault ≡ old.fault
   kept h = f.keeps (λ e. h (sym same ∙ e)) ∙ same

@@ -150,6 +150,7 @@ impl<'a> Reader<'a> {
     }
 
     /// The script as one module without its parentheses.
+    #[tactic(auto, using(crate::proofs::Finding::lone_is))]
     pub(crate) fn lone_module(&self) -> ScriptModule<'a>
         requires { (left self.now).left ≡ all_bare self.now }
         ensures { module_in (all_bare self.now) result ≡ lone_module (left self.now) }
