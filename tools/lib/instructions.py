@@ -132,13 +132,13 @@ def word(name):
     return name.split(".")[0] if "." in name else "bare"
 
 
-# The classes with immediates: the file of each, what its instructions are, what their keys are, and whose words they are.
+# The classes with immediates: the file of each, what its instructions are, and whose words they are.
 CLASSES = {
-    "MemOp": ("mem_ops", "An instruction with a memory argument", "The key of an instruction with a memory argument.", "text"),
-    "LaneOp": ("lane_ops", "An instruction on a lane of a vector", "The key of an instruction with a lane number.", "text"),
-    "MemLaneOp": ("lane_ops", "A load of a lane of a vector, or a store of one", "The key of a load or a store of a lane.", "text"),
-    "IndexOp": ("index_ops", "An instruction whose one immediate is an index", "The key of an instruction with an index.", "binary"),
-    "IndexPairOp": ("index_ops", "An instruction whose immediates are two indices, or an index and a length", "The key of an instruction with two indices.", "binary"),
+    "MemOp": ("mem_ops", "An instruction with a memory argument", "text"),
+    "LaneOp": ("lane_ops", "An instruction on a lane of a vector", "text"),
+    "MemLaneOp": ("lane_ops", "A load of a lane of a vector, or a store of one", "text"),
+    "IndexOp": ("index_ops", "An instruction whose one immediate is an index", "binary"),
+    "IndexPairOp": ("index_ops", "An instruction whose immediates are two indices, or an index and a length", "binary"),
 }
 CAMEL = ("IndexOp", "IndexPairOp")
 

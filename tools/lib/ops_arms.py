@@ -210,14 +210,15 @@ def walked():
 
 
 def meanings():
-    """What an instruction means in the binary format."""
+    """What an instruction means in the binary format. The last clause of the file is for those that the binary format does not have."""
     out = []
     for row in indexed():
+        if form(row):
+            continue
         letter = "a" if held(row) else "l" if row.rest[0] in ("Label", "Outer") else "i"
         numbers = [f"(index_value a.{field})" for field, _, _ in held(row).binary] if held(row) else [f"(index_value {letter})"]
         kind = "index_pair_instr pair" if row.kind == "Pair" else "index_instr op"
-        value = "no_row" if form(row) else f"{kind}.{variant(row.name, enum_of(row))} {' '.join(numbers)}"
-        out.append(f"as_instr (instruction.{variant(row.name)} {letter}) = {value}\n")
+        out.append(f"as_instr (instruction.{variant(row.name)} {letter}) = {kind}.{variant(row.name, enum_of(row))} {' '.join(numbers)}\n")
     return "".join(out)
 
 

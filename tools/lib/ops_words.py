@@ -7,6 +7,7 @@ import itertools
 import re
 import textwrap
 
+from ops_enums import aligned_bytes, plural
 from instructions import (
     CLASSES,
     Row,
@@ -45,6 +46,8 @@ pub enum %s {
 
 WORD = """
 /// A word that means something of its own (text format, keywords).
+///
+/// For example, `i32.add` is a `Plain`, `func` is a `Key`, and `i32.sum` is none.
 #[derive(Clone, Copy)]
 pub enum Word {
     /// An instruction that has no immediate.
@@ -85,6 +88,8 @@ pub enum Word {
 WORD_FUNCTIONS = """
 impl Alignment {
     /// Returns how many bytes it is. It takes no memory.
+    ///
+    /// For example, `Alignment::Four.bytes()` is 4.
     pub fn bytes(self) -> u64
         ensures { result ≡ alignment_bytes self }
     {
@@ -95,6 +100,8 @@ impl Alignment {
 
 impl IndexOrZeroOp {
     /// Returns the instruction as one whose index is written. It takes no memory.
+    ///
+    /// For example, `table.get` is `IndexOp::TableGet`, because `table.get` alone means `table.get 0`.
     pub fn op(self) -> IndexOp
         ensures { result ≡ op_of self }
     {
@@ -106,14 +113,14 @@ impl IndexOrZeroOp {
 
 # What the enum of each class is.
 WORD_CLASSES = {
-    "Alignment": "A power of two that a memory access is aligned to",
-    "IndexOrZeroOp": "An instruction with an index that may be left out",
-    "UncoveredOp": "An instruction with an index, of a form that no encoder covers",
-    "PairOp": "An instruction with two indices",
-    "BlockOp": "An instruction that opens a block",
-    "OwnOp": "An instruction with immediates of its own",
-    "AtomicOp": "What an atomic instruction accesses, where that is no memory",
-    "Key": "A word that is no instruction",
+    "Alignment": "A power of two that a memory access is aligned to, such as the 4 bytes of `i32.load`",
+    "IndexOrZeroOp": "An instruction with an index that may be left out, as in `memory.size`",
+    "UncoveredOp": "An instruction with an index, of a form that no encoder covers, as in `suspend 0`",
+    "PairOp": "An instruction with two indices, as in `struct.get 0 1`",
+    "BlockOp": "An instruction that opens a block, such as `loop`",
+    "OwnOp": "An instruction with immediates of its own, as in `br_table 0 1`",
+    "AtomicOp": "What an atomic instruction accesses, where that is no memory: a global for `global.atomic.get`",
+    "Key": "A word that is no instruction, such as `func`",
 }
 
 
@@ -124,15 +131,6 @@ ALIGNMENTS = {1: "One", 2: "Two", 4: "Four", 8: "Eight", 16: "Sixteen"}
 def alignment(name):
     """What a memory argument is aligned to where the text says nothing."""
     return f"Alignment::{ALIGNMENTS[aligned_bytes(name)]}"
-
-
-def aligned_bytes(name):
-    """The bytes that a memory argument is aligned to where the text says nothing."""
-    first, rest = name.split(".", 1)
-    sized = re.search(r"(?:load|store|rmw|wait)(\d+)(?:x(\d))?", rest)
-    if sized:
-        return int(sized[1]) * int(sized[2] or 1) // 8
-    return {"v128": 16, "memory": 4}.get(first) or int(first[1:]) // 8
 
 
 def word_value(row):
@@ -293,6 +291,8 @@ fn find(first: usize, end: usize, name: &[u8]) -> Option<Word>
 }}
 
 /// Returns what a name means, if it means something of its own (text format, keywords). It takes no memory.
+///
+/// For example, `look_up("func")` is `Some(Word::Key(Key::Func))`, and `look_up("x")` is `None`.
 pub fn look_up(name: &str) -> Option<Word>
     ensures {{ result ≡ word_named name.now }}
 {{
@@ -310,7 +310,58 @@ SPEC_WORDS_HEAD = """-- The words of the text format that mean something of thei
 --   word_named (codes "func")        Some (word.Key key.Func)
 --   word_named (codes "i32.sum")     None
 --
--- The alignment of a load or a store is its natural one, which the text may leave out.
+-- The texts of most instructions are in the rows of wat_grammar. A load or a store has its natural alignment there, which the text may
+-- leave out.
+use Rattle.std.specs.Prelude.{ℕ, nat_eq, Bool, not, List, [], ◌∷◌, ◌++◌, map, filter, find, Option, unwrap_or, bytes_eq, codes}
+use Rattle.std.specs.List.{list_any}
+use Rattle.std.specs.Map.{lookup}
+use Rattle.wat_grammar.specs.Each.{each}
+use Rattle.wat_grammar.specs.InstrRows.{row_of_plain, row_of_mem, row_of_lane, row_of_mem_lane, row_of_index, plains}
+"""
+
+SPEC_WORDS = """
+-- the bytes of an alignment
+abbrev pub alignment_bytes : Alignment → ℕ
+{sizes}
+-- the alignment of so many bytes
+abbrev pub alignment_of : ℕ → Alignment
+alignment_of n =
+    unwrap_or (find (λ a. nat_eq (alignment_bytes a) n) ({alignments} ∷ [])) alignment.One
+
+-- an instruction whose index may be left out, as one whose index is written
+abbrev pub op_of : IndexOrZeroOp → IndexOp
+{ops}
+-- the instructions whose index may be left out
+abbrev pub or_zeros : List IndexOrZeroOp
+or_zeros = {or_zeros}
+
+-- whether the index of an instruction may be left out
+abbrev pub may_be_left_out : IndexOp → Bool
+may_be_left_out op = list_any (λ o. index_ops.ghosts.eq (op_of o) op) or_zeros
+
+-- words, by the text and the word of each thing of a list
+abbrev pub texts : {{A : Type 0}} → (A → List ℕ) → (A → Word) → List A → List (List ℕ × Word)
+texts text meaning things = map (λ x. (text x, meaning x)) things
+
+-- each text with the word that it is
+unfoldable pub words : List (List ℕ × Word)
+words =
+    texts (λ op. (row_of_plain op).0) word.Plain plains
+    ++ texts (λ op. (row_of_mem op).0) (λ op. word.Mem op (alignment_of (row_of_mem op).2)) (each mems.enum)
+    ++ texts (λ op. (row_of_lane op).0) word.Lane (each lanes.enum)
+    ++ texts (λ op. (row_of_mem_lane op).0) (λ op. word.MemLane op (alignment_of (row_of_mem_lane op).2)) (each mem_lanes.enum)
+    ++ texts (λ op. (row_of_index op).0) word.Index (filter (λ op. not (may_be_left_out op)) (each indices.enum))
+    ++ texts (λ o. (row_of_index (op_of o)).0) word.IndexOrZero or_zeros
+{others}
+    ++ {rows}
+
+-- the word of a text in a table
+abbrev pub found_in : List ℕ → List (List ℕ × Word) → Option Word
+found_in name rows = lookup (λ text. bytes_eq text name) rows
+
+-- the word that a text is, if it means something of its own
+abbrev pub word_named : List ℕ → Option Word
+word_named name = found_in name words
 """
 
 
@@ -326,36 +377,48 @@ def spec_word(row):
     return f"{variant} {inner}".strip().replace(", ", " ")
 
 
+def filled(text, width, indent):
+    """A list of texts as it is laid out, as many in a line as fit."""
+    lines = textwrap.wrap(re.sub('codes "', 'codes\N{NO-BREAK SPACE}"', text), width, subsequent_indent=indent)
+    return "\n".join(lines).replace("\N{NO-BREAK SPACE}", " ")
+
+
+def alike():
+    """The texts of words that several texts are, a list for each word; those of atomic instructions without what they begin with."""
+    found = {}
+    for row in words():
+        if spec_word(row) == "word.Beyond" or spec_word(row).startswith("word.Atomic"):
+            found.setdefault(spec_word(row), []).append(row.name)
+    for word, names in found.items():
+        front = re.match(r"\w+\.atomic\.|", names[0])[0]
+        text = f'codes "{front}" ++ t' if front else "t"
+        backs = " ∷ ".join([*(f'codes "{name.removeprefix(front)}"' for name in names), "[]"])
+        yield filled(f"    ++ texts (λ t. {text}) (λ t. {word}) ({backs})", 158, "    ")
+
+
+def is_apart(row):
+    """Whether a word has its text in a line of its own, and no row of wat_grammar."""
+    return row.kind in ("Own", "Block", "Pair", "Key") or row.kind == "Index" and word_enum(row) == "UncoveredOp"
+
+
 def spec_words():
-    """The words, each in a row."""
-    names = {enum: ("Rattle.wast_base.specs.declared." + (CLASSES[enum][0] if enum in CLASSES else "plain")) for enum in enums() if enum != "IndexPairOp"}
-    names.update({"Plain": "Rattle.wast_base.specs.declared.plain"})
-    names.update({enum: "Rattle.wat_tokens.specs.declared.words" for enum in [*WORD_CLASSES, "Word"]})
+    """The words, most of them by the rows of wat_grammar."""
     out = [SPEC_WORDS_HEAD]
-    out.append("use Rattle.std.specs.Prelude.{ℕ, List, [], ◌∷◌, Option, bytes_eq, codes}\n")
-    out.append("use Rattle.std.specs.Map.{lookup}\n")
-    for enum, home in [("IndexOp", "wast_base.specs.declared.index_ops"), *((enum, "wat_tokens.specs.declared.words") for enum in ("Alignment", "IndexOrZeroOp", "Word"))]:
-        out.append(f"use Rattle.{home}.{enum}.{{{enum}}}\n")
-    for enum, home in names.items():
-        out.append(f"use {home}.{enum}.TheVariants as {spec_alias(enum)}\n")
-    out.append("\n-- each text with the word that it is\nunfoldable pub words : List (List ℕ × Word)\nwords =\n")
-    found = [f'(codes "{row.name}", {spec_word(row)})' for row in words()]
-    out.append("    " + "\n    ∷ ".join([*found, "[]"]) + "\n")
-    out.append("""
--- the word of a text in a table
-abbrev pub found_in : List ℕ → List (List ℕ × Word) → Option Word
-found_in name rows = lookup (λ text. bytes_eq text name) rows
-
--- the word that a text is, if it means something of its own
-abbrev pub word_named : List ℕ → Option Word
-word_named name = found_in name words
-
--- the bytes of an alignment
-abbrev pub alignment_bytes : Alignment → ℕ
-""")
-    out.append("".join(f"alignment_bytes alignment.{name} = {size}\n" for size, name in ALIGNMENTS.items()))
-    out.append("\n-- an instruction whose index may be left out, as one whose index is written\nabbrev pub op_of : IndexOrZeroOp → IndexOp\n")
-    out.append("".join(f"op_of index_or_zero.{variant(row.name)} = index.{variant(row.name, 'IndexOp')}\n" for row in optional()))
+    for enum in ("MemOp", "LaneOp", "MemLaneOp", "IndexOp"):
+        out.append(f"use Rattle.wast_base.specs.contracts.{CLASSES[enum][0]}.{enum} as {plural(enum)}\n")
+    out.append("use Rattle.wast_base.specs.contracts.index_ops.IndexOpPartialEq.TheImpl as index_ops\n")
+    for enum, home in [("IndexOp", "wast_base.specs.declared.index_ops"), *((enum, "wat_tokens.specs.declared.words") for enum in [*WORD_CLASSES, "Word"])]:
+        if enum in ("IndexOp", "Alignment", "IndexOrZeroOp", "Word"):
+            out.append(f"use Rattle.{home}.{enum}.{{{enum}}}\n")
+        out.append(f"use Rattle.{home}.{enum}.TheVariants as {spec_alias(enum)}\n")
+    out.append(SPEC_WORDS.format(
+        sizes="".join(f"alignment_bytes alignment.{name} = {size}\n" for size, name in ALIGNMENTS.items()),
+        alignments=" ∷ ".join(f"alignment.{name}" for name in ALIGNMENTS.values()),
+        ops="".join(f"op_of index_or_zero.{variant(row.name)} = index.{variant(row.name, 'IndexOp')}\n" for row in optional()),
+        or_zeros=filled(" ∷ ".join([*(f"index_or_zero.{variant(row.name)}" for row in optional()), "[]"]), 148, "    "),
+        others="\n".join(alike()),
+        rows="\n    ∷ ".join([*(f'(codes "{row.name}", {spec_word(row)})' for row in filter(is_apart, words())), "[]"]),
+    ))
     return "".join(out)
 
 

@@ -6,7 +6,7 @@ use Rattle.wasm_ops.specs.Leb128.{unsigned}
 use Rattle.wasm_ops.specs.Opcodes.{opcode_bytes, same_opcode, is_apart}
 use Rattle.wasm_ops.specs.declared.opcodes.Opcode.{Opcode}
 use Rattle.wasm_ops.specs.declared.opcodes.Opcode.TheVariants.{Byte, Prefixed}
-use Rattle.wasm_ops.specs.Table.{Kind, Index, Signed32, Signed64, Bits32, Bits64, Heap, Types, Memarg, Block, Labels, Catches, Lane, Lanes, Nullables, Order, Row, Field, Fields, Instr, table, kinds_of, ascends, all_apart, IsInstr, field, fields, instr}
+use Rattle.wasm_ops.specs.Table.{Kind, Index, Signed32, Signed64, Bits32, Bits64, Heap, Types, Memarg, Block, Labels, Catches, Lane, Lanes, Nullables, Order, Row, Field, Fields, Instr, table, kinds_of, are_distinct, all_apart, IsInstr, field, fields, instr}
 use Rattle.wasm_ops.proofs.Numbers.{unsigned_begins}
 use Rattle.wasm_ops.proofs.Codes.{number_code, signed_code, byte_code, code_within, pair_code}
 use Rattle.wasm_ops.proofs.ControlCodes.{block_type_code, labels_code, catches_code}
@@ -17,9 +17,9 @@ use Rattle.wasm_ops.proofs.RefTypeCodes.{heap_type_code}
 
 -- ---- the table, computed
 
-pub table_ascends : ascends 0 table ≡ true
-unfolding ascends table
-table_ascends = refl
+pub table_distinct : are_distinct table ≡ true
+unfolding are_distinct kinds_of table
+table_distinct = refl
 
 pub table_apart : all_apart table ≡ true
 unfolding all_apart table

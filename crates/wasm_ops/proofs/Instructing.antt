@@ -65,7 +65,7 @@ use Rattle.wasm_ops.specs.CastInstrs.{cast_key, br_cast_key, br_cast_instr, null
 use Rattle.wasm_ops.specs.Control.{block_type, catch_clause}
 use Rattle.wasm_ops.specs.ControlInstrs.{block_key, delimiter_key, br_table_instr, br_table_bytes, try_table_instr, try_table_bytes}
 use Rattle.wasm_ops.specs.Leb128.{unsigned}
-use Rattle.wasm_ops.specs.Keys.{bare_key, index_key, index_pair_key, mem_key, i32_key, i64_key, f32_key, f64_key, ref_key, array_key, any_key, extern_key, i31_key, i8x16_key, i16x8_key, i32x4_key, i64x2_key, f32x4_key, f64x2_key, lane_key, v128_key, mem_lane_key, plain_key}
+use Rattle.wasm_ops.specs.Keys.{index_key, index_pair_key, mem_key, lane_key, mem_lane_key, plain_key}
 use Rattle.wasm_ops.specs.Opcodes.{opcode_of, opcode_bytes, InRangeOpcode}
 use Rattle.wasm_ops.specs.SelectInstrs.{select_instr, select_bytes}
 use Rattle.wasm_ops.specs.Sinks.{SinkRules, Writes}
@@ -78,7 +78,7 @@ use Rattle.wasm_ops.proofs.Sinking.{puts_as, written_as}
 -- ---- rows
 
 -- A variant stands first in each, so that the others are split.
-bare_row : (op : BareOp) → kinds_of (opcode_of (bare_key op)) table ≡ Some []
+bare_row : (op : BareOp) → kinds_of (opcode_of (plain_key (plain.Bare op))) table ≡ Some []
 unfolding kinds_of table
 bare_row bare.unreachable = refl
 bare_row op = refl
@@ -88,74 +88,74 @@ unfolding kinds_of table
 mem_row mem.i32_load = refl
 mem_row op = refl
 
-i32_row : (op : I32Op) → kinds_of (opcode_of (i32_key op)) table ≡ Some []
+i32_row : (op : I32Op) → kinds_of (opcode_of (plain_key (plain.I32 op))) table ≡ Some []
 unfolding kinds_of table
 i32_row i32.i32_eqz = refl
 i32_row op = refl
 
-i64_row : (op : I64Op) → kinds_of (opcode_of (i64_key op)) table ≡ Some []
+i64_row : (op : I64Op) → kinds_of (opcode_of (plain_key (plain.I64 op))) table ≡ Some []
 unfolding kinds_of table
 i64_row i64.i64_eqz = refl
 i64_row op = refl
 
-f32_row : (op : F32Op) → kinds_of (opcode_of (f32_key op)) table ≡ Some []
+f32_row : (op : F32Op) → kinds_of (opcode_of (plain_key (plain.F32 op))) table ≡ Some []
 unfolding kinds_of table
 f32_row f32.f32_eq = refl
 f32_row op = refl
 
-f64_row : (op : F64Op) → kinds_of (opcode_of (f64_key op)) table ≡ Some []
+f64_row : (op : F64Op) → kinds_of (opcode_of (plain_key (plain.F64 op))) table ≡ Some []
 unfolding kinds_of table
 f64_row f64.f64_eq = refl
 f64_row op = refl
 
-ref_row : (op : RefOp) → kinds_of (opcode_of (ref_key op)) table ≡ Some []
+ref_row : (op : RefOp) → kinds_of (opcode_of (plain_key (plain.Ref op))) table ≡ Some []
 unfolding kinds_of table
 ref_row ref.ref_is_null = refl
 ref_row op = refl
 
-array_row : (op : ArrayOp) → kinds_of (opcode_of (array_key op)) table ≡ Some []
+array_row : (op : ArrayOp) → kinds_of (opcode_of (plain_key (plain.Array op))) table ≡ Some []
 unfolding kinds_of table
 array_row array.array_len = refl
 
-any_row : (op : AnyOp) → kinds_of (opcode_of (any_key op)) table ≡ Some []
+any_row : (op : AnyOp) → kinds_of (opcode_of (plain_key (plain.Any op))) table ≡ Some []
 unfolding kinds_of table
 any_row any.any_convert_extern = refl
 
-extern_row : (op : ExternOp) → kinds_of (opcode_of (extern_key op)) table ≡ Some []
+extern_row : (op : ExternOp) → kinds_of (opcode_of (plain_key (plain.Extern op))) table ≡ Some []
 unfolding kinds_of table
 extern_row extern.extern_convert_any = refl
 
-i31_row : (op : I31Op) → kinds_of (opcode_of (i31_key op)) table ≡ Some []
+i31_row : (op : I31Op) → kinds_of (opcode_of (plain_key (plain.I31 op))) table ≡ Some []
 unfolding kinds_of table
 i31_row i31.i31_get_s = refl
 i31_row op = refl
 
-i8x16_row : (op : I8x16Op) → kinds_of (opcode_of (i8x16_key op)) table ≡ Some []
+i8x16_row : (op : I8x16Op) → kinds_of (opcode_of (plain_key (plain.I8x16 op))) table ≡ Some []
 unfolding kinds_of table
 i8x16_row i8x16.i8x16_swizzle = refl
 i8x16_row op = refl
 
-i16x8_row : (op : I16x8Op) → kinds_of (opcode_of (i16x8_key op)) table ≡ Some []
+i16x8_row : (op : I16x8Op) → kinds_of (opcode_of (plain_key (plain.I16x8 op))) table ≡ Some []
 unfolding kinds_of table
 i16x8_row i16x8.i16x8_splat = refl
 i16x8_row op = refl
 
-i32x4_row : (op : I32x4Op) → kinds_of (opcode_of (i32x4_key op)) table ≡ Some []
+i32x4_row : (op : I32x4Op) → kinds_of (opcode_of (plain_key (plain.I32x4 op))) table ≡ Some []
 unfolding kinds_of table
 i32x4_row i32x4.i32x4_splat = refl
 i32x4_row op = refl
 
-i64x2_row : (op : I64x2Op) → kinds_of (opcode_of (i64x2_key op)) table ≡ Some []
+i64x2_row : (op : I64x2Op) → kinds_of (opcode_of (plain_key (plain.I64x2 op))) table ≡ Some []
 unfolding kinds_of table
 i64x2_row i64x2.i64x2_splat = refl
 i64x2_row op = refl
 
-f32x4_row : (op : F32x4Op) → kinds_of (opcode_of (f32x4_key op)) table ≡ Some []
+f32x4_row : (op : F32x4Op) → kinds_of (opcode_of (plain_key (plain.F32x4 op))) table ≡ Some []
 unfolding kinds_of table
 f32x4_row f32x4.f32x4_splat = refl
 f32x4_row op = refl
 
-f64x2_row : (op : F64x2Op) → kinds_of (opcode_of (f64x2_key op)) table ≡ Some []
+f64x2_row : (op : F64x2Op) → kinds_of (opcode_of (plain_key (plain.F64x2 op))) table ≡ Some []
 unfolding kinds_of table
 f64x2_row f64x2.f64x2_splat = refl
 f64x2_row op = refl
@@ -165,7 +165,7 @@ unfolding kinds_of table
 lane_row lane.i8x16_extract_lane_s = refl
 lane_row op = refl
 
-v128_row : (op : V128Op) → kinds_of (opcode_of (v128_key op)) table ≡ Some []
+v128_row : (op : V128Op) → kinds_of (opcode_of (plain_key (plain.V128 op))) table ≡ Some []
 unfolding kinds_of table
 v128_row v128.v128_not = refl
 v128_row op = refl

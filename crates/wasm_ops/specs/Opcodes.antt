@@ -1,10 +1,10 @@
 -- Opcodes: one byte, or a prefix byte and a number (binary format: instructions).
 --
--- A key is an opcode as one number, so that the table can list runs of consecutive opcodes.
+-- A key is an opcode as one number.
 --
 --   opcode_of 0x1a         Byte 0x1a: drop
 --   opcode_of 0xfc0008     Prefixed 0xfc 8: memory.init, with the bytes fc 08
-use Rattle.std.specs.Prelude.{ℕ, ◌+◌, ◌*◌, ◌/◌, ◌%◌, Bool, true, false, ◌&&◌, nat_eq, nat_lt, List, [], ◌∷◌}
+use Rattle.std.specs.Prelude.{ℕ, ◌/◌, ◌%◌, Bool, true, false, ◌&&◌, nat_eq, nat_lt, List, [], ◌∷◌}
 use Rattle.wasm_ops.specs.Leb128.{unsigned}
 use Rattle.wasm_ops.specs.Spelling.{InRangeU32}
 use Rattle.wasm_ops.specs.declared.opcodes.Opcode.{Opcode}
@@ -13,11 +13,6 @@ use Rattle.wasm_ops.specs.declared.opcodes.Opcode.TheVariants.{Byte, Prefixed}
 -- The opcode of a key: the byte, or the prefix is the key / 65536 and the number is the rest.
 abbrev pub opcode_of : ℕ → Opcode
 opcode_of key = elim (nat_lt key 0x100) [ true ↦ Byte key | false ↦ Prefixed (key / 0x10000) (key % 0x10000) ]
-
--- The key of an opcode, by which opcodes are ordered.
-abbrev pub opcode_order : Opcode → ℕ
-opcode_order (Byte b) = b
-opcode_order (Prefixed p n) = 0x10000 * p + n
 
 -- The bytes of an opcode: the number after a prefix is in LEB128.
 abbrev pub opcode_bytes : Opcode → List ℕ

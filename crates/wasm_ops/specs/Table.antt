@@ -2,18 +2,19 @@
 -- instructions).
 --
 -- An entry of the table has an opcode and the kinds of its immediates. It is one list, so that all definitions about
--- instructions are functions of the kinds, and a new instruction adds one entry. `tools/ops` writes the list.
+-- instructions are functions of the kinds, and a new instruction adds one entry.
 --
---   (0x07, 3, Index ∷ [])      three opcodes from 07, each with an index: catch, throw, rethrow
---   instr (call with 3)        10 03
-use Rattle.std.specs.Prelude.{◌≡◌, ℕ, zero, suc, ◌+◌, ◌*◌, ℤ, Bool, true, false, nat_lt, Option, Some, None, List, [], ◌∷◌, ◌++◌, length, All, IsTrue}
+--   keyed (Index ∷ []) (map index_key (each indices.enum))      the entries of all instructions with an index
+--   instr (call with 3)                                         10 03
+use Rattle.std.specs.Prelude.{◌≡◌, ℕ, ◌+◌, ◌*◌, ℤ, Bool, true, false, Option, Some, None, is_none, List, [], ◌∷◌, ◌++◌, map, length, All, IsTrue}
 use Rattle.std.specs.Int.{w32, w64, to_le_bytes}
 use Rattle.std.specs.List.{flat_map}
 use Rattle.wasm_ops.specs.Control.{block_type, catch_clause}
 use Rattle.wasm_ops.specs.Entities.{bit}
+use Rattle.wasm_ops.specs.Keys.{plain_key, index_key, index_pair_key, mem_key, lane_key, mem_lane_key}
 use Rattle.wasm_ops.specs.Leb128.{signed}
 use Rattle.wasm_ops.specs.Memargs.{ordering_byte, is_covered_ordering, memarg}
-use Rattle.wasm_ops.specs.Opcodes.{opcode_of, opcode_order, opcode_bytes, same_opcode, is_apart}
+use Rattle.wasm_ops.specs.Opcodes.{opcode_of, opcode_bytes, same_opcode, is_apart}
 use Rattle.wasm_ops.specs.Spelling.{InRangeU32, InRangeU64, InRangeS32, InRangeS64, Encoding, within, fixed, u32, respelled, seq, list_of, always, heap_type, val_type}
 use Rattle.wasm_ops.specs.declared.blocks.BlockType.{BlockType}
 use Rattle.wasm_ops.specs.declared.blocks.Catch.{Catch}
@@ -22,6 +23,13 @@ use Rattle.wasm_ops.specs.declared.memargs.Ordering.{Ordering}
 use Rattle.wasm_ops.specs.declared.opcodes.Opcode.{Opcode}
 use Rattle.wasm_ops.specs.declared.ref_types.HeapType.{HeapType}
 use Rattle.wasm_ops.specs.declared.types.ValType.{ValType}
+use Rattle.wast_base.specs.contracts.index_ops.IndexOp as indices
+use Rattle.wast_base.specs.contracts.index_ops.IndexPairOp as index_pairs
+use Rattle.wast_base.specs.contracts.lane_ops.LaneOp as lanes
+use Rattle.wast_base.specs.contracts.lane_ops.MemLaneOp as mem_lanes
+use Rattle.wast_base.specs.contracts.mem_ops.MemOp as mems
+use Rattle.wat_grammar.specs.Each.{each}
+use Rattle.wat_grammar.specs.InstrRows.{plains}
 
 -- The kinds of immediates: an index, signed numbers, bits of floating-point numbers, a heap type, value types, a
 -- memory argument, a block type, labels, catch clauses, a lane number, sixteen bytes or lane numbers, the nullability
@@ -107,98 +115,34 @@ instr i = respelled (λ immediates. opcode_bytes i.row.opcode ++ immediates) (fi
 abbrev pub instrs : List Instr → List ℕ
 instrs is = flat_map (λ i. (instr i).bytes) is
 
--- Entries of consecutive keys: the first key, their number, and the kinds of their immediates.
-abbrev pub consecutive : ℕ → ℕ → List Kind → List Row
-consecutive key zero kinds = []
-consecutive key (suc count) kinds =
-    record { opcode = opcode_of key; kinds = kinds } ∷ consecutive (key + 1) count kinds
+-- Entries with these keys, and immediates of these kinds.
+abbrev pub keyed : List Kind → List ℕ → List Row
+keyed kinds keys = map (λ key. record { opcode = opcode_of key; kinds = kinds }) keys
 
--- Runs of such entries, one after another.
-abbrev pub rows_of : List (ℕ × ℕ × List Kind) → List Row
-rows_of [] = []
-rows_of (run ∷ runs) = consecutive run.0 run.1 run.2 ++ rows_of runs
-
--- The opcode table, ordered by key.
+-- The opcode table. The instructions of each enum of wast_base have immediates of the same kinds.
 unfoldable pub table : List Row
-table = rows_of (
+table =
+    keyed [] (map plain_key plains)
+    ++ keyed (Index ∷ []) (map index_key (each indices.enum))
+    ++ keyed (Index ∷ Index ∷ []) (map index_pair_key (each index_pairs.enum))
+    ++ keyed (Memarg ∷ []) (map mem_key (each mems.enum))
+    ++ keyed (Lane ∷ []) (map lane_key (each lanes.enum))
+    ++ keyed (Memarg ∷ Lane ∷ []) (map mem_lane_key (each mem_lanes.enum))
     -- Written by tools/ops from here.
-    (0x00, 2, [])  -- unreachable, nop
-    ∷ (0x02, 3, Block ∷ [])  -- block, loop, if
-    ∷ (0x05, 1, [])  -- else
-    ∷ (0x06, 1, Block ∷ [])  -- try
-    ∷ (0x07, 3, Index ∷ [])  -- catch, throw, rethrow
-    ∷ (0x0a, 2, [])  -- throw_ref, end
-    ∷ (0x0c, 2, Index ∷ [])  -- br, br_if
-    ∷ (0x0e, 1, Labels ∷ Index ∷ [])  -- br_table
-    ∷ (0x0f, 1, [])  -- return
-    ∷ (0x10, 1, Index ∷ [])  -- call
-    ∷ (0x11, 1, Index ∷ Index ∷ [])  -- call_indirect
-    ∷ (0x12, 1, Index ∷ [])  -- return_call
-    ∷ (0x13, 1, Index ∷ Index ∷ [])  -- return_call_indirect
-    ∷ (0x14, 2, Index ∷ [])  -- call_ref, return_call_ref
-    ∷ (0x18, 1, Index ∷ [])  -- delegate
-    ∷ (0x19, 3, [])  -- catch_all, drop, select
-    ∷ (0x1c, 1, Types ∷ [])  -- select
-    ∷ (0x1f, 1, Block ∷ Catches ∷ [])  -- try_table
-    ∷ (0x20, 7, Index ∷ [])  -- from local.get to table.set
-    ∷ (0x28, 23, Memarg ∷ [])  -- from i32.load to i64.store32
-    ∷ (0x3f, 2, Index ∷ [])  -- memory.size, memory.grow
-    ∷ (0x41, 1, Signed32 ∷ [])  -- i32.const
-    ∷ (0x42, 1, Signed64 ∷ [])  -- i64.const
-    ∷ (0x43, 1, Bits32 ∷ [])  -- f32.const
-    ∷ (0x44, 1, Bits64 ∷ [])  -- f64.const
-    ∷ (0x45, 128, [])  -- from i32.eqz to i64.extend32_s
-    ∷ (0xd0, 1, Heap ∷ [])  -- ref.null
-    ∷ (0xd1, 1, [])  -- ref.is_null
-    ∷ (0xd2, 1, Index ∷ [])  -- ref.func
-    ∷ (0xd3, 2, [])  -- ref.eq, ref.as_non_null
-    ∷ (0xd5, 2, Index ∷ [])  -- br_on_null, br_on_non_null
-    ∷ (0xfb0000, 2, Index ∷ [])  -- struct.new, struct.new_default
-    ∷ (0xfb0002, 4, Index ∷ Index ∷ [])  -- struct.get, struct.get_s, struct.get_u, struct.set
-    ∷ (0xfb0006, 2, Index ∷ [])  -- array.new, array.new_default
-    ∷ (0xfb0008, 3, Index ∷ Index ∷ [])  -- array.new_fixed, array.new_data, array.new_elem
-    ∷ (0xfb000b, 4, Index ∷ [])  -- array.get, array.get_s, array.get_u, array.set
-    ∷ (0xfb000f, 1, [])  -- array.len
-    ∷ (0xfb0010, 1, Index ∷ [])  -- array.fill
-    ∷ (0xfb0011, 3, Index ∷ Index ∷ [])  -- array.copy, array.init_data, array.init_elem
-    ∷ (0xfb0014, 4, Heap ∷ [])  -- ref.test, ref.cast
-    ∷ (0xfb0018, 2, Nullables ∷ Index ∷ Heap ∷ Heap ∷ [])  -- br_on_cast, br_on_cast_fail
-    ∷ (0xfb001a, 5, [])  -- any.convert_extern, extern.convert_any, ref.i31, i31.get_s, i31.get_u
-    ∷ (0xfc0000, 8, [])  -- from i32.trunc_sat_f32_s to i64.trunc_sat_f64_u
-    ∷ (0xfc0008, 1, Index ∷ Index ∷ [])  -- memory.init
-    ∷ (0xfc0009, 1, Index ∷ [])  -- data.drop
-    ∷ (0xfc000a, 1, Index ∷ Index ∷ [])  -- memory.copy
-    ∷ (0xfc000b, 1, Index ∷ [])  -- memory.fill
-    ∷ (0xfc000c, 1, Index ∷ Index ∷ [])  -- table.init
-    ∷ (0xfc000d, 1, Index ∷ [])  -- elem.drop
-    ∷ (0xfc000e, 1, Index ∷ Index ∷ [])  -- table.copy
-    ∷ (0xfc000f, 3, Index ∷ [])  -- table.grow, table.size, table.fill
-    ∷ (0xfd0000, 12, Memarg ∷ [])  -- from v128.load to v128.store
-    ∷ (0xfd000c, 2, Lanes ∷ [])  -- v128.const, i8x16.shuffle
-    ∷ (0xfd000e, 7, [])  -- from i8x16.swizzle to f64x2.splat
-    ∷ (0xfd0015, 14, Lane ∷ [])  -- from i8x16.extract_lane_s to f64x2.replace_lane
-    ∷ (0xfd0023, 49, [])  -- from i8x16.eq to v128.any_true
-    ∷ (0xfd0054, 8, Memarg ∷ Lane ∷ [])  -- from v128.load8_lane to v128.store64_lane
-    ∷ (0xfd005c, 2, Memarg ∷ [])  -- v128.load32_zero, v128.load64_zero
-    ∷ (0xfd005e, 60, [])  -- from f32x4.demote_f64x2_zero to i16x8.max_u
-    ∷ (0xfd009b, 7, [])  -- from i16x8.avgr_u to i32x4.neg
-    ∷ (0xfd00a3, 2, [])  -- i32x4.all_true, i32x4.bitmask
-    ∷ (0xfd00a7, 8, [])  -- from i32x4.extend_low_i16x8_s to i32x4.add
-    ∷ (0xfd00b1, 1, [])  -- i32x4.sub
-    ∷ (0xfd00b5, 6, [])  -- from i32x4.mul to i32x4.dot_i16x8_s
-    ∷ (0xfd00bc, 6, [])  -- from i32x4.extmul_low_i16x8_s to i64x2.neg
-    ∷ (0xfd00c3, 2, [])  -- i64x2.all_true, i64x2.bitmask
-    ∷ (0xfd00c7, 8, [])  -- from i64x2.extend_low_i32x4_s to i64x2.add
-    ∷ (0xfd00d1, 1, [])  -- i64x2.sub
-    ∷ (0xfd00d5, 13, [])  -- from i64x2.mul to f32x4.neg
-    ∷ (0xfd00e3, 11, [])  -- from f32x4.sqrt to f64x2.neg
-    ∷ (0xfd00ef, 37, [])  -- from f64x2.sqrt to i32x4.relaxed_dot_i8x16_i7x16_add_s
-    ∷ (0xfe0000, 3, Memarg ∷ [])  -- memory.atomic.notify, memory.atomic.wait32, memory.atomic.wait64
-    ∷ (0xfe0003, 1, Order ∷ [])  -- atomic.fence
-    ∷ (0xfe0010, 63, Memarg ∷ [])  -- from i32.atomic.load to i64.atomic.rmw32.cmpxchg_u
+    ++ keyed (Block ∷ []) (0x02 ∷ 0x03 ∷ 0x04 ∷ 0x06 ∷ [])  -- block, loop, if, try
+    ++ keyed [] (0x05 ∷ 0x0b ∷ 0x1b ∷ [])  -- else, end, select
+    ++ keyed (Labels ∷ Index ∷ []) (0x0e ∷ [])  -- br_table
+    ++ keyed (Types ∷ []) (0x1c ∷ [])  -- select
+    ++ keyed (Block ∷ Catches ∷ []) (0x1f ∷ [])  -- try_table
+    ++ keyed (Signed32 ∷ []) (0x41 ∷ [])  -- i32.const
+    ++ keyed (Signed64 ∷ []) (0x42 ∷ [])  -- i64.const
+    ++ keyed (Bits32 ∷ []) (0x43 ∷ [])  -- f32.const
+    ++ keyed (Bits64 ∷ []) (0x44 ∷ [])  -- f64.const
+    ++ keyed (Heap ∷ []) (0xd0 ∷ 0xfb0014 ∷ 0xfb0015 ∷ 0xfb0016 ∷ 0xfb0017 ∷ [])  -- ref.null, ref.test, ref.cast
+    ++ keyed (Nullables ∷ Index ∷ Heap ∷ Heap ∷ []) (0xfb0018 ∷ 0xfb0019 ∷ [])  -- br_on_cast, br_on_cast_fail
+    ++ keyed (Lanes ∷ []) (0xfd000c ∷ 0xfd000d ∷ [])  -- v128.const, i8x16.shuffle
+    ++ keyed (Order ∷ []) (0xfe0003 ∷ [])  -- atomic.fence
     -- To here.
-    ∷ []
-    )
 
 -- The kinds of immediates of an opcode, if it is in the list.
 unfoldable pub kinds_of : Opcode → List Row → Option (List Kind)
@@ -222,11 +166,10 @@ pub record SpellsInstrs (bytes : List ℕ) : Type 0 where
   pub in_range : All IsInstr list
   pub spelled : bytes ≡ instrs list
 
--- Each key is greater than the one before it.
-unfoldable pub ascends : ℕ → List Row → Bool
-ascends before [] = true
-ascends before (r ∷ rs) =
-    elim (nat_lt before (opcode_order r.opcode + 1)) [ true ↦ ascends (opcode_order r.opcode + 1) rs | false ↦ false ]
+-- No two entries have the same opcode.
+unfoldable pub are_distinct : List Row → Bool
+are_distinct [] = true
+are_distinct (r ∷ rs) = elim (is_none (kinds_of r.opcode rs)) [ true ↦ are_distinct rs | false ↦ false ]
 
 -- No opcode of one byte is a prefix byte.
 unfoldable pub all_apart : List Row → Bool

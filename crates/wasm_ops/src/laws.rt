@@ -8,7 +8,7 @@ ghost use Rattle.wasm_ops.specs.Entities.{entity_type, global_type, memory_type,
 ghost use Rattle.wasm_ops.specs.Leb128.{SpellsUnsigned, SpellsSigned, unsigned, signed};
 ghost use Rattle.wasm_ops.specs.Spelling.{Any, name, InRangeName, export_kind, array_type, composite_type, field_type, func_type, heap_type, ref_type, storage_type, struct_type, sub_type, val_type};
 ghost use Rattle.wasm_ops.specs.declared.opcodes.Opcode.TheVariants.{Byte};
-ghost use Rattle.wasm_ops.specs.Table.{Instr, IsInstr, table, kinds_of, ascends, all_apart, instr};
+ghost use Rattle.wasm_ops.specs.Table.{Instr, IsInstr, table, kinds_of, are_distinct, all_apart, instr};
 ghost use Rattle.wasm_ops.specs.declared.blocks.Catch.{Catch};
 ghost use Rattle.wasm_ops.specs.declared.types.ExportKind.{ExportKind};
 
@@ -92,7 +92,7 @@ pub fn type_spelling_law()
 /// - `expressions`: bytes begin with at most one constant expression, because its blocks are all
 ///   closed.
 pub fn instruction_law()
-    ensures distinct { ascends 0 table ≡ true }
+    ensures distinct { are_distinct table ≡ true }
     ensures apart { all_apart table ≡ true }
     ensures instructions { IsCode Instr IsInstr (λ x. (instr x).bytes) }
     ensures end { kinds_of (Byte 0x0b) table ≡ Some [] }

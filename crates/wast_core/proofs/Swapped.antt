@@ -22,11 +22,11 @@ use Rattle.wast_core_sections.specs.declared.slots.Slot.{Slot}
 use Rattle.wast_core_sections.specs.declared.slots.Slot.TheVariants as slot
 use Rattle.wast_core_sections.specs.DataCounts.{body_needs_count, count_parts}
 use Rattle.wast_core_sections.specs.Hints.{functions_in, hints_part}
-use Rattle.wast_core_sections.specs.Sections.{of_start, of_kind, entries_in, section_part, starts_in, in_slot, parts}
+use Rattle.wast_core_sections.specs.Sections.{entries_in, section_part, starts_in, in_slot, parts}
 use Rattle.wast_core_sections.specs.Slots.{section_kind, order}
 
 -- A start field has no entry in a list.
-no_entries : (kind : SectionKind) (i : Index) → of_kind kind (of_start i) ≡ []
+no_entries : (kind : SectionKind) (i : Index) → entries_in kind (field.Start i) ≡ []
 no_entries Types i = refl
 no_entries x i = refl
 

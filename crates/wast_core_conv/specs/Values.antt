@@ -331,16 +331,6 @@ as_instr (instruction.br_on_cast_fail a) = br_cast_instr branch.Fails (index_val
 as_instr (instruction.v128_const c) = lanes_instr lanes.Const (lane_bytes c)
 as_instr (instruction.i8x16_shuffle s) = lanes_instr lanes.Shuffle s.lanes
 as_instr (instruction.atomic_fence o) = fence_instr (fence_ordering o)
-as_instr (instruction.ref_cast_desc_eq a) = no_row
-as_instr (instruction.br_on_cast_desc_eq a) = no_row
-as_instr (instruction.br_on_cast_desc_eq_fail a) = no_row
-as_instr (instruction.GlobalAtomic a) = no_row
-as_instr (instruction.TableAtomic a) = no_row
-as_instr (instruction.StructAtomic a) = no_row
-as_instr (instruction.ArrayAtomic a) = no_row
-as_instr (instruction.resume a) = no_row
-as_instr (instruction.resume_throw a) = no_row
-as_instr (instruction.resume_throw_ref a) = no_row
 -- Written by tools/ops from here.
 as_instr (instruction.catch i) = index_instr op.Catch (index_value i)
 as_instr (instruction.throw i) = index_instr op.Throw (index_value i)
@@ -392,16 +382,8 @@ as_instr (instruction.table_copy a) = index_pair_instr pair.TableCopy (index_val
 as_instr (instruction.table_grow a) = index_instr op.TableGrow (index_value a.dst)
 as_instr (instruction.table_size a) = index_instr op.TableSize (index_value a.dst)
 as_instr (instruction.table_fill a) = index_instr op.TableFill (index_value a.dst)
-as_instr (instruction.struct_new_desc i) = no_row
-as_instr (instruction.struct_new_default_desc i) = no_row
-as_instr (instruction.ref_get_desc i) = no_row
-as_instr (instruction.cont_new i) = no_row
-as_instr (instruction.cont_bind a) = no_row
-as_instr (instruction.suspend i) = no_row
-as_instr (instruction.switch a) = no_row
-as_instr (instruction.memory_discard a) = no_row
 -- To here.
-as_instr (instruction.Beyond name) = no_row
+as_instr i = no_row
 
 -- The instructions of a constant expression.
 abbrev pub as_expression : Expression → List Instr

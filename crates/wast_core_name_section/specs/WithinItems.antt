@@ -49,24 +49,18 @@ label_in i = label_if (block_of i)
 
 -- The names of the fields of a struct type.
 abbrev pub field_names_of : InnerTypeKind → List (Option (List ℕ))
-field_names_of (inner.Func t) = []
 field_names_of (inner.Struct t) = map field_name t.fields
-field_names_of (inner.Array t) = []
-field_names_of (inner.Cont t) = []
+field_names_of k = []
 
 -- The names of the parameters of a function type.
 abbrev pub param_names_of : InnerTypeKind → List (Option (List ℕ))
 param_names_of (inner.Func t) = map param_name t.params
-param_names_of (inner.Struct t) = []
-param_names_of (inner.Array t) = []
-param_names_of (inner.Cont t) = []
+param_names_of k = []
 
 -- The number of parameters of a function type.
 abbrev pub arity : InnerTypeKind → Option ℕ
 arity (inner.Func t) = Some (length t.params)
-arity (inner.Struct t) = None
-arity (inner.Array t) = None
-arity (inner.Cont t) = None
+arity k = None
 
 -- The same for a type that may be missing.
 abbrev pub arity_of : Option ty.«Type» → Option ℕ
@@ -144,52 +138,38 @@ list_of names = where_named (named_from 0 names)
 
 -- The lists of names inside a type.
 abbrev pub lists_in_type : Within → ty.«Type» → List (Option (List (ℕ × List ℕ)))
-lists_in_type within.Locals t = []
-lists_in_type within.Labels t = []
 lists_in_type within.Fields t = list_of (field_names_of t.def.kind) ∷ []
 lists_in_type within.Parameters t = list_of (param_names_of t.def.kind) ∷ []
-lists_in_type within.TagParameters t = []
+lists_in_type w t = []
 
 -- The lists of names inside a function.
 abbrev pub lists_in_func : List ty.«Type» → Within → Func → List (Option (List (ℕ × List ℕ)))
 lists_in_func types within.Locals f = list_of (locals_of types f) ∷ []
 lists_in_func types within.Labels f = list_of (labels_in f.kind) ∷ []
-lists_in_func types within.Fields f = []
-lists_in_func types within.Parameters f = []
-lists_in_func types within.TagParameters f = []
+lists_in_func types w f = []
 
 -- The lists of names inside a tag.
 abbrev pub lists_in_tag : Within → TagType → List (Option (List (ℕ × List ℕ)))
-lists_in_tag within.Locals t = []
-lists_in_tag within.Labels t = []
-lists_in_tag within.Fields t = []
-lists_in_tag within.Parameters t = []
 lists_in_tag within.TagParameters t = list_of (tag_params t) ∷ []
+lists_in_tag w t = []
 
 -- The lists inside an imported function: the parameters of its inline type. The function is counted, and has no labels.
 abbrev pub lists_in_imported_func : Within → TypeUse FunctionType → List (Option (List (ℕ × List ℕ)))
 lists_in_imported_func within.Locals u = list_of (inline_params u) ∷ []
 lists_in_imported_func within.Labels u = None ∷ []
-lists_in_imported_func within.Fields u = []
-lists_in_imported_func within.Parameters u = []
-lists_in_imported_func within.TagParameters u = []
+lists_in_imported_func w u = []
 
 -- The lists inside an imported tag. The tag is counted, and its list has no names.
 abbrev pub lists_in_imported_tag : Within → List (Option (List (ℕ × List ℕ)))
-lists_in_imported_tag within.Locals = []
-lists_in_imported_tag within.Labels = []
-lists_in_imported_tag within.Fields = []
-lists_in_imported_tag within.Parameters = []
 lists_in_imported_tag within.TagParameters = None ∷ []
+lists_in_imported_tag w = []
 
 -- The lists inside an imported item of a kind.
 abbrev pub lists_in_kind : Within → ItemKind → List (Option (List (ℕ × List ℕ)))
 lists_in_kind w (kind.Func u) = lists_in_imported_func w u
 lists_in_kind w (kind.FuncExact u) = lists_in_imported_func w u
-lists_in_kind w (kind.Table t) = []
-lists_in_kind w (kind.Memory t) = []
-lists_in_kind w (kind.Global t) = []
 lists_in_kind w (kind.Tag t) = lists_in_imported_tag w
+lists_in_kind w k = []
 
 -- The lists inside an imported item.
 abbrev pub lists_in_sig : Within → ItemSig → List (Option (List (ℕ × List ℕ)))
@@ -205,12 +185,5 @@ lists_within types w (field.Ty t) = lists_in_type w t
 lists_within types w (field.Rec r) = flat_map (lists_in_type w) r.types
 lists_within types w (field.Import i) = lists_in_import w i.items
 lists_within types w (field.Func f) = lists_in_func types w f
-lists_within types w (field.Table t) = []
-lists_within types w (field.Memory m) = []
-lists_within types w (field.Global g) = []
-lists_within types w (field.Export e) = []
-lists_within types w (field.Start i) = []
-lists_within types w (field.Elem e) = []
-lists_within types w (field.Data d) = []
-lists_within types w (field.Custom c) = []
 lists_within types w (field.Tag t) = lists_in_tag w t.ty
+lists_within types w f = []

@@ -33,7 +33,7 @@ use Rattle.wast_core_sections.specs.Sections as meaning
 use Rattle.wasm_out.specs.Hints.{hints_name}
 use Rattle.wast_core_conv.specs.Hints.{HintedBody}
 use Rattle.wast_core_sections.specs.Hints.{hinted_functions, hints_part}
-use Rattle.wast_core_sections.specs.Sections.{Contribution, no_contribution, subsections_of, of_type, of_rec, of_import, of_func, of_table, of_memory, of_global, of_export, of_start, of_elem, of_data, of_tag, of_kind, contribution_of, entries_in, entries, section_part, start_part, starts_in, in_slot, parts}
+use Rattle.wast_core_sections.specs.Sections.{Contribution, no_contribution, subsections_of, of_kind, contribution_of, entries_in, entries, section_part, start_part, starts_in, in_slot, parts}
 use Rattle.wast_core_sections.specs.Utf8Names.{HasUtf8Items, HasUtf8Names}
 use Rattle.wast_tree_nodes.specs.Customs.{stands_at, customs_in, customs_at}
 use Rattle.wast_core_sections.specs.Tree.{CustomPlace}
@@ -119,54 +119,54 @@ data_read x e = plain Data (meaning.as_data x) (place_covered x.kind e) (place_r
 abbrev AreReadable : Contribution → Type 0
 AreReadable c = (k : SectionKind) → All (IsReadable k) (of_kind k c)
 
-type_readable : (t : ty.«Type») → is_encodable_type t ≡ true → AreReadable (of_type t)
+type_readable : (t : ty.«Type») → is_encodable_type t ≡ true → AreReadable (contribution_of (field.Ty t))
 type_readable t e Types = plain Types (Single (meaning.as_sub_type t.def)) (def_covered t.def e) (All-nil HasRowsExpression) (All-nil IsBalancedExpression) (All-nil IsText)
 type_readable t e k = nothing_more k
 
-rec_readable : (r : Rec) → are_encodable (in_rec r) ≡ true → AreReadable (of_rec r)
+rec_readable : (r : Rec) → are_encodable (in_rec r) ≡ true → AreReadable (contribution_of (field.Rec r))
 rec_readable r e Types = plain Types (meaning.as_group r) (types_covered r e) (All-nil HasRowsExpression) (All-nil IsBalancedExpression) (All-nil IsText)
 rec_readable r e k = nothing_more k
 
-import_readable : (i : tree.Imports) → is_encodable_import i ≡ true → HasUtf8Items i.items → AreReadable (of_import i)
+import_readable : (i : tree.Imports) → is_encodable_import i ≡ true → HasUtf8Items i.items → AreReadable (contribution_of (field.Import i))
 import_readable i e h Imports = import_read i.items e h
 import_readable i e h k = nothing_more k
 
-func_readable : (f : Func) → is_encodable_kind f.kind ≡ true → AreReadable (of_func f)
+func_readable : (f : Func) → is_encodable_kind f.kind ≡ true → AreReadable (contribution_of (field.Func f))
 func_readable f e Functions = plain Functions (meaning.type_index f.ty) refl (All-nil HasRowsExpression) (All-nil IsBalancedExpression) (All-nil IsText)
 func_readable f e Code = code_read f.kind e
 func_readable f e k = nothing_more k
 
-table_readable : (t : Table) → is_encodable_table t ≡ true → AreReadable (of_table t)
+table_readable : (t : Table) → is_encodable_table t ≡ true → AreReadable (contribution_of (field.Table t))
 table_readable t e Tables = table_read t.kind e
 table_readable t e k = nothing_more k
 
-memory_readable : (m : Memory) → AreReadable (of_memory m)
+memory_readable : (m : Memory) → AreReadable (contribution_of (field.Memory m))
 memory_readable m Memories = plain Memories (meaning.as_memory m) refl (All-nil HasRowsExpression) (All-nil IsBalancedExpression) (All-nil IsText)
 memory_readable m k = nothing_more k
 
-global_readable : (g : Global) → is_encodable_global g ≡ true → AreReadable (of_global g)
+global_readable : (g : Global) → is_encodable_global g ≡ true → AreReadable (contribution_of (field.Global g))
 global_readable g e Globals =
     let both = both_pass (are_encodable (in_global_type g.ty)) (is_encodable_global_kind g.kind) e in
     global_read g.ty g.kind both.0 both.1
 global_readable g e k = nothing_more k
 
-export_readable : (x : Export) → IsTrue (is_utf8 x.name.now) → AreReadable (of_export x)
+export_readable : (x : Export) → IsTrue (is_utf8 x.name.now) → AreReadable (contribution_of (field.Export x))
 export_readable x h Exports = plain Exports (meaning.as_export x) refl (All-nil HasRowsExpression) (All-nil IsBalancedExpression) (all_one IsText x.name.now h)
 export_readable x h k = nothing_more k
 
-start_readable : (i : Index) → AreReadable (of_start i)
+start_readable : (i : Index) → AreReadable (contribution_of (field.Start i))
 start_readable i Types = nothing_more Types
 start_readable i k = nothing_more k
 
-elem_readable : (x : Elem) → is_encodable_elem x ≡ true → AreReadable (of_elem x)
+elem_readable : (x : Elem) → is_encodable_elem x ≡ true → AreReadable (contribution_of (field.Elem x))
 elem_readable x e Elements = elem_read x e
 elem_readable x e k = nothing_more k
 
-data_readable : (x : tree.Data) → is_encodable_data x ≡ true → AreReadable (of_data x)
+data_readable : (x : tree.Data) → is_encodable_data x ≡ true → AreReadable (contribution_of (field.Data x))
 data_readable x e Data = data_read x e
 data_readable x e k = nothing_more k
 
-tag_readable : (t : Tag) → AreReadable (of_tag t)
+tag_readable : (t : Tag) → AreReadable (contribution_of (field.Tag t))
 tag_readable t Tags = plain Tags (meaning.as_tag t) refl (All-nil HasRowsExpression) (All-nil IsBalancedExpression) (All-nil IsText)
 tag_readable t k = nothing_more k
 

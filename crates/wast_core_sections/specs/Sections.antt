@@ -4,9 +4,7 @@
 -- the code section.
 use Rattle.std.specs.Prelude.{ℕ, Bool, List, [], ◌∷◌, map, length, codes, Option, if◌then◌else◌}
 use Rattle.std.specs.List.{flat_map, list_any}
-use Rattle.wast_core_sections.specs.Tree as tree
-use Rattle.wast_core_sections.specs.Tree.{Rec, Func, Table, Memory, Global, Tag, Export, Index, Elem, Custom, ModuleField}
-use Rattle.wast_core_sections.specs.Tree.ty
+use Rattle.wast_core_sections.specs.Tree.{Custom, ModuleField}
 use Rattle.wast_core_sections.specs.Tree.field
 use Rattle.wasm_ops.specs.declared.entities.MemoryType.{MemoryType}
 use Rattle.wasm_ops.specs.declared.entities.TagType.{TagType}
@@ -59,68 +57,21 @@ no_contribution = record {
   «data» = [];
 }
 
--- What a field of each kind adds. A type is one entry.
-abbrev pub of_type : ty.«Type» → Contribution
-of_type t = record no_contribution { types = Single (as_sub_type t.def) ∷ [] }
-
--- A recursion group is one entry, with any number of types.
-abbrev pub of_rec : Rec → Contribution
-of_rec r = record no_contribution { types = as_group r ∷ [] }
-
--- An import is one entry.
-abbrev pub of_import : tree.Imports → Contribution
-of_import i = record no_contribution { imports = as_import i ∷ [] }
-
--- A function is its type in the function section, and its body in the code section.
-abbrev pub of_func : Func → Contribution
-of_func f = record no_contribution { functions = type_index f.ty ∷ []; code = as_body f.kind ∷ [] }
-
--- A table is one entry.
-abbrev pub of_table : Table → Contribution
-of_table t = record no_contribution { tables = as_table t ∷ [] }
-
--- A memory is one entry.
-abbrev pub of_memory : Memory → Contribution
-of_memory m = record no_contribution { memories = as_memory m ∷ [] }
-
--- A global is one entry.
-abbrev pub of_global : Global → Contribution
-of_global g = record no_contribution { globals = as_global g ∷ [] }
-
--- A tag is one entry.
-abbrev pub of_tag : Tag → Contribution
-of_tag t = record no_contribution { tags = as_tag t ∷ [] }
-
--- An export is one entry.
-abbrev pub of_export : Export → Contribution
-of_export e = record no_contribution { exports = as_export e ∷ [] }
-
--- A start field is its function.
-abbrev pub of_start : Index → Contribution
-of_start i = record no_contribution { starts = index_value i ∷ [] }
-
--- An element segment is one entry.
-abbrev pub of_elem : Elem → Contribution
-of_elem e = record no_contribution { elements = as_element e ∷ [] }
-
--- A data segment is one entry.
-abbrev pub of_data : tree.Data → Contribution
-of_data d = record no_contribution { «data» = as_data d ∷ [] }
-
--- What a field adds to the sections.
+-- What a field adds to the sections: most are one entry of one section. A recursion group is one entry, with any number of types. A function
+-- is its type in the function section, and its body in the code section. A start field is its function.
 abbrev pub contribution_of : ModuleField → Contribution
-contribution_of (field.Ty t) = of_type t
-contribution_of (field.Rec r) = of_rec r
-contribution_of (field.Import i) = of_import i
-contribution_of (field.Func f) = of_func f
-contribution_of (field.Table t) = of_table t
-contribution_of (field.Memory m) = of_memory m
-contribution_of (field.Global g) = of_global g
-contribution_of (field.Export e) = of_export e
-contribution_of (field.Start i) = of_start i
-contribution_of (field.Elem e) = of_elem e
-contribution_of (field.Data d) = of_data d
-contribution_of (field.Tag t) = of_tag t
+contribution_of (field.Ty t) = record no_contribution { types = Single (as_sub_type t.def) ∷ [] }
+contribution_of (field.Rec r) = record no_contribution { types = as_group r ∷ [] }
+contribution_of (field.Import i) = record no_contribution { imports = as_import i ∷ [] }
+contribution_of (field.Func f) = record no_contribution { functions = type_index f.ty ∷ []; code = as_body f.kind ∷ [] }
+contribution_of (field.Table t) = record no_contribution { tables = as_table t ∷ [] }
+contribution_of (field.Memory m) = record no_contribution { memories = as_memory m ∷ [] }
+contribution_of (field.Global g) = record no_contribution { globals = as_global g ∷ [] }
+contribution_of (field.Export e) = record no_contribution { exports = as_export e ∷ [] }
+contribution_of (field.Start i) = record no_contribution { starts = index_value i ∷ [] }
+contribution_of (field.Elem e) = record no_contribution { elements = as_element e ∷ [] }
+contribution_of (field.Data d) = record no_contribution { «data» = as_data d ∷ [] }
+contribution_of (field.Tag t) = record no_contribution { tags = as_tag t ∷ [] }
 contribution_of (field.Custom c) = no_contribution
 
 -- What is added to the section of a kind.

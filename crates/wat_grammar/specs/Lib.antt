@@ -1,5 +1,7 @@
 pub mod Characters
+pub mod Each
 pub mod Floats
+pub mod InstrRows
 pub mod Integers
 pub mod Parts
 pub mod Space

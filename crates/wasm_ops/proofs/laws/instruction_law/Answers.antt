@@ -1,9 +1,9 @@
 use Rattle.wasm_ops.proofs.ExpressionCodes.{end_row, expression_code}
-use Rattle.wasm_ops.proofs.InstrCodes.{table_ascends, table_apart, instr_code}
+use Rattle.wasm_ops.proofs.InstrCodes.{table_distinct, table_apart, instr_code}
 use Rattle.wasm_ops.proofs.laws.instruction_law.Goals as goal
 
 pub returns-clause-distinct : goal.returns-clause-distinct
-returns-clause-distinct c = table_ascends
+returns-clause-distinct c = table_distinct
 
 pub returns-clause-apart : goal.returns-clause-apart
 returns-clause-apart c = table_apart
