@@ -1,5 +1,5 @@
--- Closes the loop over the elements of a string: each is read after those before it.
-use Rattle.std.proofs.Common.{◌≡◌, ◌∙◌, ℕ, zero, suc, ◌+◌, ◌-◌, ◌*◌, ◌≤◌, ◌==◌, Bool, true, false, List, [], ◌∷◌, ◌++◌, length, drop, Option, None, Some, Result, Ok, Err, append_assoc, append-nil, refl, sym, ap, subst, arith, eqb-true}
+-- Closes the loops over the elements of a string: each is read after those before it, and has its place.
+use Rattle.std.proofs.Common.{◌≡◌, ◌∙◌, ℕ, zero, suc, ◌+◌, ◌-◌, ◌*◌, ◌≤◌, ◌==◌, Bool, true, false, List, [], ◌∷◌, ◌++◌, length, drop, Option, None, Some, Result, Ok, Err, append_assoc, append-nil, replicate, refl, sym, ap, subst, arith, eqb-true}
 use Rattle.std.proofs.lemmas.List.{drop-drop, length-drop}
 use Rattle.std.specs.Prelude.{if◌then◌else◌, codes, ◌&&◌, not, nat_le}
 use Rattle.std.specs.Char.{encode_utf8}
@@ -7,7 +7,7 @@ use Rattle.wat_grammar.specs.Parts.{◌>>=◌, after, front}
 use Rattle.wat_grammar.specs.Characters.{hexdigit}
 use Rattle.wat_grammar.specs.Integers.{hexnum}
 use Rattle.wat_grammar.specs.Strings.{is_raw, is_scalar, named, braced, unicode, byte, escape, stringelem, joined, elements, string}
-use Rattle.wat_tokens.specs.Strings.{added, element_fault}
+use Rattle.wat_tokens.specs.Strings.{added, element_fault, Spells, spelled}
 use Rattle.wat_tokens.proofs.Fronts.{begins, stops}
 
 -- r is what is left of a text after a character or more
@@ -216,3 +216,45 @@ all_elements (c ∷ cs) h = go (is_raw c) refl (all_elements cs)
 
 pub all_raw : (xs : List ℕ) → length (front is_raw xs) ≡ length xs → string xs ≡ Ok xs
 all_raw xs h = ap (λ r. elim r as (λ x. Result (List ℕ) ℕ) [ Ok bytes ↦ Ok bytes | Err rest ↦ Err (length xs - length rest) ]) (all_elements xs h)
+
+-- an element that is read ends after it begins
+pub no_longer : (text rest clean out : List ℕ) → added clean (stringelem text) ≡ Some (out, rest) → length rest ≤ length text
+no_longer text rest clean out gives =
+    let t = taken clean out rest text (stringelem text) refl gives in
+    let s = element_suffix text (t.bytes, rest) t.reads in
+    let long : length (drop (suc s.n) text) ≡ length text - suc s.n = length-drop (suc s.n) text in
+    let short : length rest ≡ length (drop (suc s.n) text) = ap length s.is in
+    omega (arith, long, short)
+
+-- its place is appended for each of its bytes
+pub spells : (text rest clean out old new : List ℕ) (at n : ℕ) → clean ≡ [] → added clean (stringelem text) ≡ Some (out, rest) → n ≡ length out
+    → new ≡ old ++ replicate n at → Spells text rest at old new
+spells text rest clean out old new at n none gives long put =
+    let t = taken clean out rest text (stringelem text) refl gives in
+    record {
+      bytes = t.bytes;
+      reads = t.reads;
+      places = put ∙ ap (λ k. old ++ replicate k at) (long ∙ ap length (t.out ∙ ap (λ xs. xs ++ t.bytes) none));
+    }
+
+-- the places of all elements, by those of the elements so far: one more element, none that is next, and none that is left
+pub spelled_more : (all old new rest more : List ℕ) (m n at next : ℕ) → m ≡ suc n → next ≡ at + (length rest - length more) → Spells rest more at old new
+    → all ≡ old ++ spelled m at rest → all ≡ new ++ spelled n next more
+unfolding spelled
+spelled_more all old new rest more m n at next one moved s before =
+    before ∙ ap (λ k. old ++ spelled k at rest) one
+    ∙ ap (λ o. old ++ (elim o as (λ x. List ℕ) [ Some e ↦ replicate (length e.0) at ++ spelled n (at + (length rest - length e.1)) e.1 | None ↦ [] ])) s.reads
+    ∙ sym (append_assoc old (replicate (length s.bytes) at) (spelled n (at + (length rest - length more)) more))
+    ∙ ap (λ xs. xs ++ spelled n (at + (length rest - length more)) more) (sym s.places)
+    ∙ ap (λ k. new ++ spelled n k more) (sym moved)
+
+pub spelled_none : (all old rest : List ℕ) (m n at : ℕ) → m ≡ suc n → stringelem rest ≡ None → all ≡ old ++ spelled m at rest → old ≡ all
+unfolding spelled
+spelled_none all old rest m n at one none before =
+    sym (before ∙ ap (λ k. old ++ spelled k at rest) one
+    ∙ ap (λ o. old ++ (elim o as (λ x. List ℕ) [ Some e ↦ replicate (length e.0) at ++ spelled n (at + (length rest - length e.1)) e.1 | None ↦ [] ])) none
+    ∙ append-nil old)
+
+pub spelled_all : (all old rest : List ℕ) (m at : ℕ) → m ≡ 0 → all ≡ old ++ spelled m at rest → old ≡ all
+unfolding spelled
+spelled_all all old rest m at none before = sym (before ∙ ap (λ k. old ++ spelled k at rest) none ∙ append-nil old)

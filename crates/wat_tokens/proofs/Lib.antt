@@ -9,6 +9,7 @@ pub mod Rounded
 pub mod Scanned
 pub mod SignedFloats
 pub mod TwosComplement
+pub mod WorkedStrings
 pub mod WorkedWords
 pub mod Fronts
 pub mod Braces

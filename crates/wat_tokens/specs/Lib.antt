@@ -4,4 +4,5 @@ pub mod Numbers
 pub mod Scans
 pub mod Strings
 pub mod Words
+pub mod WorkedStrings
 pub mod WorkedWords

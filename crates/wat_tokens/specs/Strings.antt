@@ -1,8 +1,8 @@
 -- What reading a part of a string returns (text format: strings). The rules are those of wat_grammar.
-use Rattle.std.specs.Prelude.{ℕ, ◌==◌, if◌then◌else◌, List, [], ◌∷◌, ◌++◌, Option, None, Some, codes}
+use Rattle.std.specs.Prelude.{◌≡◌, ℕ, zero, suc, ◌+◌, ◌-◌, ◌==◌, if◌then◌else◌, List, [], ◌∷◌, ◌++◌, length, replicate, Option, None, Some, codes}
 use Rattle.wat_grammar.specs.Parts.{◌>>=◌, after}
 use Rattle.wat_grammar.specs.Integers.{hexnum}
-use Rattle.wat_grammar.specs.Strings.{is_scalar, unicode}
+use Rattle.wat_grammar.specs.Strings.{is_scalar, unicode, stringelem}
 use Rattle.wat_tokens.specs.declared.faults.TextFault.{TextFault}
 use Rattle.wat_tokens.specs.declared.faults.TextFault.TheVariants as fault
 
@@ -26,3 +26,20 @@ opened text = after (codes "{") text >>= λ digits. unicode digits
 abbrev pub element_fault : List ℕ → TextFault
 element_fault [] = fault.Escape
 element_fault (c ∷ cs) = if c == 0x5c then fault.Escape else fault.StringCharacter
+
+-- An element is read from a text, and for each of its bytes the place of the element is appended.
+pub record Spells (text rest : List ℕ) (at : ℕ) (old new : List ℕ) : Type 0 where
+  pub bytes : List ℕ
+  pub reads : stringelem text ≡ Some (bytes, rest)
+  pub places : new ≡ old ++ replicate (length bytes) at
+
+-- The place of each byte that elements stand for, by the place of the text that they begin. So many elements at most are read, up to
+-- the first place where no element is. All bytes of an escape are at its backslash.
+unfoldable pub spelled : ℕ → ℕ → List ℕ → List ℕ
+spelled zero at text = []
+spelled (suc n) at text = elim (stringelem text) [ Some e ↦ replicate (length e.0) at ++ spelled n (at + (length text - length e.1)) e.1 | None ↦ [] ]
+
+-- The same of a string, by the text from its first quote on: of `"a\nb"` at 7 the places are 8, 9 and 11.
+abbrev pub string_places : ℕ → ℕ → List ℕ → List ℕ
+string_places count at [] = []
+string_places count at (quote ∷ text) = spelled count (suc at) text

@@ -1,5 +1,6 @@
-//! Texts, and the words that they are.
+//! Texts, and the words that they are; strings, and the places of their bytes.
 
+ghost use Rattle.wat_tokens.specs.WorkedStrings.{Places};
 ghost use Rattle.wat_tokens.specs.WorkedWords.{Words, Others, AreDistinct};
 
 /// Words, texts that are none, and the whole table.
@@ -8,4 +9,10 @@ pub(crate) fn words()
     ensures words { Words }
     ensures others { Others }
     ensures distinct { AreDistinct }
+{}
+
+/// Strings with escapes and without.
+#[tactic(auto, using(crate::proofs::WorkedStrings::places))]
+pub(crate) fn places()
+    ensures { Places }
 {}

@@ -7,6 +7,8 @@ use std::fmt;
 use wast_base::{Span, clause_text};
 
 /// What is wrong with a text (text format).
+///
+/// For example, `(module [)` has [`TextFault::Character`], and prints as `unexpected character`.
 #[derive(Clone, Copy, Debug, PartialEq, Eq)]
 pub enum TextFault {
     /// Memory was refused.
@@ -98,6 +100,8 @@ impl fmt::Display for TextFault {
 }
 
 /// Why a text is refused, and where (text format). It is printed as what is wrong, without the place.
+///
+/// For example, of `(module [)` the fault is [`TextFault::Character`], and the place is offset 8.
 #[derive(Clone, Copy, Debug, PartialEq, Eq)]
 pub struct TextError {
     /// What is wrong.
@@ -108,6 +112,8 @@ pub struct TextError {
 
 impl TextError {
     /// Returns the error of a fault at a position. Does not allocate.
+    ///
+    /// For example, `TextError::new(span, TextFault::Memory)`.
     pub fn new(span: Span, fault: TextFault) -> TextError
         ensures fault { result.fault ≡ fault }
         ensures span { result.span ≡ span }

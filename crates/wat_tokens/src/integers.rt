@@ -125,8 +125,12 @@ fn wrapped(text: &str, half: u64) -> Result<u64, TextFault>
     }
 }
 
-/// An integer of 8 bits (text format, integers). It takes no memory. The error is
-/// [`TextFault::Number`] for what is no such number, and [`TextFault::Range`] for one that has more bits.
+/// Reads an integer of 8 bits, which may have a sign (text format: integers). It takes no memory.
+///
+/// For example, `-1`, `0xff` and `255` are -1, and `256` is out of range.
+///
+/// # Errors
+/// [`TextFault::Number`]: the text is not an integer, as `1_`. [`TextFault::Range`]: the integer has more bits.
 pub fn integer8(text: &str) -> Result<i8, TextFault>
     ensures { result ≡ answer (signed text.now) (option_map (signed_of 8) (integer 8 text.now)) }
 {
@@ -136,8 +140,12 @@ pub fn integer8(text: &str) -> Result<i8, TextFault>
     }
 }
 
-/// An integer of 16 bits (text format, integers). It takes no memory. The error is
-/// [`TextFault::Number`] for what is no such number, and [`TextFault::Range`] for one that has more bits.
+/// Reads an integer of 16 bits, which may have a sign (text format: integers). It takes no memory.
+///
+/// For example, `-1`, `0xffff` and `65_535` are -1.
+///
+/// # Errors
+/// [`TextFault::Number`]: the text is not an integer, as `1_`. [`TextFault::Range`]: the integer has more bits.
 pub fn integer16(text: &str) -> Result<i16, TextFault>
     ensures { result ≡ answer (signed text.now) (option_map (signed_of 16) (integer 16 text.now)) }
 {
@@ -147,8 +155,12 @@ pub fn integer16(text: &str) -> Result<i16, TextFault>
     }
 }
 
-/// An integer of 32 bits (text format, integers). It takes no memory. The error is
-/// [`TextFault::Number`] for what is no such number, and [`TextFault::Range`] for one that has more bits.
+/// Reads an integer of 32 bits, which may have a sign (text format: integers). It takes no memory.
+///
+/// For example, `-2147483648` and `0x8000_0000` are the least number, and `4294967296` is out of range.
+///
+/// # Errors
+/// [`TextFault::Number`]: the text is not an integer, as `1_`. [`TextFault::Range`]: the integer has more bits.
 pub fn integer32(text: &str) -> Result<i32, TextFault>
     ensures { result ≡ answer (signed text.now) (option_map (signed_of 32) (integer 32 text.now)) }
 {
@@ -158,8 +170,12 @@ pub fn integer32(text: &str) -> Result<i32, TextFault>
     }
 }
 
-/// An integer of 64 bits (text format, integers). It takes no memory. The error is
-/// [`TextFault::Number`] for what is no such number, and [`TextFault::Range`] for one that has more bits.
+/// Reads an integer of 64 bits, which may have a sign (text format: integers). It takes no memory.
+///
+/// For example, `+7` is 7, and `0xffff_ffff_ffff_ffff` is -1.
+///
+/// # Errors
+/// [`TextFault::Number`]: the text is not an integer, as `1_`. [`TextFault::Range`]: the integer has more bits.
 pub fn integer64(text: &str) -> Result<i64, TextFault>
     ensures { result ≡ answer (signed text.now) (option_map (signed_of 64) (integer 64 text.now)) }
 {
@@ -169,24 +185,36 @@ pub fn integer64(text: &str) -> Result<i64, TextFault>
     }
 }
 
-/// An integer of 64 bits that has no sign (text format, integers). It takes no memory. The error is
-/// [`TextFault::Number`] for what is no such number, and [`TextFault::Range`] for one that has more bits.
+/// Reads an integer of 64 bits without a sign (text format: integers). It takes no memory.
+///
+/// For example, `0x10` is 16, and `+1` is not a number of this kind.
+///
+/// # Errors
+/// [`TextFault::Number`]: the text is not an integer, or has a sign. [`TextFault::Range`]: the integer has more bits.
 pub fn unsigned64(text: &str) -> Result<u64, TextFault>
     ensures { result ≡ answer (natural text.now) (uN 64 text.now) }
 {
     natural(text)
 }
 
-/// An integer of 32 bits that has no sign (text format, integers). It takes no memory. The error is
-/// [`TextFault::Number`] for what is no such number, and [`TextFault::Range`] for one that has more bits.
+/// Reads an integer of 32 bits without a sign (text format: integers). It takes no memory.
+///
+/// For example, `4_294_967_295` is the greatest one, and `4294967296` is out of range.
+///
+/// # Errors
+/// [`TextFault::Number`]: the text is not an integer, or has a sign. [`TextFault::Range`]: the integer has more bits.
 pub fn unsigned32(text: &str) -> Result<u32, TextFault>
     ensures { result ≡ answer (natural text.now) (uN 32 text.now) }
 {
     u32::try_from(natural(text)?).map_err(|_| TextFault::Range)
 }
 
-/// An integer of 8 bits that has no sign (text format, integers). It takes no memory. The error is
-/// [`TextFault::Number`] for what is no such number, and [`TextFault::Range`] for one that has more bits.
+/// Reads an integer of 8 bits without a sign (text format: integers). It takes no memory.
+///
+/// For example, `0xff` is 255, and `256` is out of range.
+///
+/// # Errors
+/// [`TextFault::Number`]: the text is not an integer, or has a sign. [`TextFault::Range`]: the integer has more bits.
 pub fn unsigned8(text: &str) -> Result<u8, TextFault>
     ensures { result ≡ answer (natural text.now) (uN 8 text.now) }
 {

@@ -16,7 +16,7 @@ pub use faults::{TextError, TextFault};
 pub use floats::{float32, float64};
 pub use integers::{integer8, integer16, integer32, integer64, unsigned8, unsigned32, unsigned64};
 pub use scans::{tokens_of, written_tokens_of};
-pub use strings::{StringError, Strings};
+pub use strings::{StringError, Strings, string_places};
 pub use tokens::{Annotation, Placed, Token};
 pub use words::{
     Alignment, AtomicOp, BlockOp, IndexOrZeroOp, Key, OwnOp, PairOp, UncoveredOp, Word, look_up,

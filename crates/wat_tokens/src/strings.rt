@@ -1,25 +1,29 @@
 //! Strings of a text, without their escapes.
 
-ghost use Rattle.std.specs.Prelude.{◌≡◌, ◌≢◌, ◌<◌, ◌≤◌, ◌+◌, ◌++◌, ◌∷◌, [], length, take, drop, None, Some, Ok, Err, IfSome, IfErr, MatchOption, MatchResult};
+ghost use Rattle.std.specs.Prelude.{◌≡◌, ◌≢◌, ◌<◌, ◌≤◌, ◌+◌, ◌-◌, ◌^◌, ◌++◌, ◌∷◌, [], length, take, drop, replicate, None, Some, Ok, Err, IfOk, IfSome, IfErr, MatchOption, MatchResult};
 ghost use Rattle.wat_grammar.specs.Characters.{hexdigit};
 ghost use Rattle.wat_grammar.specs.Parts.{front};
 ghost use Rattle.wat_grammar.specs.Strings.{is_raw, braced, unicode, byte, escape, stringelem, string};
-ghost use Rattle.wat_tokens.specs.Strings.{added, character, scalar_in, opened, element_fault};
+ghost use Rattle.wat_tokens.specs.Strings.{added, character, scalar_in, opened, element_fault, Spells, spelled, string_places};
 ghost use Rattle.wat_tokens.specs.declared.faults.TextFault.TheVariants as fault;
 
 use crate::faults::TextFault;
 use crate::integers::magnitude;
 use bumpalo::Bump;
-use std::alloc::Global;
+use std::alloc::{AllocError, Global};
 
 /// Where strings with escapes are kept, for as long as the tree that is read lives. It takes memory as strings come.
+///
+/// For example, of `"a\n"` the two bytes 61 0a are kept here, and `"ab"` is a part of the text.
 #[derive(Drop)]
 pub struct Strings {
     bump: Bump,
 }
 
 impl Strings {
-    /// No strings yet. It takes no memory.
+    /// Makes a place for strings, without any. It takes no memory.
+    ///
+    /// For example, `read(alloc, text, &Strings::new(alloc))` reads a module.
     pub fn new(alloc: Global) -> Strings {
         Strings {
             bump: Bump::new(alloc),
@@ -27,6 +31,8 @@ impl Strings {
     }
 
     /// Keeps a copy of bytes for as long as the strings live. It allocates memory for the copy.
+    ///
+    /// For example, the text that the strings of `(module quote ..)` make is kept so.
     ///
     /// # Errors
     /// [`TextFault::Memory`]: allocation failed.
@@ -41,6 +47,8 @@ impl Strings {
 
     /// Returns the bytes of a string whose characters between the quotes are `content` (text format, strings): these characters,
     /// or a copy that is kept here if there are escapes, which allocates memory.
+    ///
+    /// For example, of `a\n` the bytes are 61 0a, and of `\u{e9}` they are c3 a9.
     ///
     /// # Errors
     /// [`TextFault::Escape`]: a wrong escape, with its offset in `content`. [`TextFault::StringCharacter`]: a control character,
@@ -64,6 +72,8 @@ impl Strings {
 }
 
 /// Why a string has no bytes (text format, strings).
+///
+/// For example, of `a\q` the fault is [`TextFault::Escape`] and the offset is 1.
 #[derive(Clone, Copy, Debug, PartialEq, Eq)]
 pub struct StringError {
     /// What is wrong.
@@ -92,17 +102,31 @@ fn raw_length(text: &[u8]) -> usize
     text.len()
 }
 
+/// For each byte, its value as a hexadecimal digit, or 16 if it is none.
+static DIGITS: [u8; 256] = [
+    16, 16, 16, 16, 16, 16, 16, 16, 16, 16, 16, 16, 16, 16, 16, 16, 16, 16, 16, 16, 16, 16, 16, 16,
+    16, 16, 16, 16, 16, 16, 16, 16, 16, 16, 16, 16, 16, 16, 16, 16, 16, 16, 16, 16, 16, 16, 16, 16,
+    0, 1, 2, 3, 4, 5, 6, 7, 8, 9, 16, 16, 16, 16, 16, 16, 16, 10, 11, 12, 13, 14, 15, 16, 16, 16,
+    16, 16, 16, 16, 16, 16, 16, 16, 16, 16, 16, 16, 16, 16, 16, 16, 16, 16, 16, 16, 16, 16, 16, 10,
+    11, 12, 13, 14, 15, 16, 16, 16, 16, 16, 16, 16, 16, 16, 16, 16, 16, 16, 16, 16, 16, 16, 16, 16,
+    16, 16, 16, 16, 16, 16, 16, 16, 16, 16, 16, 16, 16, 16, 16, 16, 16, 16, 16, 16, 16, 16, 16, 16,
+    16, 16, 16, 16, 16, 16, 16, 16, 16, 16, 16, 16, 16, 16, 16, 16, 16, 16, 16, 16, 16, 16, 16, 16,
+    16, 16, 16, 16, 16, 16, 16, 16, 16, 16, 16, 16, 16, 16, 16, 16, 16, 16, 16, 16, 16, 16, 16, 16,
+    16, 16, 16, 16, 16, 16, 16, 16, 16, 16, 16, 16, 16, 16, 16, 16, 16, 16, 16, 16, 16, 16, 16, 16,
+    16, 16, 16, 16, 16, 16, 16, 16, 16, 16, 16, 16, 16, 16, 16, 16, 16, 16, 16, 16, 16, 16, 16, 16,
+    16, 16, 16, 16, 16, 16, 16, 16, 16, 16, 16, 16, 16, 16,
+];
+
 /// The value of a hexadecimal digit.
 pub(crate) fn hex_digit(byte: u8) -> Option<u8>
     ensures value { result ≡ hexdigit byte }
     ensures below { IfSome result (λ d. d < 16) }
 {
-    match byte {
-        b'0'..=b'9' => Some(byte - b'0'),
-        b'a'..=b'f' => Some(byte - b'a' + 10),
-        b'A'..=b'F' => Some(byte - b'A' + 10),
-        _ => None,
+    let digit = DIGITS[byte as usize];
+    if digit < 16 {
+        return Some(digit);
     }
+    None
 }
 
 /// Returns how many bytes come before the first `}`.
@@ -243,4 +267,96 @@ fn unescaped(alloc: Global, content: &[u8]) -> Result<Vec<u8>, StringError>
         }
     }
     Ok(out)
+}
+
+/// Appends a number, so many times.
+fn push_times(numbers: &mut Vec<usize>, number: usize, count: usize) -> Result<(), AllocError>
+    ensures { IfOk result (λ u. numbers.new.items ≡ numbers.old.items ++ replicate count number) }
+{
+    for _ in 0..count {
+        if numbers.push(number).is_err() {
+            return Err(AllocError);
+        }
+    }
+    Ok(())
+}
+
+/// Appends the place of the element that a text begins with for each of its bytes, and returns the text after it. `out` is cleared,
+/// and takes the bytes.
+#[tactic(auto, using(crate::proofs::Elements::spells))]
+fn element_places<'a>(
+    out: &mut Vec<u8>,
+    places: &mut Vec<usize>,
+    text: &'a [u8],
+    at: usize,
+) -> Result<&'a [u8], TextFault>
+    ensures places { MatchResult result (λ rest. Spells text.now rest.now at places.old.items places.new.items) (λ f. f ≢ fault.Memory → (stringelem text.now ≡ None) × (places.new.items ≡ places.old.items)) }
+    ensures shorter { IfOk result (λ rest. length rest.now ≤ length text.now) }
+{
+    out.clear();
+    match element(out, text) {
+        Ok(rest) => match push_times(places, at, out.len()) {
+            Ok(()) => Ok(rest),
+            Err(_) => Err(TextFault::Memory),
+        },
+        Err(fault) => Err(fault),
+    }
+}
+
+/// Returns the place of the text after an element, by the place of the text that the element begins.
+fn place_after(at: usize, text: &[u8], rest: &[u8]) -> usize
+    requires shorter { length rest.now ≤ length text.now }
+    requires fits { at + length text.now < 2 ^ 64 }
+    ensures { result ≡ at + (length text.now - length rest.now) }
+{
+    at + (text.len() - rest.len())
+}
+
+/// Returns the place of each byte that the elements of a text stand for, of so many elements at most.
+fn spelled_places(
+    alloc: Global,
+    text: &[u8],
+    at: usize,
+    count: usize,
+) -> Result<Vec<usize>, TextFault>
+    requires fits { at + length text.now < 2 ^ 64 }
+    ensures { MatchResult result (λ places. places.items ≡ spelled count at text.now) (λ f. f ≡ fault.Memory) }
+{
+    let mut out = Vec::new(alloc);
+    let mut places = Vec::new(alloc);
+    let mut rest = text;
+    let mut place = at;
+    for _ in 0..count {
+        match element_places(&mut out, &mut places, rest, place) {
+            Ok(more) => {
+                place = place_after(place, rest, more);
+                rest = more;
+            }
+            Err(fault) => match fault {
+                TextFault::Memory => return Err(fault),
+                _ => return Ok(places),
+            },
+        }
+    }
+    Ok(places)
+}
+
+/// Returns the place of each byte of a string of `count` bytes, by the text from its first quote on and the place of that quote. All
+/// bytes of an escape have the place of its backslash. It allocates memory for the places.
+///
+/// # Errors
+/// [`TextFault::Memory`]: allocation failed.
+pub fn string_places(
+    alloc: Global,
+    text: &[u8],
+    at: usize,
+    count: usize,
+) -> Result<Vec<usize>, TextFault>
+    requires fits { at + length text.now < 2 ^ 64 }
+    ensures { MatchResult result (λ places. places.items ≡ string_places count at text.now) (λ f. f ≡ fault.Memory) }
+{
+    match text {
+        [_, content @ ..] => spelled_places(alloc, content, at + 1, count),
+        [] => Ok(Vec::new(alloc)),
+    }
 }

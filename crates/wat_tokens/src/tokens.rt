@@ -4,6 +4,8 @@ use crate::words::Word;
 use wast_base::Span;
 
 /// The annotations that mean something to the reader of a module (text format, custom annotations).
+///
+/// For example, `(@name "f")` begins with [`Annotation::Name`], and `(@a ..)` is skipped.
 #[derive(Clone, Copy)]
 pub enum Annotation {
     /// `(@name`
@@ -19,6 +21,8 @@ pub enum Annotation {
 }
 
 /// A token (text format, tokens).
+///
+/// For example, `(func $f)` has four: `(`, the word `func`, the id `f` and `)`.
 #[derive(Clone, Copy)]
 pub enum Token<'a> {
     /// `(`
@@ -38,6 +42,8 @@ pub enum Token<'a> {
 }
 
 /// A token at its place: that of its first character, and of an annotation that of its `@`.
+///
+/// For example, in `(func $f)` the id is at offset 6.
 #[derive(Clone, Copy)]
 pub struct Placed<'a> {
     /// The token.

@@ -10,6 +10,8 @@ use wast_base::{
 };
 
 /// A word that means something of its own (text format, keywords).
+///
+/// For example, `i32.add` is a `Plain`, `func` is a `Key`, and `i32.sum` is none.
 #[derive(Clone, Copy)]
 pub enum Word {
     /// An instruction that has no immediate.
@@ -46,7 +48,7 @@ pub enum Word {
     Key(Key),
 }
 
-/// A power of two that a memory access is aligned to.
+/// A power of two that a memory access is aligned to, such as the 4 bytes of `i32.load`.
 #[allow(non_camel_case_types)]
 #[derive(Clone, Copy)]
 pub enum Alignment {
@@ -62,7 +64,7 @@ pub enum Alignment {
     Sixteen,
 }
 
-/// An instruction with an index that may be left out.
+/// An instruction with an index that may be left out, as in `memory.size`.
 #[allow(non_camel_case_types)]
 #[derive(Clone, Copy)]
 pub enum IndexOrZeroOp {
@@ -84,7 +86,7 @@ pub enum IndexOrZeroOp {
     table_fill,
 }
 
-/// An instruction with an index, of a form that no encoder covers.
+/// An instruction with an index, of a form that no encoder covers, as in `suspend 0`.
 #[allow(non_camel_case_types)]
 #[derive(Clone, Copy)]
 pub enum UncoveredOp {
@@ -102,7 +104,7 @@ pub enum UncoveredOp {
     memory_discard,
 }
 
-/// An instruction with two indices.
+/// An instruction with two indices, as in `struct.get 0 1`.
 #[allow(non_camel_case_types)]
 #[derive(Clone, Copy)]
 pub enum PairOp {
@@ -138,7 +140,7 @@ pub enum PairOp {
     switch,
 }
 
-/// An instruction that opens a block.
+/// An instruction that opens a block, such as `loop`.
 #[allow(non_camel_case_types)]
 #[derive(Clone, Copy)]
 pub enum BlockOp {
@@ -154,7 +156,7 @@ pub enum BlockOp {
     try_table,
 }
 
-/// An instruction with immediates of its own.
+/// An instruction with immediates of its own, as in `br_table 0 1`.
 #[allow(non_camel_case_types)]
 #[derive(Clone, Copy)]
 pub enum OwnOp {
@@ -210,7 +212,7 @@ pub enum OwnOp {
     ref_cast_desc_eq,
 }
 
-/// What an atomic instruction accesses, where that is no memory.
+/// What an atomic instruction accesses, where that is no memory: a global for `global.atomic.get`.
 #[allow(non_camel_case_types)]
 #[derive(Clone, Copy)]
 pub enum AtomicOp {
@@ -224,7 +226,7 @@ pub enum AtomicOp {
     Array,
 }
 
-/// A word that is no instruction.
+/// A word that is no instruction, such as `func`.
 #[allow(non_camel_case_types)]
 #[derive(Clone, Copy, PartialEq, Eq)]
 pub enum Key {
@@ -436,6 +438,8 @@ pub enum Key {
 
 impl Alignment {
     /// Returns how many bytes it is. It takes no memory.
+    ///
+    /// For example, `Alignment::Four.bytes()` is 4.
     pub fn bytes(self) -> u64
         ensures { result ≡ alignment_bytes self }
     {
@@ -451,6 +455,8 @@ impl Alignment {
 
 impl IndexOrZeroOp {
     /// Returns the instruction as one whose index is written. It takes no memory.
+    ///
+    /// For example, `table.get` is `IndexOp::TableGet`, because `table.get` alone means `table.get 0`.
     pub fn op(self) -> IndexOp
         ensures { result ≡ op_of self }
     {
@@ -1481,6 +1487,8 @@ fn find(first: usize, end: usize, name: &[u8]) -> Option<Word>
 }
 
 /// Returns what a name means, if it means something of its own (text format, keywords). It takes no memory.
+///
+/// For example, `look_up("func")` is `Some(Word::Key(Key::Func))`, and `look_up("x")` is `None`.
 pub fn look_up(name: &str) -> Option<Word>
     ensures { result ≡ word_named name.now }
 {
