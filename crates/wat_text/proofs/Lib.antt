@@ -32,6 +32,5 @@ pub mod Turns
 pub mod Unfolds
 pub mod Waiting
 pub mod Words
-pub mod WorkedCursors
 pub mod WorkedDenotes
 pub mod WorkedReaders

@@ -1,8 +1,9 @@
 -- What is read after the opening of a module, and in a text in quotes, is the module of the tokens.
-use Rattle.std.proofs.Common.{◌≡◌, ◌≢◌, ◌∙◌, ◌⊎◌, ℕ, true, false, ◌-◌, List, [], ◌∷◌, ◌++◌, length, map, All, Option, None, Some, option_map, Result, Ok, Err, refl, sym, ap, subst, inl, inr}
-use Rattle.std.specs.Prelude.{IfOk, IfErr, nat_lt}
+use Rattle.std.proofs.Common.{◌≡◌, ◌≢◌, ◌∙◌, ◌⊎◌, ℕ, true, List, length, map, All, Option, None, Some, option_map, Result, Ok, Err, refl, sym, ap, subst, inl, inr}
+use Rattle.std.specs.Prelude.{IfOk, IfErr}
 use Rattle.std.specs.Option.{option_or}
 use Rattle.std.specs.Str.{is_utf8}
+use Rattle.std.proofs.lemmas.List.Folds.{flat_map-map}
 use Rattle.wat_grammar.specs.Parts.{◌>>=◌}
 use Rattle.wat_grammar.specs.Tokens as grammar
 use Rattle.wat_grammar.specs.Tokens.{tokens, bytes_of}
@@ -18,7 +19,7 @@ use Rattle.wat_syntax.specs.Bare.{bare_id, bare_name, bare_placed}
 use Rattle.wat_syntax.specs.AtZero.{all_at_zero}
 use Rattle.wat_syntax.proofs.AtZero.{bare_tokens}
 use Rattle.wat_text.specs.Readers.{left, IsClean, IsRefusal, IsRefused, Decides, Reads, Expects}
-use Rattle.wat_text.specs.Denotes.{Contents, Fields, Quotes, contents_of, opening, quotes, quotes_of, text_in, position_of, put_in, all_of, all_bare, module_end, module_position, fields_module, inner_opening, inner_module, tokens_if, tokens_in_quotes, module_in_quotes, module_as, module_after, module_of_tokens, module_of, bare_module, bare_opening, bare_quote, is_well_formed_module, IsModule, MeansIllFormed, Denotes, DenotesNothing, DenotesIllFormed, Explains, IsIllFormed}
+use Rattle.wat_text.specs.Denotes.{Contents, Fields, Quotes, contents_of, opening, quotes, quotes_of, text_in, source_of, sources, put_in, all_of, all_bare, module_end, module_position, fields_module, inner_opening, inner_module, tokens_if, tokens_in_quotes, module_in_quotes, module_as, module_after, module_in, module_of, bare_opening, bare_quote, is_well_formed_module, IsModule, MeansIllFormedIn, Denotes, DenotesNothing, DenotesIllFormed, Explains, IsIllFormed}
 use Rattle.wat_text.specs.Finishes.{Finishes}
 use Rattle.wat_text.specs.declared.modules.ModuleHead.{ModuleHead}
 use Rattle.wat_text.specs.declared.modules.TextModule.{TextModule}
@@ -63,14 +64,14 @@ opened next a b h (Err e) d f = record {
         (λ r. ap (λ o. o >>= next) (d.refuses n (refused (Some y) s (λ z. cc) r (memory_or e.fault))))
 
 -- a module after its opening, by what is in it
-pub means_as : (c : Contents) (h : ModuleHead) (b : Reader) (k : Option Key) (result : Result TextModule TextError) → k ≡ key_of (peek 0 (left b)) → contents_of h.keyword k ≡ c
-    → Ends (module_as c h (left b)) b result → Ends (module_after h (left b)) b result
-means_as c h b k result key same f =
-    subst (λ x. Ends (module_as x h (left b)) b result) (sym same ∙ ap (contents_of h.keyword) key) f
+pub means_as : (source : List ℕ) (c : Contents) (h : ModuleHead) (b : Reader) (k : Option Key) (result : Result TextModule TextError) → k ≡ key_of (peek 0 (left b))
+    → contents_of h.keyword k ≡ c → Ends (module_as source c h (left b)) b result → Ends (module_after source h (left b)) b result
+means_as source c h b k result key same f =
+    subst (λ x. Ends (module_as source x h (left b)) b result) (sym same ∙ ap (contents_of h.keyword) key) f
 
-pub fields_as : (h : ModuleHead) (span : Span) (b : Reader) (result : Result TextModule TextError) → span ≡ module_position h
-    → Ends (fields_module span (bare_opening h) (left b)) b result → Ends (module_as Fields (bare_opening h) (left b)) b result
-fields_as h span b result at f = subst (λ s. Ends (fields_module s (bare_opening h) (left b)) b result) at f
+pub fields_as : (source : List ℕ) (h : ModuleHead) (span : Span) (b : Reader) (result : Result TextModule TextError) → span ≡ module_position h
+    → Ends (fields_module span (bare_opening h) (left b)) b result → Ends (module_as source Fields (bare_opening h) (left b)) b result
+fields_as source h span b result at f = subst (λ s. Ends (fields_module s (bare_opening h) (left b)) b result) at f
 
 -- the opening of a text in quotes with that of the outer module
 or_bare : {A : Type 0} (f : A → A) (x y : Option A) → option_map f (option_or x y) ≡ option_or (option_map f x) (option_map f y)
@@ -90,24 +91,17 @@ unless_memory : {A : Type 0} {f : TextFault} → IsRefusal f → (f ≡ fault.Me
 unless_memory r (inl m) k = absurd (subst IsRefusal m r)
 unless_memory r (inr m) k = k m
 
--- strings without addresses have the same text and the same positions
-text_bare : (qs : List Quote) → text_in (map bare_quote qs) ≡ text_in qs
-text_bare [] = refl
-text_bare (q ∷ qs) = ap (λ text. q.bytes.now ++ text) (text_bare qs)
+-- strings without addresses have the same text and the same places
+quotes_bare : (source : List ℕ) (first : Span) (qs : List Quote) → tokens_in_quotes source first (map bare_quote qs) ≡ tokens_in_quotes source first qs
+quotes_bare source first qs = λ i. tokens_if (is_utf8 (text i)) (text i) >>= λ found. Some (map (put_in first (places i)) found)
+  where
+    text : text_in (map bare_quote qs) ≡ text_in qs
+    text = flat_map-map (λ q. q.bytes.now) bare_quote qs
 
-position_bare : (last : Span) (qs : List Quote) (offset : ℕ) → position_of last (map bare_quote qs) offset ≡ position_of last qs offset
-position_bare last [] offset = refl
-position_bare last (q ∷ qs) offset = λ i. elim (nat_lt offset (length q.bytes.now)) [ true ↦ q.span | false ↦ position_bare q.span qs (offset - length q.bytes.now) i ]
+    places : sources source (map bare_quote qs) ≡ sources source qs
+    places = flat_map-map (source_of source) bare_quote qs
 
-put_bare : (first : Span) (qs : List Quote) (ps : List Placed) → map (put_in first (map bare_quote qs)) ps ≡ map (put_in first qs) ps
-put_bare first qs [] = refl
-put_bare first qs (p ∷ ps) = λ i. record { token = p.token; span = position_bare first qs p.span.offset i } ∷ put_bare first qs ps i
-
-quotes_bare : (first : Span) (qs : List Quote) → tokens_in_quotes first (map bare_quote qs) ≡ tokens_in_quotes first qs
-quotes_bare first qs =
-    λ i. tokens_if (is_utf8 (text_bare qs i)) (text_bare qs i) >>= λ found. Some (put_bare first qs found i)
-
-module _ (h : ModuleHead) where
+module _ (source : List ℕ) (h : ModuleHead) where
   pub inner_opened : (a b : Reader) (o x : ModuleHead) (span : Span) (result : Result TextModule TextError) → Decides opening a b (bare_opening o)
       → inner_opening (bare_opening h) (bare_opening o) ≡ bare_opening x → span ≡ module_position h
       → Ends (fields_module span (bare_opening x) (left b)) b result → Ends (inner_module (bare_opening h) (left a)) a result
@@ -119,20 +113,20 @@ module _ (h : ModuleHead) where
   -- of a reader that read the strings
   module _ (r : Reader) (first : Span) (qs : List Quote) (clean : IsClean r) (read : quotes_of (left r) ≡ Some (map bare_quote qs)) (at : first ≡ position (after (left r))) where
     -- the tokens of the text
-    of_tokens : (placed : List Placed) → tokens_in_quotes first qs ≡ Some (map bare_placed placed)
-        → inner_module (bare_opening h) (all_bare placed first) ≡ module_as Quotes (bare_opening h) (left r)
+    of_tokens : (placed : List Placed) → tokens_in_quotes source first qs ≡ Some (map bare_placed placed)
+        → inner_module (bare_opening h) (all_bare placed first) ≡ module_as source Quotes (bare_opening h) (left r)
     of_tokens placed p =
-        sym (ap (λ o. o >>= λ xs. module_in_quotes (bare_opening h) (position (after (left r))) xs) read
-        ∙ ap (λ s. module_in_quotes (bare_opening h) s (map bare_quote qs)) (sym at)
-        ∙ ap (λ (o : Option (List Placed)). o >>= λ found. inner_module (bare_opening h) (all_of found first)) (quotes_bare first qs ∙ p))
+        sym (ap (λ o. o >>= λ xs. module_in_quotes source (bare_opening h) (position (after (left r))) xs) read
+        ∙ ap (λ s. module_in_quotes source (bare_opening h) s (map bare_quote qs)) (sym at)
+        ∙ ap (λ (o : Option (List Placed)). o >>= λ found. inner_module (bare_opening h) (all_of found first)) (quotes_bare source first qs ∙ p))
 
     pub all_in_quotes : (a : Reader) (placed : List Placed) (result : Result TextModule TextError) → IsClean a → left a ≡ all_bare placed first
-        → tokens_in_quotes first qs ≡ Some (map bare_placed placed)
-        → Ends (inner_module (bare_opening h) (left a)) a result → Ends (module_as Quotes (bare_opening h) (left r)) r result
+        → tokens_in_quotes source first qs ≡ Some (map bare_placed placed)
+        → Ends (inner_module (bare_opening h) (left a)) a result → Ends (module_as source Quotes (bare_opening h) (left r)) r result
     all_in_quotes a placed result new same p f =
         elsewhere result (subst (λ o. Ends o a result) (ap (inner_module (bare_opening h)) same ∙ of_tokens placed p) f)
       where
-        elsewhere : (result : Result TextModule TextError) → Ends (module_as Quotes (bare_opening h) (left r)) a result → Ends (module_as Quotes (bare_opening h) (left r)) r result
+        elsewhere : (result : Result TextModule TextError) → Ends (module_as source Quotes (bare_opening h) (left r)) a result → Ends (module_as source Quotes (bare_opening h) (left r)) r result
         elsewhere (Ok m) f = record {
           clean = clean;
           gives = f.gives;
@@ -153,72 +147,73 @@ module _ (h : ModuleHead) where
   -- the tokens of the strings, and what is read of them
   pub quotes_ok : (r s a b i j : Reader) (first span : Span) (ps qs : List Quote) (placed : List Placed) (o x : ModuleHead) (result : Result TextModule TextError)
       → first ≡ position (left s) → left s ≡ after (left r) → s.fault ≡ r.fault → s.make ≡ r.make → Reads quotes s a (map bare_quote qs) → Expects (module_end true) a b → IsClean b
-      → ps ≡ qs → tokens_in_quotes first ps ≡ Some (map bare_placed placed) → left i ≡ all_bare placed first → IsClean i → Decides opening i j (bare_opening o)
+      → ps ≡ qs → tokens_in_quotes source first ps ≡ Some (map bare_placed placed) → left i ≡ all_bare placed first → IsClean i → Decides opening i j (bare_opening o)
       → x.keyword ≡ o.keyword → x.id ≡ option_or h.id o.id → x.name ≡ option_or h.name o.name → span ≡ module_position h
-      → Ends (fields_module span (bare_opening x) (left j)) j result → Ends (module_as Quotes (bare_opening h) (left r)) r result
+      → Ends (fields_module span (bare_opening x) (left j)) j result → Ends (module_as source Quotes (bare_opening h) (left r)) r result
   quotes_ok r s a b i j first span ps qs placed o x result there same fault make reads ends clean lent p inner new opens keyword id name at f =
       let all : ReadsAll (quotes_of (left r)) r b (map bare_quote qs) = skipped quotes (module_end true) r s a b (map bare_quote qs) same fault make reads ends in
       all_in_quotes r first qs (all.clean clean.0, all.made clean.1) (all.gives clean) (there ∙ ap position same) i placed result new inner
-      (subst (λ xs. tokens_in_quotes first xs ≡ Some (map bare_placed placed)) lent p)
+      (subst (λ xs. tokens_in_quotes source first xs ≡ Some (map bare_placed placed)) lent p)
       (inner_opened i j o x span result opens (inner_is h o x keyword id name) at f)
 
   -- strings that have no tokens
   pub quotes_err : (r s a b : Reader) (first : Span) (ps qs : List Quote) (e : TextError)
       → first ≡ position (left s) → left s ≡ after (left r) → s.fault ≡ r.fault → s.make ≡ r.make → Reads quotes s a (map bare_quote qs) → Expects (module_end true) a b → IsClean b
-      → ps ≡ qs → (e.fault ≢ fault.Memory → tokens_in_quotes first ps ≡ None) → Ends (module_as Quotes (bare_opening h) (left r)) r (Err e)
+      → ps ≡ qs → (e.fault ≢ fault.Memory → tokens_in_quotes source first ps ≡ None) → Ends (module_as source Quotes (bare_opening h) (left r)) r (Err e)
   quotes_err r s a b first ps qs e there same fault make reads ends clean lent none =
       let all : ReadsAll (quotes_of (left r)) r b (map bare_quote qs) = skipped quotes (module_end true) r s a b (map bare_quote qs) same fault make reads ends in
       let before : IsClean r = (all.clean clean.0, all.made clean.1) in
-      let nothing : (tokens_in_quotes first qs ≡ None) → module_as Quotes (bare_opening h) (left r) ≡ None =
-      λ p. ap (λ o. o >>= λ xs. module_in_quotes (bare_opening h) (position (after (left r))) xs) (all.gives clean)
-      ∙ ap (λ t. module_in_quotes (bare_opening h) t (map bare_quote qs)) (sym (there ∙ ap position same))
-      ∙ ap (λ (o : Option (List Placed)). o >>= λ found. inner_module (bare_opening h) (all_of found first)) (quotes_bare first qs ∙ p) in
+      let nothing : (tokens_in_quotes source first qs ≡ None) → module_as source Quotes (bare_opening h) (left r) ≡ None =
+      λ p. ap (λ o. o >>= λ xs. module_in_quotes source (bare_opening h) (position (after (left r))) xs) (all.gives clean)
+      ∙ ap (λ t. module_in_quotes source (bare_opening h) t (map bare_quote qs)) (sym (there ∙ ap position same))
+      ∙ ap (λ (o : Option (List Placed)). o >>= λ found. inner_module (bare_opening h) (all_of found first)) (quotes_bare source first qs ∙ p) in
       record {
         clean = tt;
         gives = tt;
         well = tt;
         made = λ m. before.1;
         keeps = λ n m. absurd (n before.0);
-        refuses = λ n. explains_nothing (IsIllFormed is_well_formed_module (IsModule (module_as Quotes (bare_opening h) (left r)))) e.fault
-            (λ f. unless_memory f (memory_or e.fault) (λ m. nothing (ap (tokens_in_quotes first) (sym lent) ∙ none m)));
+        refuses = λ n. explains_nothing (IsIllFormed is_well_formed_module (IsModule (module_as source Quotes (bare_opening h) (left r)))) e.fault
+            (λ f. unless_memory f (memory_or e.fault) (λ m. nothing (ap (tokens_in_quotes source first) (sym lent) ∙ none m)));
       }
 
 -- the module of tokens, by what was read of them
-module _ (toks : Toks) (a : Reader) (clean : IsClean a) (same : left a ≡ toks) where
-  pub means_err : (result : Result TextModule TextError) → Ends (module_of_tokens (left a)) a result
-      → IfErr result (λ e. Explains (module_of_tokens toks ≡ None) (MeansIllFormed toks) e.fault)
+module _ (source : List ℕ) (toks : Toks) (a : Reader) (clean : IsClean a) (same : left a ≡ toks) where
+  pub means_err : (result : Result TextModule TextError) → Ends (module_in source (left a)) a result
+      → IfErr result (λ e. Explains (module_in source toks ≡ None) (MeansIllFormedIn source toks) e.fault)
   means_err (Ok m) f = tt
-  means_err (Err e) f = subst (λ t. Explains (module_of_tokens t ≡ None) (MeansIllFormed t) e.fault) same (f.refuses clean.0)
+  means_err (Err e) f = subst (λ t. Explains (module_in source t ≡ None) (MeansIllFormedIn source t) e.fault) same (f.refuses clean.0)
 
 -- the module of a text, by that of its tokens
-pub text_none : (text : List ℕ) (e : TextError) → (e.fault ≢ fault.Memory → tokens bytes_of text ≡ None) → Explains (DenotesNothing text) (DenotesIllFormed text) e.fault
+pub text_first : (text : List ℕ) (e first : TextError) → (e.fault ≢ fault.Memory → tokens bytes_of text ≡ None) → (e.fault ≡ fault.Memory → first.fault ≡ fault.Memory)
+    → Explains (DenotesNothing text) (DenotesIllFormed text) first.fault
 unfolding module_of
-text_none text e lexed = explains_nothing (DenotesIllFormed text) e.fault (λ f. go f (memory_or e.fault))
+text_first text e first lexed memory = explains_nothing (DenotesIllFormed text) first.fault (λ f. go f (memory_or e.fault))
   where
     nothing : tokens bytes_of text ≡ None → DenotesNothing text
     nothing none =
-        ap (λ (o : Option (List grammar.Placed)). (o >>= λ ts. all_at_zero ts) >>= λ found. module_of_tokens (all_of found (record { offset = length text }))) none
+        ap (λ (o : Option (List grammar.Placed)). (o >>= λ ts. all_at_zero ts) >>= λ found. module_in text (all_of found (record { offset = length text }))) none
 
-    go : IsRefusal e.fault → (e.fault ≡ fault.Memory) ⊎ (e.fault ≢ fault.Memory) → DenotesNothing text
-    go f (inl m) = absurd (subst IsRefusal m f)
+    go : IsRefusal first.fault → (e.fault ≡ fault.Memory) ⊎ (e.fault ≢ fault.Memory) → DenotesNothing text
+    go f (inl m) = absurd (subst IsRefusal (memory m) f)
     go f (inr m) = nothing (lexed m)
 
 module _ (text : List ℕ) (found : List Placed) (end : Span) (at : end ≡ record { offset = length text }) (lexed : tokens bytes_of text ≡ Some (seen_all found))
     (named : All (λ p. IsNamed p.token) found) where
-  in_text : module_of_tokens (all_bare found end) ≡ module_of text
+  in_text : module_in text (all_bare found end) ≡ module_of text
   unfolding module_of
   in_text =
-      ap (λ s. module_of_tokens (all_bare found s)) at
-      ∙ sym (ap (λ (o : Option (List Placed)). o >>= λ ps. module_of_tokens (all_of ps (record { offset = length text }))) (bare_tokens text found lexed named))
+      ap (λ s. module_in text (all_bare found s)) at
+      ∙ sym (ap (λ (o : Option (List Placed)). o >>= λ ps. module_in text (all_of ps (record { offset = length text }))) (bare_tokens text found lexed named))
 
-  pub text_ok : (result : Result TextModule TextError) → IfOk result (IsModule (module_of_tokens (all_bare found end))) → IfOk result (Denotes text)
+  pub text_ok : (result : Result TextModule TextError) → IfOk result (IsModule (module_in text (all_bare found end))) → IfOk result (Denotes text)
   text_ok (Ok m) e = sym in_text ∙ e
   text_ok (Err f) e = tt
 
-  pub text_err : (result : Result TextModule TextError) → IfErr result (λ e. Explains (module_of_tokens (all_bare found end) ≡ None) (MeansIllFormed (all_bare found end)) e.fault)
+  pub text_err : (result : Result TextModule TextError) → IfErr result (λ e. Explains (module_in text (all_bare found end) ≡ None) (MeansIllFormedIn text (all_bare found end)) e.fault)
       → IfErr result (λ e. Explains (DenotesNothing text) (DenotesIllFormed text) e.fault)
   text_err (Ok m) e = tt
   text_err (Err f) e =
-      explains_map (module_of_tokens (all_bare found end) ≡ None) (MeansIllFormed (all_bare found end)) (DenotesNothing text) (DenotesIllFormed text) f.fault
+      explains_map (module_in text (all_bare found end) ≡ None) (MeansIllFormedIn text (all_bare found end)) (DenotesNothing text) (DenotesIllFormed text) f.fault
       (λ n. sym in_text ∙ n)
       (λ i. record { part = i.part; denotes = sym in_text ∙ i.denotes; ill = i.ill }) e

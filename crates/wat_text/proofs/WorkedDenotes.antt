@@ -3,8 +3,10 @@ use Rattle.std.proofs.Common.{refl}
 use Rattle.std.specs.Char.{encode_utf8}
 use Rattle.std.specs.Str.{is_utf8, chars}
 use Rattle.wat_grammar.specs.Integers.{backwards}
-use Rattle.wat_grammar.specs.Strings.{elements}
+use Rattle.wat_grammar.specs.Strings.{braced, elements}
+use Rattle.wat_grammar.specs.Space.{blockcomment}
 use Rattle.wat_grammar.specs.Tokens.{string_length, parts}
+use Rattle.wat_tokens.specs.Strings.{spelled}
 use Rattle.wat_tokens.specs.Words.{words}
 use Rattle.wat_syntax.specs.Tokens.{peek, after, position, count}
 use Rattle.wat_text.specs.Denotes.{module_of}
@@ -19,11 +21,12 @@ unfolding module_of backwards parts string_length elements words peek after posi
 binaries = (refl, refl, refl)
 
 pub in_quotes : InQuotes
-unfolding module_of backwards parts string_length elements is_utf8 chars encode_utf8 words peek after position count
-in_quotes = (refl, refl, refl, refl, refl, refl, refl)
+unfolding module_of backwards parts string_length braced elements spelled blockcomment is_utf8 chars encode_utf8 words peek after position count
+in_quotes = (refl, refl, refl, refl, refl, refl, refl, refl, refl)
 
 pub positions : Positions
-positions = (refl, refl, refl, refl, refl, refl, refl, refl)
+unfolding spelled
+positions = (refl, refl, refl, refl, refl, refl, refl, refl, refl)
 
 pub openings : Openings
 unfolding backwards peek after position count

@@ -12,13 +12,14 @@
 -- The tokens of a text are without addresses here, and so is its module: each text in them is at address 0 (Bare and AtZero in
 -- wat_syntax). So a text has one module at most, which `module_of` computes. What the code reads has addresses, and is the module if it
 -- is so without them (Denotes).
-use Rattle.std.specs.Prelude.{◌≡◌, ◌⊎◌, ⊤, ℕ, ◌-◌, ◌&&◌, not, nat_lt, Bool, true, false, List, [], ◌∷◌, ◌++◌, length, map, Option, None, Some, is_some}
+use Rattle.std.specs.Prelude.{◌≡◌, ◌⊎◌, ⊤, ℕ, ◌==◌, ◌&&◌, not, Bool, true, false, List, [], ◌∷◌, length, map, drop, replicate, flat_map, slice_get, Option, None, Some, is_some}
 use Rattle.std.specs.Option.{option_or, unwrap_or}
 use Rattle.std.specs.Str.{is_utf8}
 use Rattle.std.specs.Borrow.{Bor}
 use Rattle.wast_base.specs.Ids.{text_start}
 use Rattle.wast_tree_nodes.specs.WellFormed.{is_well_formed}
 use Rattle.wat_grammar.specs.Parts.{◌>>=◌}
+use Rattle.wat_tokens.specs.Strings.{string_places}
 use Rattle.wat_tokens.specs.declared.faults.TextFault.{TextFault}
 use Rattle.wat_tokens.specs.declared.faults.TextFault.TheVariants as fault
 use Rattle.wat_tokens.specs.declared.tokens.Placed.{Placed}
@@ -131,22 +132,28 @@ quotes_of toks = quotes (after toks) >>= λ qs. module_end true qs.1 >>= λ rest
 
 -- the text that strings make, one after another
 abbrev pub text_in : List Quote → List ℕ
-text_in [] = []
-text_in (q ∷ qs) = q.bytes.now ++ text_in qs
+text_in qs = flat_map (λ q. q.bytes.now) qs
 
--- The position of the string in which a byte of this text is, by the number of bytes before the byte. Of the strings "(a" and
--- "b)", bytes 0 and 1 are in the first, and bytes 2 and 3 in the second. After the last byte it is the position of the last
--- string. If there are no strings, it is the position given.
-abbrev pub position_of : Span → List Quote → ℕ → Span
-position_of last [] offset = last
-position_of last (q ∷ qs) offset = elim (nat_lt offset (length q.bytes.now)) [
-  | true ↦ q.span
-  | false ↦ position_of q.span qs (offset - length q.bytes.now)
-]
+-- so many places, or else a place so many times
+abbrev pub exact : ℕ → ℕ → List ℕ → List ℕ
+exact count at places = elim (length places == count) [ true ↦ places | false ↦ replicate count at ]
 
--- a token of this text, at the position of the string in which it begins
-abbrev pub put_in : Span → List Quote → Placed → Placed
-put_in first qs p = record { token = p.token; span = position_of first qs p.span.offset }
+-- The offset in the source of each byte of a string. The bytes of an escape are at its backslash. Without its source, as after a change
+-- of the tokens, a string has its own offset for all its bytes.
+abbrev pub source_of : List ℕ → Quote → List ℕ
+source_of source q = exact (length q.bytes.now) q.span.offset (string_places (length q.bytes.now) q.span.offset (drop q.span.offset source))
+
+-- The offset in the source of each byte of this text. Of the strings "(a" at 14 and "b)" at 19, the bytes are at 15, 16, 20 and 21.
+abbrev pub sources : List ℕ → List Quote → List ℕ
+sources source qs = flat_map (source_of source) qs
+
+-- the position of the byte of a number; `first` if there is none
+abbrev pub place_of : Span → List ℕ → ℕ → Span
+place_of first places n = elim (slice_get places n) [ Some at ↦ record { offset = at } | None ↦ first ]
+
+-- a token of this text, at the position of its first byte
+abbrev pub put_in : Span → List ℕ → Placed → Placed
+put_in first places p = record { token = p.token; span = place_of first places p.span.offset }
 
 -- Tokens of which none is taken. `end` is the position after the last one.
 abbrev pub all_of : List Placed → Span → Toks
@@ -191,31 +198,35 @@ abbrev pub tokens_if : Bool → List ℕ → Option (List Placed)
 tokens_if true text = tokens_at_zero text
 tokens_if false text = None
 
--- The tokens of strings in quotes, each at the position of the string in which it begins. `first` is the position of the first string,
--- or of the `)` if there are none.
-abbrev pub tokens_in_quotes : Span → List Quote → Option (List Placed)
-tokens_in_quotes first qs = tokens_if (is_utf8 (text_in qs)) (text_in qs) >>= λ found. Some (map (put_in first qs) found)
+-- The tokens of strings in quotes, each at the position of its first character in the source. `first` is the position of the first
+-- string, or of the `)` if there are none.
+abbrev pub tokens_in_quotes : List ℕ → Span → List Quote → Option (List Placed)
+tokens_in_quotes source first qs = tokens_if (is_utf8 (text_in qs)) (text_in qs) >>= λ found. Some (map (put_in first (sources source qs)) found)
 
--- the module of strings in quotes, with the opening of the outer one
-abbrev pub module_in_quotes : ModuleHead → Span → List Quote → Option TextModule
-module_in_quotes h first qs = tokens_in_quotes first qs >>= λ found. inner_module h (all_of found first)
+-- the module of strings in quotes, with the opening of the outer one; its end has the position of the first string
+abbrev pub module_in_quotes : List ℕ → ModuleHead → Span → List Quote → Option TextModule
+module_in_quotes source h first qs = tokens_in_quotes source first qs >>= λ found. inner_module h (all_of found first)
 
 -- a module after its opening, by what it contains
-abbrev pub module_as : Contents → ModuleHead → Toks → Option TextModule
-module_as Fields h toks = fields_module (module_position h) h toks
-module_as Binary h toks = binary_module h toks
-module_as Quotes h toks = quotes_of toks >>= λ qs. module_in_quotes h (position (after toks)) qs
+abbrev pub module_as : List ℕ → Contents → ModuleHead → Toks → Option TextModule
+module_as source Fields h toks = fields_module (module_position h) h toks
+module_as source Binary h toks = binary_module h toks
+module_as source Quotes h toks = quotes_of toks >>= λ qs. module_in_quotes source h (position (after toks)) qs
 
-abbrev pub module_after : ModuleHead → Toks → Option TextModule
-module_after h toks = module_as (contents_of h.keyword (key_of (peek 0 toks))) h toks
+abbrev pub module_after : List ℕ → ModuleHead → Toks → Option TextModule
+module_after source h toks = module_as source (contents_of h.keyword (key_of (peek 0 toks))) h toks
 
--- the module of tokens
+-- the module of tokens, with the text from which they come
+abbrev pub module_in : List ℕ → Toks → Option TextModule
+module_in source toks = opening toks >>= λ o. module_after source o.0 o.1
+
+-- the module of tokens alone: in quotes, each token has the position of the string in which it begins
 abbrev pub module_of_tokens : Toks → Option TextModule
-module_of_tokens toks = opening toks >>= λ o. module_after o.0 o.1
+module_of_tokens toks = module_in [] toks
 
 -- the module of a text
 unfoldable pub module_of : List ℕ → Option TextModule
-module_of text = tokens_at_zero text >>= λ found. module_of_tokens (all_of found (record { offset = length text }))
+module_of text = tokens_at_zero text >>= λ found. module_in text (all_of found (record { offset = length text }))
 
 -- The rules read a text as this module, without its addresses.
 abbrev pub Denotes : List ℕ → TextModule → Type 0
@@ -256,8 +267,11 @@ AreIllFormed rule = IsIllFormed is_well_formed (AreFields rule)
 abbrev pub IsModule : Option TextModule → TextModule → Type 0
 IsModule rule m = rule ≡ Some (bare_module m)
 
+abbrev pub MeansIllFormedIn : List ℕ → Toks → Type 0
+MeansIllFormedIn source toks = IsIllFormed is_well_formed_module (IsModule (module_in source toks))
+
 abbrev pub MeansIllFormed : Toks → Type 0
-MeansIllFormed toks = IsIllFormed is_well_formed_module (IsModule (module_of_tokens toks))
+MeansIllFormed toks = MeansIllFormedIn [] toks
 
 abbrev pub DenotesIllFormed : List ℕ → Type 0
 DenotesIllFormed text = IsIllFormed is_well_formed_module (Denotes text)

@@ -1,4 +1,4 @@
-pub mod Cursors
+pub mod Contents
 pub mod Denotes
 pub mod Finishes
 pub mod Heads
@@ -6,6 +6,5 @@ pub mod Machine
 pub mod MadeProducers
 pub mod Readers
 pub mod Texts
-pub mod WorkedCursors
 pub mod WorkedDenotes
 pub mod WorkedReaders

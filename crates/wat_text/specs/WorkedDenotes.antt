@@ -8,7 +8,7 @@ use Rattle.wat_syntax.specs.Tree.{Span, Id, ModuleField}
 use Rattle.wat_syntax.specs.Tree.field
 use Rattle.wat_syntax.specs.Values.{text_of}
 use Rattle.wat_syntax.specs.Worked.{the, named, quoted, toks, made}
-use Rattle.wat_text.specs.Denotes.{opening, has_no_start, has_one_start, rest_of_fields, quotes, text_in, position_of, put_in, contents_of, Fields, Binary, Quotes, module_of, Denotes, DenotesNothing}
+use Rattle.wat_text.specs.Denotes.{opening, has_no_start, has_one_start, rest_of_fields, quotes, text_in, exact, source_of, sources, place_of, put_in, contents_of, Fields, Binary, Quotes, module_of, Denotes, DenotesNothing}
 use Rattle.wat_text.specs.declared.modules.TextKind.TheVariants as kind
 use Rattle.wat_text.specs.declared.modules.TextModule.{TextModule}
 use Rattle.wat_text.specs.declared.quotes.Quote.{Quote}
@@ -51,29 +51,33 @@ Binaries = (module_of (codes "(module binary \"\\00asm\" \"\\01\")")
     × (module_of (codes "binary \"\\00asm\"") ≡ None)
     × (module_of (codes "(module binary $m)") ≡ None)
 
--- `(module quote "(start" " 0)")` has the field of `(start 0)`: the module is at its keyword, and the number at the second string.
--- The id is that after `module`, or else that in quotes. Without strings the text in quotes is empty. It has its own parentheses, so
--- the `)` after a string does not end its fields; it is no binary module; and its bytes are UTF-8.
+-- `(module quote "(start" " 0)")` has the field of `(start 0)`: the module is at its keyword, and the number at its place in the second
+-- string. The id is that after `module`, or else that in quotes. An escape before it counts as long as it is written, as `\n` and
+-- `\u{e9}` do, which stands for two bytes; a `0` that an escape writes is at the backslash. Without strings the text in quotes is empty.
+-- It has its own parentheses, so the `)` after a string does not end its fields; it is no binary module; and its bytes are UTF-8.
 abbrev pub InQuotes : Type 0
-InQuotes = (module_of (codes "(module quote \"(start\" \" 0)\")") ≡ Some (fields_at (at 1) None (start_at 23 ∷ [])))
+InQuotes = (module_of (codes "(module quote \"(start\" \" 0)\")") ≡ Some (fields_at (at 1) None (start_at 25 ∷ [])))
     × (module_of (codes "(module $m quote \"(module $n)\")") ≡ Some (fields_at (at 1) (Some (source_id (text_of (codes "m")) (at 8))) []))
-    × (module_of (codes "(module quote \"(module $n)\")") ≡ Some (fields_at (at 1) (Some (source_id (text_of (codes "n")) (at 14))) []))
+    × (module_of (codes "(module quote \"(module $n)\")") ≡ Some (fields_at (at 1) (Some (source_id (text_of (codes "n")) (at 23))) []))
+    × (module_of (codes "(module quote \"(module\\n$n)\")") ≡ Some (fields_at (at 1) (Some (source_id (text_of (codes "n")) (at 24))) []))
+    × (module_of (codes "(module quote \"(;\\u{e9};)(start \\30)\")") ≡ Some (fields_at (at 1) None (start_at 32 ∷ [])))
     × (module_of (codes "(module quote)") ≡ Some (fields_at (at 1) None []))
     × (module_of (codes "(module quote \"(start 0\")") ≡ None)
     × (module_of (codes "(module quote \"(module binary)\")") ≡ None)
     × (module_of (codes "(module quote \"\\ff\")") ≡ None)
 
--- the strings "(a" at 14 and "b)" at 20
+-- the strings "(a" at 1 and "b)" at 6 of a text
 abbrev pub two_quotes : List Quote
-two_quotes = quote_at 14 (codes "(a") ∷ (quote_at 20 (codes "b)") ∷ [])
+two_quotes = quote_at 1 (codes "(a") ∷ (quote_at 6 (codes "b)") ∷ [])
 
--- The bytes 0 and 1 are in the first string, and 2 and 3 in the second. The position after the last byte is that of the second string,
--- and without strings it is the one given. So the token at byte 3 is put at the second string.
+-- Each byte has its place in the text. Without the text it has that of its string. A byte that is not there has the position given. So
+-- the token at byte 3 is put at the last character of the second string.
 abbrev pub Positions : Type 0
-Positions = (text_in two_quotes ≡ codes "(ab)") × (position_of (at 9) two_quotes 0 ≡ at 14) × (position_of (at 9) two_quotes 1 ≡ at 14)
-    × (position_of (at 9) two_quotes 2 ≡ at 20) × (position_of (at 9) two_quotes 3 ≡ at 20) × (position_of (at 9) two_quotes 4 ≡ at 20)
-    × (position_of (at 9) [] 0 ≡ at 9)
-    × (put_in (at 9) two_quotes (record { token = token.Close; span = at 3 }) ≡ record { token = token.Close; span = at 20 })
+Positions = (text_in two_quotes ≡ codes "(ab)") × (sources (codes "(\"(a\" \"b)\")") two_quotes ≡ 2 ∷ (3 ∷ (7 ∷ (8 ∷ []))))
+    × (sources [] two_quotes ≡ 1 ∷ (1 ∷ (6 ∷ (6 ∷ [])))) × (source_of (codes "\"\\tb\"") (quote_at 0 (0x09 ∷ codes "b")) ≡ 1 ∷ (3 ∷ []))
+    × (exact 2 5 (6 ∷ (7 ∷ [])) ≡ 6 ∷ (7 ∷ [])) × (exact 2 5 (6 ∷ []) ≡ 5 ∷ (5 ∷ []))
+    × (place_of (at 9) (2 ∷ (3 ∷ [])) 1 ≡ at 3) × (place_of (at 9) (2 ∷ (3 ∷ [])) 2 ≡ at 9)
+    × (put_in (at 9) (2 ∷ (3 ∷ (7 ∷ (8 ∷ [])))) (record { token = token.Close; span = at 3 }) ≡ record { token = token.Close; span = at 8 })
 
 -- `(module $m` is an opening, and the one token after it is left. Before `(start` the opening is empty, and no token is taken. The words
 -- `binary` and `quote` say what a module contains only after `(module`. A module in parentheses ends with `)`, and fields alone with

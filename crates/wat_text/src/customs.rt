@@ -14,9 +14,9 @@ ghost use Rattle.wat_text.specs.MadeProducers.{bare_value, tool_field};
 use crate::reader::Reader;
 use wast_tree::{
     Custom, CustomPlace, CustomPlaceAnchor, Dylink0, Dylink0Subsection, Producers,
-    RawCustomSection, Seq,
+    RawCustomSection, Seq, Span,
 };
-use wat_tokens::{Key, Token};
+use wat_tokens::{Key, TextFault, Token};
 
 /// Returns the section that a keyword is, before or after which a custom section can be (text
 /// format: custom annotations). For example, `code`.
@@ -164,23 +164,25 @@ impl<'a> Reader<'a> {
         self.took(pushed);
     }
 
-    /// Fails because no field of `producers` is next. The field that it returns means nothing.
-    fn no_tool(&mut self) -> Tool
+    /// Fails because the keyword at a position is no field of `producers`. The field that it returns
+    /// means nothing.
+    fn no_tool(&mut self, place: Span) -> Tool
         ensures { Refuses self.old self.new }
     {
-        self.expected("`language`, `sdk` or `processed-by`");
+        let fields = "`language`, `sdk` or `processed-by`";
+        self.fail_at(place, TextFault::Expected(fields));
         Tool::Language
     }
 
-    /// Returns the field of `producers` that a keyword is, or fails.
-    fn tool(&mut self, key: Option<Key>) -> Tool
+    /// Returns the field of `producers` that the keyword at a position is, or fails.
+    fn tool(&mut self, key: Option<Key>, place: Span) -> Tool
         ensures { Decides (known_field key) self.old self.new (tool_field result) }
     {
         match key {
             Some(Key::Language) => Tool::Language,
             Some(Key::Sdk) => Tool::Sdk,
             Some(Key::ProcessedBy) => Tool::ProcessedBy,
-            _ => self.no_tool(),
+            _ => self.no_tool(place),
         }
     }
 
@@ -189,10 +191,10 @@ impl<'a> Reader<'a> {
         ensures { Decides producer_open self.old self.new (bare_value result) }
     {
         self.open();
-        let key = self.key(0);
+        let (place, key) = (self.place(), self.key(0));
         self.skip();
         let version = self.version();
-        (self.tool(key), version)
+        (self.tool(key, place), version)
     }
 
     /// Appends a value to its field of `producers`.
@@ -474,11 +476,13 @@ impl<'a> Reader<'a> {
         }
     }
 
-    /// Fails because no subsection is next. The subsection that it returns means nothing.
+    /// Fails because the last token is no name of a subsection. The subsection that it returns means
+    /// nothing.
     fn no_subsection(&mut self) -> Dylink0Subsection<'a>
         ensures { Refuses self.old self.new }
     {
-        self.expected("`dylink.0` subsection name");
+        let name = TextFault::Expected("`dylink.0` subsection name");
+        self.fail_at(self.place_before(), name);
         Dylink0Subsection::TargetArch("")
     }
 

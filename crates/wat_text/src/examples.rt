@@ -1,6 +1,5 @@
 //! Texts, and what the definitions make of them.
 
-ghost use Rattle.wat_text.specs.WorkedCursors.{Cursors};
 ghost use Rattle.wat_text.specs.WorkedDenotes.{Modules, Binaries, InQuotes, Positions, Openings, Denoted};
 ghost use Rattle.wat_text.specs.WorkedReaders.{Refusals, Producers};
 
@@ -15,10 +14,9 @@ pub(crate) fn modules()
 {}
 
 /// Positions in a text of two strings.
-#[tactic(auto, using(crate::proofs::WorkedDenotes::positions, crate::proofs::WorkedCursors::cursors))]
+#[tactic(auto, using(crate::proofs::WorkedDenotes::positions))]
 pub(crate) fn positions()
-    ensures positions { Positions }
-    ensures cursors { Cursors }
+    ensures { Positions }
 {}
 
 /// What a reader returned, and the values of `producers`.

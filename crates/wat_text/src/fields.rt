@@ -19,7 +19,7 @@ use wast_tree::{
     ItemSig, Local, Memory, MemoryKind, NameAnnotation, RefType, Seq, Span, Table, TableKind,
     TableType, Tag, TagKind, TagType, TypeUse,
 };
-use wat_tokens::Key;
+use wat_tokens::{Key, TextFault};
 
 /// The start of a field: the position of its keyword, its id, its name annotation and its inline
 /// exports. For example, `func $f (export "a")`.
@@ -557,8 +557,9 @@ impl<'a> Reader<'a> {
     }
 
     /// Reads the type of an imported item, after its keyword, id and name annotation (text format:
-    /// imports). `key` is the keyword. For example, a memory type comes after `memory`.
-    fn item_kind(&mut self, key: Option<Key>) -> ItemKind<'a>
+    /// imports). `key` is the keyword, which is at a position. For example, a memory type comes after
+    /// `memory`.
+    fn item_kind(&mut self, key: Option<Key>, place: Span) -> ItemKind<'a>
         ensures { Reads (externtype_of key) self.old self.new (bare_item_kind result) }
     {
         match key {
@@ -568,7 +569,8 @@ impl<'a> Reader<'a> {
             Some(Key::Tag) => ItemKind::Tag(TagType::Exception(self.type_use(true))),
             Some(Key::Func) => self.func_kind(),
             _ => {
-                self.expected("`func`, `table`, `memory`, `global` or `tag`");
+                let kinds = "`func`, `table`, `memory`, `global` or `tag`";
+                self.fail_at(place, TextFault::Expected(kinds));
                 ItemKind::Memory(self.memory_type())
             }
         }
@@ -584,7 +586,7 @@ impl<'a> Reader<'a> {
         let key = self.key(0);
         self.skip();
         let (id, name) = (self.id(), self.name());
-        let kind = self.item_kind(key);
+        let kind = self.item_kind(key, span);
         self.close();
         ItemSig {
             span,

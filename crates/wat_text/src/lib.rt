@@ -32,6 +32,7 @@
 
 mod bodies;
 mod customs;
+mod errors;
 mod examples;
 mod fields;
 mod immediates;

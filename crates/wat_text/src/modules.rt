@@ -9,13 +9,15 @@ ghost use Rattle.wat_syntax.specs.Customs.{strings as strings_rule};
 ghost use Rattle.wat_syntax.specs.ModuleFields.{fieldform, open_field, modulefield, modulefields};
 ghost use Rattle.wat_text.specs.Readers.{left, Reads, Decides, Expects, Finds, Refuses, ReadsOnto, Pushes, Builds};
 ghost use Rattle.wat_text.specs.Texts.{is_well_formed_text};
-ghost use Rattle.wat_text.specs.Denotes.{opening, fields_of_module, all_bare, fields_module, module_as, module_of_tokens as tokens_rule, Denotes, DenotesNothing, Explains, is_well_formed_module, AreFields, AreIllFormed, IsModule, MeansIllFormed, DenotesIllFormed};
-ghost use Rattle.wat_text.specs.Denotes.{all_taken, module_keyword as keyword_rule, module_end as end_rule, has_one_start, is_start, where_it_holds, rest_of_fields as fields_rule, quote as quote_rule, quotes as quotes_rule, binary_module as binary_rule, Quotes as quotes_kind};
+ghost use Rattle.wat_text.specs.Denotes.{opening, fields_of_module, all_bare, fields_module, module_as, module_in, module_of_tokens as tokens_rule, Denotes, DenotesNothing, Explains, is_well_formed_module, AreFields, AreIllFormed, IsModule, MeansIllFormed, MeansIllFormedIn, DenotesIllFormed};
+ghost use Rattle.wat_text.specs.Contents.{in_rule};
+ghost use Rattle.wat_text.specs.Denotes.{contents_of as contents_rule, module_after as after_rule, all_taken, module_keyword as keyword_rule, module_end as end_rule, has_one_start, is_start, where_it_holds, rest_of_fields as fields_rule, quote as quote_rule, quotes as quotes_rule, binary_module as binary_rule, Quotes as quotes_kind};
 ghost use Rattle.wat_text.specs.Finishes.{Finishes, IsClauseFault, WasRefused};
 ghost use Rattle.wat_syntax.specs.Bare.{bare_text};
 ghost use Rattle.wat_syntax.specs.BareFields.{bare_field, bare_fields};
 ghost use Rattle.wat_text.specs.Denotes.{bare_opening, bare_quote};
 
+use crate::errors::first_error;
 use crate::quotes::{Quote, quoted_tokens};
 use crate::reader::Reader;
 use std::alloc::Global;
@@ -461,11 +463,12 @@ fn binary_module<'a>(reader: Reader<'a>, head: ModuleHead<'a>) -> Result<TextMod
 /// the position of the outer module. It also has the id and the name annotation of the outer
 /// module, if there are any.
 fn quoted_module<'a>(
+    source: &str,
     reader: Reader<'a>,
     head: ModuleHead<'a>,
     strings: &'a Strings,
 ) -> Result<TextModule<'a>, TextError>
-    ensures { Finishes is_well_formed_module (IsModule (module_as quotes_kind (bare_opening head.entry) (left reader.entry))) (module_as quotes_kind (bare_opening head.entry) (left reader.entry) ≡ None) reader.entry result }
+    ensures { Finishes is_well_formed_module (IsModule (module_as source.now quotes_kind (bare_opening head.entry) (left reader.entry))) (module_as source.now quotes_kind (bare_opening head.entry) (left reader.entry) ≡ None) reader.entry result }
 {
     let alloc = reader.alloc;
     let mut reader = reader;
@@ -475,7 +478,7 @@ fn quoted_module<'a>(
     if let Some(fault) = reader.finish() {
         return Err(fault);
     }
-    let tokens = quoted_tokens(alloc, quotes.as_slice(), place, strings)?;
+    let tokens = quoted_tokens(alloc, source, quotes.as_slice(), place, strings)?;
     let mut inner = Reader::new(alloc, tokens, place);
     let ModuleHead { keyword, id, name } = inner.module_head();
     let (id, name) = (head.id.or(id), head.name.or(name));
@@ -508,24 +511,84 @@ fn fields_of_tokens<'a>(
     rest_of_fields(reader, head.keyword.is_some())
 }
 
-/// Reads a module from its tokens, as [`read_module_tokens`] does. The contract does not bound the
+/// What a module contains.
+#[derive(Clone, Copy)]
+enum Contents {
+    /// Fields.
+    Fields,
+    /// The bytes of a binary module.
+    Binary,
+    /// A text in quotes.
+    Quotes,
+}
+
+/// Returns what a module contains, by its keyword `module` and the keyword after its opening.
+fn contents_by(keyword: Option<Span>, key: Option<Key>) -> Contents
+    ensures { contents_rule keyword key ≡ in_rule result }
+{
+    match keyword {
+        Some(_) => match key {
+            Some(Key::Binary) => Contents::Binary,
+            Some(Key::Quote) => Contents::Quotes,
+            _ => Contents::Fields,
+        },
+        None => Contents::Fields,
+    }
+}
+
+/// Reads a module after its opening, by the keyword that comes next.
+fn module_after<'a>(
+    source: &str,
+    reader: Reader<'a>,
+    head: ModuleHead<'a>,
+    strings: &'a Strings,
+) -> Result<TextModule<'a>, TextError>
+    ensures { Finishes is_well_formed_module (IsModule (after_rule source.now (bare_opening head.entry) (left reader.entry))) (after_rule source.now (bare_opening head.entry) (left reader.entry) ≡ None) reader.entry result }
+{
+    match contents_by(head.keyword, reader.key(0)) {
+        Contents::Fields => module_of_fields(reader, module_place(head.keyword), head),
+        Contents::Binary => binary_module(reader, head),
+        Contents::Quotes => quoted_module(source, reader, head, strings),
+    }
+}
+
+/// Reads a module from the tokens of a text, as [`read`] does. The contract does not bound the
 /// position of an error.
-fn module_of_tokens<'a>(
+pub(crate) fn module_of_tokens<'a>(
     alloc: Global,
+    source: &str,
     tokens: Vec<Placed<'a>>,
     end: Span,
     strings: &'a Strings,
 ) -> Result<TextModule<'a>, TextError>
     ensures well_formed { IfOk result (λ m. IsTrue (is_well_formed_text m.kind)) }
-    ensures denotes { IfOk result (IsModule (tokens_rule (all_bare tokens.entry.items end))) }
-    ensures refuses { IfErr result (λ e. Explains (tokens_rule (all_bare tokens.entry.items end) ≡ None) (MeansIllFormed (all_bare tokens.entry.items end)) e.fault) }
+    ensures denotes { IfOk result (IsModule (module_in source.now (all_bare tokens.entry.items end))) }
+    ensures refuses { IfErr result (λ e. Explains (module_in source.now (all_bare tokens.entry.items end) ≡ None) (MeansIllFormedIn source.now (all_bare tokens.entry.items end)) e.fault) }
 {
     let mut reader = Reader::new(alloc, tokens, end);
     let head = reader.module_head();
-    match reader.key(0) {
-        Some(Key::Binary) if head.keyword.is_some() => binary_module(reader, head),
-        Some(Key::Quote) if head.keyword.is_some() => quoted_module(reader, head, strings),
-        _ => module_of_fields(reader, module_place(head.keyword), head),
+    module_after(source, reader, head, strings)
+}
+
+/// Reads a module from the tokens of a text up to `end`, as [`read`] does.
+fn module_up_to<'a>(
+    alloc: Global,
+    source: &str,
+    tokens: Vec<Placed<'a>>,
+    end: Span,
+    strings: &'a Strings,
+) -> Result<TextModule<'a>, TextError>
+    ensures well_formed { IfOk result (λ m. IsTrue (is_well_formed_text m.kind)) }
+    ensures denotes { IfOk result (IsModule (module_in source.now (all_bare tokens.entry.items end))) }
+    ensures refuses { IfErr result (λ e. Explains (module_in source.now (all_bare tokens.entry.items end) ≡ None) (MeansIllFormedIn source.now (all_bare tokens.entry.items end)) e.fault) }
+    ensures place { IfErr result (λ e. e.span.offset ≤ end.offset) }
+{
+    match module_of_tokens(alloc, source, tokens, end, strings) {
+        Ok(module) => Ok(module),
+        Err(error) => Err(TextError {
+            span: up_to_end(error.span, end),
+            ..error
+        }),
     }
 }
 
@@ -536,9 +599,10 @@ fn module_of_tokens<'a>(
 /// text in its strings, which are joined to one text.
 ///
 /// The position of a field is that of its keyword. The position of an id or a number is that of its
-/// first character. In `(module quote ..)` all positions are those of the strings. The tree refers
-/// to `strings`, which stores strings with escapes and the text in quotes. However deeply a text is
-/// nested, calls do not nest as deeply.
+/// first character, also in the strings of `(module quote ..)`. There, the position of a character
+/// that an escape writes is that of the escape. The tree refers to `strings`, which stores strings
+/// with escapes and the text in quotes. However deeply a text is nested, calls do not nest as
+/// deeply.
 ///
 /// # Example
 ///
@@ -548,7 +612,8 @@ fn module_of_tokens<'a>(
 ///
 /// # Errors
 ///
-/// A [`TextFault`] with a position in the text or at its end:
+/// A [`TextFault`] with a position in the text or at its end. If several tokens are wrong, it is the
+/// error of the first one.
 ///
 /// - [`TextFault::Memory`]: allocation failed.
 /// - [`TextFault::IllFormed`]: the fields break the rule of well-formedness of this number, as in
@@ -567,7 +632,7 @@ fn module_of_tokens<'a>(
 /// # Memory
 ///
 /// Allocates for the tokens, the tree and `strings`.
-#[tactic(auto, using(crate::proofs::Opened::text_none, crate::proofs::Opened::text_ok))]
+#[tactic(auto, using(crate::proofs::Opened::text_ok))]
 pub fn read<'a>(
     alloc: Global,
     text: &'a str,
@@ -578,9 +643,11 @@ pub fn read<'a>(
     ensures refuses { IfErr result (λ e. Explains (DenotesNothing text.now) (DenotesIllFormed text.now) e.fault) }
     ensures place { IfErr result (λ e. e.span.offset ≤ length text.now) }
 {
-    let tokens = tokens_of(alloc, text, strings)?;
     let end = Span { offset: text.len() };
-    read_module_tokens(alloc, tokens, end, strings)
+    match tokens_of(alloc, text, strings) {
+        Ok(tokens) => module_up_to(alloc, text, tokens, end, strings),
+        Err(error) => Err(first_error(alloc, text, strings, error)),
+    }
 }
 
 /// Reads the fields of a module from its tokens, as [`read`] does from a text (text format:
@@ -639,7 +706,8 @@ pub fn read_tokens<'a>(
 /// Reads a module from its tokens, as [`read`] does from a text (text format: modules).
 ///
 /// For example, `wast_script` calls it with the tokens of one module of a script. `end` is the
-/// position after the last token. The text of `(module quote ..)` is stored in `strings`.
+/// position after the last token. The text of `(module quote ..)` is stored in `strings`. Each token
+/// of that text has the position of the string in which it begins.
 ///
 /// # Errors
 ///
@@ -670,11 +738,5 @@ pub fn read_module_tokens<'a>(
     ensures refuses { IfErr result (λ e. Explains (tokens_rule (all_bare tokens.entry.items end) ≡ None) (MeansIllFormed (all_bare tokens.entry.items end)) e.fault) }
     ensures place { IfErr result (λ e. e.span.offset ≤ end.offset) }
 {
-    match module_of_tokens(alloc, tokens, end, strings) {
-        Ok(module) => Ok(module),
-        Err(error) => Err(TextError {
-            span: up_to_end(error.span, end),
-            ..error
-        }),
-    }
+    module_up_to(alloc, "", tokens, end, strings)
 }

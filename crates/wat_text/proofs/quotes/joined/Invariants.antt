@@ -3,5 +3,5 @@ use Rattle.std.proofs.Common.{◌≡◌, take}
 use Rattle.wat_text.specs.Denotes.{text_in}
 use Rattle.wat_text.proofs.quotes.joined.Given as goal
 
-abbrev pub invariant-loop-at : goal.invariant-loop-at
-invariant-loop-at l = l.bytes.items ≡ text_in (take l.at l.fn.quotes)
+abbrev pub invariant-loop-quote : goal.invariant-loop-quote
+invariant-loop-quote l = l.bytes.items ≡ text_in (take l.quote-index l.quotes)
