@@ -1,6 +1,6 @@
 //! The ids that a text defines, and the parentheses that are open at a position.
 
-use crate::lexemes::{Kind, Lexeme, next_lexeme, shown};
+use crate::lexemes::{Kind, Lexeme, next_lexeme};
 use crate::near::Nearest;
 
 /// At most this many ids are compared with one that is unknown.
@@ -10,7 +10,7 @@ const MOST: usize = 4096;
 #[derive(Clone, Copy)]
 pub(crate) struct Definition<'a> {
     /// The keyword before it, such as `func` or `param`.
-    word: &'a [u8],
+    pub word: &'a [u8],
     /// Its name.
     pub name: &'a [u8],
     /// The offset of its `$`.
@@ -20,7 +20,8 @@ pub(crate) struct Definition<'a> {
 }
 
 impl<'a> Definition<'a> {
-    /// Returns whether it is in the index space with this word, as messages have it.
+    /// Returns whether it is in the index space with this word, as messages have it, or in any of
+    /// those of the module if the word is `item`.
     fn is_in(&self, space: &str) -> bool {
         match space {
             "local" => matches!(self.word, b"param" | b"local"),
@@ -29,6 +30,7 @@ impl<'a> Definition<'a> {
                 b"block" | b"loop" | b"if" | b"try" | b"try_table"
             ),
             "field" => matches!(self.word, b"field"),
+            "item" => self.is_item && !matches!(self.word, b"start"),
             _ => self.is_item && self.word == space.as_bytes(),
         }
     }
@@ -149,6 +151,12 @@ impl<'a> Walk<'a> {
         })
     }
 
+    /// Returns whether a lexeme begins the definition of a type, in a group or not.
+    fn is_type(&self, word: &Lexeme<'a>) -> bool {
+        let is_inner = self.depth == self.base.saturating_add(1) && matches!(self.head, b"rec");
+        matches!(word.bytes, b"type") && self.is_opened() && (self.depth == self.base || is_inner)
+    }
+
     /// Reads one more lexeme, and returns the definition that it is.
     fn take(&mut self, lexeme: Lexeme<'a>) -> Option<Definition<'a>> {
         let mut found = None;
@@ -185,13 +193,13 @@ impl<'a> Walk<'a> {
     }
 }
 
-/// Returns the offset of the first definition of a name in an index space, in the module of an offset.
-pub(crate) fn first_definition(
-    text: &[u8],
+/// Returns the first definition of a name in an index space, in the module of an offset.
+pub(crate) fn first_definition<'a>(
+    text: &'a [u8],
     space: &str,
     name: &[u8],
     place: usize,
-) -> Option<usize> {
+) -> Option<Definition<'a>> {
     let mut walk = Walk::new(text);
     let mut found = None;
     for _ in 0..text.len() {
@@ -208,8 +216,50 @@ pub(crate) fn first_definition(
         }
         if let Some(definition) = definition {
             if found.is_none() && definition.name == name && definition.is_in(space) {
-                found = Some(definition.start);
+                found = Some(definition);
             }
+        }
+    }
+    found
+}
+
+/// Returns the number that decimal digits are.
+fn decimal(digits: &[u8]) -> Option<usize> {
+    let mut number = 0_usize;
+    for digit in digits {
+        if !digit.is_ascii_digit() {
+            return None;
+        }
+        let value = usize::from(digit.saturating_sub(b'0'));
+        number = number.saturating_mul(10).saturating_add(value);
+    }
+    Some(number)
+}
+
+/// Returns the offset of the keyword of the type with this number, in the module of an offset.
+pub(crate) fn numbered_type(text: &[u8], digits: &[u8], place: usize) -> Option<usize> {
+    let wanted = decimal(digits)?;
+    let mut walk = Walk::new(text);
+    let mut found = None;
+    let mut count = 0_usize;
+    for _ in 0..text.len() {
+        let Some(lexeme) = walk.next_before(text.len()) else {
+            break;
+        };
+        let before = walk;
+        let _ = walk.take(lexeme);
+        if walk.is_apart(&before, Scope::Module) {
+            if walk.at > place {
+                break;
+            }
+            found = None;
+            count = 0;
+        }
+        if before.is_type(&lexeme) {
+            if count == wanted {
+                found = Some(lexeme.start);
+            }
+            count = count.saturating_add(1);
         }
     }
     found
@@ -254,6 +304,8 @@ pub(crate) struct Before<'a> {
     depth: usize,
     /// The last word that begins with a letter.
     pub word: &'a [u8],
+    /// The last lexeme.
+    pub last: Option<Lexeme<'a>>,
 }
 
 /// Returns whether a word begins with a letter, so that it is no number.
@@ -270,6 +322,7 @@ pub(crate) fn read_before(text: &[u8], end: usize) -> Before<'_> {
     let mut before = Before {
         depth: 0,
         word: &[],
+        last: None,
     };
     for _ in 0..text.len() {
         let Some(lexeme) = walk.next_before(end) else {
@@ -280,45 +333,13 @@ pub(crate) fn read_before(text: &[u8], end: usize) -> Before<'_> {
         }
         let _ = walk.take(lexeme);
         before.depth = walk.depth;
+        before.last = walk.last;
     }
     before
 }
 
-/// Returns whether an annotation with this word, which begins with `@`, is read by its parts.
-fn has_meaning(word: &str) -> bool {
-    match word {
-        "@name" | "@custom" | "@producers" | "@dylink.0" | "@metadata.code.branch_hint" => true,
-        _ => false,
-    }
-}
-
-/// Returns the offset of the first annotation without a meaning that a text does not close.
-pub(crate) fn open_annotation(text: &[u8]) -> Option<usize> {
-    let mut walk = Walk::new(text);
-    let mut found = None;
-    let mut depth = 0;
-    for _ in 0..text.len() {
-        let Some(lexeme) = walk.next_before(text.len()) else {
-            break;
-        };
-        let is_annotation = walk.is_opened()
-            && lexeme.bytes.starts_with(b"@")
-            && !has_meaning(shown(lexeme.bytes));
-        if is_annotation && found.is_none() {
-            found = Some(lexeme.start.saturating_sub(1));
-            depth = walk.depth;
-        }
-        let _ = walk.take(lexeme);
-        if walk.depth < depth {
-            found = None;
-            depth = 0;
-        }
-    }
-    found
-}
-
 /// Returns the offset of the last parenthesis that is open at an offset, if this many are.
-pub(crate) fn last_open(text: &[u8], end: usize, before: Before<'_>) -> Option<usize> {
+fn last_open(text: &[u8], end: usize, before: Before<'_>) -> Option<usize> {
     let mut walk = Walk::new(text);
     let mut found = None;
     for _ in 0..text.len() {
@@ -333,4 +354,35 @@ pub(crate) fn last_open(text: &[u8], end: usize, before: Before<'_>) -> Option<u
         }
     }
     found
+}
+
+/// Returns the offset of the last parenthesis that is open at an offset. One directly before a token
+/// at the offset is that of the token, and is not meant.
+pub(crate) fn open_around(text: &[u8], start: usize) -> Option<usize> {
+    let own = last_open(text, start, read_before(text, start))?;
+    match next_lexeme(text, own.saturating_add(1)) {
+        Some(lexeme) if lexeme.start == start => last_open(text, own, read_before(text, own)),
+        _ => Some(own),
+    }
+}
+
+/// Returns the string that has an offset, if it is one of a module in quotes: it follows `quote`, or
+/// other strings after that.
+pub(crate) fn quoted_string(text: &[u8], place: usize) -> Option<Lexeme<'_>> {
+    let mut is_quoted = false;
+    let mut at = 0;
+    for _ in 0..text.len() {
+        match next_lexeme(text, at) {
+            Some(lexeme) if lexeme.start <= place => {
+                at = lexeme.end;
+                if lexeme.kind != Kind::String {
+                    is_quoted = matches!(lexeme.bytes, b"quote");
+                } else if is_quoted && place < at {
+                    return Some(lexeme);
+                }
+            }
+            _ => return None,
+        }
+    }
+    None
 }

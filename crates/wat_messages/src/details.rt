@@ -1,7 +1,7 @@
 //! What messages say after the words of the error: what was found, and what may be there.
 
 use crate::characters::Named;
-use crate::lexemes::{character_length, first_bytes, shown};
+use crate::lexemes::{Lexeme, character_length, first_bytes, shown};
 use crate::numbers::{Number, Ranged};
 use std::fmt;
 use wast_base::{Span, line_and_column};
@@ -67,10 +67,12 @@ pub(crate) enum Detail<'a> {
     Unclosed(Place<'a>, Found<'a>),
     /// The token that is wrong.
     Token(Found<'a>),
-    /// The token, if it has to come before the instructions.
-    Early(Found<'a>),
-    /// The place where the construct begins that has no end.
-    Begins(Place<'a>),
+    /// The token, if it has to come before these.
+    Early(Found<'a>, &'static str),
+    /// The token, if it begins a field of the module, and the parenthesis that is open there.
+    Field(Found<'a>, Place<'a>),
+    /// The string with the text of a module in which the error is.
+    Quoted(Found<'a>),
     /// A number that is none of its kind.
     NoNumber(Found<'a>, Number),
     /// A number that is out of range.
@@ -79,16 +81,18 @@ pub(crate) enum Detail<'a> {
     Character(char),
     /// A character that is not allowed in a string.
     InString(char),
-    /// A character after a token, and its place.
-    Adjacent(Found<'a>, char, Place<'a>),
+    /// A token, and the character that touches it.
+    Adjacent(Lexeme<'a>, char),
     /// What was found in place of one of these names.
     Among(Found<'a>, &'static str),
-    /// An escape that is none.
-    Escape(Found<'a>),
+    /// An escape that is none, and what may be there.
+    Escape(Found<'a>, &'static str),
     /// An id that is defined twice, and the place of the first definition.
     Twice(Found<'a>, Place<'a>),
     /// An id of a type, and the place of its definition.
     Defined(Found<'a>, Place<'a>),
+    /// The keyword of an item of another kind that has the id, and the place of its definition.
+    Elsewhere(Found<'a>, Place<'a>),
 }
 
 impl fmt::Display for Detail<'_> {
@@ -102,8 +106,9 @@ impl fmt::Display for Detail<'_> {
                 " to close the `(` at {open}, found {found}"
             ),
             Detail::Token(found) => write!(f, ": {found}"),
-            Detail::Early(found) => write!(f, ": {found} has to come before all instructions"),
-            Detail::Begins(place) => write!(f, ": it begins at {place}"),
+            Detail::Early(found, others) => write!(f, ": {found} has to come before all {others}"),
+            Detail::Field(found, open) => write!(f, ": {found}; the `(` at {open} is open"),
+            Detail::Quoted(found) => write!(f, " in {found}"),
             Detail::NoNumber(found, number) => {
                 let expected = number.name();
                 write!(f, ": expected {expected}, found {found}")
@@ -120,17 +125,15 @@ impl fmt::Display for Detail<'_> {
                 let named = Named(character);
                 write!(f, ": {named} has to be written as an escape")
             }
-            Detail::Adjacent(found, character, place) => {
-                let named = Named(character);
-                write!(f, " {found}, found {named} at {place}")
+            Detail::Adjacent(token, character) => {
+                let (found, named) = (Found(token.bytes), Named(character));
+                write!(f, " {found}, found {named}")
             }
             Detail::Among(found, names) => write!(f, ", found {found}; the names are {names}"),
-            Detail::Escape(found) => write!(
-                f,
-                " {found}: expected two hexadecimal digits, `\\u{{..}}`, or one of t n r \" ' \\ after `\\`"
-            ),
+            Detail::Escape(found, expected) => write!(f, " {found}: {expected}"),
             Detail::Twice(found, first) => write!(f, ": {found} is first defined at {first}"),
             Detail::Defined(found, place) => write!(f, ": {found} is defined at {place}"),
+            Detail::Elsewhere(found, place) => write!(f, "; the {found} at {place} has this name"),
         }
     }
 }

@@ -4,10 +4,14 @@ ghost use Rattle.std.specs.Prelude.{◌≡◌, IfSome, Some, length};
 ghost use Rattle.wast_base.specs.Faults.{span_of};
 ghost use Rattle.wat_messages.specs.Ranges.{IsRange, Marks, place_at, range_of, text_of, noted};
 
-use crate::definitions::{first_definition, last_open, nearest_name, open_annotation, read_before};
+use crate::definitions::{
+    first_definition, nearest_name, numbered_type, open_around, quoted_string, read_before,
+};
 use crate::details::{Detail, Found, Hint, Place, first_character};
-use crate::lexemes::{Kind, Lexeme, bytes_from, first_bytes, lexeme_at, next_lexeme, shown};
-use crate::lists::{DYLINK_NAMES, FIELDS, INSTRUCTIONS, words_for};
+use crate::lexemes::{
+    Kind, Lexeme, bytes_from, first_bytes, is_scalar_escape, lexeme_at, next_lexeme, shown,
+};
+use crate::lists::{DYLINK_NAMES, FIELDS, INSTRUCTIONS, new_name, words_for};
 use crate::near::{is_listed, nearest_of};
 use crate::numbers::{Number, number_after};
 use crate::ranges::{Range, range_in, range_of_fault, range_of_token};
@@ -87,7 +91,7 @@ enum Saying<'a> {
     Typed,
     /// The parenthesis there is open.
     Opened,
-    /// The character there touches a token.
+    /// The token, or the character, that touches it.
     Touching,
     /// Another word may be meant.
     Meant(Hint<'a>),
@@ -98,7 +102,8 @@ impl Note<'_> {
     pub fn range(&self) -> Range
         ensures { result ≡ noted self.now }
     {
-        self.range
+        let range = self.range;
+        range
     }
 }
 
@@ -108,7 +113,7 @@ impl fmt::Display for Note<'_> {
             Saying::Defined => f.write_str("first defined here"),
             Saying::Typed => f.write_str("defined here"),
             Saying::Opened => f.write_str("this parenthesis is open"),
-            Saying::Touching => f.write_str("it touches this character"),
+            Saying::Touching => f.write_str("it touches this"),
             Saying::Meant(hint) => write!(f, "{hint}"),
         }
     }
@@ -133,15 +138,21 @@ fn opened_at(text: &[u8], start: usize) -> Found<'_> {
     Found(first_bytes(rest, count))
 }
 
-/// Returns what is said of a token that is followed by another one.
-fn adjacent(text: &str, start: usize) -> Detail<'_> {
-    let bytes = text.as_bytes();
-    let Some(token) = lexeme_at(bytes, start) else {
+/// Returns the token at an offset, or the one before it if no token begins there.
+fn touched_at(text: &[u8], start: usize) -> Option<Lexeme<'_>> {
+    match lexeme_at(text, start) {
+        Some(lexeme) if lexeme.kind != Kind::Other => Some(lexeme),
+        _ => read_before(text, start).last,
+    }
+}
+
+/// Returns what is said of a character that touches a token, which begins or ends at an offset.
+fn adjacent(text: &[u8], start: usize) -> Detail<'_> {
+    let Some(token) = touched_at(text, start) else {
         return Detail::Nothing;
     };
-    let offset = token.end;
-    match first_character(bytes_from(bytes, offset)) {
-        Some(character) => Detail::Adjacent(Found(token.bytes), character, Place { text, offset }),
+    match character_at(text, token.end) {
+        Some(character) => Detail::Adjacent(token, character),
         None => Detail::Nothing,
     }
 }
@@ -154,14 +165,7 @@ fn character_at(text: &[u8], start: usize) -> Option<char> {
 /// Returns what is said where a parenthesis has to be closed. An annotation has the offset of its
 /// `@`, so the parenthesis before that is its own.
 fn unclosed<'a>(text: &'a str, start: usize, found: Found<'a>) -> Detail<'a> {
-    let bytes = text.as_bytes();
-    let end = if found.0.starts_with(b"@") {
-        start.saturating_sub(1)
-    } else {
-        start
-    };
-    let before = read_before(bytes, end);
-    match last_open(bytes, end, before) {
+    match open_around(text.as_bytes(), start) {
         Some(offset) => Detail::Unclosed(Place { text, offset }, found),
         None => Detail::InPlace(found),
     }
@@ -187,16 +191,39 @@ fn told(text: &[u8], start: usize, fault: TextFault) -> TextFault {
     }
 }
 
-/// Returns the bytes of an escape at an offset.
-fn escape_at(text: &str, start: usize) -> Found<'_> {
+/// Returns what is said of an escape.
+fn escape_at(text: &str, start: usize) -> Detail<'_> {
     let Range { start, end } = range_of_fault(text, start, TextFault::Escape);
     let rest = bytes_from(text.as_bytes(), start);
-    Found(first_bytes(rest, end.saturating_sub(start)))
+    let escape = first_bytes(rest, end.saturating_sub(start));
+    let expected = if is_scalar_escape(escape) {
+        "no character has this number"
+    } else {
+        "expected two hexadecimal digits, `\\u{..}`, or one of t n r \" ' \\ after `\\`"
+    };
+    Detail::Escape(Found(escape), expected)
+}
+
+/// Returns what is said of an error in this string, which has the text of a module or a part of it.
+/// The end of that text has the offset of the string. What is around the token is not looked at.
+fn detail_in<'a>(string: Lexeme<'a>, text: &'a [u8], start: usize, fault: TextFault) -> Detail<'a> {
+    if string.start == start {
+        return Detail::Quoted(Found(string.bytes));
+    }
+    match fault {
+        TextFault::Expected(_) => Detail::InPlace(found_at(text, start)),
+        TextFault::Operator | TextFault::Alignment | TextFault::PageSize | TextFault::Trailing =>
+            Detail::Token(found_at(text, start)),
+        _ => Detail::Nothing,
+    }
 }
 
 /// Returns what is said of an error in the text format after its words.
 fn detail_of<'a>(text: &'a str, start: usize, fault: TextFault) -> Detail<'a> {
     let bytes = text.as_bytes();
+    if let Some(string) = quoted_string(bytes, start) {
+        return detail_in(string, bytes, start, fault);
+    }
     match fault {
         TextFault::Character => match character_at(bytes, start) {
             Some(character) => Detail::Character(character),
@@ -206,16 +233,12 @@ fn detail_of<'a>(text: &'a str, start: usize, fault: TextFault) -> Detail<'a> {
             Some(character) => Detail::InString(character),
             None => Detail::Nothing,
         },
-        TextFault::Adjacent => adjacent(text, start),
-        TextFault::Escape => Detail::Escape(escape_at(text, start)),
+        TextFault::Adjacent => adjacent(bytes, start),
+        TextFault::Escape => escape_at(text, start),
         TextFault::Expected(what) => in_place(text, start, what),
         TextFault::Number => Detail::NoNumber(found_at(bytes, start), number_at(bytes, start)),
         TextFault::Range => Detail::OutOfRange(found_at(bytes, start), number_at(bytes, start)),
-        TextFault::Operator => operator_at(bytes, start),
-        TextFault::OpenAnnotation => match open_annotation(bytes) {
-            Some(offset) => Detail::Begins(Place { text, offset }),
-            None => Detail::Nothing,
-        },
+        TextFault::Operator => operator_at(text, start),
         TextFault::Alignment | TextFault::PageSize | TextFault::Trailing => Detail::Token(found_at(
             bytes, start,
         )),
@@ -228,18 +251,25 @@ fn detail_of<'a>(text: &'a str, start: usize, fault: TextFault) -> Detail<'a> {
     }
 }
 
-/// Returns what is said of a token that is no instruction.
-fn operator_at(text: &[u8], start: usize) -> Detail<'_> {
-    let found = found_at(text, start);
+/// Returns what is said of a token that is no instruction. Before a field of the module, the
+/// parenthesis of another one may be missing.
+fn operator_at(text: &str, start: usize) -> Detail<'_> {
+    let bytes = text.as_bytes();
+    let found = found_at(bytes, start);
     let word = found.0.strip_prefix(b"(").unwrap_or(found.0);
-    let is_early = matches!(
-        word,
-        b"param" | b"result" | b"local" | b"import" | b"export"
-    );
-    if is_early {
-        return Detail::Early(found);
+    match word {
+        b"param" | b"result" | b"import" | b"export" => {
+            return Detail::Early(found, "locals and instructions");
+        }
+        b"local" => return Detail::Early(found, "instructions"),
+        _ => {}
     }
-    Detail::Token(found)
+    match open_around(bytes, start) {
+        Some(offset) if is_listed(word, FIELDS.as_bytes()) => {
+            Detail::Field(found, Place { text, offset })
+        }
+        _ => Detail::Token(found),
+    }
 }
 
 /// Returns the kind of number that an offset has.
@@ -260,11 +290,30 @@ fn word_at(text: &[u8], start: usize) -> Option<Lexeme<'_>> {
     next_lexeme(text, first.end)
 }
 
+/// Returns the id that may be meant by a word at an offset: one that is defined, without its `$`.
+fn id_at(text: &[u8], start: usize) -> Option<Hint<'_>> {
+    let Lexeme { kind, bytes, .. } = lexeme_at(text, start)?;
+    let is_defined = first_definition(text, "item", bytes, start).is_some()
+        || first_definition(text, "local", bytes, start).is_some();
+    if kind != Kind::Word || !is_defined {
+        return None;
+    }
+    Some(Hint {
+        before: "$",
+        word: bytes,
+    })
+}
+
 /// Returns the word that may be meant where an error in the text format is.
 fn hint_of<'a>(text: &'a [u8], start: usize, fault: TextFault) -> Option<Hint<'a>> {
     let (list, is_field) = match fault {
         TextFault::Operator => (INSTRUCTIONS.as_bytes(), false),
-        TextFault::Expected(what) => (words_for(what)?, what == "valid module field"),
+        TextFault::Expected(what) => {
+            if what == "an index" {
+                return id_at(text, start);
+            }
+            (words_for(what)?, what == "valid module field")
+        }
         _ => return None,
     };
     let word = word_at(text, start)?;
@@ -280,7 +329,12 @@ fn hint_of<'a>(text: &'a [u8], start: usize, fault: TextFault) -> Option<Hint<'a
     if look_up(shown(word.bytes)).is_some() {
         return None;
     }
-    let near = nearest_of(word.bytes, list)?;
+    let today = new_name(word.bytes).as_bytes();
+    let near = if is_listed(today, list) {
+        today
+    } else {
+        nearest_of(word.bytes, list)?
+    };
     Some(Hint {
         before: "",
         word: near,
@@ -306,22 +360,40 @@ fn twice<'a>(text: &'a str, start: usize, space: &str) -> Detail<'a> {
         return Detail::Nothing;
     }
     match first_definition(bytes, space, id.name(), start) {
-        Some(offset) if offset < start => Detail::Twice(found, Place { text, offset }),
+        Some(first) if first.start < start => {
+            let offset = first.start;
+            Detail::Twice(found, Place { text, offset })
+        }
         _ => Detail::Token(found),
     }
+}
+
+/// Returns what is said of an id that is unknown: an item of another kind may have it.
+fn elsewhere<'a>(text: &'a str, start: usize, name: &str) -> Detail<'a> {
+    match first_definition(text.as_bytes(), "item", name.as_bytes(), start) {
+        Some(item) => {
+            let offset = item.start;
+            Detail::Elsewhere(Found(item.word), Place { text, offset })
+        }
+        None => Detail::Nothing,
+    }
+}
+
+/// Returns where a type is defined, by its id or its number in a text.
+fn type_at(text: &[u8], start: usize) -> Option<usize> {
+    let index = lexeme_at(text, start)?;
+    if index.kind != Kind::Id {
+        return numbered_type(text, index.bytes, start);
+    }
+    let definition = first_definition(text, "type", index.name(), start)?;
+    Some(definition.start)
 }
 
 /// Returns what is said of the type of a type use.
 fn typed(text: &str, start: usize) -> Detail<'_> {
     let bytes = text.as_bytes();
     let found = found_at(bytes, start);
-    let Some(id) = lexeme_at(bytes, start) else {
-        return Detail::Nothing;
-    };
-    if id.kind != Kind::Id {
-        return Detail::Token(found);
-    }
-    match first_definition(bytes, "type", id.name(), start) {
+    match type_at(bytes, start) {
         Some(offset) => Detail::Defined(found, Place { text, offset }),
         None => Detail::Token(found),
     }
@@ -336,6 +408,7 @@ fn detail_of_module<'a>(text: &'a str, start: usize, fault: Fault<'_>) -> Detail
         ),
         Fault::Duplicate(space) => twice(text, start, space),
         Fault::DuplicateField(space, _) => twice(text, start, space),
+        Fault::Unknown(_, name) => elsewhere(text, start, name),
         Fault::NotFunc | Fault::NoMatch => typed(text, start),
         Fault::OutOfBounds | Fault::Labels => Detail::Token(found_at(bytes, start)),
         _ => Detail::Nothing,
@@ -446,6 +519,16 @@ impl<'a> Diagnostic<'a> {
         self.range
     }
 
+    /// Returns the range of what touches the error: the character after a token, or else the token.
+    fn touching(&self, token: Lexeme<'_>) -> Range
+        ensures { IsRange (text_of self.now) result }
+    {
+        match self.range {
+            Some(range) if range.start == token.start => range_in(self.text, token.end, 1),
+            _ => range_of_token(self.text, token.start),
+        }
+    }
+
     /// Returns the second place that the message is about.
     pub fn related(&self) -> Option<Note<'a>>
         ensures { IfSome result (λ n. IsRange (text_of self.now) (noted n)) }
@@ -455,17 +538,17 @@ impl<'a> Diagnostic<'a> {
                 saying: Saying::Defined,
                 range: range_of_token(self.text, first.offset),
             }),
-            Detail::Defined(_, place) => Some(Note {
+            Detail::Defined(_, place) | Detail::Elsewhere(_, place) => Some(Note {
                 saying: Saying::Typed,
                 range: range_of_token(self.text, place.offset),
             }),
-            Detail::Unclosed(open, _) | Detail::Begins(open) => Some(Note {
+            Detail::Unclosed(open, _) | Detail::Field(_, open) => Some(Note {
                 saying: Saying::Opened,
                 range: range_of_token(self.text, open.offset),
             }),
-            Detail::Adjacent(_, _, place) => Some(Note {
+            Detail::Adjacent(token, _) => Some(Note {
                 saying: Saying::Touching,
-                range: range_in(self.text, place.offset, 1),
+                range: self.touching(token),
             }),
             _ => None,
         }

@@ -208,6 +208,21 @@ pub(crate) fn next_lexeme(text: &[u8], start: usize) -> Option<Lexeme<'_>> {
     None
 }
 
+/// Returns whether an escape of a string has a number between braces, of hexadecimal digits alone.
+pub(crate) fn is_scalar_escape(escape: &[u8]) -> bool {
+    match escape {
+        [b'\\', b'u', b'{', digits @ .., b'}'] => {
+            for digit in digits {
+                if !digit.is_ascii_hexdigit() {
+                    return false;
+                }
+            }
+            !digits.is_empty()
+        }
+        _ => false,
+    }
+}
+
 /// Returns bytes as text; nothing if they are not UTF-8.
 pub(crate) fn shown(bytes: &[u8]) -> &str {
     str::from_utf8(bytes).unwrap_or("")

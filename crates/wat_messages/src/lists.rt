@@ -142,6 +142,25 @@ pub(crate) static DYLINK: &str = "mem-info needed export-info import-info runtim
 pub(crate) static DYLINK_NAMES: &str =
     "`mem-info`, `needed`, `export-info`, `import-info` and `runtime-path`";
 
+/// The positions of a custom section.
+pub(crate) static POSITIONS: &str =
+    "first last type import func table memory tag global export start elem code data";
+
+/// Returns the name that an instruction or a type has today, for its old name; empty for others.
+pub(crate) fn new_name(word: &[u8]) -> &'static str {
+    match word {
+        b"get_local" => "local.get",
+        b"set_local" => "local.set",
+        b"tee_local" => "local.tee",
+        b"get_global" => "global.get",
+        b"set_global" => "global.set",
+        b"current_memory" => "memory.size",
+        b"grow_memory" => "memory.grow",
+        b"anyfunc" => "funcref",
+        _ => "",
+    }
+}
+
 /// Returns the words that may be where a reader expected this, in its words; nothing for others.
 pub(crate) fn words_for(expected: &str) -> Option<&'static [u8]> {
     match expected {
@@ -153,6 +172,7 @@ pub(crate) fn words_for(expected: &str) -> Option<&'static [u8]> {
         "`func`, `table`, `memory`, `global` or `tag`" => Some(KINDS.as_bytes()),
         "`(func`, `(struct`, `(array` or `(cont`" => Some(TYPES.as_bytes()),
         "`language`, `sdk` or `processed-by`" => Some(PRODUCERS.as_bytes()),
+        "a valid section name" => Some(POSITIONS.as_bytes()),
         "`dylink.0` subsection name" => Some(DYLINK.as_bytes()),
         _ => None,
     }

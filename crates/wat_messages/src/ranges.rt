@@ -81,7 +81,7 @@ fn fault_length(text: &[u8], fault: TextFault) -> usize {
     match fault {
         TextFault::Character | TextFault::StringCharacter => character_length(text),
         TextFault::Escape => escape_length(text),
-        TextFault::OpenComment | TextFault::EmptyAnnotation => 2,
+        TextFault::OpenComment => 2,
         TextFault::OpenString => line_length(text),
         _ => token_length(text),
     }
