@@ -1,7 +1,7 @@
 //! Commands of a script, and the actions in them.
 
 use crate::values::Part;
-use wast_tree::{Id, Span};
+use wast_base::{Id, Span};
 
 /// The form in which a script has a module.
 #[derive(Clone, Copy, Debug, PartialEq, Eq)]

@@ -1,131 +1,212 @@
 //! Reads values: arguments, and what results have to be.
 
+ghost use Rattle.std.specs.Prelude.{◌≡◌, ◌≢◌, ◌≤◌, ◌<◌, ◌++◌, ◌∷◌, ◌^◌, ◌-◌, [], List, IfOk, IfErr, None, Some, suc, ℕ, length, option_map};
+ghost use Rattle.std.specs.Float.{binary32, binary64};
+ghost use Rattle.wat_syntax.specs.Instructions.{signed_number, times};
+ghost use Rattle.wat_syntax.specs.Tokens.{peek, count};
+ghost use Rattle.wat_syntax.specs.Values.{number, u32, index};
+ghost use Rattle.wat_grammar.specs.Integers.{integer};
+ghost use Rattle.wat_syntax.specs.Bare.{bare_heap, bare_index, bare_index_option};
+ghost use Rattle.wast_script.specs.Words.{shape_named, constant_named};
+ghost use Rattle.wast_script.specs.declared.values.Number.TheVariants as num;
+ghost use Rattle.wast_script.specs.declared.words.Constant.TheVariants as constant;
+ghost use Rattle.wast_script.specs.declared.words.Use.TheVariants as usage;
+ghost use Rattle.wast_script.specs.Constants.{nan_of, float_of, lane_of, lane_count, lanes, vector, word_in, word_that, abstract_heap, shared_heap, heap_type, null_type, host_number, function_index, constant_of, value_word, next_constant, value, one_value, all_alternatives, either, argument_or_result, values, Value as ListedValue};
+ghost use Rattle.wast_script.specs.Scripts.{part, value_in};
+ghost use Rattle.wast_script.specs.Readers.{left, read_values, IsRefusal, IsRefused, IsFirst, HasLanes, HaveLanes, Decides, Finds, PushesLane, PushesValue, SetsEither, TakesAlternative, TakesAlternatives, ReadsLanes, ReadsValue, ReadsOnto, Reads};
+
 use crate::reader::Reader;
 use crate::values::{Number, Part, Shape, Value};
-use crate::words::{Constant, constant_of, heap_type_of};
+use crate::words::{Constant, Use, constant_of, heap_type_of, shape_of};
 use std::alloc::Global;
-use wast_tree::{AbstractHeapType, HeapType, Index};
+use wast_base::Index;
+use wast_tree_nodes::{AbstractHeapType, HeapType};
 use wat_tokens::{
-    TextFault, Token, float32, float64, integer8, integer16, integer32, integer64, unsigned32,
+    TextFault, float32, float64, integer8, integer16, integer32, integer64, unsigned32,
 };
 
-/// Whether a value is an argument, or what a result has to be.
-#[derive(Clone, Copy)]
-pub(crate) enum Use {
-    Argument,
-    Result,
-}
-
 /// The NaN that a word names, of a result.
-fn nan_of(usage: Use, word: &str) -> Option<Number> {
-    match (usage, word) {
-        (Use::Result, "nan:canonical") => Some(Number::Canonical),
-        (Use::Result, "nan:arithmetic") => Some(Number::Arithmetic),
-        _ => None,
+fn nan_of(usage: Use, word: &str) -> Option<Number>
+    ensures { result ≡ nan_of usage word.now }
+{
+    match usage {
+        Use::Argument => None,
+        Use::Result => match word {
+            "nan:canonical" => Some(Number::Canonical),
+            "nan:arithmetic" => Some(Number::Arithmetic),
+            _ => None,
+        },
     }
 }
 
-/// The bits of a float of 32 bits.
-fn bits32(alloc: Global, text: &str) -> Result<Number, TextFault> {
-    Ok(Number::Bits(float32(alloc, text)? as u64))
+/// The bits of a float of 32 bits, or a NaN of a result.
+#[tactic(auto, using(crate::proofs::Signs::float_is, crate::proofs::Signs::float_not))]
+fn float_of32(alloc: Global, usage: Use, text: &str) -> Result<Number, TextFault>
+    ensures gives { IfOk result (λ n. float_of binary32 usage text.now ≡ Some n) }
+    ensures refuses { IfErr result (λ e. IsRefusal e → float_of binary32 usage text.now ≡ None) }
+{
+    match nan_of(usage, text) {
+        Some(nan) => Ok(nan),
+        None => match float32(alloc, text) {
+            Ok(bits) => Ok(Number::Bits(bits as u64)),
+            Err(fault) => Err(fault),
+        },
+    }
 }
 
-/// The bits of a float of 64 bits.
-fn bits64(alloc: Global, text: &str) -> Result<Number, TextFault> {
-    Ok(Number::Bits(float64(alloc, text)?))
+/// The bits of a float of 64 bits, or a NaN of a result.
+#[tactic(auto, using(crate::proofs::Signs::float_is, crate::proofs::Signs::float_not))]
+fn float_of64(alloc: Global, usage: Use, text: &str) -> Result<Number, TextFault>
+    ensures gives { IfOk result (λ n. float_of binary64 usage text.now ≡ Some n) }
+    ensures refuses { IfErr result (λ e. IsRefusal e → float_of binary64 usage text.now ≡ None) }
+{
+    match nan_of(usage, text) {
+        Some(nan) => Ok(nan),
+        None => match float64(alloc, text) {
+            Ok(bits) => Ok(Number::Bits(bits)),
+            Err(fault) => Err(fault),
+        },
+    }
 }
 
-/// The bits of an integer in a lane.
-fn integer_bits(shape: Shape, text: &str) -> Result<Number, TextFault> {
-    let bits = match shape {
-        Shape::I8x16 => integer8(text)?.cast_unsigned() as u64,
-        Shape::I16x8 => integer16(text)?.cast_unsigned() as u64,
-        Shape::I32x4 | Shape::F32x4 => integer32(text)?.cast_unsigned() as u64,
-        Shape::I64x2 | Shape::F64x2 => integer64(text)?.cast_unsigned(),
-    };
-    Ok(Number::Bits(bits))
+/// The bits of an integer of 8 bits.
+#[tactic(auto, using(crate::proofs::Bits::bits8))]
+fn bits_of8(text: &str) -> Result<Number, TextFault>
+    ensures gives { IfOk result (λ n. option_map num.Bits (integer 8 text.now) ≡ Some n) }
+    ensures refuses { IfErr result (λ e. IsRefusal e → option_map num.Bits (integer 8 text.now) ≡ None) }
+{
+    match integer8(text) {
+        Ok(number) => Ok(Number::Bits(number.cast_unsigned() as u64)),
+        Err(fault) => Err(fault),
+    }
 }
 
-/// The shape of a word.
-fn shape_of(word: &str) -> Option<Shape> {
-    match word {
-        "i8x16" => Some(Shape::I8x16),
-        "i16x8" => Some(Shape::I16x8),
-        "i32x4" => Some(Shape::I32x4),
-        "i64x2" => Some(Shape::I64x2),
-        "f32x4" => Some(Shape::F32x4),
-        "f64x2" => Some(Shape::F64x2),
-        _ => None,
+/// The bits of an integer of 16 bits.
+#[tactic(auto, using(crate::proofs::Bits::bits16))]
+fn bits_of16(text: &str) -> Result<Number, TextFault>
+    ensures gives { IfOk result (λ n. option_map num.Bits (integer 16 text.now) ≡ Some n) }
+    ensures refuses { IfErr result (λ e. IsRefusal e → option_map num.Bits (integer 16 text.now) ≡ None) }
+{
+    match integer16(text) {
+        Ok(number) => Ok(Number::Bits(number.cast_unsigned() as u64)),
+        Err(fault) => Err(fault),
+    }
+}
+
+/// The bits of an integer of 32 bits.
+#[tactic(auto, using(crate::proofs::Bits::bits32))]
+fn bits_of32(text: &str) -> Result<Number, TextFault>
+    ensures gives { IfOk result (λ n. option_map num.Bits (integer 32 text.now) ≡ Some n) }
+    ensures refuses { IfErr result (λ e. IsRefusal e → option_map num.Bits (integer 32 text.now) ≡ None) }
+{
+    match integer32(text) {
+        Ok(number) => Ok(Number::Bits(number.cast_unsigned() as u64)),
+        Err(fault) => Err(fault),
+    }
+}
+
+/// The bits of an integer of 64 bits.
+#[tactic(auto, using(crate::proofs::Bits::bits64))]
+fn bits_of64(text: &str) -> Result<Number, TextFault>
+    ensures gives { IfOk result (λ n. option_map num.Bits (integer 64 text.now) ≡ Some n) }
+    ensures refuses { IfErr result (λ e. IsRefusal e → option_map num.Bits (integer 64 text.now) ≡ None) }
+{
+    match integer64(text) {
+        Ok(number) => Ok(Number::Bits(number.cast_unsigned())),
+        Err(fault) => Err(fault),
+    }
+}
+
+/// A lane of a vector, by its text.
+fn lane_of(alloc: Global, shape: Shape, usage: Use, text: &str) -> Result<Number, TextFault>
+    ensures gives { IfOk result (λ n. lane_of shape usage text.now ≡ Some n) }
+    ensures refuses { IfErr result (λ e. IsRefusal e → lane_of shape usage text.now ≡ None) }
+{
+    match shape {
+        Shape::I8x16 => bits_of8(text),
+        Shape::I16x8 => bits_of16(text),
+        Shape::I32x4 => bits_of32(text),
+        Shape::I64x2 => bits_of64(text),
+        Shape::F32x4 => float_of32(alloc, usage, text),
+        Shape::F64x2 => float_of64(alloc, usage, text),
     }
 }
 
 impl<'a> Reader<'a> {
     /// An integer of 32 bits.
-    fn integer32(&mut self) -> i32 {
+    fn integer32(&mut self) -> i32
+        ensures { Decides (signed_number 32) self.old self.new result }
+    {
         let place = self.place();
         let text = self.number();
         self.value(place, integer32(text), 0)
     }
 
     /// An integer of 64 bits.
-    fn integer64(&mut self) -> i64 {
+    fn integer64(&mut self) -> i64
+        ensures { Decides (signed_number 64) self.old self.new result }
+    {
         let place = self.place();
         let text = self.number();
         self.value(place, integer64(text), 0)
     }
 
     /// A number of 32 bits without a sign.
-    fn unsigned32(&mut self) -> u32 {
+    fn unsigned32(&mut self) -> u32
+        ensures { Decides u32 self.old self.new result }
+    {
         let place = self.place();
         let text = self.number();
         self.value(place, unsigned32(text), 0)
     }
 
-    /// A number of 32 bits without a sign, which a result may leave out.
-    fn number_of(&mut self, usage: Use) -> Option<u32> {
+    /// A number of a host's reference, which a result may leave out.
+    fn host_number(&mut self, usage: Use) -> Option<u32>
+        ensures { Decides (host_number usage) self.old self.new result }
+    {
         match usage {
-            Use::Result if !self.is_number() => None,
-            _ => Some(self.unsigned32()),
+            Use::Result => match self.is_number() {
+                true => Some(self.unsigned32()),
+                false => None,
+            },
+            Use::Argument => Some(self.unsigned32()),
         }
     }
 
     /// A float of 32 bits, or a NaN of a result.
-    fn float32(&mut self, usage: Use) -> Number {
+    fn float32(&mut self, usage: Use) -> Number
+        ensures { Decides (number (float_of binary32 usage)) self.old self.new result }
+    {
         let place = self.place();
         let text = self.number();
-        if let Some(nan) = nan_of(usage, text) {
-            return nan;
-        }
-        let alloc = self.alloc;
-        self.value(place, bits32(alloc, text), Number::Bits(0))
+        let found = float_of32(self.alloc, usage, text);
+        self.value(place, found, Number::Bits(0))
     }
 
     /// A float of 64 bits, or a NaN of a result.
-    fn float64(&mut self, usage: Use) -> Number {
+    fn float64(&mut self, usage: Use) -> Number
+        ensures { Decides (number (float_of binary64 usage)) self.old self.new result }
+    {
         let place = self.place();
         let text = self.number();
-        if let Some(nan) = nan_of(usage, text) {
-            return nan;
-        }
-        let alloc = self.alloc;
-        self.value(place, bits64(alloc, text), Number::Bits(0))
+        let found = float_of64(self.alloc, usage, text);
+        self.value(place, found, Number::Bits(0))
     }
 
     /// A lane of a vector of this shape.
-    fn lane(&mut self, shape: Shape, usage: Use) -> Number {
-        match shape {
-            Shape::F32x4 => self.float32(usage),
-            Shape::F64x2 => self.float64(usage),
-            _ => {
-                let place = self.place();
-                let text = self.number();
-                self.value(place, integer_bits(shape, text), Number::Bits(0))
-            }
-        }
+    fn lane(&mut self, shape: Shape, usage: Use) -> Number
+        ensures { Decides (number (lane_of shape usage)) self.old self.new result }
+    {
+        let place = self.place();
+        let text = self.number();
+        let found = lane_of(self.alloc, shape, usage, text);
+        self.value(place, found, Number::Bits(0))
     }
 
     /// The shape of a vector.
-    fn shape(&mut self) -> Shape {
+    fn shape(&mut self) -> Shape
+        ensures { Decides (word_that shape_named) self.old self.new result }
+    {
         let found = match self.word(0) {
             Some(word) => shape_of(word),
             None => None,
@@ -142,20 +223,43 @@ impl<'a> Reader<'a> {
         }
     }
 
-    /// A vector from its shape on (text format, vector instructions).
-    fn vector(&mut self, usage: Use) -> Value<'a> {
-        let shape = self.shape();
-        let start = self.lanes.len();
+    /// Adds a lane.
+    #[tactic(auto, unfolding(crate::specs::Readers::left), using(crate::proofs::Pushing::lane_pushed, crate::proofs::Pushing::lane_failed))]
+    fn push_lane(&mut self, lane: Number)
+        ensures { PushesLane self.old self.new lane }
+    {
+        match self.lists.lanes.push(lane) {
+            Ok(()) => (),
+            Err(_) => self.no_memory(),
+        }
+    }
+
+    /// The lanes of a vector.
+    #[tactic(auto, using(crate::proofs::Rows::rows_first, crate::proofs::Rows::rows_last))]
+    fn lanes(&mut self, shape: Shape, usage: Use)
+        ensures { ReadsLanes (lanes shape usage) self.old self.new }
+    {
         for _ in 0..shape.lanes() {
             let lane = self.lane(shape, usage);
             self.push_lane(lane);
         }
-        let end = self.lanes.len();
+    }
+
+    /// A vector from its shape on (text format, vector instructions).
+    fn vector(&mut self, usage: Use) -> Value<'a>
+        ensures { ReadsValue (vector usage) self.old self.new result }
+    {
+        let shape = self.shape();
+        let start = self.lists.lanes.len();
+        self.lanes(shape, usage);
+        let end = self.lists.lanes.len();
         Value::V128(shape, Part { start, end })
     }
 
     /// An index (text format, indices).
-    fn index(&mut self) -> Index<'a> {
+    fn index(&mut self) -> Index<'a>
+        ensures { Decides index self.old self.new (bare_index result) }
+    {
         let place = self.place();
         match self.id() {
             Some(id) => Index::Id(id),
@@ -163,23 +267,34 @@ impl<'a> Reader<'a> {
         }
     }
 
-    /// An index, if there is one.
-    fn optional_index(&mut self) -> Option<Index<'a>> {
-        match self.is_close() {
+    /// The index of a function, if there is one.
+    fn function_index(&mut self) -> Option<Index<'a>>
+        ensures { Decides function_index self.old self.new (bare_index_option result) }
+    {
+        match self.is_close(0) {
             true => None,
             false => Some(self.index()),
         }
     }
 
     /// The heap type of a word, if it is next.
-    fn abstract_heap(&mut self) -> Option<AbstractHeapType> {
-        let ty = heap_type_of(self.word(0)?)?;
-        self.skip();
-        Some(ty)
+    fn abstract_heap(&mut self) -> Option<AbstractHeapType>
+        ensures { Finds abstract_heap self.old self.new result }
+    {
+        let found = match self.word(0) {
+            Some(word) => heap_type_of(word),
+            None => None,
+        };
+        if found.is_some() {
+            self.skip();
+        }
+        found
     }
 
     /// A heap type after `(shared`.
-    fn shared_heap(&mut self) -> HeapType<'a> {
+    fn shared_heap(&mut self) -> HeapType<'a>
+        ensures { Decides shared_heap self.old self.new (bare_heap result) }
+    {
         let ty = match self.abstract_heap() {
             Some(ty) => ty,
             None => {
@@ -192,15 +307,20 @@ impl<'a> Reader<'a> {
     }
 
     /// The index of a type, which is the heap type if no word is.
-    fn type_index(&mut self) -> Index<'a> {
-        if !matches!(self.look(0), Some(Token::Id(_))) && !self.is_number() {
+    #[tactic(auto, using(crate::proofs::Unsigned::no_index))]
+    fn type_index(&mut self) -> Index<'a>
+        ensures { Decides index self.old self.new (bare_index result) }
+    {
+        if !self.is_id() && !self.is_number() {
             self.expected("a heap type");
         }
         self.index()
     }
 
     /// A heap type (text format, heap types).
-    fn heap_type(&mut self) -> HeapType<'a> {
+    fn heap_type(&mut self) -> HeapType<'a>
+        ensures { Decides heap_type self.old self.new (bare_heap result) }
+    {
         if self.accept_form("shared") {
             return self.shared_heap();
         }
@@ -211,116 +331,225 @@ impl<'a> Reader<'a> {
     }
 
     /// The type of a null reference, which a result may leave out.
-    fn null_type(&mut self, usage: Use) -> Option<HeapType<'a>> {
+    fn null_type(&mut self, usage: Use) -> Option<HeapType<'a>>
+        ensures { Decides (null_type usage) self.old self.new (option_map bare_heap result) }
+    {
         match usage {
-            Use::Result if self.is_close() => None,
-            _ => Some(self.heap_type()),
+            Use::Result => match self.is_close(0) {
+                true => None,
+                false => Some(self.heap_type()),
+            },
+            Use::Argument => Some(self.heap_type()),
         }
     }
 
-    /// What is returned if there is no value.
-    fn no_value(&mut self, usage: Use) -> Value<'a> {
-        self.expected(match usage {
-            Use::Argument => "a value",
-            Use::Result => "a result",
-        });
-        Value::I32(0)
-    }
-
-    /// A value from its word on, which is read.
-    fn constant(&mut self, word: Constant, usage: Use) -> Value<'a> {
+    /// A value after its word, if it is no vector.
+    fn scalar(&mut self, word: Constant, usage: Use) -> Value<'a>
+        requires { word ≢ constant.V128 }
+        ensures decides { Decides (constant_of word usage) self.old self.new (value_in [] result) }
+        ensures plain { (ls : List Number) → value_in ls result ≡ value_in [] result }
+        ensures few { (n : ℕ) → HasLanes n result }
+    {
         match word {
             Constant::I32 => Value::I32(self.integer32()),
             Constant::I64 => Value::I64(self.integer64()),
             Constant::F32 => Value::F32(self.float32(usage)),
             Constant::F64 => Value::F64(self.float64(usage)),
-            Constant::V128 => self.vector(usage),
+            Constant::V128 => Value::I32(0),
             Constant::RefNull => Value::RefNull(self.null_type(usage)),
-            Constant::RefExtern => Value::RefExtern(self.number_of(usage)),
+            Constant::RefExtern => Value::RefExtern(self.host_number(usage)),
             Constant::RefHost => Value::RefHost(self.unsigned32()),
-            Constant::RefFunc => Value::RefFunc(self.optional_index()),
+            Constant::RefFunc => Value::RefFunc(self.function_index()),
             Constant::Ref(ty, shared) => Value::Ref(HeapType::Abstract { shared, ty }),
         }
     }
 
+    /// A value after its word.
+    fn constant(&mut self, word: Constant, usage: Use) -> Value<'a>
+        ensures { ReadsValue (constant_of word usage) self.old self.new result }
+    {
+        match word {
+            Constant::V128 => self.vector(usage),
+            _ => self.scalar(word, usage),
+        }
+    }
+
     /// The word that begins a value of this use, if it is next.
-    fn constant_word(&self, usage: Use) -> Option<Constant> {
-        match (usage, constant_of(self.word(0)?)?) {
+    fn allowed_word(&self, usage: Use) -> Option<Constant>
+        ensures { result ≡ value_word usage (peek 0 (left self.now)) }
+    {
+        let word = match self.word(0) {
+            Some(word) => constant_of(word)?,
+            None => return None,
+        };
+        match (usage, word) {
             (Use::Argument, Constant::RefFunc | Constant::Ref(_, _)) => None,
-            (_, word) => Some(word),
+            _ => Some(word),
+        }
+    }
+
+    /// Reads the word that begins a value of this use.
+    fn constant_word(&mut self, usage: Use) -> Constant
+        ensures { Decides (next_constant usage) self.old self.new result }
+    {
+        match self.allowed_word(usage) {
+            Some(word) => {
+                self.skip();
+                word
+            }
+            None => {
+                self.expected(match usage {
+                    Use::Argument => "a value",
+                    Use::Result => "a result",
+                });
+                Constant::I32
+            }
         }
     }
 
     /// A value in its parentheses.
-    fn form(&mut self, usage: Use) {
+    fn form(&mut self, usage: Use) -> Value<'a>
+        ensures { ReadsValue (value usage) self.old self.new result }
+    {
         self.open();
-        let value = match self.constant_word(usage) {
-            Some(word) => {
-                self.skip();
-                self.constant(word, usage)
-            }
-            None => self.no_value(usage),
-        };
+        let word = self.constant_word(usage);
+        let value = self.constant(word, usage);
         self.close();
+        value
+    }
+
+    /// Adds a value.
+    #[tactic(auto, unfolding(crate::specs::Readers::left), using(crate::proofs::Pushing::value_pushed, crate::proofs::Pushing::value_failed))]
+    fn push_value(&mut self, value: Value<'a>)
+        ensures { PushesValue self.old self.new value.entry }
+    {
+        match self.lists.values.push(value) {
+            Ok(()) => (),
+            Err(_) => self.no_memory(),
+        }
+    }
+
+    /// Reads a value, and adds it.
+    fn one_value(&mut self, usage: Use)
+        ensures { ReadsOnto (one_value usage) self.old self.new }
+    {
+        let value = self.form(usage);
         self.push_value(value);
     }
 
     /// One step in the alternatives of `either`, of which so many are open; how many are then. An `either` in another is
     /// one with it, because both are for a result that is one of their values.
-    fn alternative(&mut self, depth: usize) -> usize {
-        if self.is_close() {
+    fn alternative(&mut self, depth: u128) -> u128
+        requires { depth < 2 ^ 127 }
+        ensures { TakesAlternative depth result self.old self.new }
+    {
+        if self.is_close(0) {
             self.skip();
             return depth.saturating_sub(1);
         }
         if self.accept_form("either") {
-            return depth.saturating_add(1);
+            return depth + 1;
         }
-        self.form(Use::Result);
+        self.one_value(Use::Result);
         depth
     }
 
-    /// The alternatives of `either`, which is read.
-    fn alternatives(&mut self) {
-        let mut depth = 1_usize;
+    /// Steps in the alternatives of `either`, up to its end or to the last token. Returns how many are open then.
+    #[tactic(auto, using(crate::proofs::Onto::adds_first, crate::proofs::Onto::takes_end, crate::proofs::Onto::takes_last))]
+    fn alternative_steps(&mut self) -> u128
+        ensures { TakesAlternatives result self.old self.new }
+    {
+        let mut depth = 1_u128;
         for _ in 0..self.left() {
             if depth == 0 {
                 break;
             }
             depth = self.alternative(depth);
         }
+        depth
+    }
+
+    /// The alternatives of `either`, which is read.
+    #[tactic(auto, using(crate::proofs::Onto::all_taken, crate::proofs::Onto::none_taken))]
+    fn alternatives(&mut self)
+        ensures { ReadsOnto all_alternatives self.old self.new }
+    {
+        let depth = self.alternative_steps();
         if depth > 0 {
             self.expected("`)`");
         }
     }
 
+    /// Counts the alternatives of `either` in its value, which has this number among all values.
+    #[tactic(auto, unfolding(crate::specs::Readers::left))]
+    fn set_either(&mut self, at: usize, count: usize)
+        ensures { SetsEither at count self.old self.new }
+    {
+        if at < self.lists.values.len() {
+            self.lists.values[at] = Value::Either(count);
+        }
+    }
+
     /// `either`, which is read, and its alternatives.
-    fn either(&mut self) {
-        let at = self.values.len();
+    fn either(&mut self)
+        ensures { ReadsOnto either self.old self.new }
+    {
+        let at = self.lists.values.len();
         self.push_value(Value::Either(0));
         self.alternatives();
-        let count = self.values.len().saturating_sub(at.saturating_add(1));
-        if let Some(value) = self.values.get_mut(at) {
-            *value = Value::Either(count);
+        let count = self.lists.values.len().saturating_sub(at.saturating_add(1));
+        self.set_either(at, count);
+    }
+
+    /// A result: a value or `either`.
+    fn one_result(&mut self)
+        ensures { ReadsOnto (argument_or_result usage.Result) self.old self.new }
+    {
+        match self.accept_form("either") {
+            true => self.either(),
+            false => self.one_value(Use::Result),
         }
     }
 
     /// A value, or for a result `either`.
-    fn value_or_either(&mut self, usage: Use) {
+    fn argument_or_result(&mut self, usage: Use)
+        ensures { ReadsOnto (argument_or_result usage) self.old self.new }
+    {
         match usage {
-            Use::Result if self.accept_form("either") => self.either(),
-            _ => self.form(usage),
+            Use::Argument => self.one_value(Use::Argument),
+            Use::Result => self.one_result(),
         }
     }
 
     /// Reads values up to the end of the form, or up to what is no form.
-    pub(crate) fn values_of(&mut self, usage: Use) -> Part {
-        let start = self.values.len();
+    #[tactic(auto, using(crate::proofs::Onto::adds_first, crate::proofs::Onto::adds_last, crate::proofs::Lists::list_end, crate::proofs::Lists::list_last))]
+    fn all_values(&mut self, usage: Use)
+        ensures { ReadsOnto (values usage) self.old self.new }
+    {
         for _ in 0..self.left() {
             if !self.is_open() {
                 break;
             }
-            self.value_or_either(usage);
+            self.argument_or_result(usage);
         }
-        self.values_from(start)
+    }
+
+    /// Reads values. Returns the part of the values that they are.
+    pub(crate) fn values_of(&mut self, usage: Use) -> Part
+        ensures { Reads (values usage) self.old self.new (λ vs. part result vs) (λ n. result.end ≤ n) }
+    {
+        let start = self.lists.values.len();
+        self.all_values(usage);
+        let end = self.lists.values.len();
+        Part { start, end }
+    }
+
+    /// Returns the part of the values that no value is.
+    #[tactic(auto, using(crate::proofs::Parts::part_empty))]
+    pub(crate) fn no_values(&self) -> Part
+        ensures none { (vs : List ListedValue) → part result vs ≡ [] }
+        ensures end { result.end ≡ 0 }
+    {
+        Part { start: 0, end: 0 }
     }
 }

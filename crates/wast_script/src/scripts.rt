@@ -1,13 +1,18 @@
 //! Scripts, and the modules in them.
 
-ghost use Rattle.std.specs.Prelude.{◌≤◌, length, All, IsTrue, IfOk, IfErr};
+ghost use Rattle.std.specs.Prelude.{◌≡◌, ◌≤◌, ◌++◌, length, map, min, All, IsTrue, IfOk, IfErr, OnOk, None, Some};
 ghost use Rattle.wat_text.specs.Texts.{is_well_formed_text};
+ghost use Rattle.wast_script.specs.Grammar.{script_in, script_of};
+ghost use Rattle.wat_syntax.specs.Bare.{bare_placed};
+ghost use Rattle.wast_script.specs.Scripts.{part, module_in, string_bytes, joined_bytes, placed_up_to, script_tokens, commands_of};
+ghost use Rattle.wast_script.specs.Modules.{last_position, IsModuleOf, IsNoModuleOf};
+ghost use Rattle.wast_script.specs.Readers.{IsRefusal, IsNew};
 
 use crate::commands::{Command, ScriptModule};
-use crate::reader::Reader;
+use crate::reader::{Lists, Reader};
 use crate::values::{Number, Part, Value};
 use std::alloc::{AllocError, Global};
-use wast_tree::Span;
+use wast_base::Span;
 use wat_text::{TextModule, read_module_tokens};
 use wat_tokens::{Placed, Strings, TextError, TextFault, Token, tokens_of};
 
@@ -29,7 +34,8 @@ pub struct Script<'a> {
 
 /// Moves a position to the end of the text, if it is after it.
 fn within(text: &str, span: Span) -> Span
-    ensures { result.offset ≤ length text.now }
+    ensures value { result ≡ record { offset = min span.offset (length text.now) } }
+    ensures within { result.offset ≤ length text.now }
 {
     Span {
         offset: span.offset.min(text.len()),
@@ -38,7 +44,8 @@ fn within(text: &str, span: Span) -> Span
 
 /// Moves the position of an error to the end of the text, if it is after it.
 fn error_within(text: &str, error: TextError) -> TextError
-    ensures { result.span.offset ≤ length text.now }
+    ensures fault { result.fault ≡ error.fault }
+    ensures within { result.span.offset ≤ length text.now }
 {
     TextError {
         span: within(text, error.span),
@@ -47,12 +54,14 @@ fn error_within(text: &str, error: TextError) -> TextError
 }
 
 /// Moves the positions of commands to the end of the text, if they are after it.
+#[tactic(auto, using(crate::proofs::Reading::placed_more, crate::proofs::Reading::all_within))]
 fn commands_within<'a>(
     alloc: Global,
     text: &str,
     commands: &[Command<'a>],
 ) -> Result<Vec<Command<'a>>, AllocError>
-    ensures { IfOk result (λ found. All (λ c. c.span.offset ≤ length text.now) found.items) }
+    ensures places { IfOk result (λ found. All (λ c. c.span.offset ≤ length text.now) found.items) }
+    ensures same { IfOk result (λ found. found.items ≡ map (placed_up_to (length text.now)) commands.now) }
 {
     let mut found = Vec::new(alloc);
     for at in 0..commands.len() {
@@ -69,27 +78,38 @@ fn script_read<'a>(
     text: &'a str,
     reader: Reader<'a>,
 ) -> Result<Script<'a>, AllocError>
-    ensures { IfOk result (λ s. All (λ c. c.span.offset ≤ length text.now) s.commands.items) }
+    ensures places { IfOk result (λ s. All (λ c. c.span.offset ≤ length text.now) s.commands.items) }
+    ensures commands { IfOk result (λ s. s.commands.items ≡ map (placed_up_to (length text.now)) reader.entry.lists.commands.items) }
+    ensures values { IfOk result (λ s. s.values ≡ reader.entry.lists.values) }
+    ensures lanes { IfOk result (λ s. s.lanes ≡ reader.entry.lists.lanes) }
+    ensures tokens { IfOk result (λ s. s.tokens ≡ reader.entry.tokens) }
 {
-    let commands = commands_within(alloc, text, reader.commands.as_slice())?;
+    let Reader { tokens, lists, .. } = reader;
+    let Lists {
+        commands,
+        values,
+        lanes,
+    } = lists;
+    let commands = commands_within(alloc, text, commands.as_slice())?;
     Ok(Script {
         text,
         commands,
-        values: reader.values,
-        lanes: reader.lanes,
-        tokens: reader.tokens,
+        values,
+        lanes,
+        tokens,
     })
 }
 
-/// The script of a text, wherever its faults are.
-fn script_of<'a>(
+/// The script of the tokens of a text.
+fn script_of_tokens<'a>(
     alloc: Global,
     text: &'a str,
-    strings: &'a Strings,
+    tokens: Vec<Placed<'a>>,
 ) -> Result<Script<'a>, TextError>
-    ensures { IfOk result (λ s. All (λ c. c.span.offset ≤ length text.now) s.commands.items) }
+    ensures places { IfOk result (λ s. All (λ c. c.span.offset ≤ length text.now) s.commands.items) }
+    ensures commands { IfOk result (λ s. script_in text.now (map bare_placed tokens.entry.items) ≡ Some (commands_of s)) }
+    ensures refuses { IfErr result (λ e. IsRefusal e.fault → script_in text.now (map bare_placed tokens.entry.items) ≡ None) }
 {
-    let tokens = tokens_of(alloc, text, strings)?;
     let end = Span { offset: text.len() };
     let mut reader = Reader::new(alloc, tokens, end);
     reader.script();
@@ -99,6 +119,22 @@ fn script_of<'a>(
     match script_read(alloc, text, reader) {
         Ok(script) => Ok(script),
         Err(_) => Err(TextError::new(end, TextFault::Memory)),
+    }
+}
+
+/// The script of a text, wherever its faults are.
+fn script_of<'a>(
+    alloc: Global,
+    text: &'a str,
+    strings: &'a Strings,
+) -> Result<Script<'a>, TextError>
+    ensures places { IfOk result (λ s. All (λ c. c.span.offset ≤ length text.now) s.commands.items) }
+    ensures commands { IfOk result (λ s. script_of text.now ≡ Some (commands_of s)) }
+    ensures refuses { IfErr result (λ e. IsRefusal e.fault → script_of text.now ≡ None) }
+{
+    match tokens_of(alloc, text, strings) {
+        Ok(tokens) => script_of_tokens(alloc, text, tokens),
+        Err(error) => Err(error),
     }
 }
 
@@ -115,13 +151,18 @@ fn script_of<'a>(
 ///
 /// # Guarantees
 ///
+/// - `commands`: the commands are those that the rules of scripts read from the text (`script_of`), in order.
+/// - `refuses`: unless the error is [`TextFault::Memory`], the rules read the text as no script.
 /// - `places`: the position of each command is in the text or at its end.
 /// - `place`: and so is that of an error.
+#[tactic(auto, using(crate::proofs::Reading::moved))]
 pub fn read_script<'a>(
     alloc: Global,
     text: &'a str,
     strings: &'a Strings,
 ) -> Result<Script<'a>, TextError>
+    ensures commands { IfOk result (λ s. script_of text.now ≡ Some (commands_of s)) }
+    ensures refuses { IfErr result (λ e. IsRefusal e.fault → script_of text.now ≡ None) }
     ensures places { IfOk result (λ s. All (λ c. c.span.offset ≤ length text.now) s.commands.items) }
     ensures place { IfErr result (λ e. e.span.offset ≤ length text.now) }
 {
@@ -132,22 +173,46 @@ pub fn read_script<'a>(
 }
 
 /// The elements of a part of a list; none if the list has no such part.
-fn part_of<T: Copy>(list: &[T], part: Part) -> &[T] {
-    list.get(part.start..part.end).unwrap_or(&[])
+#[tactic(auto, using(crate::proofs::Parts::part_is, crate::proofs::Parts::part_before, crate::proofs::Parts::part_beyond))]
+fn part_of<T: Copy>(list: &[T], of: Part) -> &[T]
+    ensures { result.now ≡ part of list.now }
+{
+    if of.start > of.end {
+        return &[];
+    }
+    if of.end > list.len() {
+        return &[];
+    }
+    &list[of.start..of.end]
 }
 
 /// Adds the elements of a part of a list of tokens to another list.
 fn add_tokens<'a>(
     out: &mut Vec<Placed<'a>>,
     tokens: &[Placed<'a>],
-    part: Part,
-) -> Result<(), AllocError> {
-    out.extend_from_slice(part_of(tokens, part))
+    of: Part,
+) -> Result<(), AllocError>
+    ensures { OnOk result (out.new.items ≡ out.old.items ++ part of tokens.now) }
+{
+    out.extend_from_slice(part_of(tokens, of))
 }
 
-/// The position of the last token of a part, or the start of the text if it has none.
-fn last_place(tokens: &[Placed<'_>], part: Part) -> Span {
-    match part_of(tokens, part).last() {
+/// The bytes of a string; none of another token.
+fn string_of<'a>(token: Token<'a>) -> &'a [u8]
+    ensures { result.now ≡ string_bytes token.entry }
+{
+    match token {
+        Token::String(bytes) => bytes,
+        _ => &[],
+    }
+}
+
+/// The position of the last of some tokens, or the start of the text if there is none.
+#[tactic(auto, using(crate::proofs::Meant::last_is, crate::proofs::Meant::no_last))]
+fn last_place(tokens: &[Placed<'_>]) -> Span
+    ensures { result ≡ last_position (map bare_placed tokens.now) }
+{
+    match tokens.get(tokens.len().saturating_sub(1)) {
         Some(placed) => placed.span,
         None => Span::default(),
     }
@@ -155,13 +220,17 @@ fn last_place(tokens: &[Placed<'_>], part: Part) -> Span {
 
 impl<'a> Script<'a> {
     /// Returns the values of a part: the arguments of an action, or the results of an assertion. Does not allocate.
-    pub fn values_in(&self, part: Part) -> &[Value<'a>] {
-        part_of(self.values.as_slice(), part)
+    pub fn values_in(&self, of: Part) -> &[Value<'a>]
+        ensures { result.now ≡ part of self.now.values.items }
+    {
+        part_of(self.values.as_slice(), of)
     }
 
     /// Returns the lanes of a vector. Does not allocate.
-    pub fn lanes_in(&self, part: Part) -> &[Number] {
-        part_of(self.lanes.as_slice(), part)
+    pub fn lanes_in(&self, of: Part) -> &[Number]
+        ensures { result.now ≡ part of self.now.lanes.items }
+    {
+        part_of(self.lanes.as_slice(), of)
     }
 
     /// The tokens of a module, without the word `definition`.
@@ -169,26 +238,38 @@ impl<'a> Script<'a> {
         &self,
         alloc: Global,
         module: &ScriptModule<'a>,
-    ) -> Result<Vec<Placed<'a>>, AllocError> {
+    ) -> Result<Vec<Placed<'a>>, AllocError>
+        ensures { IfOk result (λ found. found.items ≡ part «module».now.head self.now.tokens.items ++ part «module».now.rest self.now.tokens.items) }
+    {
         let mut tokens = Vec::new(alloc);
         add_tokens(&mut tokens, self.tokens.as_slice(), module.head)?;
         add_tokens(&mut tokens, self.tokens.as_slice(), module.rest)?;
         Ok(tokens)
     }
 
+    /// The position of the last token of a module.
+    fn last_of(&self, module: &ScriptModule<'a>) -> Span {
+        last_place(part_of(self.tokens.as_slice(), module.rest))
+    }
+
     /// Reads a module, wherever its faults are.
+    #[tactic(auto, using(crate::proofs::Meant::no_memory))]
     fn read_module(
         &self,
         alloc: Global,
         module: &ScriptModule<'a>,
         strings: &'a Strings,
     ) -> Result<TextModule<'a>, TextError>
-        ensures { IfOk result (λ m. IsTrue (is_well_formed_text m.kind)) }
+        ensures well_formed { IfOk result (λ m. IsTrue (is_well_formed_text m.kind)) }
+        ensures denotes { IfOk result (IsModuleOf (module_in (script_tokens self.now) «module».now)) }
+        ensures refuses { IfErr result (λ e. IsNoModuleOf (module_in (script_tokens self.now) «module».now) e.fault) }
     {
-        let end = last_place(self.tokens.as_slice(), module.rest);
         match self.tokens_of(alloc, module) {
-            Ok(tokens) => read_module_tokens(alloc, tokens, end, strings),
-            Err(_) => Err(TextError::new(end, TextFault::Memory)),
+            Ok(tokens) => {
+                let end = last_place(tokens.as_slice());
+                read_module_tokens(alloc, tokens, end, strings)
+            }
+            Err(_) => Err(TextError::new(self.last_of(module), TextFault::Memory)),
         }
     }
 
@@ -203,6 +284,8 @@ impl<'a> Script<'a> {
     /// # Guarantees
     ///
     /// - `well_formed`: the fields are well formed.
+    /// - `denotes`: the rules of the text format read the tokens of this module of the script as the module that is returned.
+    /// - `refuses`: unless the error is [`TextFault::Memory`], they read these tokens as no module, or as one that is not well formed.
     /// - `place`: the position of an error is in the text of the script or at its end.
     pub fn read(
         &self,
@@ -211,6 +294,8 @@ impl<'a> Script<'a> {
         strings: &'a Strings,
     ) -> Result<TextModule<'a>, TextError>
         ensures well_formed { IfOk result (λ m. IsTrue (is_well_formed_text m.kind)) }
+        ensures denotes { IfOk result (IsModuleOf (module_in (script_tokens self.now) «module».now)) }
+        ensures refuses { IfErr result (λ e. IsNoModuleOf (module_in (script_tokens self.now) «module».now) e.fault) }
         ensures place { IfErr result (λ e. e.span.offset ≤ length self.now.text.now) }
     {
         match self.read_module(alloc, module, strings) {
@@ -225,12 +310,18 @@ impl<'a> Script<'a> {
     /// # Errors
     ///
     /// [`AllocError`]: allocation failed.
-    pub fn bytes(&self, alloc: Global, module: &ScriptModule<'a>) -> Result<Vec<u8>, AllocError> {
+    ///
+    /// # Guarantees
+    ///
+    /// - `strings`: the bytes are those of the strings of this module, one after another.
+    #[tactic(auto, using(crate::proofs::Joining::joined_none))]
+    pub fn bytes(&self, alloc: Global, module: &ScriptModule<'a>) -> Result<Vec<u8>, AllocError>
+        ensures strings { IfOk result (λ b. b.items ≡ joined_bytes (module_in (script_tokens self.now) «module».now).strings) }
+    {
+        let tokens = part_of(self.tokens.as_slice(), module.strings);
         let mut bytes = Vec::new(alloc);
-        for placed in part_of(self.tokens.as_slice(), module.strings) {
-            if let Token::String(piece) = placed.token {
-                bytes.extend_from_slice(piece)?;
-            }
+        for placed in tokens {
+            bytes.extend_from_slice(string_of(placed.token))?;
         }
         Ok(bytes)
     }
@@ -248,9 +339,7 @@ impl<'a> Script<'a> {
     fn end(&self, module: &ScriptModule<'a>) -> usize {
         match module.head.start == module.head.end {
             true => self.text.len(),
-            false => last_place(self.tokens.as_slice(), module.rest)
-                .offset
-                .saturating_add(1),
+            false => self.last_of(module).offset.saturating_add(1),
         }
     }
 

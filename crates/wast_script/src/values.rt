@@ -1,6 +1,10 @@
 //! Values of a script: arguments, and what results have to be.
 
-use wast_tree::{HeapType, Index};
+ghost use Rattle.std.specs.Prelude.{◌≡◌};
+ghost use Rattle.wast_script.specs.Constants.{lane_count};
+
+use wast_base::Index;
+use wast_tree_nodes::HeapType;
 
 /// A part of a list of a script: the elements from `start` on, up to `end`, which is not among them.
 #[derive(Clone, Copy, Debug, PartialEq, Eq)]
@@ -41,7 +45,9 @@ pub enum Shape {
 
 impl Shape {
     /// Returns how many lanes a vector of this shape has: 16 for `i8x16`.
-    pub fn lanes(self) -> usize {
+    pub fn lanes(self) -> usize
+        ensures { result ≡ lane_count self }
+    {
         match self {
             Shape::I8x16 => 16,
             Shape::I16x8 => 8,

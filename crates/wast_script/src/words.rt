@@ -1,6 +1,17 @@
 //! The words that begin commands and values.
 
-use wast_tree::AbstractHeapType;
+ghost use Rattle.std.specs.Prelude.{◌≡◌};
+ghost use Rattle.wast_script.specs.Words.{verb_named, constant_named, heap_type_named, shape_named};
+
+use crate::values::Shape;
+use wast_tree_nodes::AbstractHeapType;
+
+/// Whether a value is an argument, or what a result has to be.
+#[derive(Clone, Copy)]
+pub(crate) enum Use {
+    Argument,
+    Result,
+}
 
 /// The word that begins a command.
 #[derive(Clone, Copy)]
@@ -23,34 +34,29 @@ pub(crate) enum Verb {
     Wait,
 }
 
-/// The words of commands.
-static VERBS: [(&str, Verb); 16] = [
-    ("module", Verb::Module),
-    ("register", Verb::Register),
-    ("invoke", Verb::Invoke),
-    ("get", Verb::Get),
-    ("assert_return", Verb::AssertReturn),
-    ("assert_trap", Verb::AssertTrap),
-    ("assert_exhaustion", Verb::AssertExhaustion),
-    ("assert_exception", Verb::AssertException),
-    ("assert_suspension", Verb::AssertSuspension),
-    ("assert_malformed", Verb::AssertMalformed),
-    ("assert_malformed_custom", Verb::AssertMalformedCustom),
-    ("assert_invalid", Verb::AssertInvalid),
-    ("assert_invalid_custom", Verb::AssertInvalidCustom),
-    ("assert_unlinkable", Verb::AssertUnlinkable),
-    ("thread", Verb::Thread),
-    ("wait", Verb::Wait),
-];
-
 /// Returns the verb of a word, if it begins a command.
-pub(crate) fn verb_of(word: &str) -> Option<Verb> {
-    for entry in &VERBS {
-        if entry.0 == word {
-            return Some(entry.1);
-        }
+pub(crate) fn verb_of(word: &str) -> Option<Verb>
+    ensures { result ≡ verb_named word.now }
+{
+    match word {
+        "module" => Some(Verb::Module),
+        "register" => Some(Verb::Register),
+        "invoke" => Some(Verb::Invoke),
+        "get" => Some(Verb::Get),
+        "assert_return" => Some(Verb::AssertReturn),
+        "assert_trap" => Some(Verb::AssertTrap),
+        "assert_exhaustion" => Some(Verb::AssertExhaustion),
+        "assert_exception" => Some(Verb::AssertException),
+        "assert_suspension" => Some(Verb::AssertSuspension),
+        "assert_malformed" => Some(Verb::AssertMalformed),
+        "assert_malformed_custom" => Some(Verb::AssertMalformedCustom),
+        "assert_invalid" => Some(Verb::AssertInvalid),
+        "assert_invalid_custom" => Some(Verb::AssertInvalidCustom),
+        "assert_unlinkable" => Some(Verb::AssertUnlinkable),
+        "thread" => Some(Verb::Thread),
+        "wait" => Some(Verb::Wait),
+        _ => None,
     }
-    None
 }
 
 /// The word that begins a value.
@@ -69,59 +75,64 @@ pub(crate) enum Constant {
     Ref(AbstractHeapType, bool),
 }
 
-/// The words of values.
-static CONSTANTS: [(&str, Constant); 15] = [
-    ("i32.const", Constant::I32),
-    ("i64.const", Constant::I64),
-    ("f32.const", Constant::F32),
-    ("f64.const", Constant::F64),
-    ("v128.const", Constant::V128),
-    ("ref.null", Constant::RefNull),
-    ("ref.extern", Constant::RefExtern),
-    ("ref.host", Constant::RefHost),
-    ("ref.func", Constant::RefFunc),
-    ("ref.any", Constant::Ref(AbstractHeapType::Any, false)),
-    ("ref.eq", Constant::Ref(AbstractHeapType::Eq, false)),
-    ("ref.i31", Constant::Ref(AbstractHeapType::I31, false)),
-    ("ref.i31_shared", Constant::Ref(AbstractHeapType::I31, true)),
-    ("ref.struct", Constant::Ref(AbstractHeapType::Struct, false)),
-    ("ref.array", Constant::Ref(AbstractHeapType::Array, false)),
-];
-
 /// Returns the value that a word begins.
-pub(crate) fn constant_of(word: &str) -> Option<Constant> {
-    for entry in &CONSTANTS {
-        if entry.0 == word {
-            return Some(entry.1);
-        }
+pub(crate) fn constant_of(word: &str) -> Option<Constant>
+    ensures { result ≡ constant_named word.now }
+{
+    match word {
+        "i32.const" => Some(Constant::I32),
+        "i64.const" => Some(Constant::I64),
+        "f32.const" => Some(Constant::F32),
+        "f64.const" => Some(Constant::F64),
+        "v128.const" => Some(Constant::V128),
+        "ref.null" => Some(Constant::RefNull),
+        "ref.extern" => Some(Constant::RefExtern),
+        "ref.host" => Some(Constant::RefHost),
+        "ref.func" => Some(Constant::RefFunc),
+        "ref.any" => Some(Constant::Ref(AbstractHeapType::Any, false)),
+        "ref.eq" => Some(Constant::Ref(AbstractHeapType::Eq, false)),
+        "ref.i31" => Some(Constant::Ref(AbstractHeapType::I31, false)),
+        "ref.i31_shared" => Some(Constant::Ref(AbstractHeapType::I31, true)),
+        "ref.struct" => Some(Constant::Ref(AbstractHeapType::Struct, false)),
+        "ref.array" => Some(Constant::Ref(AbstractHeapType::Array, false)),
+        _ => None,
     }
-    None
 }
 
-/// The words of heap types.
-static HEAP_TYPES: [(&str, AbstractHeapType); 14] = [
-    ("func", AbstractHeapType::Func),
-    ("extern", AbstractHeapType::Extern),
-    ("exn", AbstractHeapType::Exn),
-    ("noexn", AbstractHeapType::NoExn),
-    ("any", AbstractHeapType::Any),
-    ("eq", AbstractHeapType::Eq),
-    ("struct", AbstractHeapType::Struct),
-    ("array", AbstractHeapType::Array),
-    ("nofunc", AbstractHeapType::NoFunc),
-    ("noextern", AbstractHeapType::NoExtern),
-    ("none", AbstractHeapType::None),
-    ("i31", AbstractHeapType::I31),
-    ("cont", AbstractHeapType::Cont),
-    ("nocont", AbstractHeapType::NoCont),
-];
-
 /// Returns the heap type of a word (text format, heap types).
-pub(crate) fn heap_type_of(word: &str) -> Option<AbstractHeapType> {
-    for entry in &HEAP_TYPES {
-        if entry.0 == word {
-            return Some(entry.1);
-        }
+pub(crate) fn heap_type_of(word: &str) -> Option<AbstractHeapType>
+    ensures { result ≡ heap_type_named word.now }
+{
+    match word {
+        "func" => Some(AbstractHeapType::Func),
+        "extern" => Some(AbstractHeapType::Extern),
+        "exn" => Some(AbstractHeapType::Exn),
+        "noexn" => Some(AbstractHeapType::NoExn),
+        "any" => Some(AbstractHeapType::Any),
+        "eq" => Some(AbstractHeapType::Eq),
+        "struct" => Some(AbstractHeapType::Struct),
+        "array" => Some(AbstractHeapType::Array),
+        "nofunc" => Some(AbstractHeapType::NoFunc),
+        "noextern" => Some(AbstractHeapType::NoExtern),
+        "none" => Some(AbstractHeapType::None),
+        "i31" => Some(AbstractHeapType::I31),
+        "cont" => Some(AbstractHeapType::Cont),
+        "nocont" => Some(AbstractHeapType::NoCont),
+        _ => None,
     }
-    None
+}
+
+/// Returns the shape of a word (text format, vector instructions).
+pub(crate) fn shape_of(word: &str) -> Option<Shape>
+    ensures { result ≡ shape_named word.now }
+{
+    match word {
+        "i8x16" => Some(Shape::I8x16),
+        "i16x8" => Some(Shape::I16x8),
+        "i32x4" => Some(Shape::I32x4),
+        "i64x2" => Some(Shape::I64x2),
+        "f32x4" => Some(Shape::F32x4),
+        "f64x2" => Some(Shape::F64x2),
+        _ => None,
+    }
 }

@@ -31,7 +31,7 @@ fn found_in<'a>(alloc: Global, text: &'a str, strings: &'a Strings) -> Option<Un
 }
 
 /// Returns an unsupported construct with its word and the position of that, as encoding the text of the module finds them. In quotes
-/// it has the position of the first string, and no word.
+/// it has the closest position known, and no word.
 fn as_written<'a>(
     alloc: Global,
     script: &Script<'a>,

@@ -1,0 +1,7 @@
+-- The goal of `bits_of32` that tactics leave open, closed by a lemma of Signs.
+use Rattle.std.proofs.Common.{sym}
+use Rattle.wast_script.proofs.Signs.{bits_not}
+use Rattle.wast_script.proofs.constants.bits_of32.Goals as goal
+
+pub returns-in-Err-clause-refuses : goal.returns-in-Err-clause-refuses
+returns-in-Err-clause-refuses c = λ r. bits_not 32 c.args.text.now c.in-Err.fault (sym c.in-Err.ensures)

@@ -1,0 +1,21 @@
+-- The goal of `integer32` that tactics leave open, closed by lemmas of Signs and Numerals (as in wat_text).
+use Rattle.std.proofs.Common.{rules, ◌∙◌, sym, subst}
+use Rattle.std.specs.Prelude.{option_map}
+use Rattle.std.specs.Int.{w32}
+use Rattle.std.proofs.Math.Facts.{to_z-of_z}
+use Rattle.wat_grammar.specs.Integers.{integer, signed_of}
+use Rattle.wat_syntax.specs.Instructions.{signed_number}
+use Rattle.wast_script.specs.Readers.{Decides}
+use Rattle.wast_script.proofs.Signs.{signed_is, signed_not}
+use Rattle.wast_script.proofs.Numerals.{number_read}
+use Rattle.wast_script.proofs.reader.Reader.integer32.Goals as goal
+
+pub returns : goal.returns
+returns c =
+    let v = c.value.ensures in
+    let text = c.number-text.result in
+    let read : Decides (signed_number 32) c.args.self.now c.value.new.self c.value.result =
+    number_read (λ t. option_map (signed_of 32) (integer 32 t)) c.args.self.now c.number-text.new.self c.value.new.self text c.value.result c.number-text.ensures
+    v.lists v.tokens v.clean (λ h. signed_is 32 text.now c.value.result (sym c.integer32.ensures ∙ v.gives h)) v.left v.keeps
+    (λ h r. let e = v.refuses h r in signed_not 32 text.now e.0 (sym c.integer32.ensures ∙ e.1)) in
+    subst (λ z. Decides (signed_number 32) c.args.self.now c.value.new.self z) (sym (to_z-of_z {w = w32} (search rules))) read
