@@ -141,11 +141,49 @@ static void generated(void) {
     expect(!strcmp(bytes, "a b."), "nothing is written");
 }
 
+/* Each status and each fault has its words. */
+static void words(void) {
+    static const char *const of_status[] = {
+        "success",
+        "a slice is too short",
+        "the text has a fault",
+        "the text or the name is not UTF-8",
+        "allocation failed",
+        "nothing has the name, or there is no such index space",
+        "a pointer is null, or a length is more than PTRDIFF_MAX",
+        "no such status",
+    };
+    static const char *const of_fault[] = {
+        "the text is not a well-formed module",
+        "an import comes after a definition",
+        "two items of one index space, or two locals, have the same id",
+        "two fields of a struct have the same id",
+        "nothing has this name",
+        "a type use has a type that is not a function type",
+        "a type index is out of bounds",
+        "an inline type is not the type at the index",
+        "the label at the end of a block is not that at its start",
+        "a field is accessed by name, but the type has no named fields",
+        "a count or a size does not fit in 32 bits",
+        "an unsupported construct, which resolves but cannot be encoded",
+        "allocation failed",
+        "the module is a component, not a core module",
+        "no such fault",
+    };
+    for (uint32_t i = 0; i < sizeof of_status / sizeof *of_status; i++) {
+        expect(!strcmp(rigyomad_status_text(i), of_status[i]), "a status has its words");
+    }
+    for (uint32_t i = 0; i < sizeof of_fault / sizeof *of_fault; i++) {
+        expect(!strcmp(rigyomad_fault_text(i), of_fault[i]), "a fault has its words");
+    }
+}
+
 int main(void) {
     bytes();
     faults();
     indices();
     lists();
     generated();
+    words();
     return 0;
 }

@@ -146,11 +146,6 @@ function unitsBefore(bytes, offsets) {
   });
 }
 
-/** The end of the token that begins at a place of a line: the place itself at the end of the line. */
-function tokenSize(line) {
-  return /^(?:"(?:[^"\\]|\\.)*"?|[$@]"(?:[^"\\]|\\.)*"?|\(@?|\)|[^\s()";]+|.)/u.exec(line)?.[0].length ?? 0;
-}
-
 /** The line of an error and a caret below it, as the command `wat` prints them. */
 function snippetOf(before, after, line, column) {
   const shown = (part) => part.split("\t").map(escaped).join("\t");
@@ -161,18 +156,16 @@ function snippetOf(before, after, line, column) {
   return `${margin}--> ${line}:${column}\n${margin} |\n${line} | ${head}${tail}\n${margin} | ${head.replace(/[^\t]/gu, " ")}^`;
 }
 
-/** An error at an offset of the bytes of a text. Lines end at a line feed. */
-function errorAt(text, bytes, offset, line, fields, message) {
-  const start = offset === 0 ? 0 : bytes.lastIndexOf(10, offset - 1) + 1;
-  const feed = bytes.indexOf(10, offset), end = feed < 0 ? bytes.length : feed;
-  const before = decoder.decode(bytes.subarray(start, offset));
-  const after = decoder.decode(bytes.subarray(offset, end)).replace(/\r$/, "");
-  const token = after.slice(0, tokenSize(after));
-  const isString = typeof text === "string";
-  const size = (part) => (isString ? part.length : encoder.encode(part).length);
-  const at = isString ? unitsBefore(bytes, [offset])[0] : offset;
-  const column = (isString ? before.length : offset - start) + 1;
-  return new WatError(message, { ...fields, line, column, start: at, end: at + size(token), snippet: snippetOf(before, after, line, column) });
+/** An error at a range of the bytes of a text. Lines end at a line feed. */
+function errorAt(text, bytes, offset, stop, line, fields, message) {
+  const first = offset === 0 ? 0 : bytes.lastIndexOf(10, offset - 1) + 1;
+  const feed = bytes.indexOf(10, offset), last = feed < 0 ? bytes.length : feed;
+  const before = decoder.decode(bytes.subarray(first, offset));
+  const after = decoder.decode(bytes.subarray(offset, last)).replace(/\r$/, "");
+  const isString = typeof text === "string", range = [offset, Math.max(offset, stop)];
+  const [start, end] = isString ? unitsBefore(bytes, range) : range;
+  const column = (isString ? before.length : offset - first) + 1;
+  return new WatError(message, { ...fields, line, column, start, end, snippet: snippetOf(before, after, line, column) });
 }
 
 /** The bytes of a text. `TextEncoder` writes another character for a lone surrogate, so that is an error here. */
@@ -181,8 +174,8 @@ function bytesOf(text) {
   const at = text.isWellFormed?.() ? -1 : text.search(/\p{Surrogate}/u);
   const bytes = encoder.encode(text);
   if (at < 0) return bytes;
-  const before = text.slice(0, at);
-  throw errorAt(text, bytes, encoder.encode(before).length, before.split("\n").length, {}, "lone surrogate in a string");
+  const before = text.slice(0, at), offset = encoder.encode(before).length;
+  throw errorAt(text, bytes, offset, offset + 3, before.split("\n").length, {}, "lone surrogate in a string");
 }
 
 /** Why a call with this status has no result. `rigyomad_c_fault` reads the text again, so it is called only then. */
@@ -199,7 +192,7 @@ function errorOf(calls, status, text, bytes, at) {
   } while (needed > room);
   const words = decoder.decode(calls.bytes(message, needed));
   const number = calls.word(diagnosis, 0, 4), offset = calls.word(diagnosis, 8), line = calls.word(diagnosis, 16);
-  if (line > 0) return errorAt(text, bytes, offset, line, { number }, words);
+  if (line > 0) return errorAt(text, bytes, offset, calls.word(diagnosis, 40), line, { number }, words);
   // Bytes that are not UTF-8 have an offset alone.
   return new WatError(words, { number, start: offset, end: offset });
 }

@@ -130,6 +130,40 @@ await test("one name", () => {
   assert.equal(errorOf(() => resolve("(module", "func", "f")).number, 0);
 });
 
+await test("names of each index space", () => {
+  const text = '(func $f) (table $x 1 funcref) (memory $m 1) (global $g i32 (i32.const 0)) (tag $e) (elem $s func) (data $d "") (type $t (func))';
+  const spaces = ["func", "table", "memory", "global", "tag", "elem", "data", "type"];
+  assert.deepEqual(names(text).map(({ space, index, name }) => [space, index, name]), spaces.map((space, at) => [space, 0, "fxmgesdt"[at]]));
+  for (const [at, space] of spaces.entries()) {
+    for (const other of spaces) assert.equal(resolve(text, other, "fxmgesdt"[at]), other === space ? 0 : undefined);
+  }
+});
+
+await test("as many names as fit in a text", () => {
+  const letters = [..."abcdefghijklmnopqrstuvwxyz"];
+  assert.deepEqual(names(letters.map((it) => `(tag $${it})`).join("")).map(({ name }) => name), letters);
+});
+
+await test("kinds have their numbers", () => {
+  for (const [text, number, kind] of [
+    ["(module", 0, "Malformed"],
+    ['(module (func) (import "" "" (func)))', 1, "ImportAfter"],
+    ["(module (func $f) (func $f))", 2, "Duplicate"],
+    ["(module (type (struct (field $x i32) (field $x i32))))", 3, "DuplicateField"],
+    ["(module (start $x))", 4, "Unknown"],
+    ["(module (type (struct)) (func (type 0) (param i32)))", 5, "NotFunc"],
+    ["(module (func (type 0) (param i32)))", 6, "OutOfBounds"],
+    ["(module (type (func)) (func (type 0) (param i32)))", 7, "NoMatch"],
+    ["(module (func block $a end $b))", 8, "Labels"],
+    ["(module (type $s (struct (field i32))) (func struct.get $s $x))", 9, "NoNamedFields"],
+    ["(module (type (func)) (type (cont 0)))", 11, "Uncovered"],
+  ]) {
+    const error = errorOf(() => parse(text));
+    assert.deepEqual([error.number, error.kind], [number, kind], text);
+  }
+  assert.deepEqual([10, 12, 13].map((number) => new WatError("", { number }).kind), ["TooLarge", "Memory", "Component"]);
+});
+
 await test("errors", () => {
   const of = (text) => fieldsOf(errorOf(() => parse(text)));
   assert.deepEqual(of("(module (start $f))"), {
@@ -140,6 +174,11 @@ await test("errors", () => {
   });
   assert.deepEqual(of("(module\n  (fun))"), { number: 0, kind: "Malformed", message: "expected valid module field, found `fun`; did you mean `func`?", line: 2, column: 4, start: 11, end: 14 });
   assert.deepEqual(of(Uint8Array.of(40, 109, 255)), { number: 0, kind: "Malformed", message: "malformed UTF-8 encoding", line: 0, column: 0, start: 2, end: 2 });
+  const range = (text) => { const { start, end } = errorOf(() => parse(text)); return [start, end]; };
+  assert.deepEqual(range("(module (func “f”))"), [14, 15]);
+  assert.deepEqual(range(encoder.encode("(module (func “f”))")), [14, 17]);
+  assert.deepEqual(range('(module (data "a\\q"))'), [16, 18]);
+  assert.deepEqual(range('(module (data "ab'), [14, 17]);
   const long = "n".repeat(300);
   assert.equal(of(`(module (start $${long}))`).message, `unknown func: failed to find name \`$${long}\``);
 });
@@ -154,6 +193,22 @@ await test("positions count units of a string, and bytes otherwise", () => {
   assert.equal(ofString.snippet, ' --> 2:21\n  |\n2 |  (func $"🎉€" (call $"nö")))\n  |                    ^');
 });
 
+await test("the end is that of what the error is about", () => {
+  for (const [text, part] of [
+    ["(module (func i32.const 1,000 drop))", ","],
+    ["(module (func (export “f”)))", "“"],
+    ['(module (data "🎉\\q"))', "\\q"],
+    ['(module (data "a\t"))', "\t"],
+    ["(module\n (func", ""],
+    ['(module\n (data "abc))\r\n', '"abc))'],
+    ["(module (@ a))", "@"],
+  ]) {
+    const ofString = errorOf(() => parse(text)), ofBytes = errorOf(() => parse(encoder.encode(text)));
+    assert.equal(text.slice(ofString.start, ofString.end), part);
+    assert.equal(Buffer.from(text).toString("utf8", ofBytes.start, ofBytes.end), part);
+  }
+});
+
 await test("the line of an error is cut, and has no controls", () => {
   const { snippet } = errorOf(() => parse(`(module (func (;${"x".repeat(200)};) call $f (;\u001b\u202e${"y".repeat(200)};)))`));
   const [, , line, caret] = snippet.split("\n");
@@ -163,7 +218,8 @@ await test("the line of an error is cut, and has no controls", () => {
 
 await test("a lone surrogate is an error", () => {
   const text = '(module\n (data "é\ud800"))', error = errorOf(() => parse(text));
-  assert.deepEqual([error.number, error.line, error.column, error.start], [0, 2, 10, text.indexOf("\ud800")]);
+  const at = text.indexOf("\ud800");
+  assert.deepEqual([error.number, error.line, error.column, error.start, error.end], [0, 2, 10, at, at + 1]);
   errorOf(() => names(text));
   assert.ok(parse('(module (data "\ud83c\udf89"))').length > 8);
 });
@@ -248,6 +304,15 @@ await test("control characters are printed as escapes", () => {
   for (const printed of [error.stack, inspect(error)]) {
     assert.ok(printed.includes(shown) && !/[\0-\x09\x0b-\x1f\x7f\x9b\u202e]/.test(printed), printed);
   }
+});
+
+await test("each control character is printed as an escape, and no other", () => {
+  const range = (first, last) => Array.from({ length: last - first + 1 }, (_, at) => first + at);
+  const controls = [...range(0, 31), ...range(0x7f, 0x9f), 0x61c, 0x200e, 0x200f, ...range(0x2028, 0x202e), ...range(0x2066, 0x2069)];
+  const letters = { 9: "\\t", 10: "\\n", 13: "\\r" };
+  for (const code of controls) assert.equal(escaped(String.fromCodePoint(code)), letters[code] ?? `\\u{${code.toString(16)}}`);
+  const plain = "\u00a0\u061b\u061d\u200d\u2010\u2027\u202f\u2065\u206a\ufeff";
+  assert.equal(escaped(plain), plain);
 });
 
 console.log(`${passed} passed, ${failed} failed`);

@@ -2,12 +2,35 @@
 
 import concurrent.futures
 import doctest
+import importlib.metadata
 import pickle
 import unittest
 
 import rigyomad
 
 EMPTY = b"\0asm\x01\0\0\0"
+
+# An item with a name in each index space.
+ITEMS = '(func $f) (table $x 1 funcref) (memory $m 1) (global $g i32 (i32.const 0)) (tag $e) (elem $s func) (data $d "") (type $t (func))'
+
+# Texts, and the numbers and kinds of their errors.
+KINDS = [
+    ("(module", 0, "Malformed"),
+    ('(module (func) (import "" "" (func)))', 1, "ImportAfter"),
+    ("(module (func $f) (func $f))", 2, "Duplicate"),
+    ("(module (type (struct (field $x i32) (field $x i32))))", 3, "DuplicateField"),
+    ("(module (start $x))", 4, "Unknown"),
+    ("(module (type (struct)) (func (type 0) (param i32)))", 5, "NotFunc"),
+    ("(module (func (type 0) (param i32)))", 6, "OutOfBounds"),
+    ("(module (type (func)) (func (type 0) (param i32)))", 7, "NoMatch"),
+    ("(module (func block $a end $b))", 8, "Labels"),
+    ("(module (type $s (struct (field i32))) (func struct.get $s $x))", 9, "NoNamedFields"),
+    ("(module (type (func)) (type (cont 0)))", 11, "Uncovered"),
+]
+
+# Characters that are printed as escapes, and the others beside them.
+CONTROLS = [*range(32), *range(0x7F, 0xA0), 0x61C, 0x200E, 0x200F, *range(0x2028, 0x202F), *range(0x2066, 0x206A)]
+PLAIN = "\xa0\u061b\u061d\u200d\u2010\u2027\u202f\u2065\u206a\ufeff"
 
 
 def snippet_of(text):
@@ -74,7 +97,8 @@ class Tests(unittest.TestCase):
         self.assertEqual(rigyomad.WatError(12, "allocation failed").snippet, "")
 
     def test_message_may_be_long(self):
-        self.assertEqual(len(error_of(f"(module (start ${'n' * 3000}))")[2]), len("unknown func: failed to find name `$`") + 3000)
+        for count in (200, 219, 220, 221, 222, 3000):
+            self.assertEqual(error_of(f"(module (start ${'n' * count}))")[2], f"unknown func: failed to find name `${'n' * count}`")
 
     def test_names_are_listed(self):
         text = '(module (;\u00e9;) (func) (func $"a b") (type $t (func)))'
@@ -82,6 +106,32 @@ class Tests(unittest.TestCase):
         self.assertEqual([it.offset for it in rigyomad.names(text.encode())], [28, 42])
         with self.assertRaises(rigyomad.WatError):
             rigyomad.names("(module (start $f))")
+
+    def test_spaces_have_their_names(self):
+        found = [(it.space, it.index, it.name) for it in rigyomad.names(ITEMS)]
+        spaces = ("func", "table", "memory", "global", "tag", "elem", "data", "type")
+        self.assertEqual(found, [(space, 0, name) for space, name in zip(spaces, "fxmgesdt")])
+        self.assertEqual(rigyomad.SPACES, spaces)
+
+    def test_text_may_have_as_many_names_as_fit(self):
+        letters = "abcdefghijklmnopqrstuvwxyz"
+        self.assertEqual([it.name for it in rigyomad.names("".join(f"(tag ${it})" for it in letters))], list(letters))
+
+    def test_kinds_have_their_numbers(self):
+        for text, number, kind in KINDS:
+            self.assertEqual(error_of(text)[:2], (number, kind), text)
+        self.assertEqual([rigyomad.WatError(it, "").kind for it in (10, 12, 13)], ["TooLarge", "Memory", "Component"])
+
+    def test_each_control_character_is_an_escape(self):
+        letters = {9: "\\t", 10: "\\n", 13: "\\r"}
+        for code in CONTROLS:
+            self.assertEqual(str(rigyomad.WatError(4, chr(code))), letters.get(code, f"\\u{{{code:x}}}"))
+        self.assertEqual(str(rigyomad.WatError(4, PLAIN)), PLAIN)
+
+    def test_version_is_that_of_the_package(self):
+        number, _, word = rigyomad.version().partition(" ")
+        self.assertEqual(number, importlib.metadata.version("rigyomad"))
+        self.assertIn(word, ("", "(UNPROVED)"))
 
     def test_error_can_be_pickled(self):
         error = rigyomad.WatError(4, "unknown", 1, 2, 3, 4, " --> 1:2")
