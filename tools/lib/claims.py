@@ -28,10 +28,10 @@ def value(word):
 
 
 def rows_of_table():
-    """How many rows the opcode table has: the sum of its runs, as `(0x07, 3, Index ∷ [])`."""
-    text = (ROOT / "crates/wasm_ops/specs/Table.antt").read_text(encoding="utf-8")
-    table = re.search(r"^table = rows_of \($(.*?)^$", text, re.S | re.M).group(1)
-    return sum(int(count) for count in re.findall(r"\(0x[0-9a-f]+, (\d+),", table))
+    """How many rows the opcode table has: the rows of instructions, those with two indices, and the keys that the table has itself."""
+    rows, keys, table = ((ROOT / "crates" / path).read_text(encoding="utf-8") for path in ("wat_grammar/specs/InstrRows.antt", "wasm_ops/specs/Keys.antt", "wasm_ops/specs/Table.antt"))
+    own = re.search(r"Written by tools/ops from here\.$(.*?)-- To here", table, re.S | re.M)[1]
+    return len(re.findall(r"^row_of_.* = ", rows, re.M)) + len(re.findall(r"^index_pair_key .* = 0x", keys, re.M)) + len(re.findall(r"\b0x", own))
 
 
 @functools.lru_cache(maxsize=None)

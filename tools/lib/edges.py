@@ -8,7 +8,8 @@ two hexadecimal digits for a byte. Empty lines and lines that begin with `#` are
 The bytes are those of the Rust crate `wast` 239 with its `wasm-encoder`, except where the comment of
 a group names another source. Nullable references to abstract heap types other than `func` and
 `extern` have two bytes, as docs/DIFFERENCES.md explains. What is refused has the offset of the first
-token that the grammar of the WebAssembly Core Specification 3.0 does not allow.
+token that the grammar of the WebAssembly Core Specification 3.0 does not allow, with the exceptions
+that docs/decisions/059-positions-of-errors-are-tested.md lists.
 """
 
 import re
@@ -17,7 +18,7 @@ EDGES = r"""
 # White space, comments and tokens (text format, lexical format). A form feed is no white space.
 # `(;)` opens a comment, since `(;` is read first. Parentheses, comments and white space end a
 # token, and two tokens may not touch.
-\(^module\0c(func))	not read at ^: expected whitespace or a parenthesis after token
+\(module^\0c(func))	not read at ^: expected whitespace or a parenthesis after token
 (module (;) ;) (func))	0061736d01000000010401600000030201000a040102000b
 (module (; (; ;) ;) (func))	0061736d01000000010401600000030201000a040102000b
 (module (func ^(;))	not read at ^: unterminated block comment
@@ -28,6 +29,7 @@ EDGES = r"""
 (module (func i32.const 1(drop)))	0061736d01000000010401600000030201000a0701050041011a0b
 (module (data ^"a""b"))	not read at ^: expected whitespace or a parenthesis after token
 (module (func ^$f"a"))	not read at ^: expected whitespace or a parenthesis after token
+(module (func nop^[))	not read at ^: expected whitespace or a parenthesis after token
 (module (func $a$b))	0061736d01000000010401600000030201000a040102000b000d046e616d650106010003612462
 (module (func $a`b))	0061736d01000000010401600000030201000a040102000b000d046e616d650106010003616062
 
@@ -72,7 +74,7 @@ EDGES = r"""
 (module (func^	not read at ^: expected `)`
 (module) ^(module)	not read at ^: unexpected token after module
 (module (func) (start 0) (func) (start ^1))	not read at ^: multiple start sections
-(module quote "(func) (start 0)" ^"(start 0)")	not read at ^: multiple start sections
+(module quote "(func) (start 0)" "(start ^0)")	not read at ^: multiple start sections
 (func) (start 0)	0061736d01000000010401600000030201000801000a040102000b
 (module (func ^"a"))	not read at ^: unknown operator or unexpected token
 (module (func) ^"a")	not read at ^: expected valid module field
@@ -355,14 +357,26 @@ EDGES = r"""
 (module (func (@x i32.const) nop (@"x y" ,) (drop (@x) (i32.const 0))))	0061736d01000000010401600000030201000a080106000141001a0b
 (module (@"x" (; ) ;) ")" "(" (;;)) (func))	0061736d01000000010401600000030201000a040102000b
 \(module (@x ;; )\n) (func))	0061736d01000000010401600000030201000a040102000b
-(module ^(@) (func))	not read at ^: empty annotation id
-(module ^(@ x) (func))	not read at ^: empty annotation id
-(module ^(@"" x) (func))	not read at ^: empty annotation id
+(module (^@) (func))	not read at ^: empty annotation id
+(module (^@ x) (func))	not read at ^: empty annotation id
+(module (^@"" x) (func))	not read at ^: empty annotation id
 (module (@x "a^\q") (func))	not read at ^: invalid string escape
 \(module (@x "^\7f") (func))	not read at ^: invalid character in string
 \(module (@x ^\7f) (func))	not read at ^: unexpected character
-(module (@x (func)^	not read at ^: unterminated annotation
+(module (^@x (func)	not read at ^: unterminated annotation
 (module (@x ^(; ) (func))	not read at ^: unterminated block comment
+
+# The first error of the text is told, as in the crate. A wrong token is the first one if those before it
+# are right so far: a `(` before it, and a block that is open there, are.
+(module (^fnuc) (data "a))	not read at ^: expected valid module field
+(module (func ^i32.foo (@a "\q"))	not read at ^: unknown operator or unexpected token
+(module (func i32.const ^x) (@a (@b "\q	not read at ^: invalid number
+(module (@a "^\q") (fnuc))	not read at ^: invalid string escape
+(module (func block ^[	not read at ^: unexpected character
+(module (func nop) (^[	not read at ^: unexpected character
+(module (type (struct (^[	not read at ^: unexpected character
+(module (func) (import "" "" (func)) ^[	not read at ^: unexpected character
+(start 0) (start 0) ^[	not read at ^: unexpected character
 
 # Offsets in strings: a wrong escape has its own, and a character that no string holds too. Line
 # feeds, carriage returns and tabs are white space, a line feed or a carriage return ends a line
@@ -389,10 +403,11 @@ EDGES = r"""
 (module (memory 1) (func (v128.load8_lane ^align=0 1 (i32.const 0) (v128.const i64x2 0 0))))	not read at ^: alignment must be a power of two
 (module (func i32.load align=1 i64.load ^align=12))	not read at ^: alignment must be a power of two
 
-# Modules as bytes, which are not looked at, and as texts in quotes. A fault in quotes has the
-# offset of the string that it is in. The strings are one text, as in the reference interpreter and
-# in wabt; the crate reads a blank after each. The bytes of a text in quotes are those of the same
-# text without quotes.
+# Modules as bytes, which are not looked at, and as texts in quotes. A fault in quotes has the offset
+# of the token, or of the escape that writes its first character. At the end of the text in quotes it
+# has that of the first string. The strings are one text, as in the reference interpreter and in wabt;
+# the crate reads a blank after each. The bytes of a text in quotes are those of the same text without
+# quotes.
 (module $m binary "\00asm" "\01\00\00\00")	0061736d01000000
 (module binary "abc" "" "\ff(")	616263ff28
 (module binary ^nop)	not read at ^: expected a string
@@ -403,13 +418,17 @@ EDGES = r"""
 (module quote "(data \"a\\n\")")	0061736d010000000b05010102610a
 (module quote "(fu" "nc nop)")	0061736d01000000010401600000030201000a05010300010b
 (module quote "(data \"a" "b\")")	0061736d010000000b050101026162
-(module quote "(func)" ^"(fnc)")	not read at ^: expected valid module field
-(module quote "(func nop" " " ^"end)")	not read at ^: unexpected `end`
-(module quote ^"(func call $x)")	fault at ^: unknown func: failed to find name `$x`
-(module quote "(func)" ^"(data \"\\q\")")	not read at ^: invalid string escape
+(module quote "(func)" "(^fnc)")	not read at ^: expected valid module field
+(module quote "(func nop" " " "^end)")	not read at ^: unexpected `end`
+(module quote "(func call ^$x)")	fault at ^: unknown func: failed to find name `$x`
+(module quote "(func\n\u{63}all\t^$x)")	fault at ^: unknown func: failed to find name `$x`
+(module quote "(;\u{e9}é;) (func call " "^\24x)")	fault at ^: unknown func: failed to find name `$x`
+(module quote "(func ca" "ll ^$x)")	fault at ^: unknown func: failed to find name `$x`
+(module quote "(func ^i32" ".ad)")	not read at ^: unknown operator or unexpected token
+(module quote "(func)" "(data \"^\\q\")")	not read at ^: invalid string escape
 (module quote ^"(func)" "(func" )	not read at ^: expected `)`
 (module quote ^func)	not read at ^: expected a string
-(module quote ^"(func) \ff")	not read at ^: malformed UTF-8 encoding
+(module quote "(func) ^\ff")	not read at ^: malformed UTF-8 encoding
 
 # A custom section before and after each section, and before and after all.
 (module (@custom "bf" (before first) "") (@custom "al" (after last) "") (@custom "b1" (before type) "") (@custom "a1" (after type) "") (@custom "b2" (before import) "") (@custom "a2" (after import) "") (@custom "b3" (before func) "") (@custom "a3" (after func) "") (@custom "b4" (before table) "") (@custom "a4" (after table) "") (@custom "b5" (before memory) "") (@custom "a5" (after memory) "") (@custom "bd" (before tag) "") (@custom "ad" (after tag) "") (@custom "b6" (before global) "") (@custom "a6" (after global) "") (@custom "b7" (before export) "") (@custom "a7" (after export) "") (@custom "b8" (before start) "") (@custom "a8" (after start) "") (@custom "b9" (before elem) "") (@custom "a9" (after elem) "") (@custom "ba" (before code) "") (@custom "aa" (after code) "") (@custom "bb" (before data) "") (@custom "ab" (after data) "") (import "a" "b" (func)) (func (export "f")) (table 1 funcref) (memory 1) (tag) (global i32 i32.const 0) (start 0) (elem (i32.const 0) 0) (data (i32.const 0) "x"))	0061736d010000000003026266000302623101040160000000030261310003026232020701016101620000000302613200030262330302010000030261330003026234040401700001000302613400030262350503010001000302613500030262640d03010000000302616400030262360606017f0041000b000302613600030262370705010166000100030261370003026238080100000302613800030262390907010041000b0100000302613900030262610a040102000b000302616100030262620b07010041000b01780003026162000302616c
@@ -427,6 +446,24 @@ EDGES = r"""
 \(module ;; \e2\80\ae) \e2\81\a6\n(func) (; \e2\80\ab ;))	0061736d01000000010401600000030201000a040102000b
 \(module (data "\e2\80\ae\e2\80\8f"))	0061736d010000000b09010106e280aee2808f
 \(module (func $"\e2\80\ae"))	0061736d01000000010401600000030201000a040102000b000d046e616d650106010003e280ae
+
+# Faults that are common in texts that are written by hand. What was meant is often before the place: a
+# parenthesis that is missing, or one too many.
+\(module\n  (func $a\n    drop\n  (^func $b nop))\n	not read at ^: unknown operator or unexpected token
+(module (func nop)) ^(func))	not read at ^: unexpected token after module
+\(module (func (export ^\e2\80\9cf\e2\80\9d)))	not read at ^: unexpected character
+(module (func nop) ^# a comment)	not read at ^: expected valid module field
+(module (func i32.const ^'a' drop))	not read at ^: invalid number
+(module (func i32.const 1^,000 drop))	not read at ^: expected whitespace or a parenthesis after token
+(module (func (local i32) (^param i32)))	not read at ^: unknown operator or unexpected token
+(module (@custom "a" (before ^frist) ""))	not read at ^: expected a valid section name
+(module (data "^\u{d800}"))	not read at ^: invalid string escape
+(module (import ^"\80" "b" (func)))	not read at ^: malformed UTF-8 encoding
+(module quote "(func)" "(func ^i32.ad)")	not read at ^: unknown operator or unexpected token
+(module (func (call $nope)) (func ^i32.foo))	not read at ^: unknown operator or unexpected token
+(^	not read at ^: expected valid module field
+(module (func i32.const^	not read at ^: expected a number
+(module (func (block $a) loop $b end ^$a))	fault at ^: mismatching labels between end and block
 """
 
 
