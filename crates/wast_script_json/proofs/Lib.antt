@@ -1,2 +1,5 @@
+pub mod Lists
+pub mod Places
 pub mod Strings
 pub mod WorkedJson
+pub mod WorkedValues

@@ -1,6 +1,7 @@
-//! Examples that the definitions compute: strings, numbers and members in JSON.
+//! Examples that the definitions compute: strings, numbers, members, values and results in JSON.
 
 ghost use Rattle.wast_script_json.specs.WorkedJson.{WorkedStrings, WorkedMembers};
+ghost use Rattle.wast_script_json.specs.WorkedValues.{WorkedValues, WorkedResults};
 
 /// States the strings of some texts.
 #[tactic(auto, using(crate::proofs::WorkedJson::strings))]
@@ -12,4 +13,16 @@ pub(crate) fn strings()
 #[tactic(auto, using(crate::proofs::WorkedJson::members))]
 pub(crate) fn members()
     ensures { WorkedMembers }
+{}
+
+/// States some values.
+#[tactic(auto, using(crate::proofs::WorkedValues::values))]
+pub(crate) fn values()
+    ensures { WorkedValues }
+{}
+
+/// States the results of some assertions.
+#[tactic(auto, using(crate::proofs::WorkedValues::results))]
+pub(crate) fn results()
+    ensures { WorkedResults }
 {}
