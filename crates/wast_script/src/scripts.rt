@@ -1,7 +1,8 @@
 //! Scripts, and the modules in them.
 
-ghost use Rattle.std.specs.Prelude.{◌≤◌, length, All, IsTrue, IfOk, IfErr};
+ghost use Rattle.std.specs.Prelude.{◌≡◌, ◌≤◌, length, All, IsTrue, IfOk, IfErr};
 ghost use Rattle.wat_text.specs.Texts.{is_well_formed_text};
+ghost use Rattle.wast_script.specs.Scripts.{part};
 
 use crate::commands::{Command, ScriptModule};
 use crate::reader::Reader;
@@ -132,8 +133,14 @@ pub fn read_script<'a>(
 }
 
 /// The elements of a part of a list; none if the list has no such part.
-fn part_of<T: Copy>(list: &[T], part: Part) -> &[T] {
-    list.get(part.start..part.end).unwrap_or(&[])
+#[tactic(auto, using(crate::proofs::Parts::part_is))]
+fn part_of<T: Copy>(list: &[T], of: Part) -> &[T]
+    ensures { result.now ≡ part of list.now }
+{
+    if of.start <= of.end && of.end <= list.len() {
+        return &list[of.start..of.end];
+    }
+    &[]
 }
 
 /// Adds the elements of a part of a list of tokens to another list.
@@ -155,13 +162,17 @@ fn last_place(tokens: &[Placed<'_>], part: Part) -> Span {
 
 impl<'a> Script<'a> {
     /// Returns the values of a part: the arguments of an action, or the results of an assertion. Does not allocate.
-    pub fn values_in(&self, part: Part) -> &[Value<'a>] {
-        part_of(self.values.as_slice(), part)
+    pub fn values_in(&self, of: Part) -> &[Value<'a>]
+        ensures { result.now ≡ part of self.now.values.items }
+    {
+        part_of(self.values.as_slice(), of)
     }
 
     /// Returns the lanes of a vector. Does not allocate.
-    pub fn lanes_in(&self, part: Part) -> &[Number] {
-        part_of(self.lanes.as_slice(), part)
+    pub fn lanes_in(&self, of: Part) -> &[Number]
+        ensures { result.now ≡ part of self.now.lanes.items }
+    {
+        part_of(self.lanes.as_slice(), of)
     }
 
     /// The tokens of a module, without the word `definition`.

@@ -30,7 +30,7 @@ no_lanes before ns i h = ap (lanes_from before) (drop_all i ns h)
 
 pub next_value : (lanes : List Number) (before : List ℕ) (left : ℕ) (vs : List Value) (i : ℕ) (v : Value) → i < length vs → v ≡ get_or vs i v
     → values_from lanes before left (drop i vs)
-        ≡ before ++ (value_text lanes v ++ (ending left (left_after v left) ++ values_from lanes (before_next v) (left_after v left) (drop (i + 1) vs)))
+    ≡ before ++ (value_text lanes v ++ (ending left (left_after v left) ++ values_from lanes (before_next v) (left_after v left) (drop (i + 1) vs)))
 unfolding values_from
 next_value lanes before left vs i v h is =
     ap (values_from lanes before left) (drop_more vs i v h ∙ ap (λ (w : Value). w ∷ drop (i + 1) vs) (sym is))

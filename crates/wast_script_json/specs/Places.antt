@@ -1,15 +1,9 @@
--- The position that lines were counted up to.
-use Rattle.std.specs.Prelude.{◌≡◌, ℕ, ◌≤◌, List, length}
-use Rattle.wast_base.specs.declared.ids.Span.{Span}
-use Rattle.wast_base.specs.Lines.{line_of, column_of}
+-- The position that line feeds were counted up to.
+use Rattle.std.specs.Prelude.{◌≡◌, ℕ, ◌≤◌, List, length, take, count_by}
+use Rattle.wast_base.specs.Lines.{is_line_feed}
 use Rattle.wast_script_json.specs.declared.lines.Lines.{Lines}
 
--- a position
-abbrev pub place_at : ℕ → Span
-place_at n = record { offset = n }
-
--- an offset of a text with its line and its column
+-- an offset of a text with the line feeds before it
 pub record Counts (text : List ℕ) (l : Lines) : Type 0 where
   pub within : l.offset ≤ length text
-  pub line : l.line ≡ line_of text (place_at l.offset)
-  pub column : l.column ≡ column_of text (place_at l.offset)
+  pub count : l.line_feeds ≡ count_by is_line_feed (take l.offset text)

@@ -19,6 +19,6 @@ WorkedValues = (value_text [] (val.I32 (negsuc 0)) ≡ codes "{\"type\": \"i32\"
 abbrev pub WorkedResults : Type 0
 WorkedResults = (results_text [] (val.RefExtern None ∷ val.I64 (pos 2) ∷ []) ≡ codes ", \"expected\": [{\"type\": \"externref\"}, {\"type\": \"i64\", \"value\": \"2\"}]")
     × (results_text [] (val.Either 2 ∷ val.I32 (pos 0) ∷ val.I32 (pos 1) ∷ [])
-        ≡ codes ", \"either\": [{\"type\": \"i32\", \"value\": \"0\"}, {\"type\": \"i32\", \"value\": \"1\"}]")
+    ≡ codes ", \"either\": [{\"type\": \"i32\", \"value\": \"0\"}, {\"type\": \"i32\", \"value\": \"1\"}]")
     × (list_text [] (val.Either 2 ∷ val.RefExtern None ∷ val.RefNull None ∷ val.RefExtern None ∷ [])
-        ≡ codes "[{\"type\": \"either\", \"values\": [{\"type\": \"externref\"}, {\"type\": \"refnull\"}]}, {\"type\": \"externref\"}]")
+    ≡ codes "[{\"type\": \"either\", \"values\": [{\"type\": \"externref\"}, {\"type\": \"refnull\"}]}, {\"type\": \"externref\"}]")

@@ -27,7 +27,10 @@ mod interfaces;
 mod json;
 mod kinds;
 mod lines;
+mod modules;
+mod objects;
 mod values;
 
-pub use commands::{ConvertedModule, ModuleFile, ScriptJson};
+pub use commands::ScriptJson;
 pub use kinds::{Role, commands_of, module_of};
+pub use modules::{ConvertedModule, ModuleFile};

@@ -273,11 +273,7 @@ fn write_values(
 
 /// Appends a list of values.
 #[tactic(auto, unfolding(crate::specs::Values::list_text))]
-fn write_list(
-    json: &mut Json,
-    script: &Script<'_>,
-    values: &[Value<'_>],
-) -> Result<(), AllocError>
+fn write_list(json: &mut Json, script: &Script<'_>, values: &[Value<'_>]) -> Result<(), AllocError>
     ensures { OnOk result (written json.new ≡ written json.old ++ list_text script.now.lanes.items values.now) }
 {
     json.raw("[")?;

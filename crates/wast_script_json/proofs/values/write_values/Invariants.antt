@@ -7,4 +7,4 @@ use Rattle.wast_script_json.proofs.values.write_values.Given as goal
 abbrev pub invariant-loop-value : goal.invariant-loop-value
 invariant-loop-value l =
     written l.json ++ values_from l.script.lanes.items l.separator l.left (drop l.value-index l.values)
-        ≡ written l.fn.json ++ values_from l.script.lanes.items [] 0 l.values
+    ≡ written l.fn.json ++ values_from l.script.lanes.items [] 0 l.values
