@@ -17,7 +17,7 @@ use Rattle.wast_base.proofs.Names.{same_name_equal, same_name_itself}
 use Rattle.wast_script.specs.declared.commands.ScriptModule.{ScriptModule}
 use Rattle.wast_script.specs.declared.commands.CommandKind.{CommandKind}
 use Rattle.wast_script.specs.declared.commands.CommandKind.TheVariants as kind
-use Rattle.wast_script_json.specs.References.{Numbered, own_name, called, Reach, with_module, State, defined, copied, left, left_to, After}
+use Rattle.wast_script_json.specs.References.{Numbered, own_name, shared_as, Reach, with_instance, with_module, State, defined, left_to, IsKnown, Defines, After}
 use Rattle.wast_script_json.specs.Known.{HasNumbers, Lists, Reaches, ReachesEach, Knows}
 use Rattle.wast_script_json.specs.declared.interfaces.Interface.{Interface}
 use Rattle.wast_script_json.specs.declared.instances.Numbers.{Numbers}
@@ -63,6 +63,41 @@ named_so m n o id number is updates all h = subst (λ (p : Option Id). HasNumber
 pub unnamed : (m : BTreeMap Id ℕ) (o : Option Id) (number : ℕ) → o ≡ None → (all : Numbered) → HasNumbers m all → HasNumbers m ((own_name o, number) ∷ all)
 unnamed m o number is all h = subst (λ (p : Option Id). HasNumbers m ((own_name p, number) ∷ all)) (sym is) h
 
+-- the number of an id, by cases of both
+pub shared_some : (n : Numbers) (id : Option Id) (o : Option ℕ) (k : ℕ) → o ≡ Some k → HasNumbers n.by_id ((own_name id, k) ∷ []) → n.last ≡ None → Lists n [] (shared_as id o)
+shared_some n id o k is h last = subst (λ (p : Option ℕ). Lists n [] (shared_as id p)) (sym is) (record { by_id = h; last = last })
+
+pub shared_none : (n : Numbers) (id : Option Id) (o : Option ℕ) → o ≡ None → Lists n [] [] → Lists n [] (shared_as id o)
+shared_none n id o is h = subst (λ (p : Option ℕ). Lists n [] (shared_as id p)) (sym is) h
+
+-- one more number
+abbrev pub Adds : Numbers → Numbers → Option Id → ℕ → Type 0
+Adds m n id k = (own all : Numbered) → Lists m own all → Lists n ((own_name id, k) ∷ own) ((own_name id, k) ∷ all)
+
+pub as_definition : (c d : Scope) (id : Option Id) (b : Bool) (k : ℕ) → b ≡ true → Adds c.definitions d.definitions id k → d.instances ≡ c.instances
+    → (r : Reach) → Reaches c r → Reaches d (with_module id b k r)
+as_definition c d id b k is more same r h = subst (λ (a : Bool). Reaches d (with_module id a k r)) (sym is) (record {
+  definitions = more _ _ h.definitions;
+  instances = subst (λ (n : Numbers). Lists n r.instances (r.instances ++ r.shared)) (sym same) h.instances;
+})
+
+pub as_module : (c d : Scope) (id : Option Id) (b : Bool) (k : ℕ) → b ≡ false → Adds c.definitions d.definitions id k → Adds c.instances d.instances id k
+    → (r : Reach) → Reaches c r → Reaches d (with_module id b k r)
+as_module c d id b k is more further r h = subst (λ (a : Bool). Reaches d (with_module id a k r)) (sym is) (record {
+  definitions = more _ _ h.definitions;
+  instances = further _ _ h.instances;
+})
+
+pub as_instance : (c d : Scope) (id : Option Id) (o : Option ℕ) (k : ℕ) → o ≡ Some k → d.definitions ≡ c.definitions → Adds c.instances d.instances id k
+    → (r : Reach) → Reaches c r → Reaches d (with_instance id o r)
+as_instance c d id o k is same more r h = subst (λ (p : Option ℕ). Reaches d (with_instance id p r)) (sym is) (record {
+  definitions = subst (λ (n : Numbers). Lists n r.definitions r.definitions) (sym same) h.definitions;
+  instances = more _ _ h.instances;
+})
+
+pub no_instance : (c : Scope) (id : Option Id) (o : Option ℕ) → o ≡ None → (r : Reach) → Reaches c r → Reaches c (with_instance id o r)
+no_instance c id o is r h = subst (λ (p : Option ℕ). Reaches c (with_instance id p r)) (sym is) h
+
 -- what is known after one more module
 pub one_more : (i j : Instances) (id : Option Id) (d : Bool) (x : Option Interface) (n : ℕ) → j.interfaces.items ≡ i.interfaces.items ++ x ∷ [] → n ≡ length i.interfaces.items
     → ((r : Reach) → Reaches i.scope r → Reaches j.scope (with_module id d n r)) → j.outer.items ≡ i.outer.items → (s : State) → Knows i s → Knows j (defined id d x s)
@@ -98,3 +133,22 @@ if_ok (Err e) f p = tt
 pub of_kind : (k l : CommandKind) (is : k ≡ l) (m : Option ConvertedModule) (j : Instances) (s t : State) → After l m s t → Knows j t
     → (u : State) × After k m s u × Knows j u
 of_kind k l is m j s t after know = (t, subst (λ (x : CommandKind). After x m s t) (sym is) after, know)
+
+pub of_module : (o : Option ConvertedModule) (m : ConvertedModule) (i : Option Interface) (id : Option Id) (d : Bool) (j : Instances) (s : State)
+    → o ≡ Some m → IsKnown m i → Knows j (defined id d i s) → (t : State) × Defines id d o s t × Knows j t
+of_module o m i id d j s is known know =
+    (defined id d i s, subst (λ (p : Option ConvertedModule). Defines id d p s (defined id d i s)) (sym is) (i, known, refl), know)
+
+pub of_none : (o : Option ConvertedModule) (id : Option Id) (d : Bool) (j : Instances) (s : State) → o ≡ None → Knows j s
+    → (t : State) × Defines id d o s t × Knows j t
+of_none o id d j s is know = (s, subst (λ (p : Option ConvertedModule). Defines id d p s s) (sym is) refl, know)
+
+-- a command after which the same is known
+pub plain : (k : CommandKind) (c : Option ConvertedModule) (s : State) → ((m : ScriptModule) → k ≡ kind.Module m → ⊥) → ((m : ScriptModule) → k ≡ kind.Definition m → ⊥)
+    → ((i o : Option Id) → k ≡ kind.Instance i o → ⊥) → ((i : Id) (o : Option Id) → k ≡ kind.Thread i o → ⊥) → (k ≡ kind.ThreadEnd → ⊥) → After k c s s
+plain (kind.Module m) c s f g h i j = absurd (f m refl)
+plain (kind.Definition m) c s f g h i j = absurd (g m refl)
+plain (kind.Instance a b) c s f g h i j = absurd (h a b refl)
+plain (kind.Thread a b) c s f g h i j = absurd (i a b refl)
+plain kind.ThreadEnd c s f g h i j = absurd (j refl)
+plain k c s f g h i j = refl

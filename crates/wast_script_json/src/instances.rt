@@ -73,7 +73,6 @@ impl<'a> Numbers<'a> {
     }
 
     /// Adds one, which is the last then.
-    #[tactic(auto, using(crate::proofs::References::more_numbers))]
     fn add(&mut self, id: Option<Id<'a>>, number: usize) -> Result<(), AllocError>
         ensures { OnOk result ((own all : Numbered) → Lists self.old own all → Lists self.new ((own_name id.entry, number) ∷ own) ((own_name id.entry, number) ∷ all)) }
     {
@@ -138,9 +137,10 @@ impl<'a> Scope<'a> {
         ensures { OnOk result ((r : Reach) → Reaches self.old r → Reaches self.new (with_module id.entry is_definition number r)) }
     {
         self.definitions.add(id, number)?;
-        if !is_definition {
-            self.instances.add(id, number)?;
+        if is_definition {
+            return Ok(());
         }
+        self.instances.add(id, number)?;
         Ok(())
     }
 
@@ -148,10 +148,13 @@ impl<'a> Scope<'a> {
     fn copy(&mut self, id: Option<Id<'a>>, number: Option<usize>) -> Result<(), AllocError>
         ensures { OnOk result ((r : Reach) → Reaches self.old r → Reaches self.new (with_instance id.entry number r)) }
     {
-        if let Some(number) = number {
-            self.instances.add(id, number)?;
+        match number {
+            Some(number) => {
+                self.instances.add(id, number)?;
+                Ok(())
+            }
+            None => Ok(()),
         }
-        Ok(())
     }
 
     /// The number of a module: that of an id, or the last one.
@@ -244,7 +247,6 @@ impl<'a> Instances<'a> {
     }
 
     /// Adds what a module exports, with an instance if it is not a definition.
-    #[tactic(auto, using(crate::proofs::References::one_more))]
     fn add(
         &mut self,
         id: Option<Id<'a>>,
@@ -268,11 +270,14 @@ impl<'a> Instances<'a> {
     ) -> Result<(), AllocError>
         ensures { OnOk result ((s : State) → Knows self.old s → ((t : State) × Defines id.entry is_definition (option_copied converted.entry) s t × Knows self.new t)) }
     {
-        if let Some(converted) = converted {
-            let interface = interface_for(self.alloc, converted)?;
-            self.add(id, is_definition, interface)?;
+        match converted {
+            Some(converted) => {
+                let interface = interface_for(self.alloc, converted)?;
+                self.add(id, is_definition, interface)?;
+                Ok(())
+            }
+            None => Ok(()),
         }
-        Ok(())
     }
 
     /// Adds an instance of a module, of the last one if it has no id.
@@ -300,8 +305,9 @@ impl<'a> Instances<'a> {
     fn leave(&mut self)
         ensures { (s : State) → Knows self.old s → Knows self.new (left s) }
     {
-        if let Some(outer) = self.outer.pop() {
-            self.scope = outer;
+        match self.outer.pop() {
+            Some(outer) => self.scope = outer,
+            None => {}
         }
     }
 
@@ -314,10 +320,22 @@ impl<'a> Instances<'a> {
         ensures { OnOk result ((s : State) → Knows self.old s → ((t : State) × After kind.entry (option_copied converted.entry) s t × Knows self.new t)) }
     {
         match kind {
-            CommandKind::Module(module) => self.module(module.id, false, converted),
-            CommandKind::Definition(module) => self.module(module.id, true, converted),
-            CommandKind::Instance(id, original) => self.copy(id, original),
-            CommandKind::Thread(_, shared) => self.enter(shared),
+            CommandKind::Module(module) => {
+                self.module(module.id, false, converted)?;
+                Ok(())
+            }
+            CommandKind::Definition(module) => {
+                self.module(module.id, true, converted)?;
+                Ok(())
+            }
+            CommandKind::Instance(id, original) => {
+                self.copy(id, original)?;
+                Ok(())
+            }
+            CommandKind::Thread(_, shared) => {
+                self.enter(shared)?;
+                Ok(())
+            }
             CommandKind::ThreadEnd => {
                 self.leave();
                 Ok(())
