@@ -6,3 +6,4 @@ pub mod WorkedCommands
 pub mod WorkedJson
 pub mod WorkedReferences
 pub mod WorkedValues
+pub mod Writing

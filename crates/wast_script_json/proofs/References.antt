@@ -4,7 +4,7 @@ use Rattle.std.specs.BTreeMap.{BTreeMap, get, Updates}
 use Rattle.std.specs.Cmp.{both_ways}
 use Rattle.std.specs.Map.{lookup}
 use Rattle.std.specs.Ordering.{is_eq}
-use Rattle.std.specs.Prelude.{Result, Ok, Err, OnOk}
+use Rattle.std.specs.Prelude.{slice_get, option_and_then}
 use Rattle.std.proofs.lemmas.List.{reverse-append}
 use Rattle.wast_base.specs.contracts.ids.IdOrd.TheImpl as by_name
 use Rattle.wast_base.specs.contracts.ids.IdOrd.TheImpl.Laws as laws
@@ -17,7 +17,7 @@ use Rattle.wast_base.proofs.Names.{same_name_equal, same_name_itself}
 use Rattle.wast_script.specs.declared.commands.ScriptModule.{ScriptModule}
 use Rattle.wast_script.specs.declared.commands.CommandKind.{CommandKind}
 use Rattle.wast_script.specs.declared.commands.CommandKind.TheVariants as kind
-use Rattle.wast_script_json.specs.References.{Numbered, own_name, shared_as, Reach, with_instance, with_module, State, defined, left_to, IsKnown, Defines, After}
+use Rattle.wast_script_json.specs.References.{Numbered, own_name, shared_as, sharing, Reach, module_at, instance_at, with_instance, with_module, State, nothing_known, defined, copied, entered, left_to, IsKnown, Defines, After}
 use Rattle.wast_script_json.specs.Known.{HasNumbers, Lists, Reaches, ReachesEach, Knows}
 use Rattle.wast_script_json.specs.declared.interfaces.Interface.{Interface}
 use Rattle.wast_script_json.specs.declared.instances.Numbers.{Numbers}
@@ -107,7 +107,24 @@ one_more i j id d x n more count scope same s k = record {
   outside = subst (λ (xs : List Scope). ReachesEach (reverse xs) s.outside) (sym same) k.outside;
 }
 
--- the end of a thread
+pub knows_nothing : (i : Instances) → i.interfaces.items ≡ [] → Reaches i.scope (sharing []) → i.outer.items ≡ [] → Knows i nothing_known
+knows_nothing i none reach alone = record {
+  known = none;
+  reach = reach;
+  outside = subst (λ (xs : List Scope). ReachesEach (reverse xs) []) (sym alone) tt;
+}
+
+-- one more instance
+pub one_instance : (i j : Instances) (id original : Option Id) (n : Option ℕ) → j.interfaces.items ≡ i.interfaces.items → j.outer.items ≡ i.outer.items
+    → ((r : Reach) → Reaches i.scope r → n ≡ module_at original r) → ((r : Reach) → Reaches i.scope r → Reaches j.scope (with_instance id n r)) → (s : State) → Knows i s
+    → Knows j (copied id original s)
+one_instance i j id original n items outer found more s k = record {
+  known = items ∙ k.known;
+  reach = subst (λ (m : Option ℕ). Reaches j.scope (with_instance id m s.reach)) (found s.reach k.reach) (more s.reach k.reach);
+  outside = subst (λ (xs : List Scope). ReachesEach (reverse xs) s.outside) (sym outer) k.outside;
+}
+
+-- the end of a thread, and its beginning
 pub popped : (xs : List Scope) (x : Scope) (c : List Scope) → c ≡ xs ++ x ∷ [] → reverse c ≡ x ∷ reverse xs
 popped xs x c e = ap reverse e ∙ reverse-append xs (x ∷ [])
 
@@ -124,10 +141,17 @@ pub stays : (s : State) (rs : List Reach) (j : Instances) → Knows j s → Reac
 stays s [] j k h = k
 stays s (r ∷ rs) j k h = absurd h
 
--- a fact of a value, by another
-pub if_ok : {T E P Q : Type 0} (r : Result T E) → (P → Q) → OnOk r P → OnOk r Q
-if_ok (Ok x) f p = f p
-if_ok (Err e) f p = tt
+pub one_thread : (i j : Instances) (shared : Option Id) (n : Option ℕ) → j.interfaces.items ≡ i.interfaces.items → ((r : Reach) → Reaches i.scope r → n ≡ instance_at shared r)
+    → Reaches j.scope (sharing (shared_as shared n)) → j.outer.items ≡ i.outer.items ++ i.scope ∷ [] → (s : State) → Knows i s → Knows j (entered shared s)
+one_thread i j shared n items found scope outer s k = record {
+  known = items ∙ k.known;
+  reach = subst (λ (m : Option ℕ). Reaches j.scope (sharing (shared_as shared m))) (found s.reach k.reach) scope;
+  outside = subst (λ (cs : List Scope). ReachesEach cs (s.reach ∷ s.outside)) (sym (popped i.outer.items i.scope j.outer.items outer)) (k.reach, k.outside);
+}
+
+-- the instance that an id refers to, and what is known of it
+pub looked_up : (i : Instances) (s : State) (n m : Option ℕ) → Knows i s → n ≡ m → option_and_then (slice_get i.interfaces.items) n ≡ option_and_then (slice_get s.known) m
+looked_up i s n m k e = ap (λ (xs : List (Option Interface)). option_and_then (slice_get xs) n) k.known ∙ ap (option_and_then (slice_get s.known)) e
 
 -- what is known after a command of a kind
 pub of_kind : (k l : CommandKind) (is : k ≡ l) (m : Option ConvertedModule) (j : Instances) (s t : State) → After l m s t → Knows j t

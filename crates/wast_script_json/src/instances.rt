@@ -235,6 +235,7 @@ fn interface_for(
 
 impl<'a> Instances<'a> {
     /// There are no modules yet.
+    #[tactic(auto, using(crate::proofs::References::knows_nothing))]
     pub fn new(alloc: Global) -> Instances<'a>
         ensures { Knows result nothing_known }
     {
@@ -305,10 +306,10 @@ impl<'a> Instances<'a> {
     fn leave(&mut self)
         ensures { (s : State) → Knows self.old s → Knows self.new (left s) }
     {
-        match self.outer.pop() {
-            Some(outer) => self.scope = outer,
-            None => {}
-        }
+        let Some(outer) = self.outer.pop() else {
+            return;
+        };
+        self.scope = outer;
     }
 
     /// Moves past a command, whose module was converted so.
