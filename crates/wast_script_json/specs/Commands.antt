@@ -4,7 +4,7 @@
 --   (wait $t) on line 9              {"type": "wait", "line": 9, "thread": "$t"}
 --
 -- WorkedCommands computes these.
-use Rattle.std.specs.Prelude.{ℕ, Bool, true, false, List, [], ◌++◌, codes, decimal, string_bytes, Option, None, Some}
+use Rattle.std.specs.Prelude.{ℕ, Bool, true, false, List, [], ◌++◌, codes, decimal, string_bytes, Option, None, Some, if◌then◌else◌}
 use Rattle.wast_base.specs.Ids.{name_of, text_of}
 use Rattle.wast_base.specs.Lines.{line_of, column_of}
 use Rattle.wast_base.specs.declared.ids.Id.{Id}
@@ -157,11 +157,15 @@ other_skipped s (kind.Instance id original) = skips (of_module s original)
 other_skipped s (kind.Register name id) = skips (of_instance s id)
 other_skipped s k = false
 
--- the line and the column of an unsupported construct
-abbrev pub place_in : List ℕ → Option ConvertedModule → ℕ × ℕ
-place_in text (Some (form.Skipped reason span)) = (line_of text span, column_of text span)
-place_in text (Some (form.File f)) = (0, 0)
-place_in text None = (0, 0)
+-- the position of an unsupported construct, and the line and the column of one
+abbrev pub construct_in : Option ConvertedModule → Option Span
+construct_in None = None
+construct_in (Some (form.File f)) = None
+construct_in (Some (form.Skipped reason span)) = Some span
+
+abbrev pub place_of : List ℕ → Option Span → ℕ × ℕ
+place_of text None = (0, 0)
+place_of text (Some span) = (line_of text span, column_of text span)
 
 -- the types of an action's results, if the command has no results
 abbrev pub types_for : State → Action → Option Part → List ℕ
@@ -177,23 +181,25 @@ acted_text script s ty a message results =
 -- the object of a command, by what is known before it and what its module was converted to
 abbrev pub entry_text : Script → State → Command → Option ConvertedModule → Entry → List ℕ
 entry_text script s c converted (OfModule ty m r is_definition message) =
-    of_converted converted (line_of script.text.now m.span) (place_in script.text.now converted) ty m r is_definition message
+    of_converted converted (line_of script.text.now m.span) (place_of script.text.now (construct_in converted)) ty m r is_definition message
 entry_text script s c converted (OfAction ty a message results) = acted_text script s ty a message results
 entry_text script s c converted Other = of_other c.kind (line_of script.text.now (other_place c.kind c.span)) (other_skipped s c.kind)
 
 abbrev pub object_text : Script → State → Command → Option ConvertedModule → List ℕ
 object_text script s c converted = entry_text script s c converted (entry_of c.kind)
 
--- what is before a command: nothing before the first of the script or of a thread, and before the end of one
-abbrev pub separator_before : Bool → CommandKind → List ℕ
-separator_before is_first kind.ThreadEnd = []
-separator_before true k = []
-separator_before false k = codes ",\n"
+-- whether a command is the end of a thread, and whether the next one is the first of a thread
+abbrev pub closes : CommandKind → Bool
+closes kind.ThreadEnd = true
+closes k = false
 
-abbrev pub command_text : Script → State → Bool → Command → Option ConvertedModule → List ℕ
-command_text script s is_first c converted = separator_before is_first c.kind ++ object_text script s c converted
-
--- whether the next command is the first of a thread
 abbrev pub opens : CommandKind → Bool
 opens (kind.Thread id shared) = true
 opens k = false
+
+-- what is before a command: nothing before the first of the script or of a thread, and before the end of one
+abbrev pub separator : Bool → List ℕ
+separator is_first = if is_first then [] else codes ",\n"
+
+abbrev pub command_text : Script → State → Bool → Command → Option ConvertedModule → List ℕ
+command_text script s is_first c converted = (if closes c.kind then [] else separator is_first) ++ object_text script s c converted

@@ -1,10 +1,10 @@
 //! Writes the commands of a script as JSON.
 
-ghost use Rattle.std.specs.Prelude.{◌≡◌, ℕ, Bool, true, List, ◌++◌, codes, IfOk, OnOk, option_copied, if◌then◌else◌};
+ghost use Rattle.std.specs.Prelude.{◌≡◌, ℕ, Bool, true, List, [], ◌++◌, codes, IfOk, OnOk, option_copied, if◌then◌else◌};
 ghost use Rattle.wast_script_json.specs.Json.{written};
 ghost use Rattle.wast_base.specs.Lines.{line_of, column_of};
 ghost use Rattle.wast_script_json.specs.Entries.{told};
-ghost use Rattle.wast_script_json.specs.Commands.{of_converted, of_other, other_place, other_skipped, place_in, types_for, acted_text, object_text, separator_before, opens};
+ghost use Rattle.wast_script_json.specs.Commands.{of_converted, of_other, other_place, other_skipped, construct_in, place_of, types_for, acted_text, object_text, closes, opens};
 ghost use Rattle.wast_script_json.specs.Files.{beginning, closing, Stands, Appends};
 ghost use Rattle.wast_script_json.specs.Known.{Knows};
 ghost use Rattle.wast_script_json.specs.Places.{Counts};
@@ -61,16 +61,25 @@ fn types_for<'i, 'a>(instances: &'i Instances<'a>, command: &ActionEntry<'a>) ->
     }
 }
 
-/// The line and the column of an unsupported construct.
-fn place_in(lines: &mut Lines, text: &str, converted: Option<&ConvertedModule>) -> (u64, u64)
-    ensures counts { Counts text.now lines.old → Counts text.now lines.new }
-    ensures place { Counts text.now lines.old → result ≡ place_in text.now (option_copied converted.entry) }
+/// The position of an unsupported construct.
+fn construct_in(converted: Option<&ConvertedModule>) -> Option<Span>
+    ensures { result ≡ construct_in (option_copied converted.entry) }
 {
     match converted {
-        Some(ConvertedModule::Skipped(_, place)) => {
-            (lines.line_of(text, *place), column_of(text, *place))
-        }
-        Some(ConvertedModule::File(_)) | None => (0, 0),
+        Some(ConvertedModule::Skipped(_, place)) => Some(*place),
+        Some(ConvertedModule::File(_)) => None,
+        None => None,
+    }
+}
+
+/// The line and the column of a position, if there is one.
+fn place_of(lines: &mut Lines, text: &str, place: Option<Span>) -> (u64, u64)
+    ensures counts { Counts text.now lines.old → Counts text.now lines.new }
+    ensures place { Counts text.now lines.old → result ≡ place_of text.now place }
+{
+    match place {
+        Some(place) => (lines.line_of(text, place), column_of(text, place)),
+        None => (0, 0),
     }
 }
 
@@ -83,10 +92,10 @@ fn module_object(
     converted: Option<&ConvertedModule>,
 ) -> Result<(), AllocError>
     ensures counts { Counts text.now lines.old → Counts text.now lines.new }
-    ensures text { OnOk result (Counts text.now lines.old → written json.new ≡ written json.old ++ of_converted (option_copied converted.entry) (line_of text.now command.entry.«module».span) (place_in text.now (option_copied converted.entry)) command.entry.ty.now command.entry.«module» command.entry.role command.entry.is_definition (told command.entry.message)) }
+    ensures text { OnOk result (Counts text.now lines.old → written json.new ≡ written json.old ++ of_converted (option_copied converted.entry) (line_of text.now command.entry.«module».span) (place_of text.now (construct_in (option_copied converted.entry))) command.entry.ty.now command.entry.«module» command.entry.role command.entry.is_definition (told command.entry.message)) }
 {
     let line = lines.line_of(text, command.module.span);
-    let place = place_in(lines, text, converted);
+    let place = place_of(lines, text, construct_in(converted));
     write_module(json, line, place, command, converted)?;
     Ok(())
 }
@@ -139,33 +148,58 @@ fn write_object<'a>(
     ensures text { OnOk result ((s : State) → Knows instances.now s → Counts script.now.text.now lines.old → written json.new ≡ written json.old ++ object_text script.now s command.entry (option_copied converted.entry)) }
 {
     match entry_of(command.kind) {
-        Entry::Module(entry) => module_object(json, lines, script.text, entry, converted),
-        Entry::Action(entry) => action_object(json, lines, instances, script, entry),
-        Entry::Other => other_object(json, lines, instances, script.text, command),
+        Entry::Module(entry) => {
+            module_object(json, lines, script.text, entry, converted)?;
+            Ok(())
+        }
+        Entry::Action(entry) => {
+            action_object(json, lines, instances, script, entry)?;
+            Ok(())
+        }
+        Entry::Other => {
+            other_object(json, lines, instances, script.text, command)?;
+            Ok(())
+        }
     }
 }
 
-/// Appends what is before a command.
-fn write_separator(
-    json: &mut Json,
-    separator: &str,
-    kind: CommandKind<'_>,
-) -> Result<(), AllocError>
-    ensures { OnOk result ((is_first : Bool) → separator.now ≡ (if is_first then codes "" else codes ",\n") → written json.new ≡ written json.old ++ separator_before is_first kind.entry) }
+/// Returns whether a command is the end of a thread.
+fn closes(kind: CommandKind<'_>) -> bool
+    ensures { result ≡ closes kind.entry }
 {
     match kind {
-        CommandKind::ThreadEnd => Ok(()),
-        _ => json.raw(separator),
+        CommandKind::ThreadEnd => true,
+        _ => false,
+    }
+}
+
+/// Returns whether the next command is the first of a thread.
+fn opens(kind: CommandKind<'_>) -> bool
+    ensures { result ≡ opens kind.entry }
+{
+    match kind {
+        CommandKind::Thread(_, _) => true,
+        _ => false,
+    }
+}
+
+/// Appends what is before a command, unless it is the end of a thread.
+fn write_separator(json: &mut Json, separator: &str, is_end: bool) -> Result<(), AllocError>
+    ensures { OnOk result (written json.new ≡ written json.old ++ (if is_end then [] else separator.now)) }
+{
+    match is_end {
+        true => Ok(()),
+        false => json.raw(separator),
     }
 }
 
 /// What is before the next command.
-fn separator_after(kind: CommandKind<'_>) -> &'static str
-    ensures { result.now ≡ (if opens kind.entry then codes "" else codes ",\n") }
+fn separator_before(is_first: bool) -> &'static str
+    ensures { result.now ≡ (if is_first then [] else codes ",\n") }
 {
-    match kind {
-        CommandKind::Thread(_, _) => "",
-        _ => ",\n",
+    match is_first {
+        true => "",
+        false => ",\n",
     }
 }
 
@@ -206,7 +240,7 @@ impl<'a> ScriptJson<'a> {
     ) -> Result<(), AllocError>
         ensures appends { OnOk result ((s : State) (is_first : Bool) → Stands script.now.text.now s is_first self.old → Appends script.now s is_first command.now (option_copied converted.entry) self.old self.new) }
     {
-        write_separator(&mut self.json, self.separator, command.kind)?;
+        write_separator(&mut self.json, self.separator, closes(command.kind))?;
         write_object(
             &mut self.json,
             &mut self.lines,
@@ -215,7 +249,7 @@ impl<'a> ScriptJson<'a> {
             *command,
             converted,
         )?;
-        self.separator = separator_after(command.kind);
+        self.separator = separator_before(opens(command.kind));
         self.instances.pass(command.kind, converted)?;
         Ok(())
     }
@@ -245,7 +279,7 @@ impl<'a> ScriptJson<'a> {
     /// - `text`: there is no text.
     /// - `stands`: the next command is the same, and what is known before it.
     pub fn clear(&mut self)
-        ensures text { written self.new.json ≡ codes "" }
+        ensures text { written self.new.json ≡ [] }
         ensures stands { (text : List ℕ) (s : State) (is_first : Bool) → Stands text s is_first self.old → Stands text s is_first self.new }
     {
         self.json.clear();
