@@ -4,23 +4,23 @@ use Rattle.wast_script_json.specs.References.{copied, entered, left}
 use Rattle.wast_script_json.proofs.References.{of_kind, plain}
 use Rattle.wast_script_json.proofs.instances.Instances.pass.Goals as goal
 
-pub returns-in-Module : goal.returns-in-Module
-returns-in-Module c s k =
-    let p = c.in_ok-module.ensures s k in
+pub returns-in_ok-module-in-Module : goal.returns-in_ok-module-in-Module
+returns-in_ok-module-in-Module c s k =
+    let p = c.in_ok-module-in-Module.ensures s k in
     of_kind c.args.kind (kind.Module c.in-Module.«module») c.in-Module.is _ _ s p.0 p.1 p.2
 
-pub returns-in-Definition : goal.returns-in-Definition
-returns-in-Definition c s k =
+pub returns-in_ok-module-in-Definition : goal.returns-in_ok-module-in-Definition
+returns-in_ok-module-in-Definition c s k =
     let p = c.in_ok-module-in-Definition.ensures s k in
     of_kind c.args.kind (kind.Definition c.in-Definition.«module») c.in-Definition.is _ _ s p.0 p.1 p.2
 
-pub returns-in-Instance : goal.returns-in-Instance
-returns-in-Instance c s k =
-    of_kind c.args.kind (kind.Instance c.in-Instance.id c.in-Instance.original) c.in-Instance.is _ _ s (copied c.in-Instance.id c.in-Instance.original s) refl (c.in_ok-copy.ensures s k)
+pub returns-in_ok-copy-in-Instance : goal.returns-in_ok-copy-in-Instance
+returns-in_ok-copy-in-Instance c s k =
+    of_kind c.args.kind (kind.Instance c.in-Instance.id c.in-Instance.original) c.in-Instance.is _ _ s (copied c.in-Instance.id c.in-Instance.original s) refl (c.in_ok-copy-in-Instance.ensures s k)
 
-pub returns-in-Thread : goal.returns-in-Thread
-returns-in-Thread c s k =
-    of_kind c.args.kind (kind.Thread c.in-Thread.field-0 c.in-Thread.shared) c.in-Thread.is _ _ s (entered c.in-Thread.shared s) refl (c.in_ok-enter.ensures s k)
+pub returns-in_ok-enter-in-Thread : goal.returns-in_ok-enter-in-Thread
+returns-in_ok-enter-in-Thread c s k =
+    of_kind c.args.kind (kind.Thread c.in-Thread.field-0 c.in-Thread.shared) c.in-Thread.is _ _ s (entered c.in-Thread.shared s) refl (c.in_ok-enter-in-Thread.ensures s k)
 
 pub returns-in-ThreadEnd : goal.returns-in-ThreadEnd
 returns-in-ThreadEnd c s k = of_kind c.args.kind kind.ThreadEnd c.in-ThreadEnd.is _ _ s (left s) refl (c.leave.ensures s k)
