@@ -234,10 +234,15 @@ pub fn report_malformed(rt: &HostRuntime, file: Escaped<'_>, text: &str) -> Fail
 
 /// Returns whether a text may have bidirectional control characters. In UTF-8 each of them begins
 /// with one of two bytes. Few texts have these, so most texts are not decoded to look for them.
+/// Most have ASCII characters alone, and then one look without an early exit is enough: the compiler
+/// makes it of many bytes at a time.
 fn may_have_bidirectional_control(text: &str) -> bool {
-    text.as_bytes()
-        .iter()
-        .any(|byte| *byte == 0xd8 || *byte == 0xe2)
+    let bytes = text.as_bytes();
+    let mut bits = 0;
+    for byte in bytes {
+        bits |= *byte;
+    }
+    bits >= 0x80 && bytes.iter().any(|byte| *byte == 0xd8 || *byte == 0xe2)
 }
 
 /// Returns the offset of the first bidirectional control character of a text.
