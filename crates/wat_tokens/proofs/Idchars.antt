@@ -1,5 +1,5 @@
 -- Closes the cut of a word out of a text: a word is ASCII, so that a character begins where it ends.
-use Rattle.std.proofs.Common.{◌≡◌, ◌∙◌, ℕ, zero, suc, ◌+◌, ◌-◌, ◌<◌, ◌≤◌, ◌==◌, Bool, true, false, List, [], ◌∷◌, length, drop, take, get_or, refl, ap, subst, arith, eqb-true, ◌⊎◌, inl, inr}
+use Rattle.std.proofs.Common.{◌≡◌, ◌∙◌, ℕ, zero, suc, ◌+◌, ◌-◌, ◌<◌, ◌≤◌, ◌==◌, Bool, true, false, List, length, drop, take, get_or, refl, ap, subst, arith, eqb-true, ◌⊎◌, inl, inr}
 use Rattle.std.proofs.lemmas.Bool.{leb-true, cases_lt}
 use Rattle.std.proofs.lemmas.Str.{IsCharBoundary-after_ascii}
 use Rattle.std.proofs.lemmas.List.{length-drop}
@@ -7,7 +7,7 @@ use Rattle.std.specs.Prelude.{IsUtf8, IsCharBoundary, nat_le, ◌&&◌}
 use Rattle.std.specs.Int.{is_in_range}
 use Rattle.wat_grammar.specs.Parts.{front}
 use Rattle.wat_grammar.specs.Tokens.{is_idchar}
-use Rattle.wat_tokens.proofs.Fronts.{front_more, front_stop, front_end, front_is, begins, stops}
+use Rattle.wat_tokens.proofs.Fronts.{front_more, front_stop, front_end, front_is, front_short}
 
 no_right : (a : Bool) → a && false ≡ false
 no_right true = refl
@@ -76,14 +76,6 @@ word_ends T b utf8 start = word_from T utf8 (length T) b start (omega arith)
 
 pub word_is : (T : List ℕ) (b : ℕ) → take (length (front is_idchar (drop b T))) (drop b T) ≡ front is_idchar (drop b T)
 word_is T b = front_is is_idchar (drop b T)
-
-front_short : (is : ℕ → Bool) (cs : List ℕ) → length (front is cs) ≤ length cs
-front_short is [] = omega arith
-front_short is (c ∷ cs) = go (is c) refl (front_short is cs)
-  where
-    go : (x : Bool) → is c ≡ x → length (front is cs) ≤ length cs → length (front is (c ∷ cs)) ≤ suc (length cs)
-    go true e h = let l : length (front is (c ∷ cs)) ≡ suc (length (front is cs)) = ap length (begins is c cs e) in omega (arith, l, h)
-    go false e h = let l : length (front is (c ∷ cs)) ≡ 0 = ap length (stops is c cs e) in omega (arith, l)
 
 pub word_inside : (T : List ℕ) (b : ℕ) → b ≤ length T → b + length (front is_idchar (drop b T)) ≤ length T
 word_inside T b h = let s = front_short is_idchar (drop b T) in let l = length-drop b T in omega (arith, s, l, h)

@@ -1,5 +1,6 @@
 -- What cutting a text into tokens returns (text format: tokens). The rules are those of wat_grammar.
-use Rattle.std.specs.Prelude.{◌≡◌, ◌≢◌, ◌<◌, ◌≤◌, ◌==◌, ℕ, Bool, true, false, if◌then◌else◌, List, [], ◌∷◌, length, drop, map, Option, None, Some, Result, MatchResult, codes, ⊤}
+use Rattle.std.specs.Prelude.{◌≡◌, ◌≢◌, ◌<◌, ◌≤◌, ◌==◌, ◌+◌, ℕ, Bool, true, false, if◌then◌else◌, List, [], ◌∷◌, length, drop, map, Option, None, Some, Result, MatchResult, codes, ⊤}
+use Rattle.wat_grammar.specs.Parts.{◌>>=◌}
 use Rattle.wat_grammar.specs.Space.{is_blank}
 use Rattle.wat_grammar.specs.Tokens as grammar
 use Rattle.wat_tokens.specs.declared.faults.TextError.{TextError}
@@ -14,6 +15,10 @@ use Rattle.wat_tokens.specs.declared.scans.Kind.TheVariants as kind
 use Rattle.wat_tokens.specs.declared.scans.Part.{Part}
 use Rattle.wat_tokens.specs.declared.scans.Skipped.{Skipped}
 use Rattle.wat_tokens.specs.Words.{word_named}
+
+-- so many characters more
+abbrev pub after_these : ℕ → Option ℕ → Option ℕ
+after_these i o = o >>= λ n. Some (i + n)
 
 -- the id of an annotation with a meaning
 abbrev pub id_of : Annotation → List ℕ

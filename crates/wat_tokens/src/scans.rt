@@ -1,10 +1,11 @@
 //! A text is cut into tokens.
 
-ghost use Rattle.std.specs.Prelude.{◌≡◌, ◌≢◌, ◌==◌, ◌&&◌, ◌||◌, ◌<◌, ◌≤◌, ◌+◌, ◌++◌, suc, true, false, length, drop, Some, None, IsUtf8, IsCharBoundary, All, IfOk, IfErr, MatchOption, MatchResult};
+ghost use Rattle.std.specs.Prelude.{◌≡◌, ◌≢◌, ◌==◌, ◌&&◌, ◌||◌, ◌<◌, ◌≤◌, ◌+◌, ◌-◌, ◌++◌, suc, true, false, not, length, drop, map, Some, None, IsUtf8, IsCharBoundary, All, IfOk, IfErr, MatchOption, MatchResult};
+ghost use Rattle.std.specs.Simd.Lanes.{mask_l};
 ghost use Rattle.wat_grammar.specs.Parts.{front};
 ghost use Rattle.wat_grammar.specs.Space.{is_blank, is_linechar, blockcomment};
 ghost use Rattle.wat_grammar.specs.Tokens.{is_idchar, is_reserved, id_chars, string_length, has_meaning, a_string, a_name, an_id, ends, one_token, skipped_open, skipped_part, skipped, annotation, opened, string_token, id_token, word, part, tokens, bytes_of, as_written};
-ghost use Rattle.wat_tokens.specs.Scans.{id_of, seen, seen_all, placed, contents_of, token_of, first_of, is_first, begins_of, kind_of, IsNamed, IsNamedPart, IsRead, IsName, IsFault, IsInside, Reads, Skips};
+ghost use Rattle.wat_tokens.specs.Scans.{after_these, id_of, seen, seen_all, placed, contents_of, token_of, first_of, is_first, begins_of, kind_of, IsNamed, IsNamedPart, IsRead, IsName, IsFault, IsInside, Reads, Skips};
 ghost use Rattle.wat_tokens.specs.declared.faults.TextFault.TheVariants as fault;
 
 use crate::faults::{TextError, TextFault};
@@ -12,6 +13,7 @@ use crate::strings::Strings;
 use crate::tokens::{Annotation, Placed, Token};
 use crate::words::look_up;
 use std::alloc::Global;
+use std::simd::prelude::*;
 use std::str;
 use wast_base::Span;
 
@@ -76,72 +78,123 @@ fn blank_length(text: &[u8]) -> usize
     text.len() - rest.len()
 }
 
+/// Returns a number that has a bit for each of these bytes, the first one the lowest: 1 if the byte is one of two.
+#[inline(always)]
+fn either_bits(bytes: u8x16, one: u8, other: u8) -> u64
+    ensures { result ≡ mask_l (map (λ c. c == one || c == other) bytes) }
+{
+    (bytes.simd_eq(u8x16::splat(one)) | bytes.simd_eq(u8x16::splat(other))).to_bitmask()
+}
+
+/// Returns how many bytes at the start of a text are neither of two. It looks at the first 16 bytes, and returns 0 if there are fewer.
+#[inline(always)]
+fn neither_length(text: &[u8], one: u8, other: u8) -> usize
+    ensures short { result ≤ length text.now }
+    ensures front { result ≤ length (front (λ c. not (c == one || c == other)) text.now) }
+{
+    if text.len() < 16 {
+        return 0;
+    }
+    let found = either_bits(u8x16::from_slice(text), one, other);
+    if found != 0 {
+        return found.trailing_zeros() as usize;
+    }
+    16
+}
+
 /// Returns how many bytes there are before the end of the line.
-#[tactic(auto, using(crate::proofs::Fronts::front_more, crate::proofs::Fronts::front_stop, crate::proofs::Fronts::front_end))]
+#[inline(never)]
 fn line_length(text: &[u8]) -> usize
     ensures short { result ≤ length text.now }
     ensures front { result ≡ length (front is_linechar text.now) }
 {
-    for (count, byte) in text.iter().enumerate() {
-        if *byte == b'\n' || *byte == b'\r' {
-            return count;
-        }
+    let mut rest = text;
+    for _ in 0..text.len() {
+        rest = match rest {
+            [] => break,
+            [b'\n', ..] => break,
+            [b'\r', ..] => break,
+            [_, more @ ..] => &more[neither_length(more, b'\n', b'\r')..],
+        };
     }
-    text.len()
+    text.len() - rest.len()
 }
 
-/// Returns whether two bytes are `(;`.
-fn is_comment_start(before: u8, byte: u8) -> bool
-    ensures { result ≡ (before == 0x28 && byte == 0x3b) }
+/// Returns whether a text begins with a byte.
+fn begins(text: &[u8], byte: u8) -> bool
+    ensures { result ≡ is_first byte text.now }
 {
-    before == b'(' && byte == b';'
-}
-
-/// Returns whether two bytes are `;)`.
-fn is_comment_end(before: u8, byte: u8) -> bool
-    ensures { result ≡ (before == 0x3b && byte == 0x29) }
-{
-    before == b';' && byte == b')'
+    match text {
+        [first, ..] => *first == byte,
+        [] => false,
+    }
 }
 
 /// Returns how many bytes a block comment has after its `(;`, with its `;)`, or `None` if it has no end. Comments nest.
-#[tactic(auto, using(crate::proofs::Comments::begun, crate::proofs::Comments::starts_at, crate::proofs::Comments::closes_at, crate::proofs::Comments::ends_at, crate::proofs::Comments::goes_on_at, crate::proofs::Comments::no_end))]
+#[inline(never)]
 fn comment_length(text: &[u8]) -> Option<usize>
     ensures { MatchOption result (blockcomment 0 text.now ≡ None) (λ n. (n ≤ length text.now) × (blockcomment 0 text.now ≡ Some (drop n text.now))) }
 {
     let mut depth = 0_usize;
-    let mut before = 0;
-    for (count, byte) in text.iter().enumerate() {
-        if is_comment_start(before, *byte) {
-            depth += 1;
-            before = 0;
-        } else if is_comment_end(before, *byte) {
-            if depth == 0 {
-                return Some(count + 1);
+    let mut rest = text;
+    for _ in 0..text.len() {
+        rest = match rest {
+            [] => return None,
+            [b'(', more @ ..] => {
+                if begins(more, b';') {
+                    depth += 1;
+                    &more[1..]
+                } else {
+                    more
+                }
             }
-            depth -= 1;
-            before = 0;
-        } else {
-            before = *byte;
-        }
+            [b';', more @ ..] => {
+                if begins(more, b')') {
+                    if depth == 0 {
+                        return Some(text.len() - more.len() + 1);
+                    }
+                    depth -= 1;
+                    &more[1..]
+                } else {
+                    more
+                }
+            }
+            [_, more @ ..] => &more[neither_length(more, b'(', b';')..],
+        };
     }
     None
 }
 
+/// Returns the text after the byte that a backslash escapes, for the text after the backslash. If the next byte is neither a quote
+/// nor a backslash, as the second digit of `\01`, it returns the text after that.
+fn after_escaped(text: &[u8]) -> &[u8]
+    ensures short { length result.now ≤ length text.now }
+    ensures past { string_length true text.now ≡ after_these (length text.now - length result.now) (string_length false result.now) }
+{
+    match text {
+        [] => text,
+        [_, rest @ ..] => match rest {
+            [] => rest,
+            [b'"', ..] => rest,
+            [b'\\', ..] => rest,
+            [_, later @ ..] => later,
+        },
+    }
+}
+
 /// Returns how many bytes a string has between its quotes, for the text after its first quote, or `None` if it has no end.
-#[tactic(auto, using(crate::proofs::Quotes::begun, crate::proofs::Quotes::escaped_at, crate::proofs::Quotes::ends_at, crate::proofs::Quotes::goes_on_at, crate::proofs::Quotes::no_end))]
+#[inline(never)]
 fn string_length(text: &[u8]) -> Option<usize>
     ensures { MatchOption result (string_length false text.now ≡ None) (λ n. (n < length text.now) × (string_length false text.now ≡ Some n)) }
 {
-    let mut is_escaped = false;
-    for (count, byte) in text.iter().enumerate() {
-        if is_escaped {
-            is_escaped = false;
-        } else if *byte == b'"' {
-            return Some(count);
-        } else {
-            is_escaped = *byte == b'\\';
-        }
+    let mut rest = text;
+    for _ in 0..text.len() {
+        rest = match rest {
+            [] => return None,
+            [b'"', ..] => return Some(text.len() - rest.len()),
+            [b'\\', more @ ..] => after_escaped(more),
+            [_, more @ ..] => &more[neither_length(more, b'"', b'\\')..],
+        };
     }
     None
 }
