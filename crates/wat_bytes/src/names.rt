@@ -1,13 +1,13 @@
 //! The ids of a text, their indices and their positions.
 
-ghost use Rattle.std.specs.Prelude.{◌≡◌, IfErr};
+ghost use Rattle.std.specs.Prelude.{◌≡◌, IfErr, IsTrue};
 ghost use Rattle.wast_base.specs.Ids.{Written};
 ghost use Rattle.wast_resolve_names.specs.LookUps.{IsSettledFor};
 ghost use Rattle.wast_resolve_names.specs.Resolvers.{known_to};
 ghost use Rattle.wast_resolve_rules.specs.Resolved.{numbered_at};
 ghost use Rattle.wast_core.specs.Headline.{ResolvesKind};
-ghost use Rattle.wast_core.specs.Modules.{IsReady};
-ghost use Rattle.wat_bytes.specs.Texts.{IsPlaced, OfText};
+ghost use Rattle.wast_core.specs.Modules.{IsReady, is_well_formed};
+ghost use Rattle.wat_bytes.specs.Texts.{IsPlaced, OfText, module_of};
 ghost use Rattle.wat_bytes.specs.Names.{ListsReady, ListsText, NumbersText, ResolvesReady, ResolvesText};
 
 use crate::laws::bare_laws;
@@ -79,6 +79,28 @@ fn listed<'a>(alloc: Global, module: &mut Module<'a>) -> Result<Vec<Denoted<'a>>
     }
 }
 
+/// Resolves a parsed module, and returns its source ids. If `is_told` is true, it is known to be
+/// well formed.
+fn names_in<'a>(
+    alloc: Global,
+    text: TextModule<'a>,
+    is_told: bool,
+) -> Result<Vec<Denoted<'a>>, Refused<'a>>
+    requires told { IsTrue is_told → IsTrue (is_well_formed (module_of text)) }
+    ensures { ListsText text.entry result }
+{
+    let mut module = module_of(text);
+    let answer = match is_ready(&mut module, is_told) {
+        true => match listed(alloc, &mut module) {
+            Ok(all) => Ok(all),
+            Err(error) => Err(Refused::Module(error)),
+        },
+        false => Err(Refused::Text(unready(&mut module))),
+    };
+    discard_module(module);
+    answer
+}
+
 /// Resolves a parsed module, and returns each of its ids with its index and its position (text
 /// format: identifiers, indices).
 ///
@@ -104,16 +126,7 @@ fn listed<'a>(alloc: Global, module: &mut Module<'a>) -> Result<Vec<Denoted<'a>>
 pub fn names_of<'a>(alloc: Global, text: TextModule<'a>) -> Result<Vec<Denoted<'a>>, Refused<'a>>
     ensures { ListsText text.entry result }
 {
-    let mut module = module_of(text);
-    let answer = match is_ready(&mut module, false) {
-        true => match listed(alloc, &mut module) {
-            Ok(all) => Ok(all),
-            Err(error) => Err(Refused::Module(error)),
-        },
-        false => Err(Refused::Text(unready(&mut module))),
-    };
-    discard_module(module);
-    answer
+    names_in(alloc, text, false)
 }
 
 /// Parses a module in the text format, resolves it, and returns each of its ids with its index and
@@ -145,7 +158,7 @@ pub fn names_of_text<'a>(
 {
     bare_laws();
     match read_text(alloc, text, strings) {
-        Ok(module) => names_of(alloc, module),
+        Ok(module) => names_in(alloc, module, true),
         Err(error) => Err(Refused::Text(error)),
     }
 }
