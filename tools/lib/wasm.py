@@ -68,8 +68,13 @@ def owner(path):
 
 
 def commit():
-    """The last commit that changed a source, with a word if there are changes since: the commit that adds what is built does not change it."""
+    """
+    The last commit that changed a source, with a word if there are changes since: the commit that adds what is built does not change it.
+    A copy of the sources may have no commits.
+    """
     git = lambda *words: subprocess.run(["git", *words], cwd=ROOT, check=True, capture_output=True, text=True).stdout.strip()
+    if subprocess.run(["git", "rev-parse", "--verify", "--quiet", "HEAD"], cwd=ROOT, capture_output=True).returncode:
+        return "none"
     return git("log", "-1", "--format=%H", "--", *SOURCES) + (" and changes" if git("status", "--porcelain", *SOURCES) else "")
 
 

@@ -56,7 +56,7 @@ impl fmt::Display for NotReady {
 pub enum CheckError<'a> {
     /// The module is not ready. Nothing has changed.
     NotReady(NotReady),
-    /// The module was ready, and the call failed with this error, E1 to E12.
+    /// The module was ready, and the call failed with this error, E1 to E13.
     Failed(Error<'a>),
 }
 

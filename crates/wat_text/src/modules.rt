@@ -612,8 +612,9 @@ fn module_up_to<'a>(
 ///
 /// # Errors
 ///
-/// A [`TextFault`] with a position in the text or at its end. If several tokens are wrong, it is the
-/// error of the first one.
+/// A [`TextFault`] with a position in the text or at its end: the first error of the text. In the
+/// strings of `(module quote ..)` a wrong token comes before an earlier error of another kind. For
+/// example, it is the `[` of `(module quote "(fnuc) [")`.
 ///
 /// - [`TextFault::Memory`]: allocation failed.
 /// - [`TextFault::IllFormed`]: the fields break the rule of well-formedness of this number, as in
