@@ -42,20 +42,8 @@ pub record Contribution : Type 0 where
 
 -- A field that adds nothing to any section.
 abbrev pub no_contribution : Contribution
-no_contribution = record {
-  types = [];
-  imports = [];
-  functions = [];
-  tables = [];
-  memories = [];
-  tags = [];
-  globals = [];
-  exports = [];
-  starts = [];
-  elements = [];
-  code = [];
-  «data» = [];
-}
+no_contribution =
+    record { types = []; imports = []; functions = []; tables = []; memories = []; tags = []; globals = []; exports = []; starts = []; elements = []; code = []; «data» = [] }
 
 -- What a field adds to the sections: most are one entry of one section. A recursion group is one entry, with any number of types. A function
 -- is its type in the function section, and its body in the code section. A start field is its function.
