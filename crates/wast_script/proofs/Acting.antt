@@ -1,6 +1,5 @@
 -- Actions, what assertions run, and commands: the steps of their rules.
-use Rattle.std.proofs.Common.{◌≡◌, ◌∙◌, ℕ, ◌+◌, ◌≤◌, Bool, true, false, List, [], ◌++◌, length, map, codes, Option, None, Some, refl, sym, ap, subst, arith, length-append}
-use Rattle.std.specs.Global.{Vec}
+use Rattle.std.proofs.Common.{◌≡◌, ◌∙◌, ℕ, ◌≤◌, Bool, true, false, List, [], length, codes, Option, None, Some, refl, sym, ap, subst, arith}
 use Rattle.std.proofs.lemmas.List.{length-map}
 use Rattle.std.specs.Borrow.{Bor}
 use Rattle.wat_grammar.specs.Parts.{◌>>=◌}
@@ -8,9 +7,8 @@ use Rattle.wat_tokens.specs.declared.tokens.Placed.{Placed}
 use Rattle.wat_syntax.specs.Tree.{Span, Id}
 use Rattle.wat_syntax.specs.Tokens.{Toks, Parse, rparen}
 use Rattle.wat_syntax.specs.Values.{id, name}
-use Rattle.wat_syntax.specs.Bare.{bare_text, bare_placed, bare_id_option}
+use Rattle.wat_syntax.specs.Bare.{bare_text, bare_id_option}
 use Rattle.wast_script.specs.declared.values.Part.{Part}
-use Rattle.wat_tokens.specs.declared.faults.TextError.{TextError}
 use Rattle.wast_script.specs.declared.commands.ActionKind.{ActionKind}
 use Rattle.wast_script.specs.declared.commands.ActionKind.TheVariants as action_kind
 use Rattle.wast_script.specs.declared.commands.ScriptModule.{ScriptModule}
@@ -23,39 +21,10 @@ use Rattle.wast_script.specs.declared.reader.Reader.{Reader}
 use Rattle.wast_script.specs.Constants.{Value, is_form, form, values}
 use Rattle.wast_script.specs.Grammar.{Action, Execution, Runs, Instantiates, Kind, AssertReturn, action, arguments, in_parentheses, run_action, execution, message, about_run, return_command, exception_command, AssertException, invocation}
 use Rattle.wast_script.specs.Scripts.{part, value_in, module_in, action_in, execution_in}
-use Rattle.wast_script.specs.Readers.{left, all_bare, read_values, IsRefused, IsFirst, HaveLanes, HasArguments, HasExecuted, Decides, Expects, Accepts, Finds, Reads}
-use Rattle.wast_script.proofs.Parts.{part_on}
-use Rattle.wast_script.proofs.Steps.{Steps, first_same, both, by_decides, by_expects, by_finds, by_reads, all_read}
-
--- the same result in other words
-pub turned : {T : Type 0} (old new : Reader) (p q r : Option T) → Steps old new p q → q ≡ r → Steps old new p r
-turned old new p q r s e = record {
-  commands = s.commands;
-  tokens = s.tokens;
-  clean = s.clean;
-  lanes = s.lanes;
-  values = s.values;
-  goes = λ h l. s.goes h l ∙ e;
-  keeps = s.keeps;
-  refuses = s.refuses;
-}
-
-none_refused : (o : Option TextError) → o ≡ None → IsRefused o → ⊥
-none_refused None e f = f
-none_refused (Some x) e f = absurd cc
-
--- all of a rule, as its steps
-as_steps : {T : Type 0} (rule : Toks → Parse T) (old new : Reader) (part : List Value → T) (has : ℕ → Type 0) → Reads rule old new part has → Steps old new (rule (left old)) (Some (part (read_values new.lists), left new))
-as_steps rule old new part has r = record {
-  commands = r.commands;
-  tokens = r.tokens;
-  clean = r.clean;
-  lanes = r.lanes;
-  values = r.values;
-  goes = r.gives;
-  keeps = r.keeps;
-  refuses = r.refuses;
-}
+use Rattle.wast_script.specs.Readers.{left, all_bare, read_values, IsFirst, HaveLanes, HasArguments, HasExecuted, Decides, Expects, Accepts, Finds, Reads}
+use Rattle.wast_script.proofs.Parts.{part_on, bare_same, longer}
+use Rattle.wast_script.proofs.Goes.{same_fault, as_goes}
+use Rattle.wast_script.proofs.Steps.{Steps, both, turned, by_goes, by_decides, by_expects, by_finds, by_reads, as_steps, all_read}
 
 -- a part that is made of another one
 pub wrapped : {S T : Type 0} (rule : Toks → Parse S) (make : S → T) (old new : Reader) (part : List Value → S) (has has_too : ℕ → Type 0) → Reads rule old new part has → ((n : ℕ) → has n → has_too n)
@@ -64,19 +33,14 @@ wrapped rule make old new part has has_too r more =
     all_read (λ toks. rule toks >>= λ x. Some (make x.0, x.1)) old new (λ vs. make (part vs)) has_too
     (by_reads rule old new part has (λ x. Some (make x.0, x.1)) r) (λ h l. more _ (r.within h l))
 
--- a part without values
+-- a part without values, or one that is the same whatever the values are
 pub decided : {T : Type 0} (rule : Toks → Parse T) (old new : Reader) (x : T) (has : ℕ → Type 0) → Decides rule old new x → ((n : ℕ) → has n) → Reads rule old new (λ vs. x) has
-decided rule old new x has d all = record {
-  commands = ap (λ (l : Lists). l.commands) d.lists;
-  tokens = d.tokens;
-  clean = d.clean;
-  lanes = λ h l. subst HaveLanes (sym d.lists) l;
-  values = λ h l. first_same (read_values old.lists) (read_values new.lists) (ap read_values d.lists);
-  within = λ h l. all _;
-  gives = λ h l. d.gives h;
-  keeps = d.keeps;
-  refuses = λ h l f. d.refuses h f;
-}
+decided rule old new x has d all =
+    all_read rule old new (λ vs. x) has (by_goes old new (rule (left old)) (Some (x, left new)) d.lists d.tokens (as_goes rule old new x d)) (λ h l. all _)
+
+pub plain_decided : {T : Type 0} (rule : Toks → Parse T) (old new : Reader) (part : List Value → T) (has : ℕ → Type 0) → Decides rule old new (part []) → ((vs : List Value) → part vs ≡ part []) → ((n : ℕ) → has n)
+    → Reads rule old new part has
+plain_decided rule old new part has d plain all = subst (λ p. Reads rule old new p has) (λ i vs. sym (plain vs) i) (decided rule old new (part []) has d all)
 
 -- the values are the same after a terminal
 same_values : (rule : Toks → Option Toks) (old new : Reader) → Expects rule old new → read_values old.lists ≡ read_values new.lists
@@ -97,7 +61,7 @@ action_read k a b c d e span m nm args at finds named takes close =
     (both b c e _ _ _ (by_decides name b c (bare_text nm) (λ nm. arguments k nm.1 >>= λ args. rparen args.1 >>= λ rest. at_end (bare_id_option m) nm.0.now args.0 rest) named)
     (both c d e _ _ _ (by_reads (arguments k) c d (part args) (λ n. args.end ≤ n) (λ args. rparen args.1 >>= λ rest. at_end (bare_id_option m) nm.now args.0 rest) takes)
     (by_expects rparen d e (at_end (bare_id_option m) nm.now (part args (read_values d.lists))) close))))
-    (ap (λ s. let o : Action × Toks = (record { span = s; kind = k; «module» = bare_id_option m; name = nm.now; arguments = part args (read_values d.lists) }, left e) in Some o) (sym at)
+    (λ h l. ap (λ s. let o : Action × Toks = (record { span = s; kind = k; «module» = bare_id_option m; name = nm.now; arguments = part args (read_values d.lists) }, left e) in Some o) (sym at)
     ∙ ap (λ vs. let o : Action × Toks = (record { span = span; kind = k; «module» = bare_id_option m; name = nm.now; arguments = part args vs }, left e) in Some o) (same_values rparen d e close)))
     (λ h l. subst (λ (k : Lists). args.end ≤ length k.values.items) (sym close.lists)
     (takes.within (close.clean h) (subst HaveLanes (sym (named.lists ∙ finds.lists)) l)))
@@ -116,9 +80,6 @@ pub has_on : (e : code_execution.Execution) (m n : ℕ) → m ≤ n → HasExecu
 has_on (run.Action a) m n few h = omega (arith, few, h)
 has_on (run.Module x) m n few h = tt
 
-longer : {T : Type 0} (xs zs : List T) → IsFirst xs zs → length xs ≤ length zs
-longer xs zs f = let one : length zs ≡ length (xs ++ f.more) = ap length f.is in let two : length (xs ++ f.more) ≡ length xs + length f.more = length-append xs f.more in omega (arith, one, two)
-
 pub value_count : (l : Lists) → length (read_values l) ≡ length l.values.items
 value_count l = length-map l.values.items (value_in l.lanes.items)
 
@@ -132,16 +93,7 @@ pub return_read : (a b c d : Reader) (e : code_execution.Execution) (results : P
     → Reads return_command a d (λ vs. AssertReturn (execution_in (all_bare d) vs e) (part results vs)) (λ n. HasExecuted n e × (results.end ≤ n))
 return_read a b c d e results runs takes close =
     all_read return_command a d (λ vs. AssertReturn (execution_in (all_bare d) vs e) (part results vs)) (λ n. HasExecuted n e × (results.end ≤ n))
-    (record {
-      commands = s.commands;
-      tokens = s.tokens;
-      clean = s.clean;
-      lanes = s.lanes;
-      values = s.values;
-      goes = λ h l. s.goes h l ∙ in_other_words h l;
-      keeps = s.keeps;
-      refuses = s.refuses;
-    })
+    (turned a d _ _ _ s in_other_words)
     (λ h l. subst (λ (k : Lists). HasExecuted (length k.values.items) e × (results.end ≤ length k.values.items)) (sym close.lists)
     (has_on e _ _ (grown b c (takes.values (close.clean h) (mid h l))) (runs.within (takes.clean (close.clean h)) l), takes.within (close.clean h) (mid h l)))
   where
@@ -155,9 +107,6 @@ return_read a b c d e results runs takes close =
     mid : d.fault ≡ None → HaveLanes a.lists → HaveLanes b.lists
     mid h l = runs.lanes (takes.clean (close.clean h)) l
 
-    bare_on : all_bare b ≡ all_bare d
-    bare_on = ap (λ (t : Vec Placed). map bare_placed t.items) (sym (close.tokens ∙ takes.tokens))
-
     at_end : Kind → Parse Kind
     at_end k = Some (k, left d)
 
@@ -166,37 +115,24 @@ return_read a b c d e results runs takes close =
     in_other_words h l =
         ap (λ x. let o : Kind × Toks = (AssertReturn x (part results (read_values c.lists)), left d) in Some o)
         (sym (execution_on (all_bare b) e (read_values b.lists) (read_values c.lists) (length b.lists.values.items) (runs.within (takes.clean (close.clean h)) l) (sym (value_count b.lists)) (takes.values (close.clean h) (mid h l))))
-        ∙ ap (λ ts. let o : Kind × Toks = (AssertReturn (execution_in ts (read_values c.lists) e) (part results (read_values c.lists)), left d) in Some o) bare_on
+        ∙ ap (λ ts. let o : Kind × Toks = (AssertReturn (execution_in ts (read_values c.lists) e) (part results (read_values c.lists)), left d) in Some o) (sym (bare_same b d (close.tokens ∙ takes.tokens)))
         ∙ ap (λ vs. let o : Kind × Toks = (AssertReturn (execution_in (all_bare d) vs e) (part results vs), left d) in Some o) (same_values rparen c d close)
 
 -- a reader that has taken tokens, by another rule for those that are left
 pub moved : {T : Type 0} (rule rule_too : Toks → Parse T) (a b c : Reader) (part : List Value → T) (has : ℕ → Type 0) → b.lists ≡ a.lists → b.tokens ≡ a.tokens → b.fault ≡ a.fault
     → rule (left a) ≡ rule_too (left b) → Reads rule_too b c part has → Reads rule a c part has
-moved rule rule_too a b c part has lists tokens fault same r = record {
-  commands = r.commands ∙ ap (λ (l : Lists). l.commands) lists;
-  tokens = r.tokens ∙ tokens;
-  clean = λ h. sym fault ∙ r.clean h;
-  lanes = λ h l. r.lanes h (subst HaveLanes (sym lists) l);
-  values = λ h l. subst (λ (k : Lists). IsFirst (read_values k) (read_values c.lists)) lists (r.values h (subst HaveLanes (sym lists) l));
-  within = λ h l. r.within h (subst HaveLanes (sym lists) l);
-  gives = λ h l. same ∙ r.gives h (subst HaveLanes (sym lists) l);
-  keeps = λ h. r.keeps (λ g. h (sym fault ∙ g)) ∙ fault;
-  refuses = λ h l f. same ∙ r.refuses (fault ∙ h) (subst HaveLanes (sym lists) l) f;
-}
+moved rule rule_too a b c part has lists tokens fault same r =
+    all_read rule a c part has
+    (both a b c _ _ _ (by_goes a b (rule (left a)) (rule_too (left b)) lists tokens (same_fault a b (rule (left a)) (rule_too (left b)) fault same)) (as_steps rule_too b c part has r))
+    (λ h l. r.within h (subst HaveLanes (sym lists) l))
 
 -- the arguments of `get`, which has none
 pub no_arguments : (a : Reader) (p : Part) → ((vs : List Value) → part p vs ≡ []) → p.end ≡ 0 → Reads (arguments action_kind.Get) a a (part p) (λ n. p.end ≤ n)
-no_arguments a p none last = record {
-  commands = refl;
-  tokens = refl;
-  clean = λ h. h;
-  lanes = λ h l. l;
-  values = λ h l. first_same (read_values a.lists) (read_values a.lists) refl;
-  within = λ h l. omega (arith, last);
-  gives = λ h l. ap (λ vs. let o : List Value × Toks = (vs, left a) in Some o) (sym (none (read_values a.lists)));
-  keeps = λ h. refl;
-  refuses = λ h l f. absurd (none_refused a.fault h f);
-}
+no_arguments a p none last =
+    all_read (arguments action_kind.Get) a a (part p) (λ n. p.end ≤ n)
+    (by_goes a a (arguments action_kind.Get (left a)) (Some (part p (read_values a.lists), left a)) refl refl
+    (same_fault a a (arguments action_kind.Get (left a)) (Some (part p (read_values a.lists), left a)) refl (ap (λ vs. let o : List Value × Toks = (vs, left a) in Some o) (sym (none (read_values a.lists))))))
+    (λ h l. omega (arith, last))
 
 -- `(invoke`, and an action
 pub invocation_read : (a b c : Reader) (part : List Value → Action) (has : ℕ → Type 0) → Expects (form (codes "invoke")) a b → Reads (action action_kind.Invoke) b c part has → Reads invocation a c part has
@@ -244,7 +180,7 @@ then_decides {T = T} rule second make a b c part has x r d =
     (turned a c _ _ _
     (both a b c _ _ _ (by_reads rule a b part has (λ y. second y.1 >>= λ z. Some (make y.0 z.0, z.1)) r)
     (by_decides second b c x (λ z. Some (make (part (read_values b.lists)) z.0, z.1)) d))
-    (ap (λ vs. let o : T × Toks = (make (part vs) x, left c) in Some o) (ap read_values (sym d.lists))))
+    (λ h l. ap (λ vs. let o : T × Toks = (make (part vs) x, left c) in Some o) (ap read_values (sym d.lists))))
     (λ h l. subst (λ (k : Lists). has (length k.values.items)) (sym d.lists) (r.within (d.clean h) l))
 
 -- a part, and a terminal after it
@@ -255,41 +191,19 @@ then_expects {T = T} rule second make a b c part has r d =
     (turned a c _ _ _
     (both a b c _ _ _ (by_reads rule a b part has (λ y. second y.1 >>= λ rest. Some (make y.0, rest)) r)
     (by_expects second b c (λ rest. Some (make (part (read_values b.lists)), rest)) d))
-    (ap (λ vs. let o : T × Toks = (make (part vs), left c) in Some o) (ap read_values (sym d.lists))))
+    (λ h l. ap (λ vs. let o : T × Toks = (make (part vs), left c) in Some o) (ap read_values (sym d.lists))))
     (λ h l. subst (λ (k : Lists). has (length k.values.items)) (sym d.lists) (r.within (d.clean h) l))
-
--- what is run, with the tokens of a later reader
-pub execution_later : (b c : Reader) (e : code_execution.Execution) → c.tokens ≡ b.tokens → (vs : List Value) → execution_in (all_bare b) vs e ≡ execution_in (all_bare c) vs e
-execution_later b c e same vs = ap (λ (t : Vec Placed). execution_in (map bare_placed t.items) vs e) (sym same)
-
-bare_on : (b c : Reader) → c.tokens ≡ b.tokens → all_bare b ≡ all_bare c
-bare_on b c same = ap (λ (t : Vec Placed). map bare_placed t.items) (sym same)
 
 -- `assert_exception`: what is run
 pub exception_read : (a b c : Reader) (e : code_execution.Execution) → Reads execution a b (λ vs. execution_in (all_bare b) vs e) (λ n. HasExecuted n e) → Expects rparen b c
     → Reads exception_command a c (λ vs. AssertException (execution_in (all_bare c) vs e)) (λ n. HasExecuted n e)
 exception_read a b c e r d =
-    subst (λ ts. Reads exception_command a c (λ vs. AssertException (execution_in ts vs e)) (λ n. HasExecuted n e)) (bare_on b c d.tokens)
+    subst (λ ts. Reads exception_command a c (λ vs. AssertException (execution_in ts vs e)) (λ n. HasExecuted n e)) (sym (bare_same b c d.tokens))
     (then_expects execution rparen AssertException a b c (λ vs. execution_in (all_bare b) vs e) (λ n. HasExecuted n e) r d)
 
 -- what an assertion runs, and a message
 pub about_run_read : (a b c : Reader) (e : code_execution.Execution) (text : Bor (List ℕ)) → Reads execution a b (λ vs. execution_in (all_bare b) vs e) (λ n. HasExecuted n e) → Decides message b c text.now
     → Reads about_run a c (λ vs. (execution_in (all_bare c) vs e, text.now)) (λ n. HasExecuted n e)
 about_run_read a b c e text r d =
-    subst (λ ts. Reads about_run a c (λ vs. (execution_in ts vs e, text.now)) (λ n. HasExecuted n e)) (bare_on b c d.tokens)
+    subst (λ ts. Reads about_run a c (λ vs. (execution_in ts vs e, text.now)) (λ n. HasExecuted n e)) (sym (bare_same b c d.tokens))
     (then_decides execution message (λ x t. let o : Execution × List ℕ = (x, t) in o) a b c (λ vs. execution_in (all_bare b) vs e) (λ n. HasExecuted n e) text.now r d)
-
--- a part that has no values, whatever the values are
-pub plain_decided : {T : Type 0} (rule : Toks → Parse T) (old new : Reader) (part : List Value → T) (has : ℕ → Type 0) → Decides rule old new (part []) → ((vs : List Value) → part vs ≡ part []) → ((n : ℕ) → has n)
-    → Reads rule old new part has
-plain_decided {T = T} rule old new part has d plain all = record {
-  commands = ap (λ (l : Lists). l.commands) d.lists;
-  tokens = d.tokens;
-  clean = d.clean;
-  lanes = λ h l. subst HaveLanes (sym d.lists) l;
-  values = λ h l. first_same (read_values old.lists) (read_values new.lists) (ap read_values d.lists);
-  within = λ h l. all _;
-  gives = λ h l. d.gives h ∙ ap (λ x. let o : T × Toks = (x, left new) in Some o) (sym (plain (read_values new.lists)));
-  keeps = d.keeps;
-  refuses = λ h l f. d.refuses h f;
-}

@@ -1,10 +1,10 @@
 -- The alternatives of `either`: one step, and the value that counts them.
-use Rattle.std.proofs.Common.{◌≡◌, ◌∙◌, ℕ, zero, suc, ◌+◌, ◌-◌, ◌<◌, Bool, true, false, List, [], ◌∷◌, ◌++◌, length, map, codes, All, Option, None, Some, refl, sym, ap, subst, arith, length-append, append_assoc}
+use Rattle.std.proofs.Common.{◌≡◌, ◌∙◌, ℕ, suc, ◌+◌, ◌-◌, ◌<◌, ◌≤◌, Bool, true, false, List, [], ◌∷◌, ◌++◌, length, map, codes, All, Option, None, Some, refl, sym, ap, subst, arith, length-append, append_assoc}
 use Rattle.std.specs.Prelude.{slice_set}
 use Rattle.std.specs.Global.{Vec}
-use Rattle.std.proofs.lemmas.List.{length-map}
+use Rattle.std.proofs.lemmas.List.{length-map, map_push, map-set, set_at}
+use Rattle.std.proofs.lemmas.List.Elements.{All-push, All-set}
 use Rattle.wat_grammar.specs.Parts.{◌>>=◌}
-use Rattle.wat_tokens.specs.declared.faults.TextError.{TextError}
 use Rattle.wat_syntax.specs.Tokens.{Toks, Parse, peek, after, is_rparen, with_parts}
 use Rattle.wast_script.specs.declared.values.Number.{Number}
 use Rattle.wast_script.specs.declared.values.Value.TheVariants as val
@@ -14,12 +14,9 @@ use Rattle.wast_script.specs.declared.reader.Reader.{Reader}
 use Rattle.wast_script.specs.Constants.{Value, Either, form, value, one_value, alternatives, all_alternatives, either, argument_or_result}
 use Rattle.wast_script.specs.Scripts.{value_in}
 use Rattle.wast_script.specs.Readers.{left, read_values, IsRefused, HasLanes, HaveLanes, Accepts, Moves, PushesValue, SetsEither, ReadsOnto, TakesAlternative}
-use Rattle.wast_script.proofs.Lists.{mapped, after_both, all_tail, all_one}
+use Rattle.wat_text.proofs.Loops.{after_both}
+use Rattle.wast_script.proofs.Faults.{none_refused, by_fault}
 use Rattle.wast_script.proofs.Goes.{more_is}
-
-none_refused : (o : Option TextError) → o ≡ None → IsRefused o → ⊥
-none_refused None e f = f
-none_refused (Some x) e f = absurd cc
 
 -- one step, by whether ')' is next, and whether '(' 'either' is
 abbrev branch : ℕ → ℕ → Toks → Bool → Option Toks → Parse (List Value)
@@ -35,40 +32,30 @@ step_is : (n depth d : ℕ) (toks : Toks) (closes : Bool) (opens : Option Toks) 
     → alternatives (suc n) depth toks ≡ branch n d toks closes opens
 step_is n depth d toks closes opens e f g = ap (λ k. alternatives (suc n) k toks) e ∙ ap (λ c. branch n d toks c (form (codes "either") toks)) f ∙ ap (branch n d toks closes) g
 
-closing : (n depth d : ℕ) (toks : Toks) → depth ≡ suc d → is_rparen (peek 0 toks) ≡ true → alternatives (suc n) depth toks ≡ alternatives n d (after toks)
-closing n depth d toks e f = step_is n depth d toks true (form (codes "either") toks) e f refl
+-- a step that adds no value
+without_value : (depth behind : ℕ) (a b : Reader) → b.lists ≡ a.lists → b.tokens ≡ a.tokens → b.fault ≡ a.fault → behind ≤ suc depth
+    → ((n d : ℕ) → depth ≡ suc d → alternatives (suc n) depth (left a) ≡ alternatives n behind (left b)) → TakesAlternative depth behind a b
+without_value depth behind a b lists tokens fault few step = record {
+  commands = ap (λ (l : Lists). l.commands) lists;
+  tokens = tokens;
+  clean = λ h. sym fault ∙ h;
+  lanes = λ h l. subst HaveLanes (sym lists) l;
+  few = few;
+  gives = λ h l n d e. ap (with_parts (read_values a.lists)) (step n d e) ∙ ap (λ (l : Lists). with_parts (read_values l) (alternatives n behind (left b))) (sym lists);
+  keeps = λ h. fault;
+  refuses = λ h l f. absurd (none_refused b.fault (fault ∙ h) f);
+}
 
--- the end of one
+-- the end of one, and one in another
 pub closes_one : (depth behind : ℕ) (a b : Reader) → is_rparen (peek 0 (left a)) ≡ true → Moves after a b → behind ≡ depth - 1 → TakesAlternative depth behind a b
-closes_one depth behind a b is m less = record {
-  commands = ap (λ (l : Lists). l.commands) m.lists;
-  tokens = m.tokens;
-  clean = λ h. sym m.fault ∙ h;
-  lanes = λ h l. subst HaveLanes (sym m.lists) l;
-  few = omega (arith, less);
-  gives = λ h l n d e.
-      let one : d ≡ behind = omega (arith, less, e) in
-      ap (with_parts (read_values a.lists)) (closing n depth d (left a) e is ∙ ap (λ k. alternatives n k (after (left a))) one ∙ ap (alternatives n behind) (sym m.left))
-      ∙ ap (λ (l : Lists). with_parts (read_values l) (alternatives n behind (left b))) (sym m.lists);
-  keeps = λ h. m.fault;
-  refuses = λ h l f. absurd (none_refused b.fault (m.fault ∙ h) f);
-}
+closes_one depth behind a b is m less = without_value depth behind a b m.lists m.tokens m.fault (omega (arith, less))
+    (λ n d e. let one : d ≡ behind = omega (arith, less, e) in
+    step_is n depth d (left a) true (form (codes "either") (left a)) e is refl ∙ ap (λ k. alternatives n k (after (left a))) one ∙ ap (alternatives n behind) (sym m.left))
 
--- one in another
 pub opens_one : (depth behind : ℕ) (a b : Reader) → is_rparen (peek 0 (left a)) ≡ false → Accepts (form (codes "either")) a b true → behind ≡ depth + 1 → TakesAlternative depth behind a b
-opens_one depth behind a b is m more = record {
-  commands = ap (λ (l : Lists). l.commands) m.lists;
-  tokens = m.tokens;
-  clean = λ h. sym m.fault ∙ h;
-  lanes = λ h l. subst HaveLanes (sym m.lists) l;
-  few = omega (arith, more);
-  gives = λ h l n d e.
-      let one : suc (suc d) ≡ behind = omega (arith, more, e) in
-      ap (with_parts (read_values a.lists)) (step_is n depth d (left a) false (Some (left b)) e is (m.there refl) ∙ ap (λ k. alternatives n k (left b)) one)
-      ∙ ap (λ (l : Lists). with_parts (read_values l) (alternatives n behind (left b))) (sym m.lists);
-  keeps = λ h. m.fault;
-  refuses = λ h l f. absurd (none_refused b.fault (m.fault ∙ h) f);
-}
+opens_one depth behind a b is m more = without_value depth behind a b m.lists m.tokens m.fault (omega (arith, more))
+    (λ n d e. let one : suc (suc d) ≡ behind = omega (arith, more, e) in
+    step_is n depth d (left a) false (Some (left b)) e is (m.there refl) ∙ ap (λ k. alternatives n k (left b)) one)
 
 abbrev single : Parse Value → Parse (List Value)
 single o = o >>= λ v. Some (v.0 ∷ [], v.1)
@@ -111,30 +98,6 @@ reads_one depth a m b is not r = record {
     at_mid : HaveLanes a.lists → HaveLanes m.lists
     at_mid l = subst HaveLanes (sym not.lists) l
 
-map_set : {A B : Type 0} (f : A → B) (xs : List A) (i : ℕ) (x : A) → map f (slice_set xs i x) ≡ slice_set (map f xs) i (f x)
-map_set f [] i x = refl
-map_set f (y ∷ ys) zero x = refl
-map_set f (y ∷ ys) (suc i) x = ap (λ zs. f y ∷ zs) (map_set f ys i x)
-
-set_between : {A : Type 0} (xs : List A) (y : A) (zs : List A) (i : ℕ) (x : A) → i ≡ length xs → slice_set (xs ++ y ∷ zs) i x ≡ xs ++ x ∷ zs
-set_between [] y zs zero x e = refl
-set_between [] y zs (suc i) x e = absurd (omega (arith, e))
-set_between (w ∷ ws) y zs zero x e = absurd (omega (arith, e))
-set_between (w ∷ ws) y zs (suc i) x e = ap (λ vs. w ∷ vs) (set_between ws y zs i x (omega (arith, e)))
-
-all_set : {A : Type 0} (P : A → Type 0) (xs : List A) (i : ℕ) (x : A) → All P xs → P x → All P (slice_set xs i x)
-all_set P [] i x h p = h
-all_set P (y ∷ ys) zero x h p = cons x ys p (all_tail P y ys h)
-  where
-    cons : (z : _) (zs : List _) → P z → All P zs → All P (z ∷ zs)
-    cons z zs q g zero d under = q
-    cons z zs q g (suc k) d under = g k d (omega (arith, under))
-all_set P (y ∷ ys) (suc i) x h p = cons y (slice_set ys i x) (h 0 y (omega arith)) (all_set P ys i x (all_tail P y ys h) p)
-  where
-    cons : (z : _) (zs : List _) → P z → All P zs → All P (z ∷ zs)
-    cons z zs q g zero d under = q
-    cons z zs q g (suc k) d under = g k d (omega (arith, under))
-
 -- `either`: its alternatives are counted in the value before them
 pub either_read : (a b c d : Reader) (at count : ℕ) → at ≡ length a.lists.values.items → PushesValue a b (val.Either 0) → ReadsOnto all_alternatives b c
     → count ≡ length c.lists.values.items - (at + 1) → SetsEither at count c d → ReadsOnto either a d
@@ -144,14 +107,15 @@ either_read a b c d at count first p r few s = record {
   clean = λ h. p.clean (r.clean (sym s.fault ∙ h));
   lanes = λ h l. subst (λ (n : Vec Number). All (HasLanes (length n.items)) d.lists.values.items) (sym s.lanes)
       (subst (All (HasLanes (length c.lists.lanes.items))) (sym (s.values (room h l)))
-      (all_set (HasLanes (length c.lists.lanes.items)) c.lists.values.items at (val.Either count) (r.lanes (sym s.fault ∙ h) (pushed h l)) tt));
+      (All-set (HasLanes (length c.lists.lanes.items)) c.lists.values.items at (val.Either count) tt (r.lanes (sym s.fault ∙ h) (pushed h l))));
   gives = λ h l. ap (λ t. with_parts (read_values a.lists) (made (all_alternatives t))) (sym (p.left (r.clean (sym s.fault ∙ h))))
       ∙ ap (λ o. with_parts (read_values a.lists) (made o)) (more h l).1.0
       ∙ ap (λ k. let o : List Value × Toks = (read_values a.lists ++ Either k ∷ (more h l).0, left c) in Some o) (sym (counted h l))
       ∙ ap (λ vs. let o : List Value × Toks = (vs, left c) in Some o) (sym (all_seen h l))
       ∙ ap (λ t. let o : List Value × Toks = (read_values d.lists, t) in Some o) (sym s.left);
   keeps = λ h. s.fault ∙ r.keeps (λ g. h (p.clean g)) ∙ p.keeps h;
-  refuses = λ h l f. go b.fault refl h l (subst IsRefused s.fault f);
+  refuses = λ h l f. by_fault b c r.keeps (subst IsRefused s.fault f) (λ g. ap (λ t. made (all_alternatives t)) (sym (p.left g)) ∙ ap made (r.refuses g (pushed_at g l) (subst IsRefused s.fault f)))
+      (λ g. absurd (p.memory h g));
 }
   where
     made : Parse (List Value) → Parse (List Value)
@@ -159,14 +123,14 @@ either_read a b c d at count first p r few s = record {
 
     pushed_at : b.fault ≡ None → HaveLanes a.lists → HaveLanes b.lists
     pushed_at g l = subst (λ (n : Vec Number). All (HasLanes (length n.items)) b.lists.values.items) (sym p.lanes)
-        (subst (All (HasLanes (length a.lists.lanes.items))) (sym (p.pushed g)) (all_one (HasLanes (length a.lists.lanes.items)) a.lists.values.items (val.Either 0) l tt))
+        (subst (All (HasLanes (length a.lists.lanes.items))) (sym (p.pushed g)) (All-push (HasLanes (length a.lists.lanes.items)) a.lists.values.items (val.Either 0) l tt))
 
     pushed : d.fault ≡ None → HaveLanes a.lists → HaveLanes b.lists
     pushed h l = pushed_at (r.clean (sym s.fault ∙ h)) l
 
     before : d.fault ≡ None → read_values b.lists ≡ read_values a.lists ++ Either 0 ∷ []
     before h = ap (λ (n : Vec Number). map (value_in n.items) b.lists.values.items) p.lanes ∙ ap (map (value_in a.lists.lanes.items)) (p.pushed (r.clean (sym s.fault ∙ h)))
-        ∙ mapped (value_in a.lists.lanes.items) a.lists.values.items (val.Either 0)
+        ∙ map_push (value_in a.lists.lanes.items) a.lists.values.items (val.Either 0)
 
     more : d.fault ≡ None → HaveLanes a.lists → (vs : List Value) × ((all_alternatives (left b) ≡ Some (vs, left c)) × (read_values c.lists ≡ read_values b.lists ++ vs))
     more h l = more_is (read_values b.lists) (read_values c.lists) (all_alternatives (left b)) (left c) (r.gives (sym s.fault ∙ h) (pushed h l))
@@ -186,13 +150,9 @@ either_read a b c d at count first p r few s = record {
 
     all_seen : (h : d.fault ≡ None) (l : HaveLanes a.lists) → read_values d.lists ≡ read_values a.lists ++ Either count ∷ (more h l).0
     all_seen h l = ap (λ (n : Vec Number). map (value_in n.items) d.lists.values.items) s.lanes ∙ ap (map (value_in c.lists.lanes.items)) (s.values (room h l))
-        ∙ map_set (value_in c.lists.lanes.items) c.lists.values.items at (val.Either count)
+        ∙ map-set (value_in c.lists.lanes.items) c.lists.values.items at (val.Either count)
         ∙ ap (λ vs. slice_set vs at (Either count)) (whole h l)
-        ∙ set_between (read_values a.lists) (Either 0) (more h l).0 at (Either count) (first ∙ sym (length-map a.lists.values.items (value_in a.lists.lanes.items)))
-
-    go : (o : Option TextError) → b.fault ≡ o → a.fault ≡ None → HaveLanes a.lists → IsRefused c.fault → either (left a) ≡ None
-    go None g h l f = ap (λ t. made (all_alternatives t)) (sym (p.left g)) ∙ ap made (r.refuses g (pushed_at g l) f)
-    go (Some y) g h l f = absurd (p.memory h (subst IsRefused (r.keeps (λ n. cc)) f))
+        ∙ set_at (read_values a.lists) (Either 0) (more h l).0 (Either count) at (length-map a.lists.values.items (value_in a.lists.lanes.items) ∙ sym first)
 
 -- `either` as a result
 pub either_result : (a m b : Reader) → Accepts (form (codes "either")) a m true → ReadsOnto either m b → ReadsOnto (argument_or_result usage.Result) a b

@@ -1,14 +1,36 @@
--- The bits of an integer with or without a sign: those of the value that the code has of it are those of the rule.
-use Rattle.std.proofs.Common.{◌≡◌, ◌∙◌, ℕ, suc, ◌-◌, ◌*◌, ◌<◌, Bool, true, false, List, Option, None, Some, Ok, refl, sym, ap, subst, arith}
-use Rattle.std.specs.Prelude.{◌^◌, nat_lt, if◌then◌else◌, ℤ, pos, negsuc, option_map, codes}
+-- The bits of an integer with or without a sign: those of the value that the code has of it are those of the rule. A number without a
+-- value has none by the rule.
+use Rattle.std.proofs.Common.{◌≡◌, ◌∙◌, ℕ, suc, ◌-◌, ◌*◌, ◌<◌, Bool, true, false, List, Option, None, Some, Ok, Err, refl, sym, ap, subst, arith}
+use Rattle.std.specs.Prelude.{◌^◌, nat_lt, ◌&&◌, if◌then◌else◌, ℤ, pos, negsuc, neg_ℤ, int_le, int_lt, option_map, codes}
 use Rattle.std.specs.Int.{Width, w8, w16, w32, w64, cast_signed, cast_unsigned}
+use Rattle.std.specs.Float.{Format}
 use Rattle.std.proofs.lemmas.Int.{of_z-to_z}
 use Rattle.std.proofs.lemmas.Bool.{ltb-true}
 use Rattle.wat_grammar.specs.Parts.{◌>>=◌, after}
 use Rattle.wat_grammar.specs.Integers.{natural, uN, sign, signed, with_sign, is_signed, bits_of, signed_of, integer}
+use Rattle.wat_grammar.specs.Floats.{magnitude, fN}
 use Rattle.wat_tokens.specs.Numbers.{answer}
+use Rattle.wat_tokens.specs.Fractions.{UnlessMemory, MayLack}
+use Rattle.wat_tokens.specs.declared.faults.TextFault.{TextFault}
+use Rattle.wat_tokens.specs.declared.faults.TextFault.TheVariants as fault
+use Rattle.wat_text.specs.Readers.{IsRefusal as IsTextRefusal}
+use Rattle.wat_text.proofs.Signs.{signed_is, signed_not, float_not as text_float_not}
 use Rattle.wast_script.specs.declared.values.Number.TheVariants as num
-use Rattle.wast_script.proofs.Signs.{unsigned_in, signed_in, first_some, is_within, signed_is}
+use Rattle.wast_script.specs.Readers.{IsRefusal}
+
+-- an unsigned integer, a signed one, and either of them, by their numbers of any size (as in wat_text)
+abbrev unsigned_in : ℕ → Option ℕ → Option ℕ
+unsigned_in N o = o >>= λ n. if nat_lt n (2 ^ N) then Some n else None
+
+abbrev signed_in : ℕ → Bool → Option ℕ → Option ℕ
+signed_in N is_negative o = option_map (bits_of N) ((o >>= λ n. Some (with_sign is_negative n)) >>= λ i. if is_signed N i then Some i else None)
+
+abbrev first_some : Option ℕ → Option ℕ → Option ℕ → Option ℕ
+first_some o p q = elim (elim o as (λ x. Option ℕ) [ Some n ↦ Some n | None ↦ p ]) as (λ x. Option ℕ) [ Some n ↦ Some n | None ↦ q ]
+
+-- the range of an sN, by half its numbers
+abbrev is_within : ℕ → ℤ → Bool
+is_within half i = int_le (neg_ℤ (pos half)) i && int_lt i (pos half)
 
 -- an integer has so many bits at most
 unsigned_few : (N : ℕ) (o : Option ℕ) (n : ℕ) → unsigned_in N o ≡ Some n → n < 2 ^ N
@@ -83,3 +105,20 @@ bits32 text z e = bits_at w32 32 (integer 32 text) z
 pub bits64 : (text : List ℕ) (z : ℤ) → answer (signed text) (option_map (signed_of 64) (integer 64 text)) ≡ Ok z → option_map num.Bits (integer 64 text) ≡ Some (num.Bits (cast_unsigned w64 z))
 bits64 text z e = bits_at w64 64 (integer 64 text) z
     (λ n is. let small : n < 0x1_0000_0000_0000_0000 = few 64 0x7fff_ffff_ffff_ffff refl refl text n is in ap (cast_unsigned w64) (sym (back64 n small)) ∙ of_z-to_z w64 n small) (signed_is 64 text z e)
+
+unmapped : {S T : Type 0} (f : S → T) (o : Option S) → option_map f o ≡ None → o ≡ None
+unmapped f None e = refl
+unmapped f (Some x) e = absurd cc
+
+-- the bits of a text that has no signed integer
+pub bits_not : (N : ℕ) (text : List ℕ) (e : TextFault) → answer (signed text) (option_map (signed_of N) (integer N text)) ≡ Err e → option_map num.Bits (integer N text) ≡ None
+bits_not N text e h = ap (option_map num.Bits) (unmapped (signed_of N) (integer N text) (signed_not N text e h))
+
+-- what is no failed allocation here is none in wat_text
+refusal : (e : TextFault) → IsRefusal e → IsTextRefusal e
+refusal fault.Memory h = h
+refusal e h = tt
+
+-- a text that has no floating-point number
+pub float_not : (f : Format) (text : List ℕ) (e : TextFault) → UnlessMemory (MayLack (sign text).1) (Err e) (answer (magnitude (sign text).1) (fN f text)) → IsRefusal e → fN f text ≡ None
+float_not f text e h r = text_float_not f text e h (refusal e r)

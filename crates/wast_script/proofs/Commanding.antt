@@ -1,10 +1,11 @@
 -- The loop over commands: each command that is read is added, and those before it stay the same.
-use Rattle.std.proofs.Common.{◌≡◌, ◌≢◌, ◌∙◌, ℕ, zero, suc, ◌+◌, ◌-◌, ◌<◌, ◌≤◌, List, [], ◌∷◌, ◌++◌, length, map, All, Option, None, Some, refl, sym, ap, subst, arith, append_assoc, Bool, true, false}
+use Rattle.std.proofs.Common.{◌≡◌, ◌≢◌, ◌∙◌, ℕ, zero, suc, ◌+◌, ◌-◌, ◌<◌, ◌≤◌, List, [], ◌∷◌, ◌++◌, length, map, All, Option, None, Some, refl, sym, ap, subst, arith, append_assoc, Bool, true, false, append-nil}
+use Rattle.std.proofs.lemmas.List.{map_push}
+use Rattle.std.proofs.lemmas.List.Elements.{All-nil, All-tail, All-same, All-push}
 use Rattle.std.specs.Global.{Vec}
 use Rattle.wat_grammar.specs.Parts.{◌>>=◌}
 use Rattle.wat_tokens.specs.declared.tokens.Placed.{Placed}
 use Rattle.wat_tokens.specs.declared.faults.TextFault.{TextFault}
-use Rattle.wat_tokens.specs.declared.faults.TextError.{TextError}
 use Rattle.wat_syntax.specs.Tree.{Span}
 use Rattle.wat_syntax.specs.Tokens.{Toks, count}
 use Rattle.wat_syntax.specs.Bare.{bare_placed}
@@ -21,8 +22,8 @@ use Rattle.wast_script.specs.Constants.{Value}
 use Rattle.wast_script.specs.Grammar.{Acts, AssertReturn, AssertTrap, AssertExhaustion, AssertException, AssertSuspension, Action, Command, command_or_end, threads_after, no_commands, commands_in, all_commands, Module, Module_, lone_module, one_module, all_module, begins_command, script}
 use Rattle.wast_script.specs.Scripts.{part, action_in, execution_in, kind_in, command_in, module_in}
 use Rattle.wast_script.specs.Readers.{left, all_bare, read_values, read_commands, IsRefused, IsFirst, HasLanes, HasValues, HaveLanes, HaveValues, Reads, Pushes, Fails, IsNew, ReadsAll, with_commands, TakesCommand, TakesCommands}
-use Rattle.wast_script.proofs.Lists.{no_more, mapped, all_tail, all_one}
-use Rattle.wast_script.proofs.Parts.{part_on}
+use Rattle.wast_script.proofs.Faults.{none_refused, faulty, by_fault}
+use Rattle.wast_script.proofs.Parts.{part_on, bare_same}
 use Rattle.wast_script.proofs.Acting.{execution_on, has_on, value_count, grown}
 
 action_on : (a : code_action.Action) (xs zs : List Value) (n : ℕ) → a.arguments.end ≤ n → n ≡ length xs → IsFirst xs zs → action_in zs a ≡ action_in xs a
@@ -44,7 +45,7 @@ commands_on : (tokens : List Placed) (cs : List code_command.Command) (xs zs : L
     → map (command_in tokens zs) cs ≡ map (command_in tokens xs) cs
 commands_on tokens [] xs zs n h e f = refl
 commands_on tokens (c ∷ cs) xs zs n h e f = λ i. record { span = c.span; kind = kind_on tokens c.kind xs zs n (h 0 c (omega arith)) e f i }
-    ∷ commands_on tokens cs xs zs n (all_tail (λ c. HasValues n c.kind) c cs h) e f i
+    ∷ commands_on tokens cs xs zs n (All-tail (λ c. HasValues n c.kind) c cs h) e f i
 
 has_values_on : (k : CommandKind) (m n : ℕ) → m ≤ n → HasValues m k → HasValues n k
 has_values_on (kind.Action a) m n few h = omega (arith, few, h)
@@ -79,7 +80,7 @@ command_taken threads behind a b c x r p after_it few = record {
   lanes = λ h l. have_same b.lists c.lists p.values p.lanes (r.lanes (p.clean h) l);
   values = λ h l v. subst (λ cs. All (λ d. HasValues (length c.lists.values.items) d.kind) cs) (sym (added h))
       (subst (λ (vs : Vec code_value.Value). All (λ d. HasValues (length vs.items) d.kind) (a.lists.commands.items ++ x ∷ [])) (sym p.values)
-      (all_one (λ d. HasValues (length b.lists.values.items) d.kind) a.lists.commands.items x
+      (All-push (λ d. HasValues (length b.lists.values.items) d.kind) a.lists.commands.items x
       (λ k d under. has_values_on _ _ _ (grown a b (r.values (p.clean h) l)) (v k d under)) (r.within (p.clean h) l)));
   few = few;
   gives = λ h l v n k e.
@@ -89,7 +90,8 @@ command_taken threads behind a b c x r p after_it few = record {
       ∙ ap (λ t. with_commands (read_commands a ++ seen b ∷ []) (commands_in n behind t)) (sym (p.left h))
       ∙ ap (λ cs. with_commands cs (commands_in n behind (left c))) (sym (all_seen h l v));
   keeps = λ h. p.keeps (λ e. h (r.clean e)) ∙ r.keeps h;
-  refuses = λ h l f n k e. go b.fault refl h l f n k e;
+  refuses = λ h l f n k e. by_fault b c p.keeps f (λ g. absurd (p.memory g f))
+      (λ g. one_command n k threads (left a) e ∙ ap (λ o. o >>= λ c. commands_in n (threads_after c.0.kind threads) c.1 >>= λ cs. Some (c.0 ∷ cs)) (r.refuses h l g));
 }
   where
     seen : Reader → Command
@@ -102,20 +104,12 @@ command_taken threads behind a b c x r p after_it few = record {
     same_values = ap (λ (vs : Vec code_value.Value). map (Rattle.wast_script.specs.Scripts.value_in c.lists.lanes.items) vs.items) p.values
         ∙ ap (λ (n : Vec Number). map (Rattle.wast_script.specs.Scripts.value_in n.items) b.lists.values.items) p.lanes
 
-    bare_same : all_bare c ≡ all_bare b
-    bare_same = ap (λ (t : Vec Placed). map bare_placed t.items) p.tokens
-
     all_seen : c.fault ≡ None → HaveLanes a.lists → HaveValues a.lists → read_commands c ≡ read_commands a ++ seen b ∷ []
     all_seen h l v =
-        (λ i. map (command_in (bare_same i) (same_values i)) (added h i))
-        ∙ mapped (command_in (all_bare b) (read_values b.lists)) a.lists.commands.items x
+        (λ i. map (command_in (bare_same b c p.tokens i) (same_values i)) (added h i))
+        ∙ map_push (command_in (all_bare b) (read_values b.lists)) a.lists.commands.items x
         ∙ ap (λ cs. cs ++ seen b ∷ []) (ap (λ (t : Vec Placed). map (command_in (map bare_placed t.items) (read_values b.lists)) a.lists.commands.items) r.tokens
         ∙ commands_on (all_bare a) a.lists.commands.items (read_values a.lists) (read_values b.lists) (length a.lists.values.items) v (sym (value_count a.lists)) (r.values (p.clean h) l))
-
-    go : (o : Option TextError) → b.fault ≡ o → a.fault ≡ None → HaveLanes a.lists → IsRefused c.fault → (n k : ℕ) → count (left a) ≡ suc k → commands_in (suc n) threads (left a) ≡ None
-    go None e h l f n k few = absurd (p.memory e f)
-    go (Some y) e h l f n k few = one_command n k threads (left a) few
-        ∙ ap (λ o. o >>= λ c. commands_in n (threads_after c.0.kind threads) c.1 >>= λ cs. Some (c.0 ∷ cs)) (r.refuses h l (subst IsRefused (p.keeps (λ n. cc)) f))
 
 -- All commands are those that are read, and those of the tokens that are left.
 pub record Running (old now : Reader) (n threads : ℕ) : Type 0 where
@@ -128,17 +122,10 @@ with_none : (p : Option (List Command)) → p ≡ with_commands [] p
 with_none None = refl
 with_none (Some cs) = refl
 
-none_refused : (o : Option TextError) → o ≡ None → IsRefused o → ⊥
-none_refused None e f = f
-none_refused (Some x) e f = absurd cc
-
-none_of : {T : Type 0} (P : T → Type 0) (xs : List T) → xs ≡ [] → All P xs
-none_of P xs e = subst (All P) (sym e) (λ k d under. absurd (omega (arith, under)))
-
 pub running_first : (old : Reader) (n : ℕ) → IsNew old → n ≡ count (left old) → Running old old n 0
 running_first old n new few = record {
-  lanes = λ h. none_of (HasLanes (length old.lists.lanes.items)) old.lists.values.items new.values;
-  values = λ h. none_of (λ c. HasValues (length old.lists.values.items) c.kind) old.lists.commands.items new.commands;
+  lanes = λ h. All-same (HasLanes (length old.lists.lanes.items)) old.lists.values.items [] new.values (All-nil (HasLanes (length old.lists.lanes.items)));
+  values = λ h. All-same (λ c. HasValues (length old.lists.values.items) c.kind) old.lists.commands.items [] new.commands (All-nil (λ c. HasValues (length old.lists.values.items) c.kind));
   goes = λ h. ap (λ k. commands_in k 0 (left old)) (sym few) ∙ with_none (commands_in n 0 (left old))
       ∙ ap (λ cs. with_commands (map (command_in (all_bare old) (read_values old.lists)) cs) (commands_in n 0 (left old))) (sym new.commands);
   refuses = λ f. absurd (none_refused old.fault new.clean f);
@@ -154,7 +141,10 @@ running_more old now new counter end threads behind few some s t =
       values = λ h. t.values h (s.lanes (t.clean h)) (s.values (t.clean h));
       goes = λ h. s.goes (t.clean h) ∙ ap (λ m. with_commands (read_commands now) (commands_in m threads (left now))) one
           ∙ t.gives h (s.lanes (t.clean h)) (s.values (t.clean h)) n k yet;
-      refuses = λ f. go n one now.fault refl f;
+      refuses = λ f. by_fault now new t.keeps f
+          (λ e. s.goes e ∙ ap (λ m. with_commands (read_commands now) (commands_in m threads (left now))) one
+          ∙ ap (with_commands (read_commands now)) (t.refuses e (s.lanes e) f n k yet))
+          s.refuses;
     }
   where
     k : ℕ
@@ -162,11 +152,6 @@ running_more old now new counter end threads behind few some s t =
 
     yet : count (left now) ≡ suc k
     yet = omega (arith, some)
-
-    go : (n : ℕ) → end - counter ≡ suc n → (o : Option TextError) → now.fault ≡ o → IsRefused new.fault → all_commands (left old) ≡ None
-    go n one None e f = s.goes e ∙ ap (λ m. with_commands (read_commands now) (commands_in m threads (left now))) one
-        ∙ ap (with_commands (read_commands now)) (t.refuses e (s.lanes e) f n k yet)
-    go n one (Some x) e f = s.refuses (subst IsRefused (t.keeps (λ n. cc)) f)
 
 no_more_commands : (n threads : ℕ) (toks : Toks) → count toks ≡ 0 → commands_in n threads toks ≡ no_commands threads
 no_more_commands zero threads toks e = refl
@@ -189,23 +174,15 @@ none_closed (suc n) some = refl
 -- no thread is open, or one is
 pub all_closed : (old new : Reader) (threads : ℕ) → threads ≤ 0 → TakesCommands threads old new → ReadsAll all_commands old new
 all_closed old new threads e t = record {
-  gives = λ h. let none : threads ≡ 0 = omega (arith, e) in t.goes h ∙ ap (λ m. with_commands (read_commands new) (no_commands m)) none ∙ ap Some (no_more (read_commands new));
+  gives = λ h. let none : threads ≡ 0 = omega (arith, e) in t.goes h ∙ ap (λ m. with_commands (read_commands new) (no_commands m)) none ∙ ap Some (append-nil (read_commands new));
   refuses = t.refuses;
 }
 
 pub one_open : (old mid new : Reader) (threads : ℕ) (fault : TextFault) (span : Span) → 0 < threads → TakesCommands threads old mid → Fails fault span mid new → ReadsAll all_commands old new
 one_open old mid new threads fault span some t f = record {
-  gives = λ h. absurd (faulty mid.fault refl h);
-  refuses = λ g. go mid.fault refl g;
+  gives = λ h. absurd (faulty mid new fault span f h);
+  refuses = λ g. by_fault mid new f.keeps g (λ is. t.goes is ∙ ap (with_commands (read_commands mid)) (none_closed threads some)) t.refuses;
 }
-  where
-    faulty : (o : Option TextError) → mid.fault ≡ o → new.fault ≡ None → ⊥
-    faulty None is h = absurd (cc (f.first is))
-    faulty (Some y) is h = absurd (cc (f.keeps (λ n. cc)))
-
-    go : (o : Option TextError) → mid.fault ≡ o → IsRefused new.fault → all_commands (left old) ≡ None
-    go None is g = t.goes is ∙ ap (with_commands (read_commands mid)) (none_closed threads some)
-    go (Some y) is g = t.refuses (subst IsRefused (f.keeps (λ n. cc)) g)
 
 -- one module without its parentheses
 pub module_alone : (a b : Reader) (m : ScriptModule) → IsNew a → module_in (all_bare a) m ≡ lone_module (left a) → Pushes a b (record { span = m.span; kind = kind.Module m }) → ReadsAll all_module a b

@@ -1,6 +1,5 @@
 -- Modules as their tokens: the steps of the rules that find them.
-use Rattle.std.proofs.Common.{◌≡◌, ◌∙◌, ℕ, ◌-◌, List, [], ◌++◌, length, map, codes, Option, None, Some, refl, sym, ap, subst}
-use Rattle.std.specs.Global.{Vec}
+use Rattle.std.proofs.Common.{◌≡◌, ◌∙◌, ℕ, ◌-◌, List, [], ◌++◌, length, codes, Option, None, Some, refl, sym, ap, subst}
 use Rattle.std.proofs.lemmas.List.{length-map}
 use Rattle.wat_grammar.specs.Parts.{◌>>=◌}
 use Rattle.wat_tokens.specs.declared.tokens.Placed.{Placed}
@@ -15,11 +14,8 @@ use Rattle.wast_script.specs.Constants.{the_word}
 use Rattle.wast_script.specs.Grammar.{Module, Contents, between, behind_strings, strings_to_end, contents, module_after, in_parentheses, lone_module}
 use Rattle.wast_script.specs.Scripts.{part, contents_in, module_in}
 use Rattle.wast_script.specs.Readers.{left, all_bare, Decides, Expects, Finds, Moves}
-use Rattle.wast_script.proofs.Parts.{part_empty, part_last, between_is}
-use Rattle.wast_script.proofs.Goes.{Goes, chain, decides, expects, finds}
-
-bare_same : (a b : Reader) → b.tokens ≡ a.tokens → all_bare b ≡ all_bare a
-bare_same a b e = ap (λ (t : Vec Placed). map bare_placed t.items) e
+use Rattle.wast_script.proofs.Parts.{part_empty, part_last, bare_same, between_is}
+use Rattle.wast_script.proofs.Goes.{Goes, chain, as_goes, decided_by, decides, expects, finds}
 
 -- strings to the end of a module
 pub strings_read : (a b c : Reader) (s e : ℕ) → s ≡ length a.tokens.items - count (left a) → Moves behind_strings a b → e ≡ length b.tokens.items - count (left b) → Expects rparen b c
@@ -37,14 +33,9 @@ strings_read a b c s e first m last d = record {
 -- a module after its head
 pub module_read : (a b c : Reader) (m : ScriptModule) (s e : ℕ) → s ≡ length a.tokens.items - count (left a) → Finds id a b (bare_id_option m.id) → Decides contents b c (contents_in (m.form, m.strings) (all_bare c))
     → e ≡ length c.tokens.items - count (left c) → m.rest ≡ record { start = s; end = e } → Decides (module_after m.span (part m.head (all_bare a))) a c (module_in (all_bare c) m)
-module_read a b c m s e first f d last rest = record {
-  lists = d.lists ∙ f.lists;
-  tokens = d.tokens ∙ f.tokens;
-  clean = g.clean;
-  gives = λ h. g.goes h ∙ ap (λ ts. at_end (bare_id_option m.id) (contents_in (m.form, m.strings) (all_bare c)) ts (left c)) same;
-  keeps = g.keeps;
-  refuses = g.refuses;
-}
+module_read a b c m s e first f d last rest =
+    decided_by (module_after m.span (part m.head (all_bare a))) a c (module_in (all_bare c) m) (d.lists ∙ f.lists) (d.tokens ∙ f.tokens)
+    (subst (Goes a c (module_after m.span (part m.head (all_bare a)) (left a))) (ap (λ ts. at_end (bare_id_option m.id) (contents_in (m.form, m.strings) (all_bare c)) ts (left c)) same) g)
   where
     at_end : Option Id → Contents → List Placed → Toks → Parse Module
     at_end x c ts t = Some (record { span = m.span; id = x; form = c.form; tokens = ts; strings = c.strings }, t)
@@ -63,25 +54,15 @@ module_read a b c m s e first f d last rest = record {
 -- a module in its parentheses
 pub parentheses_read : (a b c d : Reader) (span : Span) (s e : ℕ) (x : Module) → s ≡ length a.tokens.items - count (left a) → Expects lparen a b → span ≡ position (left b) → Expects (the_word (codes "module")) b c
     → e ≡ length c.tokens.items - count (left c) → Decides (module_after span (part (record { start = s; end = e }) (all_bare c))) c d x → Decides in_parentheses a d x
-parentheses_read a b c d span s e x first opens at word last r = record {
-  lists = r.lists ∙ word.lists ∙ opens.lists;
-  tokens = r.tokens ∙ word.tokens ∙ opens.tokens;
-  clean = g.clean;
-  gives = g.goes;
-  keeps = g.keeps;
-  refuses = g.refuses;
-}
+parentheses_read a b c d span s e x first opens at word last r = decided_by in_parentheses a d x (r.lists ∙ word.lists ∙ opens.lists) (r.tokens ∙ word.tokens ∙ opens.tokens) g
   where
     placed : Decides (module_after (position (left b)) (between (left a) (left c))) c d x
     placed = subst (λ y. Decides (module_after y (between (left a) (left c))) c d x) at
         (subst (λ y. Decides (module_after span y) c d x) (between_is a c s e (word.tokens ∙ opens.tokens) first last) r)
 
-    all : Goes c d (module_after (position (left b)) (between (left a) (left c)) (left c)) (Some (x, left d))
-    all = record { clean = placed.clean; goes = placed.gives; keeps = placed.keeps; refuses = placed.refuses }
-
     g : Goes a d (in_parentheses (left a)) (Some (x, left d))
     g = chain a b d _ _ _ (expects lparen a b (λ t. the_word (codes "module") t >>= λ k. module_after (position t) (between (left a) k) k) opens)
-        (chain b c d _ _ _ (expects (the_word (codes "module")) b c (λ k. module_after (position (left b)) (between (left a) k) k) word) all)
+        (chain b c d _ _ _ (expects (the_word (codes "module")) b c (λ k. module_after (position (left b)) (between (left a) k) k) word) (as_goes (module_after (position (left b)) (between (left a) (left c))) c d x placed))
 
 -- a script that is one module without its parentheses: it has all tokens
 whole : (r : Reader) (n : ℕ) → n ≡ length r.tokens.items → part (record { start = 0; end = n }) (all_bare r) ≡ all_bare r

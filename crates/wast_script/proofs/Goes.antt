@@ -1,8 +1,7 @@
 -- Steps of a rule that does not depend on the lists of the reader, and the rules of values.
-use Rattle.std.proofs.Common.{◌≡◌, ◌≢◌, ◌∙◌, ℕ, ◌≤◌, List, [], ◌++◌, length, Option, None, Some, refl, sym, ap, subst, arith}
+use Rattle.std.proofs.Common.{◌≡◌, ◌≢◌, ◌∙◌, ℕ, ◌≤◌, List, [], ◌++◌, length, Option, None, Some, sym, ap, subst, arith, append-nil}
 use Rattle.std.proofs.lemmas.List.{length-map}
 use Rattle.wat_grammar.specs.Parts.{◌>>=◌}
-use Rattle.wat_tokens.specs.declared.faults.TextError.{TextError}
 use Rattle.wat_syntax.specs.Tokens.{Toks, Parse, lparen, rparen, optional, with_parts}
 use Rattle.wast_script.specs.declared.values.Number.{Number}
 use Rattle.wast_script.specs.declared.values.Shape.{Shape}
@@ -16,7 +15,7 @@ use Rattle.wast_script.specs.Words.{shape_named}
 use Rattle.wast_script.specs.Constants.{Value, V128, word_that, lanes, vector, constant_of, next_constant, value, values}
 use Rattle.wast_script.specs.Scripts.{part, value_in}
 use Rattle.wast_script.specs.Readers.{left, read_values, IsRefused, IsFirst, HasLanes, Decides, Expects, Finds, ReadsLanes, ReadsValue, ReadsOnto, Reads}
-use Rattle.wast_script.proofs.Lists.{no_more}
+use Rattle.wast_script.proofs.Faults.{none_refused, by_fault}
 use Rattle.wast_script.proofs.Parts.{part_last}
 
 -- A reader read a part of what a rule reads.
@@ -31,12 +30,19 @@ chain a b c p q r s t = record {
   clean = λ h. s.clean (t.clean h);
   goes = λ h. s.goes (t.clean h) ∙ t.goes h;
   keeps = λ h. t.keeps (λ e. h (s.clean e)) ∙ s.keeps h;
-  refuses = λ h f. go b.fault refl h f;
+  refuses = λ h f. by_fault b c t.keeps f (λ e. s.goes e ∙ t.refuses e f) (s.refuses h);
 }
-  where
-    go : (o : Option TextError) → b.fault ≡ o → a.fault ≡ None → IsRefused c.fault → p ≡ None
-    go None e h f = s.goes e ∙ t.refuses e f
-    go (Some x) e h f = s.refuses h (subst IsRefused (t.keeps (λ n. cc)) f)
+
+-- a reader that keeps its fault
+pub same_fault : {T : Type 0} (old new : Reader) (p q : Option T) → new.fault ≡ old.fault → p ≡ q → Goes old new p q
+same_fault old new p q same e = record { clean = λ h. sym same ∙ h; goes = λ h. e; keeps = λ h. same; refuses = λ h f. absurd (none_refused new.fault (same ∙ h) f) }
+
+-- all of a rule
+pub as_goes : {T : Type 0} (rule : Toks → Parse T) (old new : Reader) (x : T) → Decides rule old new x → Goes old new (rule (left old)) (Some (x, left new))
+as_goes rule old new x d = record { clean = d.clean; goes = d.gives; keeps = d.keeps; refuses = d.refuses }
+
+pub decided_by : {T : Type 0} (rule : Toks → Parse T) (old new : Reader) (x : T) → new.lists ≡ old.lists → new.tokens ≡ old.tokens → Goes old new (rule (left old)) (Some (x, left new)) → Decides rule old new x
+decided_by rule old new x lists tokens g = record { lists = lists; tokens = tokens; clean = g.clean; gives = g.goes; keeps = g.keeps; refuses = g.refuses }
 
 pub decides : {S T : Type 0} (rule : Toks → Parse S) (old new : Reader) (x : S) (next : S × Toks → Option T) → Decides rule old new x
     → Goes old new (rule (left old) >>= next) (next (x, left new))
@@ -45,20 +51,16 @@ decides rule old new x next d = record { clean = d.clean; goes = λ h. ap (λ o.
 pub expects : {T : Type 0} (rule : Toks → Option Toks) (old new : Reader) (next : Toks → Option T) → Expects rule old new → Goes old new (rule (left old) >>= next) (next (left new))
 expects rule old new next d = record { clean = d.clean; goes = λ h. ap (λ o. o >>= next) (d.gives h); keeps = d.keeps; refuses = λ h f. ap (λ o. o >>= next) (d.refuses h f) }
 
-none_refused : (o : Option TextError) → o ≡ None → IsRefused o → ⊥
-none_refused None e f = f
-none_refused (Some x) e f = absurd cc
-
 pub finds : {S T : Type 0} (rule : Toks → Parse S) (old new : Reader) (x : Option S) (next : Option S × Toks → Option T) → Finds rule old new x
     → Goes old new (optional rule (left old) >>= next) (next (x, left new))
-finds rule old new x next d = record { clean = λ h. sym d.fault ∙ h; goes = λ h. ap (λ o. o >>= next) d.gives; keeps = λ h. d.fault; refuses = λ h f. absurd (none_refused new.fault (d.fault ∙ h) f) }
+finds rule old new x next d = same_fault old new (optional rule (left old) >>= next) (next (x, left new)) d.fault (ap (λ o. o >>= next) d.gives)
 
 a_value : {T : Type 0} (rule : Toks → Parse Value) (old new : Reader) (v : code_value.Value) (next : Value × Toks → Option T) → ReadsValue rule old new v
     → Goes old new (rule (left old) >>= next) (next (value_in new.lists.lanes.items v, left new))
 a_value rule old new v next d = record { clean = d.clean; goes = λ h. ap (λ o. o >>= next) (d.gives h); keeps = d.keeps; refuses = λ h f. ap (λ o. o >>= next) (d.refuses h f) }
 
-first_same : {T : Type 0} (xs ys : List T) → ys ≡ xs → IsFirst xs ys
-first_same xs ys e = record { more = []; is = e ∙ sym (no_more xs) }
+pub first_same : {T : Type 0} (xs ys : List T) → ys ≡ xs → IsFirst xs ys
+first_same xs ys e = record { more = []; is = e ∙ sym (append-nil xs) }
 
 -- a value in its parentheses
 pub form_read : (u : Use) (a b c d e : Reader) (word : Constant) (v : code_value.Value) → Expects lparen a b → Decides (next_constant u) b c word → ReadsValue (constant_of word u) c d v → Expects rparen d e
@@ -125,7 +127,7 @@ vector_read u a b c s start end d l first last = record {
       ∙ ap (λ ns. let o : Value × Toks = (V128 s ns, left c) in Some o)
       (sym (ap (part (record { start = start; end = end })) m.1.1 ∙ part_last b.lists.lanes.items m.0 start end first (last ∙ ap length m.1.1)));
   keeps = λ h. l.keeps (λ e. h (d.clean e)) ∙ d.keeps h;
-  refuses = λ h f. go b.fault refl h f;
+  refuses = λ h f. by_fault b c l.keeps f (λ e. ap whole (d.gives e) ∙ ap made (l.refuses e f)) (λ g. ap whole (d.refuses h g));
 }
   where
     made : Parse (List Number) → Parse Value
@@ -133,10 +135,6 @@ vector_read u a b c s start end d l first last = record {
 
     whole : Parse Shape → Parse Value
     whole o = o >>= λ x. lanes x.0 u x.1 >>= λ ns. Some (V128 x.0 ns.0, ns.1)
-
-    go : (o : Option TextError) → b.fault ≡ o → a.fault ≡ None → IsRefused c.fault → vector u (left a) ≡ None
-    go None e h f = ap whole (d.gives e) ∙ ap made (l.refuses e f)
-    go (Some x) e h f = ap whole (d.refuses h (subst IsRefused (l.keeps (λ n. cc)) f))
 
 -- the values that were read and added, as a part of all values
 pub values_read : (u : Use) (old new : Reader) (start end : ℕ) → start ≡ length old.lists.values.items → end ≡ length new.lists.values.items → ReadsOnto (values u) old new

@@ -1,17 +1,13 @@
 -- Loops over tokens: the parentheses of a form, and strings.
-use Rattle.std.proofs.Common.{◌≡◌, ◌≢◌, ◌∙◌, ℕ, zero, suc, ◌+◌, ◌-◌, ◌<◌, ◌≤◌, true, false, Option, None, Some, refl, sym, ap, arith}
+use Rattle.std.proofs.Common.{◌≡◌, ◌≢◌, ◌∙◌, ℕ, zero, suc, ◌+◌, ◌-◌, ◌<◌, ◌≤◌, true, false, None, refl, sym, ap, arith}
 use Rattle.wat_syntax.specs.Tokens.{Toks, peek, after, count}
 use Rattle.wat_syntax.specs.Values.{is_string}
 use Rattle.wast_script.specs.Grammar.{depth_after, form_end, form_rest, after_strings, behind_strings}
 use Rattle.wat_tokens.specs.declared.faults.TextFault.{TextFault}
-use Rattle.wat_tokens.specs.declared.faults.TextError.{TextError}
 use Rattle.wast_base.specs.declared.ids.Span.{Span}
 use Rattle.wast_script.specs.declared.reader.Reader.{Reader}
-use Rattle.wast_script.specs.Readers.{left, IsRefused, Expects, Moves, Fails, Skips}
-
-none_refused : (o : Option TextError) → o ≡ None → IsRefused o → ⊥
-none_refused None e f = f
-none_refused (Some x) e f = absurd cc
+use Rattle.wast_script.specs.Readers.{left, Expects, Moves, Fails, Skips}
+use Rattle.wast_script.proofs.Faults.{none_refused, faulty}
 
 -- The rest of a form is that of the tokens that are left, in which so many parentheses are open.
 pub record Skipping (old now : Reader) (n depth : ℕ) : Type 0 where
@@ -67,15 +63,11 @@ pub no_form_end : (old mid new : Reader) (depth : ℕ) (fault : TextFault) (span
 no_form_end old mid new depth fault span some s f = record {
   lists = f.lists ∙ s.lists;
   tokens = f.tokens ∙ s.tokens;
-  clean = λ h. absurd (faulty mid.fault refl h);
-  gives = λ h. absurd (faulty mid.fault refl h);
+  clean = λ h. absurd (faulty mid new fault span f h);
+  gives = λ h. absurd (faulty mid new fault span f h);
   keeps = λ h. f.keeps (λ g. h (sym s.fault ∙ g)) ∙ s.fault;
   refuses = λ h g. s.goes ∙ none_left depth (left mid) some;
 }
-  where
-    faulty : (o : Option TextError) → mid.fault ≡ o → new.fault ≡ None → ⊥
-    faulty None is h = absurd (cc (f.first is))
-    faulty (Some y) is h = absurd (cc (f.keeps (λ n. cc)))
 
 -- The tokens after strings are those after the strings that are left.
 pub record Strings (old now : Reader) (n : ℕ) : Type 0 where

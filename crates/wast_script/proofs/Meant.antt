@@ -15,7 +15,7 @@ use Rattle.wast_script.specs.declared.commands.ScriptModule.{ScriptModule}
 use Rattle.wast_script.specs.Grammar.{Module}
 use Rattle.wast_script.specs.Scripts.{part, module_in}
 use Rattle.wast_script.specs.Modules.{last_position, toks_of, IsModuleOf, IsNoModuleOf}
-use Rattle.wast_script.proofs.Lefts.{placed}
+use Rattle.wat_text.proofs.Lefts.{placed}
 use Rattle.wast_script.proofs.Parts.{part_mapped}
 
 -- the position of the last token

@@ -1,9 +1,10 @@
 -- Values that a reader adds to those that it had, and what lists that grow do to earlier values.
-use Rattle.std.proofs.Common.{◌≡◌, ◌≢◌, ◌∙◌, ℕ, zero, suc, ◌+◌, ◌-◌, ◌<◌, ◌≤◌, true, List, [], ◌∷◌, ◌++◌, length, map, All, Option, None, Some, refl, sym, ap, subst, arith, length-append}
+use Rattle.std.proofs.Common.{◌≡◌, ◌≢◌, ◌∙◌, ℕ, zero, suc, ◌+◌, ◌-◌, ◌<◌, ◌≤◌, true, List, [], ◌∷◌, ◌++◌, length, map, All, None, Some, refl, sym, ap, subst, arith, append-nil}
+use Rattle.std.proofs.lemmas.List.{map_push}
+use Rattle.std.proofs.lemmas.List.Elements.{All-tail, All-push}
 use Rattle.std.specs.Global.{Vec}
 use Rattle.wat_grammar.specs.Parts.{◌>>=◌}
 use Rattle.wat_tokens.specs.declared.faults.TextFault.{TextFault}
-use Rattle.wat_tokens.specs.declared.faults.TextError.{TextError}
 use Rattle.wat_syntax.specs.Tree.{Span}
 use Rattle.wat_syntax.specs.Tokens.{Toks, Parse, many_lists, with_parts}
 use Rattle.wast_script.specs.declared.values.Number.{Number}
@@ -15,8 +16,9 @@ use Rattle.wast_script.specs.declared.reader.Reader.{Reader}
 use Rattle.wast_script.specs.Constants.{Value, V128, value, one_value, is_form_next, argument_or_result, alternatives, all_alternatives}
 use Rattle.wast_script.specs.Scripts.{value_in}
 use Rattle.wast_script.specs.Readers.{left, read_values, IsRefused, IsFirst, HasLanes, HaveLanes, PushesValue, Fails, ReadsOnto, ReadsValue, TakesAlternative, TakesAlternatives}
-use Rattle.wast_script.proofs.Parts.{part_stays}
-use Rattle.wast_script.proofs.Lists.{no_more, mapped, none_after, list_more, list_none, all_tail, all_one}
+use Rattle.wast_script.proofs.Faults.{none_refused, faulty, by_fault}
+use Rattle.wast_script.proofs.Parts.{part_stays, longer}
+use Rattle.wat_text.proofs.Loops.{none_after, list_more, list_none}
 
 -- a value, by lanes that were added later
 value_stays : (v : code_value.Value) (xs ys : List Number) → HasLanes (length xs) v → value_in (xs ++ ys) v ≡ value_in xs v
@@ -25,7 +27,7 @@ value_stays v xs ys h = refl
 
 values_stay : (vs : List code_value.Value) (xs ys : List Number) → All (HasLanes (length xs)) vs → map (value_in (xs ++ ys)) vs ≡ map (value_in xs) vs
 values_stay [] xs ys h = refl
-values_stay (v ∷ vs) xs ys h = λ i. value_stays v xs ys (h 0 v (omega arith)) i ∷ values_stay vs xs ys (all_tail (HasLanes (length xs)) v vs h) i
+values_stay (v ∷ vs) xs ys h = λ i. value_stays v xs ys (h 0 v (omega arith)) i ∷ values_stay vs xs ys (All-tail (HasLanes (length xs)) v vs h) i
 
 pub values_on : (vs : List code_value.Value) (xs zs : List Number) → All (HasLanes (length xs)) vs → IsFirst xs zs → map (value_in zs) vs ≡ map (value_in xs) vs
 values_on vs xs zs h f = ap (λ ns. map (value_in ns) vs) f.is ∙ values_stay vs xs f.more h
@@ -33,9 +35,6 @@ values_on vs xs zs h f = ap (λ ns. map (value_in ns) vs) f.is ∙ values_stay v
 has_more : (v : code_value.Value) (m n : ℕ) → m ≤ n → HasLanes m v → HasLanes n v
 has_more (val.V128 s p) m n few h = omega (arith, few, h)
 has_more v m n few h = tt
-
-longer : {T : Type 0} (xs zs : List T) → IsFirst xs zs → length xs ≤ length zs
-longer xs zs f = let one : length zs ≡ length (xs ++ f.more) = ap length f.is in let two : length (xs ++ f.more) ≡ length xs + length f.more = length-append xs f.more in omega (arith, one, two)
 
 pub have_more : (vs : List code_value.Value) (xs zs : List Number) → IsFirst xs zs → All (HasLanes (length xs)) vs → All (HasLanes (length zs)) vs
 have_more vs xs zs f h = λ k d under. has_more _ (length xs) (length zs) (longer xs zs f) (h k d under)
@@ -58,16 +57,8 @@ both a b c p q r s t = record {
   lanes = λ h l. t.lanes h (s.lanes (t.clean h) l);
   goes = λ h l. s.goes (t.clean h) l ∙ t.goes h (s.lanes (t.clean h) l);
   keeps = λ h. t.keeps (λ e. h (s.clean e)) ∙ s.keeps h;
-  refuses = λ h l f. go b.fault refl h l f;
+  refuses = λ h l f. by_fault b c t.keeps f (λ e. s.goes e l ∙ t.refuses e (s.lanes e l) f) (s.refuses h l);
 }
-  where
-    go : (o : Option TextError) → b.fault ≡ o → a.fault ≡ None → HaveLanes a.lists → IsRefused c.fault → p ≡ None
-    go None e h l f = s.goes e l ∙ t.refuses e (s.lanes e l) f
-    go (Some x) e h l f = s.refuses h l (subst IsRefused (t.keeps (λ n. cc)) f)
-
-none_refused : (o : Option TextError) → o ≡ None → IsRefused o → ⊥
-none_refused None e f = f
-none_refused (Some x) e f = absurd cc
 
 -- no step is taken yet
 pub adds_first : (old : Reader) (p q : Parse (List Value)) → p ≡ q → Adds old old p q
@@ -102,10 +93,10 @@ value_pushed u a b c v r p = record {
   clean = λ h. r.clean (p.clean h);
   lanes = λ h l. subst (λ (n : Vec Number). All (HasLanes (length n.items)) c.lists.values.items) (sym p.lanes)
       (subst (All (HasLanes (length b.lists.lanes.items))) (sym (added h))
-      (all_one (HasLanes (length b.lists.lanes.items)) a.lists.values.items v (have_more a.lists.values.items _ _ (r.lanes (p.clean h)) l) (r.within (p.clean h))));
+      (All-push (HasLanes (length b.lists.lanes.items)) a.lists.values.items v (have_more a.lists.values.items _ _ (r.lanes (p.clean h)) l) (r.within (p.clean h))));
   gives = λ h l. ap alone (r.gives (p.clean h)) ∙ ap (λ vs. let o : List Value × Toks = (vs, left b) in Some o) (sym (seen h l)) ∙ ap (λ t. let o : List Value × Toks = (read_values c.lists, t) in Some o) (sym (p.left h));
   keeps = λ h. p.keeps (λ e. h (r.clean e)) ∙ r.keeps h;
-  refuses = λ h l f. go b.fault refl h f;
+  refuses = λ h l f. by_fault b c p.keeps f (λ e. absurd (p.memory e f)) (λ g. ap single (r.refuses h g));
 }
   where
     alone : Parse Value → Parse (List Value)
@@ -119,12 +110,8 @@ value_pushed u a b c v r p = record {
 
     seen : c.fault ≡ None → HaveLanes a.lists → read_values c.lists ≡ read_values a.lists ++ value_in b.lists.lanes.items v ∷ []
     seen h l = ap (λ (n : Vec Number). map (value_in n.items) c.lists.values.items) p.lanes ∙ ap (map (value_in b.lists.lanes.items)) (added h)
-        ∙ mapped (value_in b.lists.lanes.items) a.lists.values.items v
+        ∙ map_push (value_in b.lists.lanes.items) a.lists.values.items v
         ∙ ap (λ vs. vs ++ value_in b.lists.lanes.items v ∷ []) (values_on a.lists.values.items a.lists.lanes.items b.lists.lanes.items l (r.lanes (p.clean h)))
-
-    go : (o : Option TextError) → b.fault ≡ o → a.fault ≡ None → IsRefused c.fault → one_value u (left a) ≡ None
-    go None e h f = absurd (p.memory e f)
-    go (Some x) e h f = ap single (r.refuses h (subst IsRefused (p.keeps (λ n. cc)) f))
 
 -- a list of values more
 pub values_more : (u : Use) (start : Parse (List Value)) (first old new : Reader) (counter end : ℕ) → counter < end → is_form_next (left old) ≡ true → ReadsOnto (argument_or_result u) old new
@@ -163,29 +150,25 @@ alternative_more start first old new counter end before behind few some r s =
     })
 
 -- all alternatives are read, or no token is left
-pub takes_end : (old now : Reader) (n depth : ℕ) → depth ≡ 0
-    → Adds old now (with_parts (read_values old.lists) (all_alternatives (left old))) (with_parts (read_values now.lists) (alternatives n depth (left now))) → TakesAlternatives depth old now
-takes_end old now n depth e s = record {
+taken : (old now : Reader) (depth : ℕ) (rest : Parse (List Value)) → rest ≡ alternatives 0 depth (left now) → Adds old now (with_parts (read_values old.lists) (all_alternatives (left old))) (with_parts (read_values now.lists) rest)
+    → TakesAlternatives depth old now
+taken old now depth rest e s = record {
   commands = s.commands;
   tokens = s.tokens;
   clean = s.clean;
   lanes = s.lanes;
-  goes = λ h l. s.goes h l ∙ ap (λ k. with_parts (read_values now.lists) (alternatives n k (left now))) e ∙ sym (ap (λ k. with_parts (read_values now.lists) (alternatives 0 k (left now))) e);
+  goes = λ h l. s.goes h l ∙ ap (with_parts (read_values now.lists)) e;
   keeps = s.keeps;
   refuses = λ h l f. none_after (read_values old.lists) (all_alternatives (left old)) (s.refuses h l f);
 }
 
+pub takes_end : (old now : Reader) (n depth : ℕ) → depth ≡ 0
+    → Adds old now (with_parts (read_values old.lists) (all_alternatives (left old))) (with_parts (read_values now.lists) (alternatives n depth (left now))) → TakesAlternatives depth old now
+takes_end old now n depth e s = taken old now depth (alternatives n depth (left now)) (ap (λ k. alternatives n k (left now)) e ∙ sym (ap (λ k. alternatives 0 k (left now)) e)) s
+
 pub takes_last : (old now : Reader) (n depth : ℕ) → n ≡ 0
     → Adds old now (with_parts (read_values old.lists) (all_alternatives (left old))) (with_parts (read_values now.lists) (alternatives n depth (left now))) → TakesAlternatives depth old now
-takes_last old now n depth e s = record {
-  commands = s.commands;
-  tokens = s.tokens;
-  clean = s.clean;
-  lanes = s.lanes;
-  goes = λ h l. s.goes h l ∙ ap (λ k. with_parts (read_values now.lists) (alternatives k depth (left now))) e;
-  keeps = s.keeps;
-  refuses = λ h l f. none_after (read_values old.lists) (all_alternatives (left old)) (s.refuses h l f);
-}
+takes_last old now n depth e s = taken old now depth (alternatives n depth (left now)) (ap (λ k. alternatives k depth (left now)) e) s
 
 pub all_taken : (old new : Reader) (depth : ℕ) → depth ≤ 0 → TakesAlternatives depth old new → ReadsOnto all_alternatives old new
 all_taken old new depth few s = record {
@@ -193,7 +176,7 @@ all_taken old new depth few s = record {
   tokens = s.tokens;
   clean = s.clean;
   lanes = s.lanes;
-  gives = λ h l. let none : depth ≡ 0 = omega (arith, few) in s.goes h l ∙ ap (λ k. with_parts (read_values new.lists) (alternatives 0 k (left new))) none ∙ ap (λ vs. let o : List Value × Toks = (vs, left new) in Some o) (no_more (read_values new.lists));
+  gives = λ h l. let none : depth ≡ 0 = omega (arith, few) in s.goes h l ∙ ap (λ k. with_parts (read_values new.lists) (alternatives 0 k (left new))) none ∙ ap (λ vs. let o : List Value × Toks = (vs, left new) in Some o) (append-nil (read_values new.lists));
   keeps = s.keeps;
   refuses = s.refuses;
 }
@@ -206,17 +189,11 @@ pub none_taken : (old mid new : Reader) (depth : ℕ) (fault : TextFault) (span 
 none_taken old mid new depth fault span some s f = record {
   commands = ap (λ (l : Lists). l.commands) f.lists ∙ s.commands;
   tokens = f.tokens ∙ s.tokens;
-  clean = λ h. absurd (faulty mid.fault refl h);
-  lanes = λ h l. absurd (faulty mid.fault refl h);
-  gives = λ h l. absurd (faulty mid.fault refl h);
+  clean = λ h. absurd (faulty mid new fault span f h);
+  lanes = λ h l. absurd (faulty mid new fault span f h);
+  gives = λ h l. absurd (faulty mid new fault span f h);
   keeps = λ h. f.keeps (λ g. h (s.clean g)) ∙ s.keeps h;
-  refuses = λ h l g. go mid.fault refl h l g;
+  refuses = λ h l g. by_fault mid new f.keeps g
+      (λ is. none_after (read_values old.lists) (all_alternatives (left old)) (s.goes is l ∙ ap (with_parts (read_values mid.lists)) (none_left depth (left mid) some)))
+      (s.refuses h l);
 }
-  where
-    faulty : (o : Option TextError) → mid.fault ≡ o → new.fault ≡ None → ⊥
-    faulty None is h = absurd (cc (f.first is))
-    faulty (Some y) is h = absurd (cc (f.keeps (λ n. cc)))
-
-    go : (o : Option TextError) → mid.fault ≡ o → old.fault ≡ None → HaveLanes old.lists → IsRefused new.fault → all_alternatives (left old) ≡ None
-    go None is h l g = none_after (read_values old.lists) (all_alternatives (left old)) (s.goes is l ∙ ap (with_parts (read_values mid.lists)) (none_left depth (left mid) some))
-    go (Some y) is h l g = s.refuses h l (subst IsRefused (f.keeps (λ n. cc)) g)

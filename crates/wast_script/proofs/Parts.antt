@@ -1,8 +1,8 @@
 -- Parts of lists: the last elements of a list, parts of a list that grows, and the tokens between two places.
-use Rattle.std.proofs.Common.{◌≡◌, ◌∙◌, ℕ, zero, suc, ◌+◌, ◌-◌, ◌<◌, ◌≤◌, Bool, true, false, ◌&&◌, List, [], ◌∷◌, ◌++◌, length, map, take, drop, refl, sym, ap, arith, length-append, length-drop}
+use Rattle.std.proofs.Common.{◌≡◌, ◌∙◌, ℕ, ◌+◌, ◌-◌, ◌<◌, ◌≤◌, min, Bool, true, false, ◌&&◌, List, [], ◌++◌, length, map, take, drop, refl, sym, ap, arith, length-append, length-drop}
 use Rattle.std.specs.Prelude.{nat_le, if◌then◌else◌, slice_range}
 use Rattle.std.proofs.lemmas.Bool.{leb-true, leb-false, le-leb, lt-leb}
-use Rattle.std.proofs.lemmas.List.{length-map}
+use Rattle.std.proofs.lemmas.List.{length-map, take_all, take-append-le, take-map, drop_at, drop-append-le, drop_min, drop-map}
 use Rattle.std.specs.Global.{Vec}
 use Rattle.wat_tokens.specs.declared.tokens.Placed.{Placed}
 use Rattle.wat_syntax.specs.Bare.{bare_placed}
@@ -37,36 +37,14 @@ part_beyond p xs few = is_part p xs (nat_le p.start p.end) false refl (lt-leb p.
 pub part_empty : {T : Type 0} (xs : List T) → part (record { start = 0; end = 0 }) xs ≡ []
 part_empty xs = is_part (record { start = 0; end = 0 }) xs true true refl (le-leb 0 (length xs) (omega arith))
 
-drop_first : {T : Type 0} (xs ys : List T) → drop (length xs) (xs ++ ys) ≡ ys
-drop_first [] ys = refl
-drop_first (x ∷ xs) ys = drop_first xs ys
-
-pub take_whole : {T : Type 0} (xs : List T) (n : ℕ) → length xs ≤ n → take n xs ≡ xs
-take_whole [] zero h = refl
-take_whole [] (suc n) h = refl
-take_whole (x ∷ xs) zero h = absurd (omega (arith, h))
-take_whole (x ∷ xs) (suc n) h = ap (λ ys. x ∷ ys) (take_whole xs n (omega (arith, h)))
-
 -- the elements that a list has more than another
 pub part_last : {T : Type 0} (xs ys : List T) (s e : ℕ) → s ≡ length xs → e ≡ length (xs ++ ys) → part (record { start = s; end = e }) (xs ++ ys) ≡ ys
 part_last xs ys s e first all =
     let both : length (xs ++ ys) ≡ length xs + length ys = length-append xs ys in
     part_is (record { start = s; end = e }) (xs ++ ys) (omega (arith, first, all, both)) (omega (arith, all))
     ∙ ap (λ n. take (e - n) (drop n (xs ++ ys))) first
-    ∙ ap (take (e - length xs)) (drop_first xs ys)
-    ∙ take_whole ys (e - length xs) (omega (arith, all, both))
-
-take_on : {T : Type 0} (n : ℕ) (xs ys : List T) → n ≤ length xs → take n (xs ++ ys) ≡ take n xs
-take_on zero [] ys h = refl
-take_on zero (x ∷ xs) ys h = refl
-take_on (suc n) [] ys h = absurd (omega (arith, h))
-take_on (suc n) (x ∷ xs) ys h = ap (λ zs. x ∷ zs) (take_on n xs ys (omega (arith, h)))
-
-drop_on : {T : Type 0} (n : ℕ) (xs ys : List T) → n ≤ length xs → drop n (xs ++ ys) ≡ drop n xs ++ ys
-drop_on zero [] ys h = refl
-drop_on zero (x ∷ xs) ys h = refl
-drop_on (suc n) [] ys h = absurd (omega (arith, h))
-drop_on (suc n) (x ∷ xs) ys h = drop_on n xs ys (omega (arith, h))
+    ∙ ap (take (e - length xs)) (drop_at xs ys (length xs) refl)
+    ∙ take_all (e - length xs) ys (omega (arith, all, both))
 
 -- a part of a list that grows
 pub part_stays : {T : Type 0} (p : Part) (xs ys : List T) → p.end ≤ length xs → part p (xs ++ ys) ≡ part p xs
@@ -81,12 +59,18 @@ part_stays p xs ys h = go (nat_le p.start p.end) refl
         let few : p.start ≤ p.end = leb-true p.start p.end e in
         let within : p.start ≤ length xs = omega (arith, few, h) in
         part_is p (xs ++ ys) few (omega (arith, h, both))
-        ∙ ap (take (p.end - p.start)) (drop_on p.start xs ys within)
-        ∙ take_on (p.end - p.start) (drop p.start xs) ys (omega (arith, few, h, length-drop p.start xs))
+        ∙ ap (take (p.end - p.start)) (drop-append-le p.start xs ys within)
+        ∙ take-append-le (p.end - p.start) (drop p.start xs) ys (omega (arith, few, h, length-drop p.start xs))
         ∙ sym (part_is p xs few h)
 
 pub part_on : {T : Type 0} (p : Part) (xs zs : List T) (n : ℕ) → p.end ≤ n → n ≡ length xs → IsFirst xs zs → part p zs ≡ part p xs
 part_on p xs zs n h e f = ap (part p) f.is ∙ part_stays p xs f.more (omega (arith, h, e))
+
+pub longer : {T : Type 0} (xs zs : List T) → IsFirst xs zs → length xs ≤ length zs
+longer xs zs f = let one : length zs ≡ length (xs ++ f.more) = ap length f.is in let two : length (xs ++ f.more) ≡ length xs + length f.more = length-append xs f.more in omega (arith, one, two)
+
+pub bare_same : (a b : Reader) → b.tokens ≡ a.tokens → all_bare b ≡ all_bare a
+bare_same a b e = ap (λ (t : Vec Placed). map bare_placed t.items) e
 
 -- The part of all tokens from those that are left at one place up to those that are left at another.
 part_between : (a b : ℕ) (xs : List Placed) (s e : ℕ) → s ≡ length xs - length (drop a xs) → e ≡ length xs - length (drop b xs)
@@ -99,42 +83,25 @@ part_between a b xs s e first all = go (nat_le s e) refl
     cb : length (drop b xs) ≡ length xs - b
     cb = length-drop b xs
 
-    none : {T : Type 0} (n : ℕ) (ys : List T) → n ≡ 0 → take n ys ≡ []
-    none n [] e = ap (λ m. take m []) e
-    none n (y ∷ ys) e = ap (λ m. take m (y ∷ ys)) e
-
-    drop_none : (m : ℕ) → drop {A = Placed} m [] ≡ []
-    drop_none zero = refl
-    drop_none (suc m) = refl
-
-    dropped : (n : ℕ) (ys : List Placed) → drop (length ys - (length ys - n)) ys ≡ drop n ys
-    dropped zero ys = let none : length ys - (length ys - 0) ≡ 0 = omega arith in ap (λ m. drop m ys) none
-    dropped (suc n) [] = drop_none (0 - (0 - suc n))
-    dropped (suc n) (y ∷ ys) =
-        let same : length (y ∷ ys) - (length (y ∷ ys) - suc n) ≡ suc (length ys - (length ys - n)) = omega arith in
-        ap (λ m. drop m (y ∷ ys)) same ∙ dropped n ys
-
     go : (c : Bool) → nat_le s e ≡ c → part (record { start = s; end = e }) xs ≡ take (length (drop a xs) - length (drop b xs)) (drop a xs)
     go false f =
-        let more : e < s = omega (arith, above s e f) in
-        is_part (record { start = s; end = e }) xs false (nat_le e (length xs)) f refl
-        ∙ sym (none (length (drop a xs) - length (drop b xs)) (drop a xs) (omega (arith, more, first, all, ca, cb)))
-      where
-        above : (m n : ℕ) → nat_le m n ≡ false → n < m
-        above m n h = leb-false m n h
+        let more : e < s = leb-false s e f in
+        let none : length (drop a xs) - length (drop b xs) ≡ 0 = omega (arith, more, first, all, ca, cb) in
+        is_part (record { start = s; end = e }) xs false (nat_le e (length xs)) f refl ∙ sym (ap (λ m. take m (drop a xs)) none)
     go true f =
         let few : s ≤ e = leb-true s e f in
+        let least : length xs - (length xs - a) ≡ min a (length xs) = omega arith in
         let size : e - (length xs - (length xs - a)) ≡ length (drop a xs) - length (drop b xs) = omega (arith, few, first, all, ca, cb) in
         part_is (record { start = s; end = e }) xs few (omega (arith, all))
         ∙ ap (λ m. take (e - m) (drop m xs)) (first ∙ ap (λ k. length xs - k) ca)
-        ∙ ap (take (e - (length xs - (length xs - a)))) (dropped a xs)
+        ∙ ap (take (e - (length xs - (length xs - a)))) (ap (λ m. drop m xs) least ∙ drop_min a xs)
         ∙ ap (λ m. take m (drop a xs)) size
 
 pub between_is : (old new : Reader) (s e : ℕ) → new.tokens ≡ old.tokens → s ≡ length old.tokens.items - count (left old) → e ≡ length new.tokens.items - count (left new)
     → part (record { start = s; end = e }) (all_bare new) ≡ between (left old) (left new)
 unfolding left count
 between_is old new s e same first all =
-    let same_bare : all_bare new ≡ all_bare old = ap (λ (t : Vec Placed). map bare_placed t.items) same in
+    let same_bare : all_bare new ≡ all_bare old = bare_same old new same in
     let old_length : length (all_bare old) ≡ length old.tokens.items = length-map old.tokens.items bare_placed in
     let new_length : length (all_bare new) ≡ length new.tokens.items = length-map new.tokens.items bare_placed in
     ap (λ (xs : List Placed). part (record { start = s; end = e }) xs) same_bare
@@ -143,18 +110,6 @@ between_is old new s e same first all =
     ∙ ap (λ (xs : List Placed). take (length (drop old.at (all_bare old)) - length (drop new.at xs)) (drop old.at (all_bare old))) (sym same_bare)
 
 -- a part of a list that is mapped
-take_mapped : {A B : Type 0} (f : A → B) (n : ℕ) (xs : List A) → take n (map f xs) ≡ map f (take n xs)
-take_mapped f zero [] = refl
-take_mapped f zero (x ∷ xs) = refl
-take_mapped f (suc n) [] = refl
-take_mapped f (suc n) (x ∷ xs) = ap (λ ys. f x ∷ ys) (take_mapped f n xs)
-
-drop_mapped : {A B : Type 0} (f : A → B) (n : ℕ) (xs : List A) → drop n (map f xs) ≡ map f (drop n xs)
-drop_mapped f zero [] = refl
-drop_mapped f zero (x ∷ xs) = refl
-drop_mapped f (suc n) [] = refl
-drop_mapped f (suc n) (x ∷ xs) = drop_mapped f n xs
-
 pub part_mapped : {A B : Type 0} (f : A → B) (p : Part) (xs : List A) → part p (map f xs) ≡ map f (part p xs)
 part_mapped {B = B} f p xs = go (nat_le p.start p.end) (nat_le p.end (length xs)) refl refl
   where
@@ -162,7 +117,7 @@ part_mapped {B = B} f p xs = go (nat_le p.start p.end) (nat_le p.end (length xs)
     size = length-map xs f
 
     sliced : slice_range (map f xs) p.start p.end ≡ map f (slice_range xs p.start p.end)
-    sliced = ap (take (p.end - p.start)) (drop_mapped f p.start xs) ∙ take_mapped f (p.end - p.start) (drop p.start xs)
+    sliced = ap (take (p.end - p.start)) (drop-map f p.start xs) ∙ take-map f (p.end - p.start) (drop p.start xs)
 
     by_tests : (a b : Bool) → (if a && b then slice_range (map f xs) p.start p.end else []) ≡ map f (if a && b then slice_range xs p.start p.end else [])
     by_tests true true = sliced

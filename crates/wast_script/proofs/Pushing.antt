@@ -1,7 +1,6 @@
 -- A lane, a value or a command is added, or the allocation failed.
-use Rattle.std.proofs.Common.{◌≡◌, ◌≢◌, ◌∙◌, [], ◌∷◌, ◌++◌, Option, None, Some, refl, sym, ap, subst}
+use Rattle.std.proofs.Common.{◌≡◌, ◌≢◌, ◌∙◌, [], ◌∷◌, ◌++◌, None, sym, ap, subst}
 use Rattle.wat_tokens.specs.declared.faults.TextFault.TheVariants as fault
-use Rattle.wat_tokens.specs.declared.faults.TextError.{TextError}
 use Rattle.wat_syntax.specs.Tree.{Span}
 use Rattle.wast_script.specs.declared.values.Number.{Number}
 use Rattle.wast_script.specs.declared.values.Value as code_value
@@ -9,16 +8,10 @@ use Rattle.wast_script.specs.declared.commands.Command as code_command
 use Rattle.wast_script.specs.declared.reader.Lists.{Lists}
 use Rattle.wast_script.specs.declared.reader.Reader.{Reader}
 use Rattle.wast_script.specs.Readers.{left, IsRefused, Fails, Pushes, PushesLane, PushesValue}
+use Rattle.wast_script.proofs.Faults.{none_refused, faulty}
 
 -- The allocation failed: there is a fault now.
 module _ (old mid new : Reader) (span : Span) (f : Fails fault.Memory span mid new) (same : mid.fault ≡ old.fault) where
-  faulty : new.fault ≡ None → ⊥
-  faulty h = go mid.fault refl h
-    where
-      go : (o : Option TextError) → mid.fault ≡ o → new.fault ≡ None → ⊥
-      go None e h = absurd (cc (f.first e))
-      go (Some y) e h = absurd (cc (f.keeps (λ n. cc)))
-
   kept : old.fault ≢ None → new.fault ≡ old.fault
   kept h = f.keeps (λ e. h (sym same ∙ e)) ∙ same
 
@@ -30,9 +23,9 @@ module _ (old mid new : Reader) (span : Span) (f : Fails fault.Memory span mid n
     commands = ap (λ (l : Lists). l.commands) f.lists ∙ commands;
     values = ap (λ (l : Lists). l.values) f.lists ∙ values;
     tokens = f.tokens ∙ tokens;
-    clean = λ h. absurd (faulty h);
-    pushed = λ h. absurd (faulty h);
-    left = λ h. absurd (faulty h);
+    clean = λ h. absurd (faulty mid new fault.Memory span f h);
+    pushed = λ h. absurd (faulty mid new fault.Memory span f h);
+    left = λ h. absurd (faulty mid new fault.Memory span f h);
     keeps = kept;
     memory = no_refusal;
   }
@@ -42,9 +35,9 @@ module _ (old mid new : Reader) (span : Span) (f : Fails fault.Memory span mid n
     commands = ap (λ (l : Lists). l.commands) f.lists ∙ commands;
     lanes = ap (λ (l : Lists). l.lanes) f.lists ∙ lanes;
     tokens = f.tokens ∙ tokens;
-    clean = λ h. absurd (faulty h);
-    pushed = λ h. absurd (faulty h);
-    left = λ h. absurd (faulty h);
+    clean = λ h. absurd (faulty mid new fault.Memory span f h);
+    pushed = λ h. absurd (faulty mid new fault.Memory span f h);
+    left = λ h. absurd (faulty mid new fault.Memory span f h);
     keeps = kept;
     memory = no_refusal;
   }
@@ -54,19 +47,15 @@ module _ (old mid new : Reader) (span : Span) (f : Fails fault.Memory span mid n
     tokens = f.tokens ∙ tokens;
     values = ap (λ (l : Lists). l.values) f.lists ∙ values;
     lanes = ap (λ (l : Lists). l.lanes) f.lists ∙ lanes;
-    clean = λ h. absurd (faulty h);
-    pushed = λ h. absurd (faulty h);
-    left = λ h. absurd (faulty h);
+    clean = λ h. absurd (faulty mid new fault.Memory span f h);
+    pushed = λ h. absurd (faulty mid new fault.Memory span f h);
+    left = λ h. absurd (faulty mid new fault.Memory span f h);
     keeps = kept;
     memory = no_refusal;
   }
 
 -- It is added: there is a fault if there was one.
 module _ (old new : Reader) (tokens : new.tokens ≡ old.tokens) (same : new.fault ≡ old.fault) (stays : left new ≡ left old) where
-  none_refused : (o : Option TextError) → o ≡ None → IsRefused o → ⊥
-  none_refused None e r = r
-  none_refused (Some x) e r = absurd cc
-
   pub lane_pushed : (lane : Number) → new.lists.commands ≡ old.lists.commands → new.lists.values ≡ old.lists.values → new.lists.lanes.items ≡ old.lists.lanes.items ++ lane ∷ [] → PushesLane old new lane
   lane_pushed lane commands values pushed = record {
     commands = commands;

@@ -1,7 +1,7 @@
 -- A script of a text: the tokens of the text without addresses, and its commands at their positions.
 use Rattle.std.proofs.Common.{◌≡◌, ◌≢◌, ◌∙◌, ℕ, zero, suc, ◌+◌, ◌<◌, ◌≤◌, min, List, [], ◌∷◌, ◌++◌, length, map, take, get_or, All, Option, None, Some, Result, Ok, Err, refl, sym, ap, subst, arith}
 use Rattle.std.specs.Global.{Vec}
-use Rattle.std.proofs.lemmas.List.{take_more}
+use Rattle.std.proofs.lemmas.List.{take_more, map_push}
 use Rattle.std.specs.Prelude.{IfOk, IfErr}
 use Rattle.wat_grammar.specs.Parts.{◌>>=◌}
 use Rattle.wat_grammar.specs.Tokens as grammar
@@ -23,7 +23,6 @@ use Rattle.wast_script.specs.declared.scripts.Script.{Script}
 use Rattle.wast_script.specs.Constants.{Value}
 use Rattle.wast_script.specs.Grammar.{up_to, script, script_in, script_of}
 use Rattle.wast_script.specs.Scripts.{value_in, command_in, placed_up_to, script_tokens, commands_of}
-use Rattle.wast_script.proofs.Lists.{mapped}
 use Rattle.wast_script.specs.Readers.{left, all_bare, read_values, IsRefusal, IsRefused, IsNew, ReadsAll}
 
 -- commands at their positions
@@ -92,7 +91,7 @@ pub placed_more : (n k : ℕ) (cs found more : List code_command.Command) (c : c
     → span ≡ record { offset = min c.span.offset n } → more ≡ found ++ record { span = span; kind = c.kind } ∷ [] → more ≡ map (placed_up_to n) (take (k + 1) cs)
 placed_more n k cs found more c span few here so_far at is =
     is ∙ (λ i. so_far i ++ record { span = at i; kind = c.kind } ∷ []) ∙ ap (λ (d : code_command.Command). map (placed_up_to n) (take k cs) ++ placed_up_to n d ∷ []) here
-    ∙ sym (ap (map (placed_up_to n)) (take_more cs k c few) ∙ mapped (placed_up_to n) (take k cs) (get_or cs k c))
+    ∙ sym (ap (map (placed_up_to n)) (take_more cs k c few) ∙ map_push (placed_up_to n) (take k cs) (get_or cs k c))
 
 -- positions that were moved are in the text
 pub all_within : (n : ℕ) (cs found : List code_command.Command) → found ≡ map (placed_up_to n) cs → All (λ c. c.span.offset ≤ n) found

@@ -1,14 +1,14 @@
 -- The lanes of a vector, as a loop reads them: so many are left.
-use Rattle.std.proofs.Common.{◌≡◌, ◌≢◌, ◌∙◌, ℕ, suc, ◌+◌, ◌-◌, ◌<◌, List, [], ◌∷◌, ◌++◌, Option, None, Some, refl, sym, ap, subst, arith}
+use Rattle.std.proofs.Common.{◌≡◌, ◌≢◌, ◌∙◌, ℕ, suc, ◌+◌, ◌-◌, ◌<◌, List, [], ◌∷◌, ◌++◌, None, Some, refl, sym, ap, arith, append-nil}
 use Rattle.wat_grammar.specs.Parts.{◌>>=◌}
-use Rattle.wat_tokens.specs.declared.faults.TextError.{TextError}
 use Rattle.wat_syntax.specs.Tokens.{Toks, Parse, with_parts}
 use Rattle.wat_syntax.specs.Instructions.{times}
 use Rattle.wast_script.specs.declared.values.Number.{Number}
 use Rattle.wast_script.specs.declared.reader.Lists.{Lists}
 use Rattle.wast_script.specs.declared.reader.Reader.{Reader}
 use Rattle.wast_script.specs.Readers.{left, IsRefused, Decides, PushesLane, ReadsLanes}
-use Rattle.wast_script.proofs.Lists.{no_more, after_both, none_after}
+use Rattle.wast_script.proofs.Faults.{none_refused, by_fault}
+use Rattle.wat_text.proofs.Loops.{after_both, none_after}
 
 pub record Rows (rule : Toks → Parse Number) (all more : ℕ) (old now : Reader) : Type 0 where
   pub commands : now.lists.commands ≡ old.lists.commands
@@ -18,10 +18,6 @@ pub record Rows (rule : Toks → Parse Number) (all more : ℕ) (old now : Reade
   pub goes : now.fault ≡ None → with_parts old.lists.lanes.items (times all rule (left old)) ≡ with_parts now.lists.lanes.items (times more rule (left now))
   pub keeps : old.fault ≢ None → now.fault ≡ old.fault
   pub refuses : old.fault ≡ None → IsRefused now.fault → times all rule (left old) ≡ None
-
-none_refused : (o : Option TextError) → o ≡ None → IsRefused o → ⊥
-none_refused None e f = f
-none_refused (Some x) e f = absurd cc
 
 pub rows_first : (rule : Toks → Parse Number) (all : ℕ) (old : Reader) → Rows rule all all old old
 rows_first rule all old = record {
@@ -51,7 +47,11 @@ rows_more rule all counter end first old mid new x few r d p = record {
       ∙ ap (λ (l : Lists). with_parts (l.lanes.items ++ x ∷ []) (times n rule (left mid))) (sym d.lists)
       ∙ ap (λ xs. with_parts xs (times n rule (left mid))) (sym (p.pushed h)) ∙ ap (λ t. with_parts new.lists.lanes.items (times n rule t)) (sym (p.left h));
   keeps = λ h. p.keeps (λ g. h (r.clean (d.clean g))) ∙ d.keeps (λ g. h (r.clean g)) ∙ r.keeps h;
-  refuses = λ h f. go mid.fault refl h f;
+  refuses = λ h f. by_fault mid new p.keeps f (λ e. absurd (p.memory e f))
+      (λ g. by_fault old mid d.keeps g
+      (λ e. none_after first.lists.lanes.items (times all rule (left first)) (r.goes e ∙ ap (λ k. with_parts old.lists.lanes.items (times k rule (left old))) one
+      ∙ ap (λ o. with_parts old.lists.lanes.items (o >>= λ y. times n rule y.1 >>= λ ys. Some (y.0 ∷ ys.0, ys.1))) (d.refuses e g)))
+      (r.refuses h));
 }
   where
     n : ℕ
@@ -60,22 +60,13 @@ rows_more rule all counter end first old mid new x few r d p = record {
     one : end - counter ≡ suc n
     one = omega (arith, few)
 
-    by : (o : Option TextError) → old.fault ≡ o → first.fault ≡ None → IsRefused mid.fault → times all rule (left first) ≡ None
-    by None e h f = none_after first.lists.lanes.items (times all rule (left first)) (r.goes e ∙ ap (λ k. with_parts old.lists.lanes.items (times k rule (left old))) one
-        ∙ ap (λ o. with_parts old.lists.lanes.items (o >>= λ y. times n rule y.1 >>= λ ys. Some (y.0 ∷ ys.0, ys.1))) (d.refuses e f))
-    by (Some y) e h f = r.refuses h (subst IsRefused (d.keeps (λ n. cc)) f)
-
-    go : (o : Option TextError) → mid.fault ≡ o → first.fault ≡ None → IsRefused new.fault → times all rule (left first) ≡ None
-    go None e h f = absurd (p.memory e f)
-    go (Some y) e h f = by old.fault refl h (subst IsRefused (p.keeps (λ n. cc)) f)
-
 pub rows_last : (rule : Toks → Parse Number) (all more : ℕ) (old now : Reader) → more ≡ 0 → Rows rule all more old now → ReadsLanes (times all rule) old now
 rows_last rule all more old now none r = record {
   commands = r.commands;
   values = r.values;
   tokens = r.tokens;
   clean = r.clean;
-  gives = λ h. r.goes h ∙ ap (λ k. with_parts now.lists.lanes.items (times k rule (left now))) none ∙ ap (λ xs. let o : List Number × Toks = (xs, left now) in Some o) (no_more now.lists.lanes.items);
+  gives = λ h. r.goes h ∙ ap (λ k. with_parts now.lists.lanes.items (times k rule (left now))) none ∙ ap (λ xs. let o : List Number × Toks = (xs, left now) in Some o) (append-nil now.lists.lanes.items);
   keeps = r.keeps;
   refuses = r.refuses;
 }

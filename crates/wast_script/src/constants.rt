@@ -40,7 +40,7 @@ fn nan_of(usage: Use, word: &str) -> Option<Number>
 }
 
 /// The bits of a float of 32 bits, or a NaN of a result.
-#[tactic(auto, using(crate::proofs::Signs::float_is, crate::proofs::Signs::float_not))]
+#[tactic(auto, using(wat_text::proofs::Signs::float_is, crate::proofs::Bits::float_not))]
 fn float_of32(alloc: Global, usage: Use, text: &str) -> Result<Number, TextFault>
     ensures gives { IfOk result (λ n. float_of binary32 usage text.now ≡ Some n) }
     ensures refuses { IfErr result (λ e. IsRefusal e → float_of binary32 usage text.now ≡ None) }
@@ -55,7 +55,7 @@ fn float_of32(alloc: Global, usage: Use, text: &str) -> Result<Number, TextFault
 }
 
 /// The bits of a float of 64 bits, or a NaN of a result.
-#[tactic(auto, using(crate::proofs::Signs::float_is, crate::proofs::Signs::float_not))]
+#[tactic(auto, using(wat_text::proofs::Signs::float_is, crate::proofs::Bits::float_not))]
 fn float_of64(alloc: Global, usage: Use, text: &str) -> Result<Number, TextFault>
     ensures gives { IfOk result (λ n. float_of binary64 usage text.now ≡ Some n) }
     ensures refuses { IfErr result (λ e. IsRefusal e → float_of binary64 usage text.now ≡ None) }
@@ -307,7 +307,7 @@ impl<'a> Reader<'a> {
     }
 
     /// The index of a type, which is the heap type if no word is.
-    #[tactic(auto, using(crate::proofs::Unsigned::no_index))]
+    #[tactic(auto, using(wat_text::proofs::Numbers::no_index))]
     fn type_index(&mut self) -> Index<'a>
         ensures { Decides index self.old self.new (bare_index result) }
     {
@@ -522,7 +522,7 @@ impl<'a> Reader<'a> {
     }
 
     /// Reads values up to the end of the form, or up to what is no form.
-    #[tactic(auto, using(crate::proofs::Onto::adds_first, crate::proofs::Onto::adds_last, crate::proofs::Lists::list_end, crate::proofs::Lists::list_last))]
+    #[tactic(auto, using(crate::proofs::Onto::adds_first, crate::proofs::Onto::adds_last, wat_text::proofs::Loops::list_end, wat_text::proofs::Loops::list_last))]
     fn all_values(&mut self, usage: Use)
         ensures { ReadsOnto (values usage) self.old self.new }
     {

@@ -77,7 +77,7 @@ impl<'a> Reader<'a> {
     }
 
     /// Returns how many tokens are left.
-    #[tactic(auto, unfolding(crate::specs::Readers::left, wat_syntax::specs::Tokens::count), using(crate::proofs::Lefts::counted))]
+    #[tactic(auto, unfolding(crate::specs::Readers::left, wat_syntax::specs::Tokens::count), using(wat_text::proofs::Lefts::counted))]
     pub(crate) fn left(&self) -> usize
         ensures { result ≡ count (left self.now) }
     {
@@ -92,7 +92,7 @@ impl<'a> Reader<'a> {
     }
 
     /// Returns the token after so many others; `None` at the end, and after a fault.
-    #[tactic(auto, unfolding(crate::specs::Readers::left, wat_syntax::specs::Tokens::peek), using(crate::proofs::Lefts::peeked, crate::proofs::Lefts::none_peeked))]
+    #[tactic(auto, unfolding(crate::specs::Readers::left, wat_syntax::specs::Tokens::peek), using(wat_text::proofs::Lefts::peeked, wat_text::proofs::Lefts::none_peeked))]
     pub(crate) fn look(&self, ahead: usize) -> Option<Token<'a>>
         ensures { option_map bare_token result ≡ peek ahead (left self.now) }
     {
@@ -103,7 +103,7 @@ impl<'a> Reader<'a> {
     }
 
     /// Returns the position of the next token.
-    #[tactic(auto, unfolding(crate::specs::Readers::left, wat_syntax::specs::Tokens::position), using(crate::proofs::Lefts::placed, crate::proofs::Lefts::none_placed))]
+    #[tactic(auto, unfolding(crate::specs::Readers::left, wat_syntax::specs::Tokens::position), using(wat_text::proofs::Lefts::placed, wat_text::proofs::Lefts::none_placed))]
     pub(crate) fn place(&self) -> Span
         ensures { result ≡ position (left self.now) }
     {
@@ -114,7 +114,7 @@ impl<'a> Reader<'a> {
     }
 
     /// Returns the position of the token that was read last.
-    #[tactic(auto, unfolding(crate::specs::Readers::left), using(crate::proofs::Lefts::placed, crate::proofs::Lefts::none_placed))]
+    #[tactic(auto, unfolding(crate::specs::Readers::left), using(wat_text::proofs::Lefts::placed, wat_text::proofs::Lefts::none_placed))]
     pub(crate) fn place_before(&self) -> Span
         ensures { result ≡ (left self.now).before }
     {
@@ -293,7 +293,7 @@ impl<'a> Reader<'a> {
     }
 
     /// Reads a string in UTF-8 (text format, names).
-    #[tactic(auto, using(crate::proofs::Names::utf8_is, crate::proofs::Names::utf8_not))]
+    #[tactic(auto, using(wat_text::proofs::Names::utf8_is, wat_text::proofs::Names::utf8_not))]
     pub(crate) fn text(&mut self) -> &'a str
         ensures { Decides name self.old self.new (bare_text result) }
     {

@@ -1,6 +1,6 @@
--- The goal of `bits_of16` that tactics leave open, closed by a lemma of Signs.
+-- The goal of `bits_of16` that tactics leave open, closed by a lemma of Bits.
 use Rattle.std.proofs.Common.{sym}
-use Rattle.wast_script.proofs.Signs.{bits_not}
+use Rattle.wast_script.proofs.Bits.{bits_not}
 use Rattle.wast_script.proofs.constants.bits_of16.Goals as goal
 
 pub returns-in-Err-clause-refuses : goal.returns-in-Err-clause-refuses

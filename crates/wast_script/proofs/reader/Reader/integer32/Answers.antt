@@ -1,4 +1,4 @@
--- The goal of `integer32` that tactics leave open, closed by lemmas of Signs and Numerals (as in wat_text).
+-- The goal of `integer32` that tactics leave open, closed by lemmas of Numerals and of wat_text.
 use Rattle.std.proofs.Common.{rules, ◌∙◌, sym, subst}
 use Rattle.std.specs.Prelude.{option_map}
 use Rattle.std.specs.Int.{w32}
@@ -6,7 +6,7 @@ use Rattle.std.proofs.Math.Facts.{to_z-of_z}
 use Rattle.wat_grammar.specs.Integers.{integer, signed_of}
 use Rattle.wat_syntax.specs.Instructions.{signed_number}
 use Rattle.wast_script.specs.Readers.{Decides}
-use Rattle.wast_script.proofs.Signs.{signed_is, signed_not}
+use Rattle.wat_text.proofs.Signs.{signed_is, signed_not}
 use Rattle.wast_script.proofs.Numerals.{number_read}
 use Rattle.wast_script.proofs.reader.Reader.integer32.Goals as goal
 

@@ -2,7 +2,7 @@
 use Rattle.std.proofs.Common.{refl, rules}
 use Rattle.wat_syntax.specs.Tokens.{after}
 use Rattle.wast_script.specs.Readers.{left}
-use Rattle.wast_script.proofs.Lefts.{skipped}
+use Rattle.wat_text.proofs.Lefts.{skipped}
 use Rattle.wast_script.proofs.reader.Reader.skip.Goals as goal
 
 -- `search` does not see that one more token is skipped

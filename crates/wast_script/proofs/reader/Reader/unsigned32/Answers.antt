@@ -1,7 +1,7 @@
--- The goal of `unsigned32` that tactics leave open, closed by lemmas of Unsigned and Numerals.
+-- The goal of `unsigned32` that tactics leave open, closed by lemmas of Numerals and of wat_text.
 use Rattle.std.proofs.Common.{◌∙◌, sym}
 use Rattle.wat_grammar.specs.Integers.{uN}
-use Rattle.wast_script.proofs.Unsigned.{unsigned_is, unsigned_not}
+use Rattle.wat_text.proofs.Numbers.{unsigned_is, unsigned_not}
 use Rattle.wast_script.proofs.Numerals.{number_read}
 use Rattle.wast_script.proofs.reader.Reader.unsigned32.Goals as goal
 
