@@ -6,6 +6,8 @@
 
 ghost use Rattle.std.specs.Prelude.{◌≡◌, true, false, Ok, IfOk, OnOk, OnErr};
 ghost use Rattle.std.specs.Io.KnownBytes.{Appends, Keeps};
+ghost use Rattle.wat_bytes.specs.Names.{ListsText};
+ghost use Rattle.wat_bytes.specs.Texts.{EncodesText, OfText};
 ghost use Rattle.wat_command.specs.Fronts.{AppendsFront};
 ghost use Rattle.wat.specs.Outputs.{HasNames, IsOutput, OutputBy, Writes, Gets, Converts, Stops, hex_line as hex_line_of, selected as selected_bytes};
 
@@ -18,7 +20,9 @@ use crate::several::report_all;
 use std::alloc::{AllocError, Global};
 use std::io::Write;
 use std::str;
-use wat_bytes::{encode_text, names_of_text};
+use wat_bytes::{
+    Denoted, Refused, encode_last_text, encode_text, names_of_last_text, names_of_text,
+};
 use wat_command::{
     Escaped, Failure, Style, read_input, report_malformed_in, shown, text_before, warn_in,
     write_bytes, write_file,
@@ -65,6 +69,36 @@ fn allocated(rt: &HostRuntime, output: Result<Vec<u8>, AllocError>) -> Result<Ve
     }
 }
 
+/// Returns the bytes of a text. If it is the last one, its module is not freed.
+fn bytes_of<'a>(
+    alloc: Global,
+    text: &'a str,
+    strings: &'a Strings,
+    is_last: bool,
+) -> Result<Vec<u8>, Refused<'a>>
+    ensures answer { OfText EncodesText text.now result }
+{
+    if is_last {
+        return encode_last_text(alloc, text, strings);
+    }
+    encode_text(alloc, text, strings)
+}
+
+/// Returns the ids of a text. If it is the last one, its module is not freed.
+fn names_of<'a>(
+    alloc: Global,
+    text: &'a str,
+    strings: &'a Strings,
+    is_last: bool,
+) -> Result<Vec<Denoted<'a>>, Refused<'a>>
+    ensures answer { OfText ListsText text.now result }
+{
+    if is_last {
+        return names_of_last_text(alloc, text, strings);
+    }
+    names_of_text(alloc, text, strings)
+}
+
 /// Returns the output for the module of a text, or reports its error.
 fn module_output<'a>(
     rt: &HostRuntime,
@@ -73,10 +107,11 @@ fn module_output<'a>(
     file: Escaped<'_>,
     text: &'a str,
     strings: &'a Strings,
+    is_last: bool,
 ) -> Result<Vec<u8>, Failure>
     ensures { IfOk result (λ out. IsOutput options.now text.now out.items) }
 {
-    match encode_text(rt.alloc(), text, strings) {
+    match bytes_of(rt.alloc(), text, strings, is_last) {
         Ok(bytes) => allocated(rt, output_of_bytes(rt.alloc(), options, bytes)),
         Err(refused) => Err(report_all(rt, style, file, text, &refused)),
     }
@@ -89,10 +124,11 @@ fn names_output<'a>(
     file: Escaped<'_>,
     text: &'a str,
     strings: &'a Strings,
+    is_last: bool,
 ) -> Result<Vec<u8>, Failure>
     ensures { IfOk result (λ out. HasNames text.now out.items) }
 {
-    match names_of_text(rt.alloc(), text, strings) {
+    match names_of(rt.alloc(), text, strings, is_last) {
         Ok(names) => allocated(rt, name_lines(rt.alloc(), names.as_slice())),
         Err(refused) => Err(report_all(rt, style, file, text, &refused)),
     }
@@ -105,14 +141,17 @@ fn output_of_text(
     style: Style,
     file: Escaped<'_>,
     text: &str,
+    is_last: bool,
 ) -> Result<Vec<u8>, Failure>
     ensures { IfOk result (λ out. Writes options.now text.now out.items) }
 {
     warn_in(rt, style, file, text);
     let strings = Strings::new(rt.alloc());
     match options.output {
-        Output::Names => names_output(rt, style, file, text, &strings),
-        Output::Bytes | Output::Hex => module_output(rt, options, style, file, text, &strings),
+        Output::Names => names_output(rt, style, file, text, &strings, is_last),
+        Output::Bytes | Output::Hex => {
+            module_output(rt, options, style, file, text, &strings, is_last)
+        }
     }
 }
 
@@ -122,12 +161,13 @@ fn output_of(
     options: &Options,
     file: Escaped<'_>,
     bytes: &[u8],
+    is_last: bool,
 ) -> Result<Vec<u8>, Failure>
     ensures { IfOk result (λ out. Writes options.now bytes.now out.items) }
 {
     let style = style_of(rt, options);
     match str::from_utf8(bytes) {
-        Ok(text) => output_of_text(rt, options, style, file, text),
+        Ok(text) => output_of_text(rt, options, style, file, text, is_last),
         Err(error) => {
             let text = text_before(bytes, error.valid_up_to());
             Err(report_malformed_in(rt, style, file, text))
@@ -186,7 +226,8 @@ fn write_output<W: Write>(
     store_output(rt, options, file, output)
 }
 
-/// Converts the bytes of a file, and writes the output to standard output or to a file.
+/// Converts the bytes of a file, and writes the output to standard output or to a file. If it is the
+/// last file, its module is not freed, because the process ends soon.
 ///
 /// # Guarantees
 ///
@@ -198,18 +239,24 @@ fn convert_bytes<W: Write>(
     options: &Options,
     file: &str,
     bytes: &[u8],
+    is_last: bool,
     is_printed: bool,
     stdout: &mut W,
 ) -> Result<(), Failure>
     ensures whole { OnOk result (Converts options.now bytes.now is_printed (W.contents stdout.old) (W.contents stdout.new)) }
     ensures nothing { OnErr result (Stops options.now bytes.now is_printed (W.contents stdout.old) (W.contents stdout.new)) }
 {
-    let output = output_of(rt, options, shown(file), bytes)?;
+    let output = output_of(rt, options, shown(file), bytes, is_last)?;
     write_output(rt, options, file, output.as_slice(), is_printed, stdout)
 }
 
-/// Reads a file, and writes its output.
-pub(crate) fn convert_file(rt: &HostRuntime, options: &Options, file: &str) -> Result<(), Failure> {
+/// Reads a file, and writes its output. If it is the last one, its module is not freed.
+pub(crate) fn convert_file(
+    rt: &HostRuntime,
+    options: &Options,
+    file: &str,
+    is_last: bool,
+) -> Result<(), Failure> {
     let bytes = match read_input(rt, file) {
         Ok(bytes) => bytes,
         Err(error) => return Err(Failure::of_read(rt, shown(file), error)),
@@ -220,6 +267,7 @@ pub(crate) fn convert_file(rt: &HostRuntime, options: &Options, file: &str) -> R
         options,
         file,
         bytes.as_slice(),
+        is_last,
         options.prints(),
         &mut stdout,
     )

@@ -44,8 +44,9 @@ const VERSION: &str = "0.1.0";
 /// status.
 fn convert_files(rt: &HostRuntime, options: &Options) -> Result<(), Failure> {
     let mut worst = None;
-    for file in options.files.iter() {
-        if let Err(failure) = convert_file(rt, options, file.as_str()) {
+    for (index, file) in options.files.iter().enumerate() {
+        let is_last = index.saturating_add(1) == options.files.len();
+        if let Err(failure) = convert_file(rt, options, file.as_str(), is_last) {
             worst = Some(failure.worse(worst));
         }
     }
@@ -83,7 +84,7 @@ fn convert(rt: &HostRuntime, options: &Options) -> Result<(), Failure> {
         }
     }
     if options.files.is_empty() {
-        return convert_file(rt, options, STANDARD);
+        return convert_file(rt, options, STANDARD, true);
     }
     convert_files(rt, options)
 }

@@ -5,11 +5,11 @@ ghost use Rattle.wast_core.specs.Modules.{IsReady, is_well_formed};
 ghost use Rattle.wat_bytes.specs.Texts.{EncodesModule, EncodesText, IsPlaced, OfText, RefusesWith, module_of};
 
 use crate::laws::bare_laws;
-use crate::modules::{is_ready, module_of, read_text, unready};
+use crate::modules::{is_ready, module_of, read_text, release, unready};
 use crate::refusals::{Refused, UncoveredForm};
 use crate::uncovered::{as_written, first_form};
 use std::alloc::Global;
-use wast_core::{EncodeOptions, Module, discard_module};
+use wast_core::{EncodeOptions, Module};
 use wast_tree::{Error, Fault, Gensym};
 use wat_text::{Strings, TextModule};
 
@@ -44,11 +44,13 @@ fn encoded<'a>(alloc: Global, module: &mut Module<'a>) -> Result<Vec<u8>, Refuse
     }
 }
 
-/// Resolves and encodes a module. If `is_told` is true, it is known to be well formed.
+/// Resolves and encodes a module. If `is_told` is true, it is known to be well formed. If `is_last`
+/// is true, it is not freed.
 fn encoded_module<'a>(
     alloc: Global,
     text: TextModule<'a>,
     is_told: bool,
+    is_last: bool,
 ) -> Result<Vec<u8>, Refused<'a>>
     requires told { IsTrue is_told → IsTrue (is_well_formed (module_of text)) }
     ensures { EncodesText text.entry result }
@@ -58,7 +60,7 @@ fn encoded_module<'a>(
         true => encoded(alloc, &mut module),
         false => Err(Refused::Text(unready(&mut module))),
     };
-    discard_module(module);
+    release(module, is_last);
     answer
 }
 
@@ -92,27 +94,45 @@ fn encoded_module<'a>(
 pub fn encoded_text<'a>(alloc: Global, text: TextModule<'a>) -> Result<Vec<u8>, Refused<'a>>
     ensures { EncodesText text.entry result }
 {
-    encoded_module(alloc, text, false)
+    encoded_module(alloc, text, false, false)
 }
 
 /// Returns the bytes of the module of this text, which is well formed. An unsupported construct has
-/// its token, or the error is E12.
+/// its token, or the error is E12. If `is_last` is true, the module is not freed.
 #[tactic(auto, using(crate::proofs::OutOfMemory::memory_instead))]
 fn encoded_in<'a>(
     alloc: Global,
     text: &'a str,
     strings: &'a Strings,
     module: TextModule<'a>,
+    is_last: bool,
 ) -> Result<Vec<u8>, Refused<'a>>
     requires well_formed { IsTrue (is_well_formed (module_of «module»)) }
     ensures { EncodesText «module».entry result }
 {
-    match encoded_module(alloc, module, true) {
+    match encoded_module(alloc, module, true, is_last) {
         Err(Refused::Uncovered(found)) => match as_written(alloc, text, strings, found) {
             Ok(written) => Err(Refused::Uncovered(written)),
             Err(_) => Err(Refused::Module(Error::refusal(Fault::Memory))),
         },
         answer => answer,
+    }
+}
+
+/// Does what [`encode_text`] does. If `is_last` is true, the module is not freed.
+fn encode<'a>(
+    alloc: Global,
+    text: &'a str,
+    strings: &'a Strings,
+    is_last: bool,
+) -> Result<Vec<u8>, Refused<'a>>
+    ensures answer { OfText EncodesText text.now result }
+    ensures place { IfErr result (IsPlaced text.now) }
+{
+    bare_laws();
+    match read_text(alloc, text, strings) {
+        Ok(module) => encoded_in(alloc, text, strings, module, is_last),
+        Err(error) => Err(Refused::Text(error)),
     }
 }
 
@@ -144,9 +164,41 @@ pub fn encode_text<'a>(
     ensures answer { OfText EncodesText text.now result }
     ensures place { IfErr result (IsPlaced text.now) }
 {
-    bare_laws();
-    match read_text(alloc, text, strings) {
-        Ok(module) => encoded_in(alloc, text, strings, module),
-        Err(error) => Err(Refused::Text(error)),
-    }
+    encode(alloc, text, strings, false)
+}
+
+/// Encodes the last text of a program, as [`encode_text`] does, and leaks the tree of its module.
+///
+/// It is for a program that ends soon after the call. The memory of the tree is left to the end of
+/// the process, because freeing it takes two hundredths of the time of the conversion. For example,
+/// `wat a.wat b.wat` calls [`encode_text`] for `a.wat`, and this function for `b.wat`. A program
+/// that goes on, or a library, calls [`encode_text`].
+///
+/// # Example
+///
+///     let last = encode_last_text(rt.alloc(), text, &strings);
+///
+/// # Errors
+///
+/// As [`encode_text`]. After E1 to E9 and after an error of the text nothing is leaked, because the
+/// tree is freed before they are returned.
+///
+/// # Guarantees
+///
+/// `answer` and `place`: as [`encode_text`]. So both calls have one result for a text, as
+/// [`one_result`](crate::one_result) states.
+///
+/// # Memory
+///
+/// Allocates as [`encode_text`]. The tree keeps its memory until the process ends. The bytes and
+/// `strings` are the caller's, and are freed as always.
+pub fn encode_last_text<'a>(
+    alloc: Global,
+    text: &'a str,
+    strings: &'a Strings,
+) -> Result<Vec<u8>, Refused<'a>>
+    ensures answer { OfText EncodesText text.now result }
+    ensures place { IfErr result (IsPlaced text.now) }
+{
+    encode(alloc, text, strings, true)
 }

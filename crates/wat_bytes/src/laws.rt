@@ -17,7 +17,9 @@ pub(crate) fn bare_laws()
 /// A contract on a text speaks of the module of the text, which is a function of the text
 /// (`module_of` in `wat_text`). So the theorems follow from what a contract says of one module. They
 /// are about [`encode_text`](crate::encode_text), [`names_of_text`](crate::names_of_text) and
-/// [`number_in_text`](crate::number_in_text).
+/// [`number_in_text`](crate::number_in_text). They are also about
+/// [`encode_last_text`](crate::encode_last_text) and
+/// [`names_of_last_text`](crate::names_of_last_text), which have the contracts of the first two.
 ///
 /// # Example
 ///

@@ -14,6 +14,8 @@
 //! - `encodes` has [`encode_text`], and [`encoded_text`] for a module that is already parsed.
 //! - `names` has [`names_of_text`] and [`number_in_text`], and the same for a parsed module.
 //!   `lister` lists the ids of the items of fields.
+//! - [`encode_last_text`] and [`names_of_last_text`] are for programs that end after the call. They do
+//!   not free the tree.
 //! - `refusals` has the errors, and `uncovered` finds the token of an unsupported construct.
 //! - `modules` makes a module of `wast_core` from a parsed one.
 //! - `laws` states that a text has one result, and `examples` has results that the prover computes.
@@ -45,7 +47,8 @@ mod names;
 mod refusals;
 mod uncovered;
 
-pub use encodes::{encode_text, encoded_text};
+pub use encodes::{encode_last_text, encode_text, encoded_text};
 pub use laws::one_result;
-pub use names::{Denoted, names_of, names_of_text, number_in, number_in_text};
+pub use modules::module_of;
+pub use names::{Denoted, names_of, names_of_last_text, names_of_text, number_in, number_in_text};
 pub use refusals::{Refused, UncoveredForm};

@@ -5,7 +5,8 @@ ghost use Rattle.wast_core.specs.Modules.{IsReady, is_well_formed};
 ghost use Rattle.wat_bytes.specs.Texts.{IsRead, module_of, unready};
 
 use std::alloc::Global;
-use wast_core::{Module, ModuleKind};
+use std::mem::ManuallyDrop;
+use wast_core::{Module, ModuleKind, discard_module};
 use wast_tree::Span;
 use wat_text::{Strings, TextError, TextFault, TextKind, TextModule, read};
 
@@ -25,8 +26,19 @@ pub(crate) fn read_text<'a>(
     read(alloc, text, strings)
 }
 
-/// Returns the module that was parsed.
-pub(crate) fn module_of<'a>(text: TextModule<'a>) -> Module<'a>
+/// Returns a parsed module as a [`Module`], for example to resolve it and to keep the tree (text
+/// format: modules).
+///
+/// # Example
+///
+///     let parsed = read(rt.alloc(), text, &strings).expect(&rt, "a module");
+///     let mut module = module_of(parsed);
+///
+/// # Guarantees
+///
+/// The module has the position, the id, the name annotation and the content of the parsed one. The
+/// call does not allocate.
+pub fn module_of<'a>(text: TextModule<'a>) -> Module<'a>
     ensures { result ≡ module_of text.entry }
 {
     let TextModule {
@@ -71,5 +83,17 @@ pub(crate) fn unready(module: &mut Module<'_>) -> TextError
     TextError {
         fault: TextFault::IllFormed(clause),
         span: Span { offset: 0 },
+    }
+}
+
+/// Frees a module. If it is the last one of a program, its memory is left to the end of the process,
+/// because freeing visits the whole tree again.
+pub(crate) fn release(module: Module<'_>, is_last: bool) {
+    if is_last {
+        // SAFETY: nothing uses or frees the module after this. `mem::forget` would do the same, but this
+        // crate would have to prove again that each type of the tree may be dropped.
+        let _leaked = unsafe { ManuallyDrop::new_unchecked(module) };
+    } else {
+        discard_module(module);
     }
 }

@@ -1,18 +1,18 @@
 //! The ids of a text, their indices and their positions.
 
-ghost use Rattle.std.specs.Prelude.{◌≡◌, IfErr};
+ghost use Rattle.std.specs.Prelude.{◌≡◌, IfErr, IsTrue};
 ghost use Rattle.wast_base.specs.Ids.{Written};
 ghost use Rattle.wast_resolve_names.specs.LookUps.{IsSettledFor};
 ghost use Rattle.wast_resolve_names.specs.Resolvers.{known_to};
 ghost use Rattle.wast_resolve_rules.specs.Resolved.{numbered_at};
 ghost use Rattle.wast_core.specs.Headline.{ResolvesKind};
-ghost use Rattle.wast_core.specs.Modules.{IsReady};
-ghost use Rattle.wat_bytes.specs.Texts.{IsPlaced, OfText};
+ghost use Rattle.wast_core.specs.Modules.{IsReady, is_well_formed};
+ghost use Rattle.wat_bytes.specs.Texts.{IsPlaced, OfText, module_of};
 ghost use Rattle.wat_bytes.specs.Names.{ListsReady, ListsText, NumbersText, ResolvesReady, ResolvesText};
 
 use crate::laws::bare_laws;
 use crate::lister;
-use crate::modules::{is_ready, module_of, read_text, unready};
+use crate::modules::{is_ready, module_of, read_text, release, unready};
 use crate::refusals::Refused;
 use std::alloc::Global;
 use wast_core::{Module, discard_module};
@@ -49,12 +49,17 @@ fn resolved<'a>(alloc: Global, module: &mut Module<'a>) -> Result<Names<'a>, Err
     module.resolve(alloc, &mut gensym)
 }
 
-/// Returns the names of a parsed module.
-fn resolved_text<'a>(alloc: Global, text: TextModule<'a>) -> Result<Names<'a>, Refused<'a>>
+/// Returns the names of a parsed module. If `is_told` is true, it is known to be well formed.
+fn resolved_text<'a>(
+    alloc: Global,
+    text: TextModule<'a>,
+    is_told: bool,
+) -> Result<Names<'a>, Refused<'a>>
+    requires told { IsTrue is_told → IsTrue (is_well_formed (module_of text)) }
     ensures { ResolvesText text.entry result }
 {
     let mut module = module_of(text);
-    let answer = match is_ready(&mut module, false) {
+    let answer = match is_ready(&mut module, is_told) {
         true => match resolved(alloc, &mut module) {
             Ok(names) => Ok(names),
             Err(error) => Err(Refused::Module(error)),
@@ -77,6 +82,29 @@ fn listed<'a>(alloc: Global, module: &mut Module<'a>) -> Result<Vec<Denoted<'a>>
         }
         Err(error) => Err(error),
     }
+}
+
+/// Resolves a parsed module, and returns its source ids. If `is_told` is true, it is known to be
+/// well formed. If `is_last` is true, it is not freed.
+fn names_in<'a>(
+    alloc: Global,
+    text: TextModule<'a>,
+    is_told: bool,
+    is_last: bool,
+) -> Result<Vec<Denoted<'a>>, Refused<'a>>
+    requires told { IsTrue is_told → IsTrue (is_well_formed (module_of text)) }
+    ensures { ListsText text.entry result }
+{
+    let mut module = module_of(text);
+    let answer = match is_ready(&mut module, is_told) {
+        true => match listed(alloc, &mut module) {
+            Ok(all) => Ok(all),
+            Err(error) => Err(Refused::Module(error)),
+        },
+        false => Err(Refused::Text(unready(&mut module))),
+    };
+    release(module, is_last);
+    answer
 }
 
 /// Resolves a parsed module, and returns each of its ids with its index and its position (text
@@ -104,16 +132,24 @@ fn listed<'a>(alloc: Global, module: &mut Module<'a>) -> Result<Vec<Denoted<'a>>
 pub fn names_of<'a>(alloc: Global, text: TextModule<'a>) -> Result<Vec<Denoted<'a>>, Refused<'a>>
     ensures { ListsText text.entry result }
 {
-    let mut module = module_of(text);
-    let answer = match is_ready(&mut module, false) {
-        true => match listed(alloc, &mut module) {
-            Ok(all) => Ok(all),
-            Err(error) => Err(Refused::Module(error)),
-        },
-        false => Err(Refused::Text(unready(&mut module))),
-    };
-    discard_module(module);
-    answer
+    names_in(alloc, text, false, false)
+}
+
+/// Does what [`names_of_text`] does. If `is_last` is true, the module is not freed.
+fn list_names<'a>(
+    alloc: Global,
+    text: &'a str,
+    strings: &'a Strings,
+    is_last: bool,
+) -> Result<Vec<Denoted<'a>>, Refused<'a>>
+    ensures answer { OfText ListsText text.now result }
+    ensures place { IfErr result (IsPlaced text.now) }
+{
+    bare_laws();
+    match read_text(alloc, text, strings) {
+        Ok(module) => names_in(alloc, module, true, is_last),
+        Err(error) => Err(Refused::Text(error)),
+    }
 }
 
 /// Parses a module in the text format, resolves it, and returns each of its ids with its index and
@@ -143,11 +179,41 @@ pub fn names_of_text<'a>(
     ensures answer { OfText ListsText text.now result }
     ensures place { IfErr result (IsPlaced text.now) }
 {
-    bare_laws();
-    match read_text(alloc, text, strings) {
-        Ok(module) => names_of(alloc, module),
-        Err(error) => Err(Refused::Text(error)),
-    }
+    list_names(alloc, text, strings, false)
+}
+
+/// Lists the names of the last text of a program, as [`names_of_text`] does, and leaks the tree of
+/// its module.
+///
+/// It is for a program that ends soon after the call, as
+/// [`encode_last_text`](crate::encode_last_text) is.
+///
+/// # Example
+///
+///     let last = names_of_last_text(rt.alloc(), text, &strings);
+///
+/// # Errors
+///
+/// As [`names_of_text`].
+///
+/// # Guarantees
+///
+/// `answer` and `place`: as [`names_of_text`]. So both calls have one result for a text, as
+/// [`one_result`](crate::one_result) states.
+///
+/// # Memory
+///
+/// Allocates as [`names_of_text`]. The tree keeps its memory until the process ends. The list and
+/// `strings` are the caller's, and are freed as always.
+pub fn names_of_last_text<'a>(
+    alloc: Global,
+    text: &'a str,
+    strings: &'a Strings,
+) -> Result<Vec<Denoted<'a>>, Refused<'a>>
+    ensures answer { OfText ListsText text.now result }
+    ensures place { IfErr result (IsPlaced text.now) }
+{
+    list_names(alloc, text, strings, true)
 }
 
 /// Replaces an id by its index in an index space, if it is known.
@@ -179,6 +245,29 @@ fn number_of<'a>(names: &Names<'a>, space: Space, name: &'a str) -> Option<u32>
     }
 }
 
+/// Resolves a parsed module, and returns the index of a name in an index space. If `is_told` is
+/// true, the module is known to be well formed.
+#[tactic(auto, using(crate::proofs::Resolvable::numbers_made))]
+fn found_in<'a>(
+    alloc: Global,
+    text: TextModule<'a>,
+    space: Space,
+    name: &'a str,
+    is_told: bool,
+) -> Result<Option<u32>, Refused<'a>>
+    requires told { IsTrue is_told → IsTrue (is_well_formed (module_of text)) }
+    ensures { NumbersText space name.now text.entry result }
+{
+    match resolved_text(alloc, text, is_told) {
+        Ok(names) => {
+            let number = number_of(&names, space, name);
+            discard_names(names);
+            Ok(number)
+        }
+        Err(refused) => Err(refused),
+    }
+}
+
 /// Resolves a parsed module, and returns the index of a name in an index space (text format:
 /// indices).
 ///
@@ -200,7 +289,6 @@ fn number_of<'a>(names: &Names<'a>, space: Space, name: &'a str) -> Option<u32>
 ///
 /// The result is exactly what the names that `resolve` returns for this module have for the name
 /// (`NumbersText`).
-#[tactic(auto, using(crate::proofs::Resolvable::numbers_made))]
 pub fn number_in<'a>(
     alloc: Global,
     text: TextModule<'a>,
@@ -209,14 +297,7 @@ pub fn number_in<'a>(
 ) -> Result<Option<u32>, Refused<'a>>
     ensures { NumbersText space name.now text.entry result }
 {
-    match resolved_text(alloc, text) {
-        Ok(names) => {
-            let number = number_of(&names, space, name);
-            discard_names(names);
-            Ok(number)
-        }
-        Err(refused) => Err(refused),
-    }
+    found_in(alloc, text, space, name, false)
 }
 
 /// Parses a module in the text format, resolves it, and returns the index of a name in an index
@@ -250,7 +331,7 @@ pub fn number_in_text<'a>(
 {
     bare_laws();
     match read_text(alloc, text, strings) {
-        Ok(module) => number_in(alloc, module, space, name),
+        Ok(module) => found_in(alloc, module, space, name, true),
         Err(error) => Err(Refused::Text(error)),
     }
 }

@@ -1,8 +1,8 @@
--- The goals of `encode_text` that tactics leave open, closed by lemmas of BareAnswers.
+-- The goals of `encode` that tactics leave open, closed by lemmas of BareAnswers.
 use Rattle.std.proofs.Common.{subst}
 use Rattle.wat_bytes.specs.Texts.{EncodesText, IsRead}
 use Rattle.wat_bytes.proofs.BareAnswers.{of_parsed, of_error, encoded_bare}
-use Rattle.wat_bytes.proofs.encodes.encode_text.Goals as goal
+use Rattle.wat_bytes.proofs.encodes.encode.Goals as goal
 
 pub returns-in-Ok-clause-answer : goal.returns-in-Ok-clause-answer
 returns-in-Ok-clause-answer c =

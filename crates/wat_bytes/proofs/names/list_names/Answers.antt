@@ -1,13 +1,13 @@
--- The goals of `names_of_text` that tactics leave open, closed by lemmas of BareAnswers.
+-- The goals of `list_names` that tactics leave open, closed by lemmas of BareAnswers.
 use Rattle.std.proofs.Common.{subst}
 use Rattle.wat_bytes.specs.Names.{ListsText}
 use Rattle.wat_bytes.specs.Texts.{IsRead}
 use Rattle.wat_bytes.proofs.BareAnswers.{of_parsed, of_error, listed_bare}
-use Rattle.wat_bytes.proofs.names.names_of_text.Goals as goal
+use Rattle.wat_bytes.proofs.names.list_names.Goals as goal
 
 pub returns-in-Ok-clause-answer : goal.returns-in-Ok-clause-answer
 returns-in-Ok-clause-answer c =
-    of_parsed c.bare_laws.ensures ListsText (listed_bare c.bare_laws.ensures) c.args.text.now c.in-Ok.«module» c.names_of.result (subst (IsRead c.args.text.now) c.in-Ok.is c.read_text.ensures.read) c.names_of.ensures
+    of_parsed c.bare_laws.ensures ListsText (listed_bare c.bare_laws.ensures) c.args.text.now c.in-Ok.«module» c.names_in.result (subst (IsRead c.args.text.now) c.in-Ok.is c.read_text.ensures.read) c.names_in.ensures
 
 pub returns-in-Err-clause-answer : goal.returns-in-Err-clause-answer
 returns-in-Err-clause-answer c =
