@@ -1,2 +1,12 @@
+pub mod Firsts
+pub mod Lists
+pub mod OtherKinds
+pub mod Pieces
+pub mod Places
+pub mod References
 pub mod Strings
+pub mod WorkedCommands
 pub mod WorkedJson
+pub mod WorkedReferences
+pub mod WorkedValues
+pub mod Writing

@@ -1,36 +1,24 @@
 //! Writes the commands of a script as JSON.
 
+ghost use Rattle.std.specs.Prelude.{◌≡◌, ℕ, Bool, true, List, [], ◌++◌, IfOk, OnOk, option_copied};
+ghost use Rattle.wast_script_json.specs.Json.{written};
+ghost use Rattle.wast_base.specs.Lines.{line_of, column_of};
+ghost use Rattle.wast_script_json.specs.Entries.{told};
+ghost use Rattle.wast_script_json.specs.Commands.{of_converted, of_other, place_or, other_place, other_skipped, construct_in, place_of, types_for, acted_text, object_text, closes, opens, separator, before_command};
+ghost use Rattle.wast_script_json.specs.Files.{beginning, closing, Stands, Writes};
+ghost use Rattle.wast_script_json.specs.Known.{Knows};
+ghost use Rattle.wast_script_json.specs.Places.{Counts};
+ghost use Rattle.wast_script_json.specs.References.{State, nothing_known};
+
 use crate::instances::Instances;
 use crate::json::Json;
-use crate::kinds::{ActionEntry, Entry, ModuleEntry, Role, entry_of};
-use crate::lines::Lines;
-use crate::values::{write_arguments, write_results};
+use crate::kinds::{ActionEntry, Entry, ModuleEntry, entry_of};
+use crate::lines::{Lines, column_of};
+use crate::modules::ConvertedModule;
+use crate::objects::{write_command_of_action, write_module, write_other};
 use std::alloc::{AllocError, Global};
-use wast_script::{Action, ActionKind, Command, CommandKind, Script};
+use wast_script::{Command, CommandKind, Script};
 use wast_tree::{Id, Span};
-
-/// The file of a module.
-#[derive(Drop)]
-pub struct ModuleFile {
-    /// Its name, without a folder.
-    pub name: String,
-    /// The bytes of the module, or its text.
-    pub bytes: Vec<u8>,
-    /// Whether it is a text.
-    pub is_text: bool,
-}
-
-/// What a module of a script is converted to.
-#[derive(Drop)]
-pub enum ConvertedModule {
-    /// A file.
-    File(ModuleFile),
-    /// Nothing, because the module has an unsupported construct: the message, and its position in the script.
-    Skipped(String, Span),
-}
-
-/// Why a command is skipped that refers to a module that is.
-const DEPENDS: &str = "its module is skipped";
 
 /// The commands of a script that were written so far.
 #[derive(Drop)]
@@ -38,13 +26,205 @@ pub struct ScriptJson<'a> {
     json: Json,
     instances: Instances<'a>,
     lines: Lines,
-    /// What is between the last command and the next one.
-    separator: &'static str,
+    /// Whether the next command is the first of the script or of a thread.
+    is_first: bool,
+}
+
+/// The position of an id, or another if there is none.
+fn place_or(id: Option<Id<'_>>, span: Span) -> Span
+    ensures { result ≡ place_or id.entry span }
+{
+    match id {
+        Some(id) => id.span(),
+        None => span,
+    }
+}
+
+/// The position of the line of a command without a module and an action. That of `register` is its id, if there is one.
+fn other_place(kind: CommandKind<'_>, span: Span) -> Span
+    ensures { result ≡ other_place kind.entry span }
+{
+    match kind {
+        CommandKind::Register(_, id) => place_or(id, span),
+        _ => span,
+    }
+}
+
+/// Returns whether a command without a module and an action refers to a module that is skipped.
+fn other_skipped<'a>(instances: &Instances<'a>, kind: CommandKind<'a>) -> bool
+    ensures { (s : State) → Knows instances.now s → result ≡ other_skipped s kind.entry }
+{
+    match kind {
+        CommandKind::Instance(_, original) => instances.is_definition_skipped(original),
+        CommandKind::Register(_, id) => instances.is_skipped(id),
+        _ => false,
+    }
+}
+
+/// The types of the results of an action, if the command has no results.
+fn types_for<'i, 'a>(instances: &'i Instances<'a>, command: &ActionEntry<'a>) -> &'i str
+    ensures { (s : State) → Knows instances.now s → result.now ≡ types_for s command.now.action command.now.results }
+{
+    match command.results {
+        None => instances.types_of(command.action.module, command.action.name),
+        Some(_) => "",
+    }
+}
+
+/// The position of an unsupported construct.
+fn construct_in(converted: Option<&ConvertedModule>) -> Option<Span>
+    ensures { result ≡ construct_in (option_copied converted.entry) }
+{
+    match converted {
+        Some(ConvertedModule::Skipped(_, place)) => Some(*place),
+        Some(ConvertedModule::File(_)) => None,
+        None => None,
+    }
+}
+
+/// The line and the column of a position, if there is one.
+fn place_of(lines: &mut Lines, text: &str, place: Option<Span>) -> (u64, u64)
+    ensures counts { Counts text.now lines.old → Counts text.now lines.new }
+    ensures place { Counts text.now lines.old → result ≡ place_of text.now place }
+{
+    match place {
+        Some(place) => (lines.line_of(text, place), column_of(text, place)),
+        None => (0, 0),
+    }
+}
+
+/// Appends a command about a module.
+fn module_object(
+    json: &mut Json,
+    lines: &mut Lines,
+    text: &str,
+    command: ModuleEntry<'_>,
+    converted: Option<&ConvertedModule>,
+) -> Result<(), AllocError>
+    ensures counts { Counts text.now lines.old → Counts text.now lines.new }
+    ensures text { OnOk result (Counts text.now lines.old → written json.new ≡ written json.old ++ of_converted (option_copied converted.entry) (line_of text.now command.entry.«module».span) (place_of text.now (construct_in (option_copied converted.entry))) command.entry.ty.now command.entry.«module» command.entry.role command.entry.is_definition (told command.entry.message)) }
+{
+    let line = lines.line_of(text, command.module.span);
+    let place = place_of(lines, text, construct_in(converted));
+    write_module(json, line, place, command, converted)?;
+    Ok(())
+}
+
+/// Appends a command that has an action.
+fn action_object<'a>(
+    json: &mut Json,
+    lines: &mut Lines,
+    instances: &Instances<'a>,
+    script: &Script<'a>,
+    command: ActionEntry<'a>,
+) -> Result<(), AllocError>
+    ensures counts { Counts script.now.text.now lines.old → Counts script.now.text.now lines.new }
+    ensures text { OnOk result ((s : State) → Knows instances.now s → Counts script.now.text.now lines.old → written json.new ≡ written json.old ++ acted_text script.now s command.entry.ty.now command.entry.action (told command.entry.message) command.entry.results) }
+{
+    let line = lines.line_of(script.text, command.action.span);
+    let is_skipped = instances.is_skipped(command.action.module);
+    let types = types_for(instances, &command);
+    write_command_of_action(json, line, script, command, is_skipped, types)?;
+    Ok(())
+}
+
+/// Appends a command without a module and an action.
+fn other_object<'a>(
+    json: &mut Json,
+    lines: &mut Lines,
+    instances: &Instances<'a>,
+    text: &str,
+    command: Command<'a>,
+) -> Result<(), AllocError>
+    ensures counts { Counts text.now lines.old → Counts text.now lines.new }
+    ensures text { OnOk result ((s : State) → Knows instances.now s → Counts text.now lines.old → written json.new ≡ written json.old ++ of_other command.entry.kind (line_of text.now (other_place command.entry.kind command.entry.span)) (other_skipped s command.entry.kind)) }
+{
+    let line = lines.line_of(text, other_place(command.kind, command.span));
+    let is_skipped = other_skipped(instances, command.kind);
+    write_other(json, line, is_skipped, command.kind)?;
+    Ok(())
+}
+
+/// Appends the object of a command.
+fn write_object<'a>(
+    json: &mut Json,
+    lines: &mut Lines,
+    instances: &Instances<'a>,
+    script: &Script<'a>,
+    command: Command<'a>,
+    converted: Option<&ConvertedModule>,
+) -> Result<(), AllocError>
+    ensures counts { Counts script.now.text.now lines.old → Counts script.now.text.now lines.new }
+    ensures text { OnOk result ((s : State) → Knows instances.now s → Counts script.now.text.now lines.old → written json.new ≡ written json.old ++ object_text script.now s command.entry (option_copied converted.entry)) }
+{
+    match entry_of(command.kind) {
+        Entry::Module(entry) => {
+            module_object(json, lines, script.text, entry, converted)?;
+            Ok(())
+        }
+        Entry::Action(entry) => {
+            action_object(json, lines, instances, script, entry)?;
+            Ok(())
+        }
+        Entry::Other => {
+            other_object(json, lines, instances, script.text, command)?;
+            Ok(())
+        }
+    }
+}
+
+/// Returns whether a command is the end of a thread.
+fn closes(kind: CommandKind<'_>) -> bool
+    ensures { result ≡ closes kind.entry }
+{
+    match kind {
+        CommandKind::ThreadEnd => true,
+        _ => false,
+    }
+}
+
+/// Returns whether the next command is the first of a thread.
+fn opens(kind: CommandKind<'_>) -> bool
+    ensures { result ≡ opens kind.entry }
+{
+    match kind {
+        CommandKind::Thread(_, _) => true,
+        _ => false,
+    }
+}
+
+/// What is before a command that is not the end of a thread.
+fn separator(is_first: bool) -> &'static str
+    ensures { result.now ≡ separator is_first }
+{
+    match is_first {
+        true => "",
+        false => ",\n",
+    }
+}
+
+/// Appends what is before a command, unless it is the end of a thread.
+fn write_separator(json: &mut Json, is_first: bool, is_end: bool) -> Result<(), AllocError>
+    ensures { OnOk result (written json.new ≡ written json.old ++ before_command is_first is_end) }
+{
+    match is_end {
+        true => Ok(()),
+        false => json.raw(separator(is_first)),
+    }
 }
 
 impl<'a> ScriptJson<'a> {
     /// Begins a script from a file of this name, up to its first command.
-    pub fn new(alloc: Global, source: &str) -> Result<ScriptJson<'a>, AllocError> {
+    ///
+    /// # Guarantees
+    ///
+    /// - `text`: the text is the beginning of the file.
+    /// - `stands`: the next command is the first one, and nothing is known yet.
+    #[tactic(auto, using(crate::proofs::Pieces::begins))]
+    pub fn new(alloc: Global, source: &str) -> Result<ScriptJson<'a>, AllocError>
+        ensures text { IfOk result (λ w. written w.json ≡ beginning source.now) }
+        ensures stands { IfOk result (λ w. (text : List ℕ) → Stands text nothing_known true w) }
+    {
         let mut json = Json::new(alloc);
         json.raw("{\"source_filename\": ")?;
         json.string(source)?;
@@ -53,290 +233,66 @@ impl<'a> ScriptJson<'a> {
             json,
             instances: Instances::new(alloc),
             lines: Lines::new(),
-            separator: "",
+            is_first: true,
         })
     }
 
-    /// Appends a command. `module` is what its module is converted to, if it has one.
+    /// Appends a command. `converted` is what its module is converted to, if it has one.
+    ///
+    /// # Guarantees
+    ///
+    /// - `appends`: the text has the object of the command, by what is known before it, and what was known before it and the command
+    ///   are known before the next one.
     pub fn command(
         &mut self,
         script: &Script<'a>,
         command: &Command<'a>,
-        module: Option<&ConvertedModule>,
-    ) -> Result<(), AllocError> {
-        if let CommandKind::ThreadEnd = command.kind {
-            return self.thread_end();
-        }
-        self.json.raw(self.separator)?;
-        self.separator = ",\n";
-        match entry_of(command.kind) {
-            Entry::Module(entry) => self.module_command(script.text, entry, module),
-            Entry::Action(entry) => self.action_command(script, entry),
-            Entry::Other => self.other_command(script.text, command),
-        }
+        converted: Option<&ConvertedModule>,
+    ) -> Result<(), AllocError>
+        ensures appends { OnOk result ((s : State) (is_first : Bool) → Stands script.now.text.now s is_first self.old → Writes script.now s is_first command.now (option_copied converted.entry) self.old self.new) }
+    {
+        write_separator(&mut self.json, self.is_first, closes(command.kind))?;
+        write_object(
+            &mut self.json,
+            &mut self.lines,
+            &self.instances,
+            script,
+            *command,
+            converted,
+        )?;
+        self.is_first = opens(command.kind);
+        self.instances.pass(command.kind, converted)?;
+        Ok(())
     }
 
     /// Ends the script after its last command.
-    pub fn end(&mut self) -> Result<(), AllocError> {
+    ///
+    /// # Guarantees
+    ///
+    /// - The text has the end of the file.
+    pub fn end(&mut self) -> Result<(), AllocError>
+        ensures { OnOk result (written self.new.json ≡ written self.old.json ++ closing) }
+    {
         self.json.raw("]}\n")
     }
 
     /// Returns the text since the last call of `clear`.
-    pub fn text(&self) -> &str {
+    pub fn text(&self) -> &str
+        ensures { result.now ≡ written self.now.json }
+    {
         self.json.text()
     }
 
     /// Forgets the text, which was written to a file.
-    pub fn clear(&mut self) {
+    ///
+    /// # Guarantees
+    ///
+    /// - `text`: there is no text.
+    /// - `stands`: the next command is the same, and what is known before it.
+    pub fn clear(&mut self)
+        ensures text { written self.new.json ≡ [] }
+        ensures stands { (text : List ℕ) (s : State) (is_first : Bool) → Stands text s is_first self.old → Stands text s is_first self.new }
+    {
         self.json.clear();
-    }
-
-    /// Appends the type of a command.
-    fn begin(&mut self, ty: &str) -> Result<(), AllocError> {
-        self.json.raw("  {\"type\": ")?;
-        self.json.string(ty)
-    }
-
-    /// Appends the number of the line of a position.
-    fn line(&mut self, text: &str, span: Span) -> Result<(), AllocError> {
-        self.lines.move_to(text, span);
-        self.json.key("line")?;
-        self.json.number(self.lines.line)
-    }
-
-    /// Appends an id, if there is one, under a key.
-    fn id(&mut self, key: &str, id: Option<Id<'a>>) -> Result<(), AllocError> {
-        if let Some(id) = id {
-            self.json.key(key)?;
-            self.json.id(id.name())?;
-        }
-        Ok(())
-    }
-
-    /// Appends the beginning of a command that is skipped, with its line and its own type.
-    fn begin_skipped(&mut self, text: &str, span: Span, ty: &str) -> Result<(), AllocError> {
-        self.begin("skipped")?;
-        self.line(text, span)?;
-        self.json.member("command", ty)
-    }
-
-    /// Appends a command that is skipped because it refers to a module that is.
-    fn dependent(&mut self, text: &str, span: Span, ty: &str) -> Result<(), AllocError> {
-        self.begin_skipped(text, span, ty)?;
-        self.json.member("reason", DEPENDS)?;
-        self.json.raw("}")
-    }
-
-    /// Appends a command whose module is skipped, with the reason and its position.
-    fn skipped(
-        &mut self,
-        text: &str,
-        entry: ModuleEntry<'a>,
-        reason: &str,
-        place: Span,
-    ) -> Result<(), AllocError> {
-        self.begin_skipped(text, entry.module.span, entry.ty)?;
-        self.id("name", entry.module.id)?;
-        self.json.member("reason", reason)?;
-        self.lines.move_to(text, place);
-        self.json.key("place")?;
-        self.json.raw("{\"line\": ")?;
-        self.json.number(self.lines.line)?;
-        self.json.key("column")?;
-        self.json.number(self.lines.column)?;
-        self.json.raw("}}")?;
-        if let Role::Run = entry.role {
-            self.instances.skip(entry.module.id, entry.is_definition)?;
-        }
-        Ok(())
-    }
-
-    /// Appends a module that is instantiated or defined.
-    fn own_module(
-        &mut self,
-        text: &str,
-        entry: ModuleEntry<'a>,
-        file: &ModuleFile,
-    ) -> Result<(), AllocError> {
-        let id = entry.module.id;
-        self.begin(entry.ty)?;
-        if entry.is_definition {
-            self.json.member("definition", "true")?;
-        }
-        self.line(text, entry.module.span)?;
-        self.id("name", id)?;
-        self.json.member("filename", file.name.as_str())?;
-        self.json.raw("}")?;
-        self.instances
-            .module(id, entry.is_definition, file.bytes.as_slice())
-    }
-
-    /// Appends an assertion about a module, with its message, if it has one.
-    fn module_assertion(
-        &mut self,
-        text: &str,
-        entry: ModuleEntry<'a>,
-        file: &ModuleFile,
-    ) -> Result<(), AllocError> {
-        self.begin(entry.ty)?;
-        self.line(text, entry.module.span)?;
-        self.json.member("filename", file.name.as_str())?;
-        if let Some(message) = entry.message {
-            self.json.member("text", message)?;
-        }
-        let form = if file.is_text { "text" } else { "binary" };
-        self.json.member("module_type", form)?;
-        self.json.raw("}")
-    }
-
-    /// Appends a command about a module.
-    fn module_command(
-        &mut self,
-        text: &str,
-        entry: ModuleEntry<'a>,
-        module: Option<&ConvertedModule>,
-    ) -> Result<(), AllocError> {
-        match module {
-            Some(ConvertedModule::Skipped(reason, place)) => {
-                self.skipped(text, entry, reason.as_str(), *place)
-            }
-            Some(ConvertedModule::File(file)) => match entry.role {
-                Role::Run => self.own_module(text, entry, file),
-                Role::Started | Role::Wrong => self.module_assertion(text, entry, file),
-            },
-            None => self.dependent(text, entry.module.span, entry.ty),
-        }
-    }
-
-    /// Appends an action.
-    fn action(&mut self, script: &Script<'a>, action: &Action<'a>) -> Result<(), AllocError> {
-        self.line(script.text, action.span)?;
-        self.json.key("action")?;
-        self.json.raw(match action.kind {
-            ActionKind::Invoke => "{\"type\": \"invoke\"",
-            ActionKind::Get => "{\"type\": \"get\"",
-        })?;
-        self.id("module", action.module)?;
-        self.json.member("field", action.name)?;
-        if let ActionKind::Invoke = action.kind {
-            self.json.key("args")?;
-            write_arguments(&mut self.json, script, action.arguments)?;
-        }
-        self.json.raw("}")
-    }
-
-    /// Appends the types of the results of an action.
-    fn types(&mut self, action: &Action<'a>) -> Result<(), AllocError> {
-        self.json.key("expected")?;
-        let types = self.instances.types_of(action.module, action.name);
-        self.json.raw(types)
-    }
-
-    /// Appends a command that has an action, with its message, if it has one, and its results or their types.
-    fn action_command(
-        &mut self,
-        script: &Script<'a>,
-        entry: ActionEntry<'a>,
-    ) -> Result<(), AllocError> {
-        if self.instances.is_skipped(entry.action.module) {
-            return self.dependent(script.text, entry.action.span, entry.ty);
-        }
-        self.begin(entry.ty)?;
-        self.action(script, &entry.action)?;
-        if let Some(message) = entry.message {
-            self.json.member("text", message)?;
-        }
-        match entry.results {
-            Some(results) => write_results(&mut self.json, script, results)?,
-            None => self.types(&entry.action)?,
-        }
-        self.json.raw("}")
-    }
-
-    /// Appends an instance of a definition.
-    fn instance(
-        &mut self,
-        text: &str,
-        span: Span,
-        id: Option<Id<'a>>,
-        of: Option<Id<'a>>,
-    ) -> Result<(), AllocError> {
-        if self.instances.is_definition_skipped(of) {
-            self.dependent(text, span, "instance")?;
-        } else {
-            self.begin("instance")?;
-            self.line(text, span)?;
-            self.id("instance", id)?;
-            self.id("definition", of)?;
-            self.json.raw("}")?;
-        }
-        self.instances.copy(id, of)
-    }
-
-    /// Appends `register`. Its line is that of the id, if there is one.
-    fn register(
-        &mut self,
-        text: &str,
-        span: Span,
-        name: &str,
-        module: Option<Id<'a>>,
-    ) -> Result<(), AllocError> {
-        let span = match module {
-            Some(id) => id.span(),
-            None => span,
-        };
-        if self.instances.is_skipped(module) {
-            return self.dependent(text, span, "register");
-        }
-        self.begin("register")?;
-        self.line(text, span)?;
-        self.id("name", module)?;
-        self.json.member("as", name)?;
-        self.json.raw("}")
-    }
-
-    /// Appends a thread up to its first command.
-    fn thread(
-        &mut self,
-        text: &str,
-        span: Span,
-        id: Id<'a>,
-        shared: Option<Id<'a>>,
-    ) -> Result<(), AllocError> {
-        self.begin("thread")?;
-        self.line(text, span)?;
-        self.id("name", Some(id))?;
-        self.id("shared_module", shared)?;
-        self.json.key("commands")?;
-        self.json.raw("[\n")?;
-        self.separator = "";
-        self.instances.enter(shared)
-    }
-
-    /// Appends the end of a thread.
-    fn thread_end(&mut self) -> Result<(), AllocError> {
-        self.separator = ",\n";
-        self.instances.leave();
-        self.json.raw("\n  ]}")
-    }
-
-    /// Appends `wait`.
-    fn wait(&mut self, text: &str, span: Span, id: Id<'a>) -> Result<(), AllocError> {
-        self.begin("wait")?;
-        self.line(text, span)?;
-        self.id("thread", Some(id))?;
-        self.json.raw("}")
-    }
-
-    /// Appends a command without a module and an action.
-    fn other_command(&mut self, text: &str, command: &Command<'a>) -> Result<(), AllocError> {
-        let span = command.span;
-        match command.kind {
-            CommandKind::Instance(id, of) => self.instance(text, span, id, of),
-            CommandKind::Register(name, module) => self.register(text, span, name, module),
-            CommandKind::Thread(id, shared) => self.thread(text, span, id, shared),
-            CommandKind::Wait(id) => self.wait(text, span, id),
-            _ => Ok(()),
-        }
     }
 }

@@ -3,6 +3,9 @@
 //! The bytes are those of a module that was encoded, or of `(module binary ..)`. If they are not those of a module, the exports that
 //! come before the first error are found.
 
+ghost use Rattle.std.specs.Prelude.{◌≡◌, string_bytes, option_map, option_and_then, option_copied};
+ghost use Rattle.wast_script_json.specs.Exports.{exported, function_types, item_types, types_of};
+
 use crate::binary::Bytes;
 use std::alloc::{AllocError, AllocFailed, Global};
 use std::collections::BTreeMap;
@@ -26,8 +29,6 @@ pub(crate) struct Interface {
     globals: Vec<String>,
     /// The exports by their names.
     exports: BTreeMap<Vec<u8>, Item>,
-    /// Whether the module was skipped, so that nothing is known of it.
-    is_skipped: bool,
 }
 
 impl Interface {
@@ -39,38 +40,54 @@ impl Interface {
             functions: Vec::new(alloc),
             globals: Vec::new(alloc),
             exports: BTreeMap::new(alloc),
-            is_skipped: false,
         }
     }
 
-    /// What is known of a module that was skipped.
-    pub fn skipped(alloc: Global) -> Interface {
-        let mut interface = Interface::new(alloc);
-        interface.is_skipped = true;
-        interface
+    /// The item that is exported under a name.
+    fn exported(&self, name: &str) -> Option<Item>
+        ensures { result ≡ exported self.now name.now }
+    {
+        self.exports.get(name.as_bytes()).copied()
     }
 
-    /// Returns whether the module was skipped.
-    pub fn is_skipped(&self) -> bool {
-        self.is_skipped
+    /// The types of the results of a function, as a list in JSON.
+    fn function_types(&self, number: usize) -> Option<&String>
+        ensures { option_map string_bytes (option_copied result) ≡ function_types self.now number }
+    {
+        match self.functions.get(number) {
+            Some(ty) => self.types.get(*ty),
+            None => None,
+        }
     }
 
     /// The types of the results of an item, as a list in JSON.
-    fn types_of_item(&self, item: Item) -> Option<&String> {
-        match item.kind {
-            0 => self.types.get(*self.functions.get(item.number)?),
-            3 => self.globals.get(item.number),
-            _ => None,
+    fn item_types(&self, item: Item) -> Option<&String>
+        ensures { option_map string_bytes (option_copied result) ≡ item_types self.now item }
+    {
+        if item.kind == 0 {
+            return self.function_types(item.number);
+        }
+        if item.kind == 3 {
+            return self.globals.get(item.number);
+        }
+        None
+    }
+
+    /// The types of the results of an item, if there is one.
+    fn exported_types(&self, item: Option<Item>) -> Option<&String>
+        ensures { option_map string_bytes (option_copied result) ≡ option_and_then (item_types self.now) item }
+    {
+        match item {
+            Some(item) => self.item_types(item),
+            None => None,
         }
     }
 
     /// Returns the types of the results of an export, as a list in JSON; an empty list if there is no such export.
-    pub fn types_of(&self, name: &str) -> &str {
-        let types = match self.exports.get(name.as_bytes()) {
-            Some(item) => self.types_of_item(*item),
-            None => None,
-        };
-        match types {
+    pub fn types_of(&self, name: &str) -> &str
+        ensures { result.now ≡ types_of self.now name.now }
+    {
+        match self.exported_types(self.exported(name)) {
             Some(list) => list.as_str(),
             None => "[]",
         }

@@ -7,16 +7,21 @@
 //!
 //! # Modules
 //!
-//! - `commands` has [`ScriptJson`]. `values` writes arguments and results, `json` strings and members, and `lines` counts lines.
-//! - `kinds` says what each command is in JSON, and which module it has.
-//! - `instances` knows which modules actions refer to. `interfaces` and `binary` read the exports of a module from its bytes.
+//! - `commands` has [`ScriptJson`]. `objects` writes the object of each command, `values` arguments and results, and `json` strings
+//!   and members. `lines` counts lines.
+//! - `kinds` says what each command is in JSON, which module it has, and which commands a script has. `modules` has what modules are
+//!   converted to.
+//! - `instances` knows which modules commands refer to. `interfaces` and `binary` read the exports of a module from its bytes.
 //! - `examples` has examples that the definitions compute.
 //!
 //! # Guarantees
 //!
-//! - A string, an id, a number, a key and a member are the texts of the definitions in `specs/Json.antt`: a quote, a backslash or a
-//!   control character of a string is an escape, `\u00` and two hexadecimal digits, and each other byte is as it is. No contract says
-//!   which of them a command has.
+//! - `appends` of [`ScriptJson::command`]: the text that it appends is the object of the command (`command_text` of
+//!   `specs/Commands.antt`), by what is known before it (`specs/References.antt`). `IsJson` of `specs/Files.antt` is the whole file.
+//! - A string, an id, a number, a key and a member are the texts of the definitions in `specs/Json.antt`, and arguments and results
+//!   those of `specs/Values.antt`.
+//!
+//! No contract says how the exports of a module are read from its bytes.
 #![tactic(auto)]
 
 mod binary;
@@ -27,7 +32,10 @@ mod interfaces;
 mod json;
 mod kinds;
 mod lines;
+mod modules;
+mod objects;
 mod values;
 
-pub use commands::{ConvertedModule, ModuleFile, ScriptJson};
+pub use commands::ScriptJson;
 pub use kinds::{Role, commands_of, module_of};
+pub use modules::{ConvertedModule, ModuleFile};

@@ -1,9 +1,14 @@
 //! Names and writes the files.
 
+ghost use Rattle.std.specs.Prelude.{◌≡◌, Bool, true, OnOk, option_copied};
+ghost use Rattle.wast_script_json.specs.Entries.{commands_in};
+ghost use Rattle.wast_script_json.specs.Files.{module_for, modules_after, with_modules, Stands, IsCut, Passes, PassesAll, PrintsJson};
+ghost use Rattle.wast_script_json.specs.References.{State};
+
 use crate::options::{Misuse, Options};
 use std::alloc::{AllocError, Global};
 use std::io::{self, Write};
-use wast_script::Script;
+use wast_script::{Command, Script};
 use wast_script_json::{ConvertedModule, ModuleFile, ScriptJson, commands_of, module_of};
 use wat_command::{
     Escaped, Failure, NewFile, STANDARD, file_key, is_kept, split_path, write_bytes, write_unsynced,
@@ -138,24 +143,82 @@ fn write_module(rt: &HostRuntime, outputs: &Outputs, file: &ModuleFile) -> Resul
     }
 }
 
+/// Returns the first of the modules that are left, and those after it.
+fn first_module(modules: &[ConvertedModule]) -> (Option<&ConvertedModule>, &[ConvertedModule])
+    ensures first { option_copied result.0 ≡ module_for true modules.now }
+    ensures rest { result.1.now ≡ modules_after true modules.now }
+{
+    match modules.split_first() {
+        Some((module, others)) => (Some(module), others),
+        None => (None, modules),
+    }
+}
+
+/// Returns the first of the modules that are left, if a command has one, and those that are left after it.
+fn split_module(
+    is_needed: bool,
+    modules: &[ConvertedModule],
+) -> (Option<&ConvertedModule>, &[ConvertedModule])
+    ensures first { option_copied result.0 ≡ module_for is_needed modules.now }
+    ensures rest { result.1.now ≡ modules_after is_needed modules.now }
+{
+    match is_needed {
+        true => first_module(modules),
+        false => (None, modules),
+    }
+}
+
+/// Writes the text so far, and forgets it.
+fn write_text<'a, W: Write>(json: &mut ScriptJson<'a>, writer: &mut W) -> io::Result<()>
+    ensures { OnOk result (IsCut json.old json.new (W.contents writer.old) (W.contents writer.new)) }
+{
+    write_bytes(writer, json.text().as_bytes())?;
+    json.clear();
+    Ok(())
+}
+
+/// Writes the text so far, if it is as long as a piece.
+#[tactic(auto, using(wast_script_json::proofs::Pieces::uncut))]
+fn write_piece<'a, W: Write>(json: &mut ScriptJson<'a>, writer: &mut W) -> io::Result<()>
+    ensures { OnOk result (IsCut json.old json.new (W.contents writer.old) (W.contents writer.new)) }
+{
+    if json.text().len() < PIECE {
+        return Ok(());
+    }
+    write_text(json, writer)
+}
+
+/// Writes a command, whose module was converted so.
+fn write_command<'a, W: Write>(
+    script: &Script<'a>,
+    command: &Command<'a>,
+    module: Option<&ConvertedModule>,
+    json: &mut ScriptJson<'a>,
+    writer: &mut W,
+) -> io::Result<()>
+    ensures { OnOk result ((s : State) (is_first : Bool) → Stands script.now.text.now s is_first json.old → Passes script.now s is_first command.now (option_copied «module».entry) json.old json.new (W.contents writer.old) (W.contents writer.new)) }
+{
+    json.command(script, command, module)?;
+    write_piece(json, writer)?;
+    Ok(())
+}
+
 /// Writes the JSON of the commands piece by piece, so that no more of it than a piece and one command is in memory.
 fn write_pieces<'a, W: Write>(
     script: &Script<'a>,
     modules: &[ConvertedModule],
     json: &mut ScriptJson<'a>,
     writer: &mut W,
-) -> io::Result<()> {
-    let mut modules = modules.iter();
-    for command in commands_of(script) {
-        let module = match module_of(command) {
-            Some(_) => modules.next(),
-            None => None,
-        };
-        json.command(script, command, module)?;
-        if json.text().len() >= PIECE {
-            write_bytes(writer, json.text().as_bytes())?;
-            json.clear();
-        }
+) -> io::Result<()>
+    ensures { OnOk result ((s : State) (is_first : Bool) → Stands script.now.text.now s is_first json.old → PassesAll script.now s is_first (with_modules (commands_in script.now) modules.now) json.old json.new (W.contents writer.old) (W.contents writer.new)) }
+{
+    let commands = commands_of(script);
+    let mut rest = modules;
+    for command in commands {
+        let is_needed = module_of(command).is_some();
+        let (module, others) = split_module(is_needed, rest);
+        write_command(script, command, module, json, writer)?;
+        rest = others;
     }
     Ok(())
 }
@@ -167,11 +230,14 @@ fn write_json<W: Write>(
     script: &Script<'_>,
     modules: &[ConvertedModule],
     writer: &mut W,
-) -> io::Result<()> {
+) -> io::Result<()>
+    ensures { OnOk result (PrintsJson script.now source.now (with_modules (commands_in script.now) modules.now) (W.contents writer.old) (W.contents writer.new)) }
+{
     let mut json = ScriptJson::new(rt.alloc(), source)?;
     write_pieces(script, modules, &mut json, writer)?;
     json.end()?;
-    write_bytes(writer, json.text().as_bytes())
+    write_bytes(writer, json.text().as_bytes())?;
+    Ok(())
 }
 
 /// Writes the JSON file whole or not at all.
