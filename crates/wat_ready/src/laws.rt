@@ -1,0 +1,19 @@
+//! Theorems about the fields of a module that the rules of the text format read.
+
+ghost use Rattle.wat_ready.specs.Ready.{AreWellFormed, HaveNoGeneratedId, IdIsNotGenerated};
+
+/// States that what the rules of the text format read may be resolved.
+///
+/// The function does nothing. A proof calls it to obtain its clauses.
+///
+/// # Guarantees
+///
+/// - `well_formed`: the fields that the rules read are well formed.
+/// - `fields`: no id in the fields that the rules read is generated.
+/// - `id`: an id that the rules read, such as that of a module, is not generated.
+#[tactic(auto, using(crate::proofs::Ready::well_formed, crate::proofs::Ready::not_generated, crate::proofs::Ready::id_not_generated))]
+pub fn ready_laws()
+    ensures well_formed { AreWellFormed }
+    ensures fields { HaveNoGeneratedId }
+    ensures id { IdIsNotGenerated }
+{}
