@@ -1,6 +1,6 @@
 """Reads the examples in doc comments, for `tools/check-docs`: each is in a source that CI runs.
 
-An example is an indented block below `# Example`. Its lines are found one after another in a test, or in a program that CI runs. The
+An example is an indented block below `# Example`. Its lines are found one after another in a test, proved or not, or in a program that CI runs. The
 indentation of the block does not count, and neither does a comment at the end of a line. For example, the block `names.resolve_func(&mut read)?;  // 1`
 is found in a program with the line `names.resolve_func(&mut read)?;`.
 """
@@ -42,7 +42,7 @@ def bare(line):
 def run():
     """The lines of each source that CI runs, joined."""
     found = []
-    for path in sorted(ROOT.glob("crates/*/src/**/*.rt")):
+    for path in [*sorted(ROOT.glob("crates/*/src/**/*.rt")), *sources.files_of_tests()]:
         lines = sources.lines_of(path)
         if path.relative_to(ROOT).parts[1].endswith(RUN) or path.name == "tests.rt" or any(it.strip() == "#[test]" for it in lines):
             code = [bare(it) for it in lines]

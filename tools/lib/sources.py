@@ -36,6 +36,11 @@ def crates():
     return sorted(p.name for p in (ROOT / "crates").iterdir() if (p / "src").is_dir())
 
 
+def files_of_tests():
+    """The files of tests that are run and not proved, which end in .rs (`tools/lib/unproved.py`)."""
+    return sorted((ROOT / "tests").glob("*/src/**/*.rs"))
+
+
 @functools.lru_cache(maxsize=None)
 def lines_of(path):
     return path.read_text(encoding="utf-8").split("\n")

@@ -1,4 +1,4 @@
-"""Compiles programs of this repository without proofs, for `tools/build` and `tools/test`.
+"""Compiles programs of this repository without proofs, for `tools/build`, `tools/test` and those that run the tests of the folder `tests`.
 
 `rt try` compiles a program with run-time checks, runs it once and keeps nothing: it hands a module of LLVM to the compiler of the
 kit. Here it runs in a folder of links to the kit, in which that compiler is a script that keeps the module. For example,
@@ -6,6 +6,7 @@ kit. Here it runs in a folder of links to the kit, in which that compiler is a s
 by a checksum of all that they are made of, so that `tools/build wat` after `tools/install` compiles no source again.
 """
 
+import concurrent.futures
 import gzip
 import hashlib
 import os
@@ -84,6 +85,10 @@ mod calls {
 # No program takes longer to compile.
 SECONDS = 1_200
 
+# The folder of tests that are run and not proved, and the file that has what each depends on, in the form of crates.txt. `rt ci` stops at a
+# file .rt that is not in crates/, and at a second crates.txt. So these files end in .rs, and this one has another name.
+TESTS, DEPENDENCIES = "tests", "dependencies.txt"
+
 # Where modules are kept, and how many of each crate.
 KEPT, MOST_KEPT = ROOT / "out", 3
 
@@ -93,10 +98,32 @@ class NotBuilt(entry.Failed):
 
 
 def copy_of_sources(folder):
-    """Copies the files of the working tree that git knows, or would add, to a folder."""
+    """Copies the files of the working tree that git knows, or would add, to a folder, in which the tests of `tests` are crates too."""
     for name in entry.files_of_clone():
         (folder / name).parent.mkdir(parents=True, exist_ok=True)
         shutil.copy2(ROOT / name, folder / name)
+    make_crates_of_tests(folder)
+
+
+def lines_of_tests(folder=ROOT):
+    """The lines of crates.txt that the tests of `tests` would have."""
+    return (folder / TESTS / DEPENDENCIES).read_text(encoding="utf-8").splitlines()
+
+
+def crates_of_tests():
+    """The crates of tests that are run and not proved."""
+    return [line.split(":")[0] for line in lines_of_tests()]
+
+
+def make_crates_of_tests(folder):
+    """Makes crates of the tests of `tests` in a copy of the sources, unless the copy is of one that has them."""
+    crates = folder / "crates.txt"
+    lines = dict.fromkeys(crates.read_text(encoding="utf-8").splitlines() + lines_of_tests(folder))
+    crates.write_text("".join(f"{line}\n" for line in lines), encoding="utf-8")
+    for path in sorted((folder / TESTS).glob("*/src/**/*.rs")):
+        place = (folder / "crates" / path.relative_to(folder / TESTS)).with_suffix(".rt")
+        place.parent.mkdir(parents=True, exist_ok=True)
+        shutil.copy2(path, place)
 
 
 def script(path, text):
@@ -148,29 +175,36 @@ def key_of(crate, is_test):
     return found.hexdigest()[:24]
 
 
-def keep(path, name, key):
-    """Keeps a module, and removes the oldest ones of its crate. What another run writes at the same time is the same. Where nothing
-    can be written, nothing is kept."""
+def keep(path, name, key, kind="bc"):
+    """Keeps a module or a program, and removes the oldest ones of its crate. What another run writes at the same time is the same. Where
+    nothing can be written, nothing is kept."""
     try:
         KEPT.mkdir(exist_ok=True)
         number, beside = tempfile.mkstemp(prefix=".", dir=KEPT)
         with open(number, "wb") as file:
             file.write(gzip.compress(path.read_bytes(), 1))
-        os.replace(beside, KEPT / f"{name}-{key}.bc.gz")
-        for old in sorted(KEPT.glob(f"{name}-*.bc.gz"), key=lambda it: it.stat().st_mtime)[:-MOST_KEPT]:
+        os.replace(beside, KEPT / f"{name}-{key}.{kind}.gz")
+        for old in sorted(KEPT.glob(f"{name}-*.{kind}.gz"), key=lambda it: it.stat().st_mtime)[:-MOST_KEPT]:
             old.unlink(missing_ok=True)
     except OSError:
         return
+
+
+def is_taken(path, name, key, kind="bc"):
+    """Whether a module or a program is kept, which is then written to a path."""
+    kept = KEPT / f"{name}-{key}.{kind}.gz"
+    if not kept.is_file():
+        return False
+    path.write_bytes(gzip.decompress(kept.read_bytes()))
+    os.utime(kept)
+    return True
 
 
 def module(crate, room, is_test=False, is_anew=False):
     """The module of LLVM of a program, or of the tests of a crate, whose folder is `crate`: the kept one, unless it is to be made anew."""
     name, key = f"{crate.name}{'_tests' * is_test}", key_of(crate, is_test)
     path = pathlib.Path(tempfile.mkdtemp(prefix="module-", dir=room)) / "module.bc"
-    kept = KEPT / f"{name}-{key}.bc.gz"
-    if kept.is_file() and not is_anew:
-        path.write_bytes(gzip.decompress(kept.read_bytes()))
-        os.utime(kept)
+    if not is_anew and is_taken(path, name, key):
         return path
     made = made_module(crate, room, is_test)
     keep(made, name, key)
@@ -222,6 +256,32 @@ def program(crate, out, room, is_test=False, level=2, target=HOST):
     words = ["--target", "x86_64-unknown-linux-gnu", "--toolchain", kit() / "toolchain", "-o", out]
     words += [compiled(module(crate, room, is_test), level), kit() / "c/libos_c.a", kit() / "c/liblibc_c.a"]
     called("bin/rattle-link", words)
+
+
+def program_of_tests(crate, out, room):
+    """Builds the tests of a crate as the file `out`. Of tests that are not proved the program is kept, because CI runs it in several tools."""
+    is_kept, name, key = crate.name in crates_of_tests(), f"{crate.name}_tests", key_of(crate, True)
+    if is_kept and is_taken(out, name, key, "program"):
+        out.chmod(0o755)
+        return
+    program(crate, out, room, True, 1)
+    if is_kept:
+        keep(out, name, key, "program")
+
+
+def programs_of_tests(names, room):
+    """The program of the tests of each of these crates: what `rt ci` built of it, or `tools/test` in its copy. For tests that are not proved
+    it is built here, unless it is kept."""
+    found = {name: ROOT / "crates" / name / "out" / f"{name}_tests" for name in names if (ROOT / "crates" / name / "src").is_dir()}
+    built = {name: room / f"{name}_tests" for name in names if name not in found}
+    if built:
+        copy = room / "sources"
+        copy.mkdir()
+        copy_of_sources(copy)
+        with concurrent.futures.ThreadPoolExecutor(os.cpu_count()) as pool:
+            for it in [pool.submit(program_of_tests, copy / "crates" / name, out, room) for name, out in built.items()]:
+                it.result()
+    return {**found, **built}
 
 
 def printed(path):

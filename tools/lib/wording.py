@@ -98,7 +98,7 @@ def texts(pages):
     """Each page, and each file of code that has doc comments, with its findings."""
     for path in pages:
         yield path, findings(paragraphs_of_page(path.read_text(encoding="utf-8").split("\n")))
-    for path in sorted(ROOT.glob("crates/*/src/**/*.rt")):
+    for path in [*sorted(ROOT.glob("crates/*/src/**/*.rt")), *sorted(ROOT.glob("tests/*/src/**/*.rs"))]:
         yield path, findings(paragraphs_of_code(path.read_text(encoding="utf-8").split("\n")))
 
 

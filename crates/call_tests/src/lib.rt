@@ -1,41 +1,21 @@
-//! Tests of what no text can show: calls on trees, names and texts, with enough memory.
+//! Tests that are proved as callers: a user-defined resolver and visitor, the calls that check a
+//! module first, and the commands of scripts.
 //!
-//! Each public call that may take memory succeeds here, unless a text of `wat_golden` shows it,
-//! because contracts permit it to fail. User-defined resolvers and visitors are here, and how much is
-//! looked at. `unit_tests` has the calls of `wast_base`, `wasm_ops` and `wasm_out`.
+//! The pages of docs/ show them. `unit_tests` has the calls of `wast_base`, `wasm_ops` and `wasm_out`.
+//! The tests of `tests/` are run alone, because a test of a tree takes minutes to prove.
 //!
 //! # Modules
 //!
-//! - `namespaces` and `labels`: many names. `ranges`: ranges of fields. `generated`: many generated ids.
-//! - `conversions`, `filled`, `items`: parts of the tree as values of the binary format.
-//! - `expand`, `resolve`: keys of signatures, a user-defined resolver, errors before resolving.
-//! - `tree`, `visits`: builders, accessors, a user-defined visitor.
-//! - `texts`: bytes, names and errors of texts. `scripts`: commands of scripts.
+//! - `resolve`: a user-defined resolver, types that match, errors before resolving.
+//! - `visits`: a user-defined visitor. `checked`: modules that are ready, and modules that are not.
+//! - `scripts`: commands of scripts.
 #![tactic(auto)]
 
 #[cfg(test)]
-mod conversions;
-#[cfg(test)]
-mod expand;
-#[cfg(test)]
-mod filled;
-#[cfg(test)]
-mod generated;
-#[cfg(test)]
-mod items;
-#[cfg(test)]
-mod labels;
-#[cfg(test)]
-mod namespaces;
-#[cfg(test)]
-mod ranges;
+mod checked;
 #[cfg(test)]
 mod resolve;
 #[cfg(test)]
 mod scripts;
-#[cfg(test)]
-mod texts;
-#[cfg(test)]
-mod tree;
 #[cfg(test)]
 mod visits;

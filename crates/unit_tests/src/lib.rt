@@ -2,7 +2,7 @@
 //!
 //! Each public call that may take memory succeeds here, unless a text of `wat_golden` shows it,
 //! because contracts permit it to fail. A user-defined sink is here, and what no contract states: hashes
-//! and printed forms. `call_tests` has the calls of the other crates.
+//! and printed forms. `call_tests` and the folder `tests/` have the calls of the other crates.
 //!
 //! # Modules
 //!

@@ -1,15 +1,36 @@
 //! The calls that check a module first, on modules that are ready and on modules that are not.
 
-use crate::made::{at, has_bytes, module, row};
 use std::alloc::Global;
+use std::process::Abort;
 use wast_core::{CheckError, EncodeOptions, Module, ModuleKind, NotReady, discard_module};
 use wast_resolve::discard_names;
+use wast_rows::sample;
 use wast_tree::{
     Error, Fault, Func, Gensym, IllFormed, Index, Instruction, MemArg, MemOp, ModuleField, Seq,
-    TreeBuilder, TypeUse,
+    Span, TreeBuilder, TypeUse,
 };
 
 const BYTES_OF_4: &str = "0061736d0100000001040160000003020100070501016100000a040102000b";
+
+fn at(offset: usize) -> Span {
+    Span { offset }
+}
+
+/// Returns a module without an id.
+fn module(kind: ModuleKind<'_>) -> Module<'_> {
+    Module {
+        span: at(1),
+        id: None,
+        name: None,
+        kind,
+    }
+}
+
+/// Returns the module of a row.
+fn row<'a>(rt: &impl Abort, alloc: Global, n: u32) -> Module<'a> {
+    let made = sample(alloc, n).expect(rt, "there is such a row");
+    made.expect(rt, "memory")
+}
 
 /// Encodes any module with a counter at 1, and drops it.
 fn bytes_of<'a>(alloc: Global, mut module: Module<'a>) -> Result<Vec<u8>, CheckError<'a>> {
@@ -38,7 +59,8 @@ fn misaligned<'a>(alloc: Global) -> Result<Module<'a>, Error<'a>> {
 fn checked_calls_return_results_of_unchecked_calls(rt: HostRuntime) {
     let alloc = rt.alloc();
     let bytes = bytes_of(alloc, row(&rt, alloc, 4)).expect(&rt, "memory");
-    has_bytes(&rt, alloc, Ok(bytes), BYTES_OF_4);
+    let text = hex::encode(alloc, bytes.as_slice()).expect(&rt, "memory");
+    assert!(rt; text.as_str() == BYTES_OF_4, "{text}");
     let mut made = row(&rt, alloc, 4);
     let mut gensym = Gensym::new(1);
     assert!(rt; made.check(&gensym).is_ok());

@@ -24,14 +24,6 @@ fn generated<'a>(rt: &impl Abort) -> [Id<'a>; COUNT] {
     ids
 }
 
-/// Returns whether the fields are well formed. It is a call of its own, so that its work is counted
-/// apart. The list is borrowed mutably, because with a shared borrow the prover would compare the
-/// whole tree with itself.
-#[inline(never)]
-fn is_seen(fields: &mut Seq<ModuleField>) -> bool {
-    well_formed(fields.as_slice())
-}
-
 #[test]
 fn generated_ids_in_any_order(rt: HostRuntime) {
     let alloc = rt.alloc();
@@ -54,8 +46,8 @@ fn generated_ids_in_any_order(rt: HostRuntime) {
         );
         maker.push_field(&mut fields, ModuleField::Func(func));
     }
-    let mut fields = maker.finish(fields).expect(&rt, "memory");
-    let is_right = is_seen(&mut fields);
+    let fields = maker.finish(fields).expect(&rt, "memory");
+    let is_right = well_formed(fields.as_slice());
     discard_fields(fields);
     assert!(rt; is_right);
 }

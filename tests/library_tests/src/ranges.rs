@@ -23,8 +23,8 @@ fn put<'a>(fields: &mut Seq<ModuleField<'a>>, field: ModuleField<'a>) -> bool {
     push_field(fields, field).is_ok()
 }
 
-/// Finds the ranges of a list. It is borrowed mutably, because the prover would compare the whole
-/// tree for a shared borrow of a local list.
+/// Finds the ranges of a list. It is borrowed mutably, as in a proved caller: for a shared borrow of
+/// a local list the prover would compare the whole tree.
 fn found(fields: &mut Seq<ModuleField>) -> FieldRanges {
     FieldRanges::of(fields.as_slice())
 }

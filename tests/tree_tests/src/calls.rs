@@ -1,11 +1,5 @@
 //! Calls with enough memory, on example modules.
 
-ghost use Rattle.std.specs.Prelude.{IsTrue, Option, ℕ};
-ghost use Rattle.wast_base.specs.Ids.{Name};
-ghost use Rattle.wast_base.specs.Spaces.{is_settled_index};
-ghost use Rattle.wast_core.specs.Writing.{IsTextAtRest};
-ghost use Rattle.wast_core_conv.specs.Customs.{is_encodable_subsection};
-
 use crate::made::{at, has_bytes, module, ready, row};
 use std::alloc::Global;
 use std::process::Abort;
@@ -65,9 +59,7 @@ fn text_is_encoded_as_its_module(rt: HostRuntime) {
 }
 
 // Row 27, resolved.
-fn resolved_row<'a>(rt: &impl Abort, alloc: Global) -> Module<'a>
-    ensures { IsTextAtRest result.kind }
-{
+fn resolved_row<'a>(rt: &impl Abort, alloc: Global) -> Module<'a> {
     let mut module = row(rt, alloc, 27);
     let names = module.resolve(alloc, &mut Gensym::new(1));
     discard_names(names.expect(rt, "memory"));
@@ -96,9 +88,7 @@ fn put_module_writes_to_sinks(rt: HostRuntime) {
 }
 
 /// Checks the content of a subsection.
-fn holds(rt: &impl Abort, alloc: Global, subsection: &Dylink0Subsection, want: &[u8])
-    requires { IsTrue (is_encodable_subsection subsection.now) }
-{
+fn holds(rt: &impl Abort, alloc: Global, subsection: &Dylink0Subsection, want: &[u8]) {
     let mut out = Vec::new(alloc);
     subsection.encode(&mut out).expect(rt, "memory");
     assert!(rt; out.as_slice() == want);
@@ -142,9 +132,7 @@ fn resolve_works_on_bare_fields(rt: HostRuntime) {
 }
 
 /// Returns an index that is an id from the source. It may be looked up in any namespace.
-fn by_id<'a>(name: &'a str, place: usize) -> Index<'a>
-    ensures { (number : Name → Option ℕ) → IsTrue (is_settled_index number result) }
-{
+fn by_id<'a>(name: &'a str, place: usize) -> Index<'a> {
     Index::Id(Id::new(name, at(place)))
 }
 

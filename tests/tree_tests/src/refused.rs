@@ -5,8 +5,6 @@
 //! each row at once. It finds the call by a request for `BEGIN` bytes before it and one for `END`
 //! bytes after it.
 
-ghost use Rattle.wast_core.specs.Modules.{IsReady};
-
 use crate::made::{module, row};
 use std::alloc::Global;
 use std::process::Abort;
@@ -161,10 +159,7 @@ fn refusal<'a>(
     module: &mut Module<'a>,
     gensym: &mut Gensym,
     begin: usize,
-) -> Option<Error<'a>>
-    requires { IsReady «module».old gensym.old }
-    ensures { IsReady «module».new gensym.new }
-{
+) -> Option<Error<'a>> {
     mark(rt, alloc, begin);
     let answer = module.resolve(alloc, gensym);
     mark(rt, alloc, END);

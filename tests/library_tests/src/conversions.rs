@@ -1,8 +1,5 @@
 //! Conversions of parts of the tree to values of the binary format.
 
-ghost use Rattle.std.specs.Prelude.{◌≡◌, IsTrue, IfOk};
-ghost use Rattle.wast_core_conv.specs.Encodable.{is_encodable_expression};
-
 use crate::items::at;
 use std::alloc::Global;
 use wasm_ops::Encode;
@@ -13,9 +10,7 @@ use wast_tree::{
 };
 
 /// Returns the definition of a composite type: final, without supertypes.
-fn def_of<'a>(alloc: Global, kind: InnerTypeKind<'a>) -> TypeDef<'a>
-    ensures { result.kind ≡ kind.entry }
-{
+fn def_of<'a>(alloc: Global, kind: InnerTypeKind<'a>) -> TypeDef<'a> {
     TypeDef {
         kind,
         shared: false,
@@ -65,10 +60,7 @@ fn struct_types_are_converted(rt: HostRuntime) {
 }
 
 /// `i32.const 8`
-#[tactic(auto, unfolding(wast_base::specs::Blocks::stays_open))]
-pub(crate) fn eight<'a>(alloc: Global) -> Result<Expression<'a>, Error<'a>>
-    ensures { IfOk result (λ e. IsTrue (is_encodable_expression e)) }
-{
+pub(crate) fn eight<'a>(alloc: Global) -> Result<Expression<'a>, Error<'a>> {
     Expression::one(alloc, Instruction::i32_const(8))
 }
 

@@ -1,8 +1,5 @@
 //! Items of sections: the payload of a section with one item, and the item in a sink.
 
-ghost use Rattle.std.specs.Prelude.{IsTrue};
-ghost use Rattle.wast_core_conv.specs.Encodable.{is_encodable_type, is_encodable_type_use, is_encodable_import, is_encodable_table, is_encodable_memory, is_encodable_global, is_encodable_tag, is_encodable_elem, is_encodable_data};
-
 use std::alloc::Global;
 use std::process::Abort;
 use wasm_out::{Build, Section};
@@ -24,7 +21,6 @@ pub(crate) fn at(offset: usize) -> Span {
 pub(crate) fn has_bytes<I: SectionItem>(rt: &impl Abort, alloc: Global, item: &I, bytes: &[u8])
 where
     I::Section: Drop,
-    requires { IsTrue (I.is_encodable item.now) }
 {
     let mut section = <I::Section as Build>::new(alloc);
     item.encode(alloc, &mut section).expect(rt, "memory");
@@ -37,9 +33,7 @@ where
 }
 
 /// `(type (func))`
-fn plain_type<'a>(alloc: Global) -> Type<'a>
-    ensures { IsTrue (is_encodable_type result) }
-{
+fn plain_type<'a>(alloc: Global) -> Type<'a> {
     Type {
         span: at(9),
         id: None,
@@ -73,9 +67,7 @@ fn types_are_items(rt: HostRuntime) {
 }
 
 /// `(type 3)`
-fn third<'a>() -> TypeUse<'a, FunctionType<'a>>
-    ensures { IsTrue (is_encodable_type_use result) }
-{
+fn third<'a>() -> TypeUse<'a, FunctionType<'a>> {
     TypeUse {
         index: Some(Index::Num(3, at(0))),
         inline: None,

@@ -1,10 +1,11 @@
 //! The calls of `wat_bytes`, with enough memory.
 
 use std::alloc::Global;
-use wast_tree::{Form, Space};
+use wast_core::{EncodeOptions, discard_module};
+use wast_tree::{Form, Gensym, Space};
 use wat_bytes::{
-    Refused, UncoveredForm, encode_text, encoded_text, names_of, names_of_text, number_in,
-    number_in_text,
+    Refused, UncoveredForm, encode_last_text, encode_text, encoded_text, module_of, names_of,
+    names_of_last_text, names_of_text, number_in, number_in_text,
 };
 use wat_text::{Strings, read};
 
@@ -81,11 +82,46 @@ fn parsed_module_encodes_as_its_text(rt: HostRuntime) {
             .as_slice()
             == of_text.as_slice()
     );
+    let parsed = read(rt.alloc(), text, &strings).expect(&rt, "a module");
+    let mut module = module_of(parsed);
+    let mut gensym = Gensym::new(1);
+    let bytes = EncodeOptions::new().check_and_encode(rt.alloc(), &mut module, &mut gensym);
+    discard_module(module);
+    assert!(rt; bytes.is_ok_and(|bytes| bytes.as_slice() == of_text.as_slice()));
     let module = read(rt.alloc(), text, &strings).expect(&rt, "a module");
     assert!(rt; names_of(rt.alloc(), module).expect(&rt, "names").len() == 1);
     let module = read(rt.alloc(), text, &strings).expect(&rt, "a module");
     let number = number_in(rt.alloc(), module, Space::Func, "f").expect(&rt, "a number");
     assert!(rt; number == Some(1));
+}
+
+#[test]
+fn last_text_has_the_result_of_other_texts(rt: HostRuntime) {
+    let strings = Strings::new(rt.alloc());
+    for text in [
+        EACH_SPACE,
+        "(module binary \"\\00asm\")",
+        "(module (start $f))",
+        "(module (func i64.add128))",
+        "(module (func",
+    ] {
+        let last = encode_last_text(rt.alloc(), text, &strings);
+        match encode_text(rt.alloc(), text, &strings) {
+            Ok(bytes) => {
+                let last = last.expect(&rt, text);
+                assert!(rt; last.as_slice() == bytes.as_slice(), "{text}");
+            }
+            Err(refused) => assert!(rt; last.err() == Some(refused), "{text}"),
+        }
+        let last = names_of_last_text(rt.alloc(), text, &strings);
+        match names_of_text(rt.alloc(), text, &strings) {
+            Ok(names) => {
+                let last = last.expect(&rt, text);
+                assert!(rt; last.as_slice() == names.as_slice(), "{text}");
+            }
+            Err(refused) => assert!(rt; last.err() == Some(refused), "{text}"),
+        }
+    }
 }
 
 #[test]

@@ -1,8 +1,5 @@
 //! Modules for the tests.
 
-ghost use Rattle.std.specs.Prelude.{◌≡◌, IsTrue};
-ghost use Rattle.wast_core.specs.Modules.{is_well_formed, generation_bound};
-
 use std::alloc::Global;
 use std::process::Abort;
 use wast_core::{Module, ModuleKind};
@@ -24,19 +21,13 @@ pub(crate) fn module(kind: ModuleKind<'_>) -> Module<'_> {
 }
 
 // Returns the module, if it can be encoded with a counter at 1.
-pub(crate) fn ready<'a>(rt: &impl Abort, module: Module<'a>) -> Module<'a>
-    ensures well_formed { IsTrue (is_well_formed result) }
-    ensures bound { generation_bound result ≡ 0 }
-{
+pub(crate) fn ready<'a>(rt: &impl Abort, module: Module<'a>) -> Module<'a> {
     assert!(rt; module.well_formed());
     assert!(rt; module.gensym_bound() == 0);
     module
 }
 
-pub(crate) fn row<'a>(rt: &impl Abort, alloc: Global, n: u32) -> Module<'a>
-    ensures well_formed { IsTrue (is_well_formed result) }
-    ensures bound { generation_bound result ≡ 0 }
-{
+pub(crate) fn row<'a>(rt: &impl Abort, alloc: Global, n: u32) -> Module<'a> {
     let made = sample(alloc, n).expect(rt, "there is such a row");
     ready(rt, made.expect(rt, "memory"))
 }
