@@ -1,4 +1,5 @@
 // Prints the bytes of the modules of texts in hexadecimal, or their errors with line and column: `node example.js TEXT..`
+// The status is 1 if a text has an error.
 import { init, parse, WatError } from "./index.js";
 
 const texts = process.argv.slice(2);
@@ -13,5 +14,6 @@ for (const text of texts) {
   } catch (error) {
     if (!(error instanceof WatError)) throw error;
     console.log(String(error));
+    process.exitCode = 1;
   }
 }
