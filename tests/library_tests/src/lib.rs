@@ -1,18 +1,24 @@
-//! Tests of what no text can show: calls on trees, names and texts, with enough memory.
+//! Tests of what no text can show: calls on trees, names, texts and bytes, with enough memory.
 //!
 //! Each public call that may take memory succeeds here, unless a text of `wat_golden` shows it,
 //! because contracts permit it to fail. How much is looked at is here too. `unit_tests` has the calls of
-//! `wast_base`, `wasm_ops` and `wasm_out`, and `call_tests` user-defined resolvers and visitors.
+//! `wasm_out`, and `call_tests` user-defined resolvers and visitors.
 //!
 //! # Modules
 //!
+//! - `base`: ids, errors, the id counter, lists and boxes.
+//! - `ops`, `edges`: numbers, types and instructions as bytes.
 //! - `namespaces` and `labels`: many names. `ranges`: ranges of fields. `generated`: many generated ids.
 //! - `conversions`, `filled`, `items`: parts of the tree as values of the binary format.
 //! - `expand`: keys of signatures. `tree`: builders and accessors.
 //! - `texts`: bytes, names and errors of texts.
 
 #[cfg(test)]
+mod base;
+#[cfg(test)]
 mod conversions;
+#[cfg(test)]
+mod edges;
 #[cfg(test)]
 mod expand;
 #[cfg(test)]
@@ -25,6 +31,8 @@ mod items;
 mod labels;
 #[cfg(test)]
 mod namespaces;
+#[cfg(test)]
+mod ops;
 #[cfg(test)]
 mod ranges;
 #[cfg(test)]

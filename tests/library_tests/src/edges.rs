@@ -1,8 +1,8 @@
 //! Instructions as values of their own, and how often nested lengths write to a user-defined sink.
 
-use crate::kept::Kept;
 use std::alloc::Global;
 use std::process::Abort;
+use unit_tests::Kept;
 use wasm_ops::{Encode, IndexInstr, IndexOp, MemArg, MemArgTarget, MemInstr, Raw, WithLength};
 use wast_base::MemOp;
 

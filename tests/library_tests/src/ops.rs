@@ -1,10 +1,8 @@
 //! The bytes of numbers, names, types and instructions, in each sink.
 
-ghost use Rattle.std.specs.Prelude.{IsTrue};
-
-use crate::kept::Kept;
 use std::alloc::Global;
 use std::process::Abort;
+use unit_tests::Kept;
 use wasm_ops::{
     AbstractHeapType, ArrayType, AsItself, Counted, Encode, EntityType, ExportKind, FieldType,
     GlobalType, HeapType, IndexOp, InstructionSink, Length, MemoryType, Raw, RefType, Refusal,
@@ -15,9 +13,7 @@ use wasm_ops::{
 use wast_base::{BareOp, Error, Plain, Seq};
 
 /// Checks the encoding of a value.
-fn is_spelled<T: Encode>(rt: &impl Abort, alloc: Global, value: &T, bytes: &[u8])
-    requires { IsTrue (T.is_ready value.now) }
-{
+fn is_spelled<T: Encode>(rt: &impl Abort, alloc: Global, value: &T, bytes: &[u8]) {
     let mut out = Vec::new(alloc);
     assert!(rt; value.encode(&mut out).is_ok(), "for {bytes:?}");
     assert!(rt; out.as_slice() == bytes, "for {bytes:?}");

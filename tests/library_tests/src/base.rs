@@ -1,8 +1,5 @@
 //! Ids, indices, errors, the id counter, lists and boxes of `wast_base`.
 
-ghost use Rattle.std.specs.Prelude.{IsTrue};
-ghost use Rattle.wast_base.specs.Faults.{is_placed};
-
 use std::hash::{DefaultHasher, Hash, Hasher};
 use wast_base::{Boxed, Error, Fault, Form, Gensym, Id, Index, Seq, Space, Span};
 
@@ -10,9 +7,7 @@ fn at(offset: usize) -> Span {
     Span { offset }
 }
 
-fn fault_at(offset: usize, fault: Fault<'static>) -> Error<'static>
-    requires { IsTrue (is_placed fault) }
-{
+fn fault_at(offset: usize, fault: Fault<'static>) -> Error<'static> {
     Error::new(at(offset), fault)
 }
 
