@@ -1,5 +1,5 @@
 -- A module of a script, by its tokens that the code gives to wat_text.
-use Rattle.std.proofs.Common.{◌≡◌, ◌∙◌, ℕ, ◌-◌, ◌<◌, ◌≤◌, List, [], ◌∷◌, ◌++◌, length, map, drop, get_or, Result, None, Ok, Err, refl, sym, ap, subst, arith}
+use Rattle.std.proofs.Common.{◌≡◌, ◌≢◌, ◌∙◌, ℕ, ◌-◌, ◌<◌, ◌≤◌, List, [], ◌∷◌, ◌++◌, length, map, drop, get_or, Result, None, Ok, Err, refl, sym, ap, subst, arith}
 use Rattle.std.proofs.lemmas.List.{length-map, map-append}
 use Rattle.std.specs.Prelude.{IfOk, IfErr}
 use Rattle.wast_base.specs.Ids.{text_start}
@@ -9,7 +9,7 @@ use Rattle.wat_tokens.specs.declared.tokens.Placed.{Placed}
 use Rattle.wat_syntax.specs.Tree.{Span}
 use Rattle.wat_syntax.specs.Tokens.{position_in}
 use Rattle.wat_syntax.specs.Bare.{bare_placed}
-use Rattle.wat_text.specs.Denotes.{all_of, all_bare, module_of_tokens, IsModule, Explains, MeansIllFormed}
+use Rattle.wat_text.specs.Denotes.{all_of, all_bare, module_of_tokens, IsModule}
 use Rattle.wat_text.specs.declared.modules.TextModule.{TextModule}
 use Rattle.wast_script.specs.declared.commands.ScriptModule.{ScriptModule}
 use Rattle.wast_script.specs.Grammar.{Module}
@@ -47,13 +47,13 @@ module _ (tokens found lent : List Placed) (m : ScriptModule) (end : Span) (same
   is_module (Err e) h = tt
 
   pub is_no_module : (r : Result TextModule TextError)
-      → IfErr r (λ e. Explains (module_of_tokens (all_bare found end) ≡ None) (MeansIllFormed (all_bare found end)) e.fault) → IfErr r (λ e. IsNoModuleOf of e.fault)
+      → IfErr r (λ e. e.fault ≢ fault.Memory → module_of_tokens (all_bare found end) ≡ None) → IfErr r (λ e. IsNoModuleOf of e.fault)
   is_no_module (Ok t) h = tt
-  is_no_module (Err e) h = subst (λ toks. Explains (module_of_tokens toks ≡ None) (MeansIllFormed toks) e.fault) same_toks h
+  is_no_module (Err e) h = subst (λ toks. e.fault ≢ fault.Memory → module_of_tokens toks ≡ None) same_toks h
 
 -- a failed allocation states nothing of a module
 pub no_memory : (d : Module) (e : TextError) → e.fault ≡ fault.Memory → IsNoModuleOf d e.fault
-no_memory d e h = subst (IsNoModuleOf d) (sym h) tt
+no_memory d e h = λ m. absurd (m h)
 
 -- the same error at another position
 pub moved : (d : Module) (e other : TextError) → other.fault ≡ e.fault → IsNoModuleOf d e.fault → IsNoModuleOf d other.fault

@@ -278,14 +278,13 @@ impl<'a> Script<'a> {
     ///
     /// # Errors
     ///
-    /// As [`read`](wat_text::read): the module is not one of the text format, or its fields are not well formed, or allocation
-    /// failed ([`TextFault::Memory`]).
+    /// As [`read`](wat_text::read): the module is not one of the text format, or allocation failed ([`TextFault::Memory`]).
     ///
     /// # Guarantees
     ///
     /// - `well_formed`: the fields are well formed.
     /// - `denotes`: the rules of the text format read the tokens of this module of the script as the module that is returned.
-    /// - `refuses`: unless the error is [`TextFault::Memory`], they read these tokens as no module, or as one that is not well formed.
+    /// - `refuses`: unless the error is [`TextFault::Memory`], they read these tokens as no module.
     /// - `place`: the position of an error is in the text of the script or at its end.
     pub fn read(
         &self,

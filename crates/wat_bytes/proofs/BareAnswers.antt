@@ -1,10 +1,9 @@
 -- A contract on a parsed module holds for its bare module too, which has each text at address 0. So the result for a parsed module is
 -- that for the module of the text.
-use Rattle.std.specs.Prelude.{⊤, is_none}
+use Rattle.std.specs.Prelude.{⊤}
 use Rattle.std.specs.Borrow.{Bor}
 use Rattle.std.specs.Global.{Vec}
-use Rattle.std.specs.Option.{unwrap_or}
-use Rattle.std.proofs.Common.{◌≡◌, ◌⊎◌, inl, inr, ℕ, max, ◌<◌, Bool, true, false, List, [], ◌∷◌, ◌++◌, map, Option, None, Some, Result, Ok, Err, IsTrue, refl, sym, ap, subst, ◌∙◌, arith}
+use Rattle.std.proofs.Common.{◌≡◌, inl, inr, ℕ, max, ◌<◌, List, [], ◌∷◌, ◌++◌, map, Option, None, Some, Result, Ok, Err, IsTrue, refl, sym, ap, subst, ◌∙◌, arith}
 use Rattle.wast_base.specs.declared.faults.Error.{Error}
 use Rattle.wast_base.specs.declared.faults.Fault.TheVariants as fault
 use Rattle.wast_base.specs.declared.faults.Form.{Form}
@@ -14,43 +13,34 @@ use Rattle.wast_base.specs.declared.ids.Span.{Span}
 use Rattle.wast_base.specs.declared.spaces.Space.{Space}
 use Rattle.wast_base.specs.Faults.{Cause, Diagnostic, At, Nowhere, Memory, TooLarge, diagnostic_of, error_without_place}
 use Rattle.wast_base.specs.FirstUnmet.{Answers}
-use Rattle.wast_base.specs.Ids.{text_start, named_by, mark_of_option, generation_of}
+use Rattle.wast_base.specs.Ids.{named_by, mark_of_option, generation_of}
 use Rattle.wast_tree_nodes.specs.Generations.{generation_or_zero}
-use Rattle.wast_tree_nodes.specs.Items.{items}
-use Rattle.wast_tree_nodes.specs.Known.{id_context}
-use Rattle.wast_tree_nodes.specs.Sites.{in_module, checks_of}
-use Rattle.wast_tree_nodes.specs.WellFormed as fields
-use Rattle.wast_tree_visit.proofs.Failing.{none_fails}
 use Rattle.wasm_out.specs.Reads.{Reads}
-use Rattle.wast_resolve_names.specs.Resolvers.{KnownNames, known_to}
 use Rattle.wast_resolve_rules.specs.Demands.{first_unmet, demands, IsTooLarge}
 use Rattle.wast_resolve_rules.specs.Explicit.{explicit_fields}
 use Rattle.wast_resolve_rules.specs.Finished.{resolved_fields_from}
 use Rattle.wast_core_name_section.specs.GivenNames.{written_text, given_name}
 use Rattle.wast_core_sections.specs.Uncovered.{head_of, uncovered_forms}
 use Rattle.wast_core_sections.specs.Encoding.{IsUnwritten}
-use Rattle.wast_core.specs.Tree.{Id, NameAnnotation, ModuleField}
+use Rattle.wast_core.specs.Tree.{Id, NameAnnotation}
 use Rattle.wast_core.specs.Bounded.{IsBounded}
 use Rattle.wast_core.specs.Headline.{ResolvesKind, EncodesKind, joined_pieces, name_of_module}
-use Rattle.wast_core.specs.Modules.{IsReady, is_well_formed_kind, ill_formed_kind, bound_of_kind}
+use Rattle.wast_core.specs.Modules.{IsReady, is_well_formed_kind, bound_of_kind}
 use Rattle.wast_core.specs.declared.module.ModuleKind.{ModuleKind}
 use Rattle.wast_core.specs.declared.module.ModuleKind.TheVariants as kind
 use Rattle.wat_tokens.specs.declared.faults.TextError.{TextError}
-use Rattle.wat_tokens.specs.declared.faults.TextFault.TheVariants as text
 use Rattle.wat_syntax.specs.Bare.{bare_text, bare_name_option, bare_id_name, bare_id_option}
 use Rattle.wat_syntax.specs.BareFields.{bare_fields}
-use Rattle.wat_text.specs.Denotes.{module_of as denoted, bare_kind, bare_module, Denotes, DenotesNothing, DenotesIllFormed, Explains}
-use Rattle.wat_text.specs.Texts.{is_well_formed_text}
+use Rattle.wat_text.specs.Denotes.{module_of as denoted, bare_kind, bare_module, Denotes}
 use Rattle.wat_text.specs.declared.modules.TextKind.{TextKind}
 use Rattle.wat_text.specs.declared.modules.TextKind.TheVariants as held
 use Rattle.wat_text.specs.declared.modules.TextModule.{TextModule}
-use Rattle.wat_text.proofs.Endings.{explains_map}
 use Rattle.wat_bytes.specs.BareLaws.{Laws}
 use Rattle.wat_bytes.specs.declared.names.Denoted.{Denoted}
 use Rattle.wat_bytes.specs.declared.refusals.Refused.{Refused}
 use Rattle.wat_bytes.specs.declared.refusals.Refused.TheVariants as answer
 use Rattle.wat_bytes.specs.Names.{ResolvesReady, IsResolvable, IsMetKind, HasNoNames, ListsText, NumbersText, number_in, entries_of}
-use Rattle.wat_bytes.specs.Texts.{EncodesText, EncodesReady, IsRead, IsUnready, IsIllFormedIn, OfModule, OfText, kind_of, module_of, unready}
+use Rattle.wat_bytes.specs.Texts.{EncodesText, EncodesReady, IsRead, OfModule, OfText, kind_of, module_of}
 use Rattle.wat_bytes.proofs.BareItems.{items_bare}
 
 -- The name of a module is the same bytes.
@@ -84,19 +74,6 @@ id_bare (Some id) = mark_bare id.name
 below : (a b : ℕ) → max a b < 1 → b < 1
 below a b is = omega (arith, is)
 
--- A well-formed module breaks no rule.
-is_true : (b : Bool) → IsTrue b → b ≡ true
-is_true b is = is
-
-none_so : (o : Option ℕ) → is_none o ≡ true → o ≡ None
-none_so None h = refl
-none_so (Some n) h = absurd cc
-
-breaks_none : (k : TextKind) → IsTrue (is_well_formed_text k) → ill_formed_kind (kind_of k) ≡ None
-breaks_none (held.Fields xs) is =
-    none_so (fields.ill_formed xs) (none_fails (id_context (items xs)) (checks_of (in_module xs)) ∙ is_true (fields.is_well_formed xs) is)
-breaks_none (held.Binary ps) is = refl
-
 -- An error of a first failed check.
 answers_map : (b c : Type 0) (d : Diagnostic) (o p : Option (Cause × Span)) → (b → c) → p ≡ o → Answers ⊤ b d o → Answers ⊤ c d p
 answers_map b c (At cause place) o p to same x = same ∙ x
@@ -117,10 +94,6 @@ record Encodes (name : Option (List ℕ)) (k : ModuleKind) (r : Result (Vec ℕ)
 
 module _ (laws : Laws) where
   -- Both may be resolved, or neither.
-  pub well_bare : (k : TextKind) → is_well_formed_text (bare_kind k) ≡ is_well_formed_text k
-  well_bare (held.Fields xs) = laws.rules xs
-  well_bare (held.Binary ps) = refl
-
   kind_bare : (k : TextKind) → is_well_formed_kind (kind_of (bare_kind k)) ≡ is_well_formed_kind (kind_of k)
   kind_bare (held.Fields xs) = laws.rules xs
   kind_bare (held.Binary ps) = refl
@@ -138,7 +111,7 @@ module _ (laws : Laws) where
     above = subst (λ n. n < 1) (sym (bounds_bare t)) ready.above;
   }
 
-  ready_back : (t : TextModule) → IsReady (module_of (bare_module t)) 1 → IsReady (module_of t) 1
+  pub ready_back : (t : TextModule) → IsReady (module_of (bare_module t)) 1 → IsReady (module_of t) 1
   ready_back t ready = record {
     well_formed = subst IsTrue (kind_bare t.kind) ready.well_formed;
     above = subst (λ n. n < 1) (bounds_bare t) ready.above;
@@ -146,13 +119,6 @@ module _ (laws : Laws) where
 
   past : (t : TextModule) → IsReady (module_of t) 1 → bound_of_kind (kind_of t.kind) < 1
   past t ready = below (generation_or_zero (mark_of_option t.id)) (bound_of_kind (kind_of t.kind)) ready.above
-
-  unready_bare : (t : TextModule) (e : TextError) → IsTrue (is_well_formed_text t.kind) → IsUnready (module_of t) e → IsUnready (module_of (bare_module t)) e
-  unready_bare t e well x = record {
-    is_not_ready = λ y. x.is_not_ready (ready_back t y);
-    why = x.why ∙ ap (λ (o : Option ℕ). record { fault = text.IllFormed (unwrap_or o 6); span = text_start })
-        (breaks_none t.kind well ∙ sym (breaks_none (bare_kind t.kind) (subst IsTrue (sym (well_bare t.kind)) well)));
-  }
 
   -- Encoding.
   encodes_kind : (name : Option (List ℕ)) (k : TextKind) (r : Result (Vec ℕ) Error) (left : ModuleKind) → bound_of_kind (kind_of k) < 1
@@ -190,11 +156,11 @@ module _ (laws : Laws) where
         encodes = subst (λ n. EncodesKind 1 n (kind_of (bare_kind t.kind)) r done.left) (sym (name_bare t)) done.encodes;
       }
 
-  pub encoded_bare : (t : TextModule) (r : Result (Vec ℕ) Refused) → IsTrue (is_well_formed_text t.kind) → EncodesText t r → EncodesText (bare_module t) r
-  encoded_bare t (Ok b) well x = encodes_bare t (Ok b) x
-  encoded_bare t (Err (answer.Text e)) well x = unready_bare t e well x
-  encoded_bare t (Err (answer.Module e)) well x = encodes_bare t (Err e) x
-  encoded_bare t (Err (answer.Uncovered u)) well x = encodes_bare t (Err (error_without_place (fault.Uncovered u.form))) x
+  pub encoded_bare : (t : TextModule) (r : Result (Vec ℕ) Refused) → EncodesText t r → EncodesText (bare_module t) r
+  encoded_bare t (Ok b) x = encodes_bare t (Ok b) x
+  encoded_bare t (Err (answer.Text e)) x = x
+  encoded_bare t (Err (answer.Module e)) x = encodes_bare t (Err e) x
+  encoded_bare t (Err (answer.Uncovered u)) x = encodes_bare t (Err (error_without_place (fault.Uncovered u.form))) x
 
   -- Resolving.
   met_bare : (k : TextKind) → IsMetKind (kind_of k) → IsMetKind (kind_of (bare_kind k))
@@ -223,32 +189,31 @@ module _ (laws : Laws) where
   unresolved_bare : (t : TextModule) (e : Error) → ResolvesReady (module_of t) (Err e) → ResolvesReady (module_of (bare_module t)) (Err e)
   unresolved_bare t e x = record { ready = ready_bare t x.ready; left = kind.Refused e; resolves = unresolved_kind t.kind e x.left x.resolves }
 
-  nameless_bare : (t : TextModule) (r : Refused) → IsTrue (is_well_formed_text t.kind) → HasNoNames (module_of t) r → HasNoNames (module_of (bare_module t)) r
-  nameless_bare t (answer.Text e) well x = unready_bare t e well x
-  nameless_bare t (answer.Module e) well x = unresolved_bare t e x
-  nameless_bare t (answer.Uncovered u) well x = x
+  nameless_bare : (t : TextModule) (r : Refused) → HasNoNames (module_of t) r → HasNoNames (module_of (bare_module t)) r
+  nameless_bare t (answer.Text e) x = x
+  nameless_bare t (answer.Module e) x = unresolved_bare t e x
+  nameless_bare t (answer.Uncovered u) x = x
 
-  pub listed_bare : (t : TextModule) (r : Result (Vec Denoted) Refused) → IsTrue (is_well_formed_text t.kind) → ListsText t r → ListsText (bare_module t) r
-  listed_bare t (Ok all) well x = record { resolves = resolvable_bare t x.resolves; listed = x.listed ∙ ap entries_of (sym (items_bare t.kind)) }
-  listed_bare t (Err (answer.Text e)) well x = unready_bare t e well x
-  listed_bare t (Err (answer.Module e)) well (inl x) = inl (unresolved_bare t e x)
-  listed_bare t (Err (answer.Module e)) well (inr x) = inr (ready_bare t x.0, x.1)
-  listed_bare t (Err (answer.Uncovered u)) well x = x
+  pub listed_bare : (t : TextModule) (r : Result (Vec Denoted) Refused) → ListsText t r → ListsText (bare_module t) r
+  listed_bare t (Ok all) x = record { resolves = resolvable_bare t x.resolves; listed = x.listed ∙ ap entries_of (sym (items_bare t.kind)) }
+  listed_bare t (Err (answer.Text e)) x = x
+  listed_bare t (Err (answer.Module e)) (inl x) = inl (unresolved_bare t e x)
+  listed_bare t (Err (answer.Module e)) (inr x) = inr (ready_bare t x.0, x.1)
+  listed_bare t (Err (answer.Uncovered u)) x = x
 
-  pub numbered_bare : (s : Space) (name : List ℕ) (t : TextModule) (r : Result (Option ℕ) Refused) → IsTrue (is_well_formed_text t.kind) → NumbersText s name t r → NumbersText s name (bare_module t) r
-  numbered_bare s name t (Ok found) well x = record {
+  pub numbered_bare : (s : Space) (name : List ℕ) (t : TextModule) (r : Result (Option ℕ) Refused) → NumbersText s name t r → NumbersText s name (bare_module t) r
+  numbered_bare s name t (Ok found) x = record {
     resolves = resolvable_bare t x.resolves;
     denotes = x.denotes ∙ sym (number_bare t x.resolves.ready s name);
   }
-  numbered_bare s name t (Err r) well x = nameless_bare t r well x
+  numbered_bare s name t (Err r) x = nameless_bare t r x
 
   -- The result for a text, from that for a parsed module or from the error of parsing.
   module _ {A : Type 0} (is_answer : TextModule → Result A Refused → Type 0)
-      (to_bare : (t : TextModule) (r : Result A Refused) → IsTrue (is_well_formed_text t.kind) → is_answer t r → is_answer (bare_module t) r) where
-    of_module : (bytes : List ℕ) (t : TextModule) (r : Result A Refused) → Denotes bytes t → IsTrue (is_well_formed_text t.kind) → is_answer t r
+      (to_bare : (t : TextModule) (r : Result A Refused) → is_answer t r → is_answer (bare_module t) r) where
+    of_module : (bytes : List ℕ) (t : TextModule) (r : Result A Refused) → Denotes bytes t → is_answer t r
         → OfModule is_answer (denoted bytes) r
-    of_module bytes t r denotes well x =
-        subst (λ o. OfModule is_answer o r) (sym denotes) (subst IsTrue (sym (well_bare t.kind)) well, to_bare t r well x)
+    of_module bytes t r denotes x = subst (λ o. OfModule is_answer o r) (sym denotes) (to_bare t r x)
 
     of_either : (bytes : List ℕ) (r : Result A Refused) → OfModule is_answer (denoted bytes) r → OfText is_answer bytes r
     unfolding OfText
@@ -257,11 +222,8 @@ module _ (laws : Laws) where
 
     pub of_parsed : (bytes : List ℕ) (t : TextModule) (r : Result A Refused) → IsRead bytes (Ok t) → is_answer t r → OfText is_answer bytes r
     unfolding OfText IsRead
-    of_parsed bytes t r read x = of_either bytes r (of_module bytes t r read.0 read.1 x)
-
-    ill : (bytes : List ℕ) → DenotesIllFormed bytes → IsIllFormedIn (denoted bytes)
-    ill bytes i = subst IsIllFormedIn (sym i.denotes) (well_bare i.part.kind ∙ i.ill)
+    of_parsed bytes t r read x = of_either bytes r (of_module bytes t r read x)
 
     pub of_error : (bytes : List ℕ) (e : TextError) → IsRead bytes (Err e) → OfText is_answer bytes (Err (answer.Text e))
     unfolding OfText IsRead
-    of_error bytes e read = inr (explains_map (DenotesNothing bytes) (DenotesIllFormed bytes) (denoted bytes ≡ None) (IsIllFormedIn (denoted bytes)) e.fault (λ n. n) (ill bytes) read.0)
+    of_error bytes e read = inr read.0

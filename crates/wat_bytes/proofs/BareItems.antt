@@ -11,7 +11,7 @@ use Rattle.wat_text.specs.Denotes.{bare_kind}
 use Rattle.wat_text.specs.declared.modules.TextKind.{TextKind}
 use Rattle.wat_text.specs.declared.modules.TextKind.TheVariants as held
 use Rattle.wat_meaning.specs.Erasing.{erasing}
-use Rattle.wat_meaning.specs.Shown.{shown_fields}
+use Rattle.wat_ready.specs.Shown.{shown_fields}
 use Rattle.wat_meaning.proofs.Erased.{is_renaming}
 use Rattle.wat_meaning.proofs.ErasedRules.{items_erased}
 use Rattle.wat_meaning.proofs.OneMeaning.{of_bare}

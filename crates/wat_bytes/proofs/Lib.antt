@@ -1,3 +1,4 @@
+pub mod Asked
 pub mod BareAnswers
 pub mod BareItems
 pub mod Listing

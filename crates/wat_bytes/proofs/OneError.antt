@@ -28,7 +28,7 @@ use Rattle.wat_bytes.specs.declared.refusals.Refused.{Refused}
 use Rattle.wat_bytes.specs.declared.refusals.Refused.TheVariants as answer
 use Rattle.wat_bytes.specs.OneText.{IsOfLimits, SameError, diagnostic_in}
 use Rattle.wat_bytes.specs.Texts.{EncodesText, EncodesModule, EncodesReady, OfModule, RefusesText, kind_of, module_of, OfText}
-use Rattle.wat_bytes.proofs.OneText.{Limited, of_limits, of_covered, refused_well, not_uncovered}
+use Rattle.wat_bytes.proofs.OneText.{Limited, of_limits, of_covered, refused_memory, not_uncovered}
 
 -- Two errors are the same, or one is of limits.
 abbrev AreOne : Diagnostic → Diagnostic → Type 0
@@ -97,13 +97,11 @@ form_form u v (inr (inl y)) = absurd (not_uncovered v.form y)
 form_form u v (inr (inr same)) = inr (inr (ap Some same))
 
 both_modules : (m : TextModule) (q r : Refused) → EncodesModule (module_of m) (Err q) → EncodesModule (module_of m) (Err r) → AreOneOf q r
-both_modules m (answer.Text d) (answer.Text e) x y = inr (inr refl)
-both_modules m (answer.Text d) (answer.Module e) x y = absurd (x.is_not_ready y.ready)
-both_modules m (answer.Text d) (answer.Uncovered e) x y = absurd (x.is_not_ready y.ready)
-both_modules m (answer.Module d) (answer.Text e) x y = absurd (y.is_not_ready x.ready)
+both_modules m (answer.Text d) r x y = absurd x
+both_modules m (answer.Module d) (answer.Text e) x y = absurd y
 both_modules m (answer.Module d) (answer.Module e) x y = module_module d e (both_ready m d e x y)
 both_modules m (answer.Module d) (answer.Uncovered e) x y = module_form d e (both_ready m d (error_without_place (fault.Uncovered e.form)) x y)
-both_modules m (answer.Uncovered d) (answer.Text e) x y = absurd (y.is_not_ready x.ready)
+both_modules m (answer.Uncovered d) (answer.Text e) x y = absurd y
 both_modules m (answer.Uncovered d) (answer.Module e) x y = form_module d e (both_ready m (error_without_place (fault.Uncovered d.form)) e x y)
 both_modules m (answer.Uncovered d) (answer.Uncovered e) x y =
     form_form d e (both_ready m (error_without_place (fault.Uncovered d.form)) (error_without_place (fault.Uncovered e.form)) x y)
@@ -122,7 +120,7 @@ same_error bytes q r x y = go (denoted bytes) x y
     go None (inl x) y = absurd x
     go None (inr x) (inl y) = absurd y
     go None (inr x) (inr y) = inr (inr (of_text None q x ∙ sym (of_text None r y)))
-    go (Some m) (inl x) (inl y) = both_modules m q r x.1 y.1
-    go (Some m) (inl x) (inr y) = inr (inl (refused_well m r x.0 y))
-    go (Some m) (inr x) (inl y) = inl (refused_well m q y.0 x)
+    go (Some m) (inl x) (inl y) = both_modules m q r x y
+    go (Some m) (inl x) (inr y) = inr (inl (refused_memory m r y))
+    go (Some m) (inr x) (inl y) = inl (refused_memory m q x)
     go (Some m) (inr x) (inr y) = inr (inr (of_text (Some m) q x ∙ sym (of_text (Some m) r y)))

@@ -18,7 +18,7 @@ use Rattle.wat_bytes.specs.declared.refusals.Refused.TheVariants as answer
 use Rattle.wat_bytes.specs.Names.{ResolvesReady, IsResolvable, IsMetKind, HasNoNames, HasNoList, ListsText, NumbersText, content_of}
 use Rattle.wat_bytes.specs.OneText.{SameNumber, SameLookUp, SameList, SameListing, IsOfLimits}
 use Rattle.wat_bytes.specs.Texts.{OfModule, RefusesText, kind_of, module_of, OfText}
-use Rattle.wat_bytes.proofs.OneText.{Limited, of_limits, refused_well}
+use Rattle.wat_bytes.proofs.OneText.{Limited, of_limits, refused_memory}
 
 pub same_list : SameList
 unfolding OfText
@@ -26,7 +26,7 @@ same_list bytes a b x y = go (denoted bytes) x y
   where
     go : (o : Option TextModule) → OfModule ListsText o (Ok a) → OfModule ListsText o (Ok b) → map content_of a.items ≡ map content_of b.items
     go None x y = absurd x
-    go (Some m) x y = x.1.listed ∙ sym y.1.listed
+    go (Some m) x y = x.listed ∙ sym y.listed
 
 pub same_number : SameNumber
 unfolding OfText
@@ -34,7 +34,7 @@ same_number s name bytes m n x y = go (denoted bytes) x y
   where
     go : (o : Option TextModule) → OfModule (NumbersText s name) o (Ok m) → OfModule (NumbersText s name) o (Ok n) → m ≡ n
     go None x y = absurd x
-    go (Some t) x y = x.1.denotes ∙ sym y.1.denotes
+    go (Some t) x y = x.denotes ∙ sym y.denotes
 
 -- The errors of resolving a module that resolves are those of limits.
 unresolved_kind : (k : TextKind) (d : Error) (rest : ModuleKind) → IsMetKind (kind_of k) → ResolvesKind 1 (kind_of k) (Err d) rest → Limited (diagnostic_of d)
@@ -46,12 +46,12 @@ unresolved m d x y = unresolved_kind m.kind d y.left x.met y.resolves
 
 -- So are those of a look-up and of a list.
 no_names : (m : TextModule) (r : Refused) → IsResolvable (module_of m) → HasNoNames (module_of m) r → IsOfLimits r
-no_names m (answer.Text d) x y = absurd (y.is_not_ready x.ready)
+no_names m (answer.Text d) x y = absurd y
 no_names m (answer.Module d) x y = unresolved m d x y
 no_names m (answer.Uncovered d) x y = absurd y
 
 no_list : (m : TextModule) (r : Refused) → IsResolvable (module_of m) → HasNoList (module_of m) r → IsOfLimits r
-no_list m (answer.Text d) x y = absurd (y.is_not_ready x.ready)
+no_list m (answer.Text d) x y = absurd y
 no_list m (answer.Module d) x (inl y) = unresolved m d x y
 no_list m (answer.Module d) x (inr y) = inl (ap diagnostic_of y.1)
 no_list m (answer.Uncovered d) x y = absurd y
@@ -62,8 +62,8 @@ same_look_up s name bytes found r x y = go (denoted bytes) x y
   where
     go : (o : Option TextModule) → OfModule (NumbersText s name) o (Ok found) → OfModule (NumbersText s name) o (Err r) ⊎ RefusesText o r → IsOfLimits r
     go None x y = absurd x
-    go (Some m) x (inl y) = no_names m r x.1.resolves y.1
-    go (Some m) x (inr y) = refused_well m r x.0 y
+    go (Some m) x (inl y) = no_names m r x.resolves y
+    go (Some m) x (inr y) = refused_memory m r y
 
 pub same_listing : SameListing
 unfolding OfText
@@ -71,5 +71,5 @@ same_listing bytes all r x y = go (denoted bytes) x y
   where
     go : (o : Option TextModule) → OfModule ListsText o (Ok all) → OfModule ListsText o (Err r) ⊎ RefusesText o r → IsOfLimits r
     go None x y = absurd x
-    go (Some m) x (inl y) = no_list m r x.1.resolves y.1
-    go (Some m) x (inr y) = refused_well m r x.0 y
+    go (Some m) x (inl y) = no_list m r x.resolves y
+    go (Some m) x (inr y) = refused_memory m r y

@@ -3,7 +3,7 @@
 -- A contract on a text speaks of the module of the text, so two calls speak of one module.
 use Rattle.std.specs.Prelude.{⊤}
 use Rattle.std.specs.Global.{Vec}
-use Rattle.std.proofs.Common.{◌≡◌, ◌⊎◌, inl, inr, ℕ, Bool, true, false, List, Option, None, Some, Ok, Err, IsTrue, refl, sym, ap, ◌∙◌}
+use Rattle.std.proofs.Common.{◌≡◌, ◌≢◌, ◌⊎◌, inl, inr, ℕ, List, Option, None, Some, Ok, Err, refl, sym, ap, ◌∙◌}
 use Rattle.wast_base.specs.declared.faults.Error.{Error}
 use Rattle.wast_base.specs.declared.faults.Fault.TheVariants as fault
 use Rattle.wast_base.specs.declared.faults.Form.{Form}
@@ -21,8 +21,7 @@ use Rattle.wast_core.specs.Headline.{IsMet, EncodesKind, IsUnencoded, name_of_mo
 use Rattle.wast_core.specs.declared.module.ModuleKind.{ModuleKind}
 use Rattle.wat_tokens.specs.declared.faults.TextFault.{TextFault}
 use Rattle.wat_tokens.specs.declared.faults.TextFault.TheVariants as text
-use Rattle.wat_text.specs.Texts.{is_well_formed_text}
-use Rattle.wat_text.specs.Denotes.{module_of as denoted, Explains}
+use Rattle.wat_text.specs.Denotes.{module_of as denoted}
 use Rattle.wat_text.specs.declared.modules.TextKind.{TextKind}
 use Rattle.wat_text.specs.declared.modules.TextKind.TheVariants as held
 use Rattle.wat_text.specs.declared.modules.TextModule.{TextModule}
@@ -43,7 +42,7 @@ same_bytes bytes b c x y = go (denoted bytes) x y
   where
     go : (o : Option TextModule) → OfModule EncodesText o (Ok b) → OfModule EncodesText o (Ok c) → b.items ≡ c.items
     go None x y = absurd x
-    go (Some m) x y = one_encoding (name_of_module (module_of m)) m.kind x.1.left y.1.left b c x.1.encodes y.1.encodes
+    go (Some m) x y = one_encoding (name_of_module (module_of m)) m.kind x.left y.left b c x.encodes y.encodes
 
 -- An error that has no cause in the text.
 abbrev pub Limited : Diagnostic → Type 0
@@ -78,28 +77,27 @@ not_uncovered f (inl e) = absurd cc
 not_uncovered f (inr e) = absurd cc
 
 after_module : (m : TextModule) (b : Vec ℕ) (r : Refused) → EncodesReady (module_of m) (Ok b) → EncodesModule (module_of m) (Err r) → IsOfLimits r
-after_module m b (answer.Text d) x y = absurd (y.is_not_ready x.ready)
+after_module m b (answer.Text d) x y = absurd y
 after_module m b (answer.Module d) x y = limited (name_of_module (module_of m)) m.kind x.left y.left b d x.encodes y.encodes
 after_module m b (answer.Uncovered d) x y =
     not_uncovered d.form (limited (name_of_module (module_of m)) m.kind x.left y.left b (error_without_place (fault.Uncovered d.form)) x.encodes y.encodes)
 
--- The errors of a text that has a well-formed module.
-differ : (a : Bool) → IsTrue a → a ≡ false → ⊥
-differ a is e = cc
+-- An error of a text that has a module is of a failed allocation.
+memory_or : (f : TextFault) → (f ≡ text.Memory) ⊎ (f ≢ text.Memory)
+memory_or text.Memory = inl refl
+memory_or f = inr (λ e. cc)
 
-of_fault : (m : TextModule) (f : TextFault) → IsTrue (is_well_formed_text m.kind) → Explains (Some m ≡ None) (is_well_formed_text m.kind ≡ false) f → f ≡ text.Memory
-of_fault m text.Memory well is = refl
-of_fault m (text.IllFormed n) well (inl is) = absurd cc
-of_fault m (text.IllFormed n) well (inr is) = absurd (differ (is_well_formed_text m.kind) well is)
-of_fault m f well is = absurd (none_not is)
+of_fault : (m : TextModule) (f : TextFault) → (f ≡ text.Memory) ⊎ (f ≢ text.Memory) → (f ≢ text.Memory → Some m ≡ None) → f ≡ text.Memory
+of_fault m f (inl is) none = is
+of_fault m f (inr not) none = absurd (is_some (none not))
   where
-    none_not : Some m ≡ None → ⊥
-    none_not e = absurd cc
+    is_some : Some m ≡ None → ⊥
+    is_some e = absurd cc
 
-pub refused_well : (m : TextModule) (r : Refused) → IsTrue (is_well_formed_text m.kind) → RefusesText (Some m) r → IsOfLimits r
-refused_well m (answer.Text e) well x = of_fault m e.fault well x
-refused_well m (answer.Module e) well x = absurd x
-refused_well m (answer.Uncovered u) well x = absurd x
+pub refused_memory : (m : TextModule) (r : Refused) → RefusesText (Some m) r → IsOfLimits r
+refused_memory m (answer.Text e) x = of_fault m e.fault (memory_or e.fault) x
+refused_memory m (answer.Module e) x = absurd x
+refused_memory m (answer.Uncovered u) x = absurd x
 
 pub same_success : SameSuccess
 unfolding OfText
@@ -107,5 +105,5 @@ same_success bytes b r x y = go (denoted bytes) x y
   where
     go : (o : Option TextModule) → OfModule EncodesText o (Ok b) → OfModule EncodesText o (Err r) ⊎ RefusesText o r → IsOfLimits r
     go None x y = absurd x
-    go (Some m) x (inl y) = after_module m b r x.1 y.1
-    go (Some m) x (inr y) = refused_well m r x.0 y
+    go (Some m) x (inl y) = after_module m b r x y
+    go (Some m) x (inr y) = refused_memory m r y

@@ -23,7 +23,7 @@ use Rattle.wat_text.specs.declared.modules.TextModule.{TextModule}
 use Rattle.wat_bytes.specs.declared.names.Denoted.{Denoted}
 use Rattle.wat_bytes.specs.declared.refusals.Refused.{Refused}
 use Rattle.wat_bytes.specs.declared.refusals.Refused.TheVariants as answer
-use Rattle.wat_bytes.specs.Texts.{IsUnready, module_of}
+use Rattle.wat_bytes.specs.Texts.{module_of}
 
 -- The result of resolving a module that may be resolved, as the headline theorem states it, with the id counter at 1.
 pub record ResolvesReady (m : Module) (r : Result KnownNames Error) : Type 0 where
@@ -54,7 +54,7 @@ number_in m s name = (id_context (items_with_ids m.kind)).number s (Written name
 
 -- Why a module has no names.
 abbrev pub HasNoNames : Module → Refused → Type 0
-HasNoNames m (answer.Text e) = IsUnready m e
+HasNoNames m (answer.Text e) = ⊥
 HasNoNames m (answer.Module e) = ResolvesReady m (Err e)
 HasNoNames m (answer.Uncovered u) = ⊥
 
@@ -62,10 +62,6 @@ HasNoNames m (answer.Uncovered u) = ⊥
 abbrev pub ResolvesModule : Module → Result KnownNames Refused → Type 0
 ResolvesModule m (Ok names) = ResolvesReady m (Ok names)
 ResolvesModule m (Err r) = HasNoNames m r
-
--- The result of resolving a parsed module.
-abbrev pub ResolvesText : TextModule → Result KnownNames Refused → Type 0
-ResolvesText t r = ResolvesModule (module_of t) r
 
 -- What an entry of a list says: an index space, and an index with the name and the position of its id.
 abbrev pub Entry : Type 0
@@ -116,21 +112,27 @@ ListsReady m (Err e) = ResolvesReady m (Err e) ⊎ (IsReady m 1 × (e ≡ out_of
 
 -- Why a module has no list of names.
 abbrev pub HasNoList : Module → Refused → Type 0
-HasNoList m (answer.Text e) = IsUnready m e
+HasNoList m (answer.Text e) = ⊥
 HasNoList m (answer.Module e) = ListsReady m (Err e)
 HasNoList m (answer.Uncovered u) = ⊥
 
--- The result of listing the names of a parsed module.
+-- The result of listing the names of a module, and of a parsed one.
+abbrev pub ListsModule : Module → Result (Vec Denoted) Refused → Type 0
+ListsModule m (Ok all) = Lists m all.items
+ListsModule m (Err r) = HasNoList m r
+
 abbrev pub ListsText : TextModule → Result (Vec Denoted) Refused → Type 0
-ListsText t (Ok all) = Lists (module_of t) all.items
-ListsText t (Err r) = HasNoList (module_of t) r
+ListsText t r = ListsModule (module_of t) r
 
 -- The index of a name in an index space of a module, if there is one.
 pub record Numbers (space : Space) (name : List ℕ) (m : Module) (found : Option ℕ) : Type 0 where
   pub resolves : IsResolvable m
   pub denotes : found ≡ number_in m space name
 
--- The result of looking a name up in a parsed module.
+-- The result of looking a name up in a module, and in a parsed one.
+abbrev pub NumbersModule : Space → List ℕ → Module → Result (Option ℕ) Refused → Type 0
+NumbersModule space name m (Ok found) = Numbers space name m found
+NumbersModule space name m (Err r) = HasNoNames m r
+
 abbrev pub NumbersText : Space → List ℕ → TextModule → Result (Option ℕ) Refused → Type 0
-NumbersText space name t (Ok found) = Numbers space name (module_of t) found
-NumbersText space name t (Err r) = HasNoNames (module_of t) r
+NumbersText space name t r = NumbersModule space name (module_of t) r

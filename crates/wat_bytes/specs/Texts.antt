@@ -4,7 +4,7 @@
 --   (module (func))      the bytes of a module with one type and one function
 --   (module (func $f) (func $f))      an error of that module: $f is a duplicate identifier
 --   (module (func)      an error of the text: it denotes no module
-use Rattle.std.specs.Prelude.{◌≡◌, ◌⊎◌, ℕ, ◌≤◌, false, List, length, Option, Some, None, Result, Ok, Err, ⊤, IsTrue}
+use Rattle.std.specs.Prelude.{◌≡◌, ◌≢◌, ◌⊎◌, ℕ, ◌≤◌, List, length, Option, Some, None, Result, Ok, Err, ⊤}
 use Rattle.std.specs.Option.{unwrap_or}
 use Rattle.std.specs.Global.{Vec}
 use Rattle.wast_base.specs.declared.faults.Error.{Error}
@@ -19,8 +19,7 @@ use Rattle.wat_tokens.specs.declared.faults.TextFault.TheVariants as text
 use Rattle.wat_text.specs.declared.modules.TextKind.{TextKind}
 use Rattle.wat_text.specs.declared.modules.TextKind.TheVariants as held
 use Rattle.wat_text.specs.declared.modules.TextModule.{TextModule}
-use Rattle.wat_text.specs.Texts.{is_well_formed_text}
-use Rattle.wat_text.specs.Denotes.{module_of as denoted, Denotes, DenotesNothing, DenotesIllFormed, Explains}
+use Rattle.wat_text.specs.Denotes.{module_of as denoted, Denotes, DenotesNothing}
 use Rattle.wast_core_sections.specs.Uncovered.{head_of, uncovered_forms}
 use Rattle.wast_core.specs.declared.module.Module.{Module}
 use Rattle.wast_core.specs.declared.module.ModuleKind.{ModuleKind}
@@ -39,8 +38,8 @@ kind_of (held.Binary pieces) = kind.Binary pieces
 abbrev pub module_of : TextModule → Module
 module_of t = record { span = t.span; id = t.id; name = t.name; kind = kind_of t.kind }
 
--- Why a module may not be resolved: the first rule of well-formedness that it breaks, or else rule 6 about generated
--- ids.
+-- Why a parsed module that a caller has changed may not be resolved: the first rule of well-formedness that it breaks, or else rule 6 about
+-- generated ids. The module of a text may be resolved, because the rules read no other (wat_ready).
 abbrev pub unready : Module → TextError
 unready m = record { fault = text.IllFormed (unwrap_or (ill_formed m) 6); span = text_start }
 
@@ -55,11 +54,10 @@ pub record EncodesReady (m : Module) (r : Result (Vec ℕ) Error) : Type 0 where
   pub left : ModuleKind
   pub encodes : EncodesKind 1 (name_of_module m) m.kind r left
 
--- The result of encoding a module. The token of an unsupported construct is not part of it, because a module has no
--- text.
+-- The same, with the errors of this crate. The token of an unsupported construct is not part of it, because a module has no text.
 abbrev pub EncodesModule : Module → Result (Vec ℕ) Refused → Type 0
 EncodesModule m (Ok bytes) = EncodesReady m (Ok bytes)
-EncodesModule m (Err (answer.Text e)) = IsUnready m e
+EncodesModule m (Err (answer.Text e)) = ⊥
 EncodesModule m (Err (answer.Module e)) = EncodesReady m (Err e)
 EncodesModule m (Err (answer.Uncovered u)) = EncodesReady m (Err (error_without_place (fault.Uncovered u.form)))
 
@@ -67,25 +65,25 @@ EncodesModule m (Err (answer.Uncovered u)) = EncodesReady m (Err (error_without_
 abbrev pub EncodesText : TextModule → Result (Vec ℕ) Refused → Type 0
 EncodesText t r = EncodesModule (module_of t) r
 
--- What parsing a text returns: the module that the text denotes, if its fields are well formed. Otherwise it is an error with a
--- position in the text, and its fault says why: the text denotes no module, or one that is not well formed, or allocation failed.
-unfoldable pub IsRead : List ℕ → Result TextModule TextError → Type 0
-IsRead bytes (Ok t) = Denotes bytes t × IsTrue (is_well_formed_text t.kind)
-IsRead bytes (Err e) = Explains (DenotesNothing bytes) (DenotesIllFormed bytes) e.fault × (e.span.offset ≤ length bytes)
+-- The result for a parsed module, which a caller may have changed: that of a module that may be resolved, or why it may not.
+abbrev pub OrUnready : {A : Type 0} → (Module → Result A Refused → Type 0) → Module → Result A Refused → Type 0
+OrUnready is_answer m (Err (answer.Text e)) = IsUnready m e
+OrUnready is_answer m r = is_answer m r
 
--- The result for the module of a text: there is one, it is well formed, and this is its result.
+-- What parsing a text returns: the module that the text denotes. Otherwise it is an error with a position in the text, and the text
+-- denotes no module, unless an allocation failed.
+unfoldable pub IsRead : List ℕ → Result TextModule TextError → Type 0
+IsRead bytes (Ok t) = Denotes bytes t
+IsRead bytes (Err e) = (e.fault ≢ text.Memory → DenotesNothing bytes) × (e.span.offset ≤ length bytes)
+
+-- The result for the module of a text: there is one, and this is its result.
 abbrev pub OfModule : {A : Type 0} → (TextModule → Result A Refused → Type 0) → Option TextModule → Result A Refused → Type 0
-OfModule is_answer (Some m) r = IsTrue (is_well_formed_text m.kind) × is_answer m r
+OfModule is_answer (Some m) r = is_answer m r
 OfModule is_answer None r = ⊥
 
--- A text has a module that is not well formed.
-abbrev pub IsIllFormedIn : Option TextModule → Type 0
-IsIllFormedIn (Some m) = is_well_formed_text m.kind ≡ false
-IsIllFormedIn None = ⊥
-
--- Why a text has no result of a module: it has no module, or one that is not well formed, or allocation failed (Explains in wat_text).
+-- Why a text has no result of a module: it has no module, or an allocation failed.
 abbrev pub RefusesText : Option TextModule → Refused → Type 0
-RefusesText m (answer.Text e) = Explains (m ≡ None) (IsIllFormedIn m) e.fault
+RefusesText m (answer.Text e) = e.fault ≢ text.Memory → m ≡ None
 RefusesText m (answer.Module e) = ⊥
 RefusesText m (answer.Uncovered u) = ⊥
 

@@ -1,15 +1,15 @@
 //! The bytes of a text.
 
-ghost use Rattle.std.specs.Prelude.{IfErr, IsTrue};
-ghost use Rattle.wast_core.specs.Modules.{IsReady, is_well_formed};
-ghost use Rattle.wat_bytes.specs.Texts.{EncodesModule, EncodesText, IsPlaced, OfText, RefusesWith, module_of};
+ghost use Rattle.std.specs.Prelude.{IfErr};
+ghost use Rattle.wast_core.specs.Modules.{IsReady};
+ghost use Rattle.wat_bytes.specs.Texts.{EncodesModule, EncodesText, IsPlaced, OfText, OrUnready, RefusesWith, module_of};
 
 use crate::laws::bare_laws;
 use crate::modules::{is_ready, module_of, read_text, release, unready};
 use crate::refusals::{Refused, UncoveredForm};
 use crate::uncovered::{as_written, first_form};
 use std::alloc::Global;
-use wast_core::{EncodeOptions, Module};
+use wast_core::{EncodeOptions, Module, discard_module};
 use wast_tree::{Error, Fault, Gensym};
 use wat_text::{Strings, TextModule};
 
@@ -44,22 +44,28 @@ fn encoded<'a>(alloc: Global, module: &mut Module<'a>) -> Result<Vec<u8>, Refuse
     }
 }
 
-/// Resolves and encodes a module. If `is_told` is true, it is known to be well formed. If `is_last`
-/// is true, it is not freed.
+/// Returns the bytes of a module, if it may be resolved with a counter at 1.
+#[tactic(auto, using(crate::proofs::Asked::encoded_asked))]
+fn encoded_if_ready<'a>(alloc: Global, module: &mut Module<'a>) -> Result<Vec<u8>, Refused<'a>>
+    ensures { OrUnready EncodesModule «module».old result }
+{
+    match is_ready(module) {
+        true => encoded(alloc, module),
+        false => Err(Refused::Text(unready(module))),
+    }
+}
+
+/// Resolves and encodes a parsed module that may be resolved. If `is_last` is true, it is not freed.
 fn encoded_module<'a>(
     alloc: Global,
     text: TextModule<'a>,
-    is_told: bool,
     is_last: bool,
 ) -> Result<Vec<u8>, Refused<'a>>
-    requires told { IsTrue is_told → IsTrue (is_well_formed (module_of text)) }
+    requires ready { IsReady (module_of text) 1 }
     ensures { EncodesText text.entry result }
 {
     let mut module = module_of(text);
-    let answer = match is_ready(&mut module, is_told) {
-        true => encoded(alloc, &mut module),
-        false => Err(Refused::Text(unready(&mut module))),
-    };
+    let answer = encoded(alloc, &mut module);
     release(module, is_last);
     answer
 }
@@ -79,8 +85,8 @@ fn encoded_module<'a>(
 /// # Errors
 ///
 /// - [`Refused::Text`]: the module is not well formed, or has a generated id. It has the first rule
-///   of well-formedness that is broken, or else rule 6, at offset 0. [`read`](wat_text::read)
-///   returns well-formed modules, and no text has a generated id.
+///   of well-formedness that is broken, or else rule 6, at offset 0. This happens only after a
+///   change of the module, because the rules of the text format read no such module.
 /// - [`Refused::Uncovered`]: E11, with the position that
 ///   [`first_uncovered`](wast_tree::first_uncovered) finds in the resolved fields, and no token.
 ///   [`encode_text`] has the token.
@@ -89,16 +95,19 @@ fn encoded_module<'a>(
 /// # Guarantees
 ///
 /// The result is that of `encode_module` of `wast_core` for this module, with the id counter at 1
-/// (`EncodesText`). The contract permits E12 from any call that allocates. Tests check that it
-/// comes only if an allocation fails.
+/// (`EncodesModule`), if the module may be resolved (`OrUnready`). The contract permits E12 from any
+/// call that allocates. Tests check that it comes only if an allocation fails.
 pub fn encoded_text<'a>(alloc: Global, text: TextModule<'a>) -> Result<Vec<u8>, Refused<'a>>
-    ensures { EncodesText text.entry result }
+    ensures { OrUnready EncodesModule (module_of text.entry) result }
 {
-    encoded_module(alloc, text, false, false)
+    let mut module = module_of(text);
+    let answer = encoded_if_ready(alloc, &mut module);
+    discard_module(module);
+    answer
 }
 
-/// Returns the bytes of the module of this text, which is well formed. An unsupported construct has
-/// its token, or the error is E12. If `is_last` is true, the module is not freed.
+/// Returns the bytes of the module of this text. An unsupported construct has its token, or the
+/// error is E12. If `is_last` is true, the module is not freed.
 #[tactic(auto, using(crate::proofs::OutOfMemory::memory_instead))]
 fn encoded_in<'a>(
     alloc: Global,
@@ -107,10 +116,10 @@ fn encoded_in<'a>(
     module: TextModule<'a>,
     is_last: bool,
 ) -> Result<Vec<u8>, Refused<'a>>
-    requires well_formed { IsTrue (is_well_formed (module_of «module»)) }
+    requires ready { IsReady (module_of «module») 1 }
     ensures { EncodesText «module».entry result }
 {
-    match encoded_module(alloc, module, true, is_last) {
+    match encoded_module(alloc, module, is_last) {
         Err(Refused::Uncovered(found)) => match as_written(alloc, text, strings, found) {
             Ok(written) => Err(Refused::Uncovered(written)),
             Err(_) => Err(Refused::Module(Error::refusal(Fault::Memory))),
@@ -153,8 +162,9 @@ fn encode<'a>(
 /// # Guarantees
 ///
 /// - `answer`: the result is that of [`encoded_text`] for the module that the text denotes, or an
-///   error of the text, which denotes no module then, or one that is not well formed (`OfText`).
-///   That module is a function of the text (`module_of` in `wat_text`).
+///   error of the text, which denotes no module then, unless allocation failed (`OfText`). That
+///   module is a function of the text (`module_of` in `wat_text`). It may always be resolved
+///   (`ready_laws` of `wat_ready`), so neither it nor its ids are checked for that.
 /// - `place`: an error of the text is in the text or at its end.
 pub fn encode_text<'a>(
     alloc: Global,

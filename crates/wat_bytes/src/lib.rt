@@ -26,8 +26,8 @@
 //! # Guarantees
 //!
 //! - [`encode_text`], `answer`: the result is that of `encode_module` for the module that the text
-//!   denotes. Otherwise it is an error of the text, which denotes no module then, or one that is not
-//!   well formed.
+//!   denotes. Otherwise it is an error of the text, which denotes no module then, unless allocation
+//!   failed.
 //! - [`names_of_text`], `answer`: the list has the index, the name and the position of each source id
 //!   of that module.
 //! - [`one_result`]: two calls that succeed for one text return the same bytes, the same list of

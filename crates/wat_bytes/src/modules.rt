@@ -1,9 +1,10 @@
 //! A parsed text as a module of `wast_core`.
 
 ghost use Rattle.std.specs.Prelude.{◌≡◌, ◌≤◌, length, IfOk, IfErr, IsTrue, IsFalse};
-ghost use Rattle.wast_core.specs.Modules.{IsReady, is_well_formed};
+ghost use Rattle.wast_core.specs.Modules.{IsReady};
 ghost use Rattle.wat_bytes.specs.Texts.{IsRead, module_of, unready};
 
+use crate::laws::bare_laws;
 use std::alloc::Global;
 use std::mem::ManuallyDrop;
 use wast_core::{Module, ModuleKind, discard_module};
@@ -13,16 +14,18 @@ use wat_text::{Strings, TextError, TextFault, TextKind, TextModule, read};
 /// The rule of well-formedness about generated ids.
 const GENERATED: u8 = 6;
 
-/// Parses a text. What is proved of the result for a text goes back to this call: see `IsRead`.
+/// Parses a text. What is proved of the result for a text goes back to this call: see `IsRead`. The
+/// module may be resolved with a counter at 1, because the rules read no other.
 pub(crate) fn read_text<'a>(
     alloc: Global,
     text: &'a str,
     strings: &'a Strings,
 ) -> Result<TextModule<'a>, TextError>
     ensures read { IsRead text.now result }
-    ensures well_formed { IfOk result (λ t. IsTrue (is_well_formed (module_of t))) }
+    ensures ready { IfOk result (λ t. IsReady (module_of t) 1) }
     ensures place { IfErr result (λ e. e.span.offset ≤ length text.now) }
 {
+    bare_laws();
     read(alloc, text, strings)
 }
 
@@ -61,16 +64,14 @@ pub fn module_of<'a>(text: TextModule<'a>) -> Module<'a>
 
 /// Returns whether a module may be resolved with a counter at 1.
 ///
-/// If `is_told` is true, the module is known to be well formed, as after parsing, and is not
-/// walked. It takes `&mut` and changes nothing, because for a `&` the prover would compare the type
-/// of the whole tree with itself.
-pub(crate) fn is_ready(module: &mut Module<'_>, is_told: bool) -> bool
-    requires told { IsTrue is_told → IsTrue (is_well_formed «module».old) }
+/// It is for a module that a caller may have changed. It takes `&mut` and changes nothing, because
+/// for a `&` the prover would compare the type of the whole tree with itself.
+pub(crate) fn is_ready(module: &mut Module<'_>) -> bool
     ensures ready { IsTrue result → IsReady «module».old 1 }
     ensures unready { IsFalse result → IsReady «module».old 1 → ⊥ }
     ensures stays { «module».new ≡ «module».old }
 {
-    (is_told || module.well_formed()) && module.gensym_bound() < 1
+    module.well_formed() && module.gensym_bound() < 1
 }
 
 /// Returns why a module cannot be resolved with a counter at 1. It takes `&mut` for the reason that

@@ -1,14 +1,14 @@
 //! The ids of a text, their indices and their positions.
 
-ghost use Rattle.std.specs.Prelude.{◌≡◌, IfErr, IsTrue};
+ghost use Rattle.std.specs.Prelude.{◌≡◌, IfErr};
 ghost use Rattle.wast_base.specs.Ids.{Written};
 ghost use Rattle.wast_resolve_names.specs.LookUps.{IsSettledFor};
 ghost use Rattle.wast_resolve_names.specs.Resolvers.{known_to};
 ghost use Rattle.wast_resolve_rules.specs.Resolved.{numbered_at};
 ghost use Rattle.wast_core.specs.Headline.{ResolvesKind};
-ghost use Rattle.wast_core.specs.Modules.{IsReady, is_well_formed};
-ghost use Rattle.wat_bytes.specs.Texts.{IsPlaced, OfText, module_of};
-ghost use Rattle.wat_bytes.specs.Names.{ListsReady, ListsText, NumbersText, ResolvesReady, ResolvesText};
+ghost use Rattle.wast_core.specs.Modules.{IsReady};
+ghost use Rattle.wat_bytes.specs.Texts.{IsPlaced, OfText, OrUnready, module_of};
+ghost use Rattle.wat_bytes.specs.Names.{ListsModule, ListsReady, ListsText, NumbersModule, NumbersText, ResolvesModule, ResolvesReady};
 
 use crate::laws::bare_laws;
 use crate::lister;
@@ -49,25 +49,16 @@ fn resolved<'a>(alloc: Global, module: &mut Module<'a>) -> Result<Names<'a>, Err
     module.resolve(alloc, &mut gensym)
 }
 
-/// Returns the names of a parsed module. If `is_told` is true, it is known to be well formed.
-fn resolved_text<'a>(
-    alloc: Global,
-    text: TextModule<'a>,
-    is_told: bool,
-) -> Result<Names<'a>, Refused<'a>>
-    requires told { IsTrue is_told → IsTrue (is_well_formed (module_of text)) }
-    ensures { ResolvesText text.entry result }
+/// Returns the names of a module that may be resolved with a counter at 1, or the error as one of
+/// this crate.
+fn names_known<'a>(alloc: Global, module: &mut Module<'a>) -> Result<Names<'a>, Refused<'a>>
+    requires ready { IsReady «module».old 1 }
+    ensures { ResolvesModule «module».old result }
 {
-    let mut module = module_of(text);
-    let answer = match is_ready(&mut module, is_told) {
-        true => match resolved(alloc, &mut module) {
-            Ok(names) => Ok(names),
-            Err(error) => Err(Refused::Module(error)),
-        },
-        false => Err(Refused::Text(unready(&mut module))),
-    };
-    discard_module(module);
-    answer
+    match resolved(alloc, module) {
+        Ok(names) => Ok(names),
+        Err(error) => Err(Refused::Module(error)),
+    }
 }
 
 /// Resolves a module that may be resolved with a counter at 1, and returns its source ids.
@@ -84,25 +75,44 @@ fn listed<'a>(alloc: Global, module: &mut Module<'a>) -> Result<Vec<Denoted<'a>>
     }
 }
 
-/// Resolves a parsed module, and returns its source ids. If `is_told` is true, it is known to be
-/// well formed. If `is_last` is true, it is not freed.
+/// Returns the source ids of a module that may be resolved with a counter at 1, or the error as one
+/// of this crate.
+fn all_listed<'a>(alloc: Global, module: &mut Module<'a>) -> Result<Vec<Denoted<'a>>, Refused<'a>>
+    requires ready { IsReady «module».old 1 }
+    ensures { ListsModule «module».old result }
+{
+    match listed(alloc, module) {
+        Ok(all) => Ok(all),
+        Err(error) => Err(Refused::Module(error)),
+    }
+}
+
+/// Returns the source ids of a module, if it may be resolved with a counter at 1.
+#[tactic(auto, using(crate::proofs::Asked::listed_asked))]
+fn listed_if_ready<'a>(
+    alloc: Global,
+    module: &mut Module<'a>,
+) -> Result<Vec<Denoted<'a>>, Refused<'a>>
+    ensures { OrUnready ListsModule «module».old result }
+{
+    match is_ready(module) {
+        true => all_listed(alloc, module),
+        false => Err(Refused::Text(unready(module))),
+    }
+}
+
+/// Resolves a parsed module that may be resolved, and returns its source ids. If `is_last` is true,
+/// it is not freed.
 fn names_in<'a>(
     alloc: Global,
     text: TextModule<'a>,
-    is_told: bool,
     is_last: bool,
 ) -> Result<Vec<Denoted<'a>>, Refused<'a>>
-    requires told { IsTrue is_told → IsTrue (is_well_formed (module_of text)) }
+    requires ready { IsReady (module_of text) 1 }
     ensures { ListsText text.entry result }
 {
     let mut module = module_of(text);
-    let answer = match is_ready(&mut module, is_told) {
-        true => match listed(alloc, &mut module) {
-            Ok(all) => Ok(all),
-            Err(error) => Err(Refused::Module(error)),
-        },
-        false => Err(Refused::Text(unready(&mut module))),
-    };
+    let answer = all_listed(alloc, &mut module);
     release(module, is_last);
     answer
 }
@@ -128,11 +138,14 @@ fn names_in<'a>(
 /// # Guarantees
 ///
 /// The list has the name, the index and the position of each source id of the items of the module,
-/// and of no other (`ListsText`).
+/// and of no other (`ListsModule`), if the module may be resolved (`OrUnready`).
 pub fn names_of<'a>(alloc: Global, text: TextModule<'a>) -> Result<Vec<Denoted<'a>>, Refused<'a>>
-    ensures { ListsText text.entry result }
+    ensures { OrUnready ListsModule (module_of text.entry) result }
 {
-    names_in(alloc, text, false, false)
+    let mut module = module_of(text);
+    let answer = listed_if_ready(alloc, &mut module);
+    discard_module(module);
+    answer
 }
 
 /// Does what [`names_of_text`] does. If `is_last` is true, the module is not freed.
@@ -147,7 +160,7 @@ fn list_names<'a>(
 {
     bare_laws();
     match read_text(alloc, text, strings) {
-        Ok(module) => names_in(alloc, module, true, is_last),
+        Ok(module) => names_in(alloc, module, is_last),
         Err(error) => Err(Refused::Text(error)),
     }
 }
@@ -169,7 +182,7 @@ fn list_names<'a>(
 /// # Guarantees
 ///
 /// - `answer`: the result is that of [`names_of`] for the module that the text denotes, or an error
-///   of the text, which denotes no module then, or one that is not well formed (`OfText`).
+///   of the text, which denotes no module then, unless allocation failed (`OfText`).
 /// - `place`: an error of the text is in the text or at its end.
 pub fn names_of_text<'a>(
     alloc: Global,
@@ -245,20 +258,19 @@ fn number_of<'a>(names: &Names<'a>, space: Space, name: &'a str) -> Option<u32>
     }
 }
 
-/// Resolves a parsed module, and returns the index of a name in an index space. If `is_told` is
-/// true, the module is known to be well formed.
+/// Resolves a module that may be resolved with a counter at 1, and returns the index of a name in an
+/// index space.
 #[tactic(auto, using(crate::proofs::Resolvable::numbers_made))]
 fn found_in<'a>(
     alloc: Global,
-    text: TextModule<'a>,
+    module: &mut Module<'a>,
     space: Space,
     name: &'a str,
-    is_told: bool,
 ) -> Result<Option<u32>, Refused<'a>>
-    requires told { IsTrue is_told → IsTrue (is_well_formed (module_of text)) }
-    ensures { NumbersText space name.now text.entry result }
+    requires ready { IsReady «module».old 1 }
+    ensures { NumbersModule space name.now «module».old result }
 {
-    match resolved_text(alloc, text, is_told) {
+    match names_known(alloc, module) {
         Ok(names) => {
             let number = number_of(&names, space, name);
             discard_names(names);
@@ -266,6 +278,39 @@ fn found_in<'a>(
         }
         Err(refused) => Err(refused),
     }
+}
+
+/// Returns the index of a name in an index space of a module, if the module may be resolved with a
+/// counter at 1.
+#[tactic(auto, using(crate::proofs::Asked::numbered_asked))]
+fn found_if_ready<'a>(
+    alloc: Global,
+    module: &mut Module<'a>,
+    space: Space,
+    name: &'a str,
+) -> Result<Option<u32>, Refused<'a>>
+    ensures { OrUnready (NumbersModule space name.now) «module».old result }
+{
+    match is_ready(module) {
+        true => found_in(alloc, module, space, name),
+        false => Err(Refused::Text(unready(module))),
+    }
+}
+
+/// Resolves a parsed module that may be resolved, and returns the index of a name in an index space.
+fn found_in_text<'a>(
+    alloc: Global,
+    text: TextModule<'a>,
+    space: Space,
+    name: &'a str,
+) -> Result<Option<u32>, Refused<'a>>
+    requires ready { IsReady (module_of text) 1 }
+    ensures { NumbersText space name.now text.entry result }
+{
+    let mut module = module_of(text);
+    let answer = found_in(alloc, &mut module, space, name);
+    discard_module(module);
+    answer
 }
 
 /// Resolves a parsed module, and returns the index of a name in an index space (text format:
@@ -288,16 +333,19 @@ fn found_in<'a>(
 /// # Guarantees
 ///
 /// The result is exactly what the names that `resolve` returns for this module have for the name
-/// (`NumbersText`).
+/// (`NumbersModule`), if the module may be resolved (`OrUnready`).
 pub fn number_in<'a>(
     alloc: Global,
     text: TextModule<'a>,
     space: Space,
     name: &'a str,
 ) -> Result<Option<u32>, Refused<'a>>
-    ensures { NumbersText space name.now text.entry result }
+    ensures { OrUnready (NumbersModule space name.now) (module_of text.entry) result }
 {
-    found_in(alloc, text, space, name, false)
+    let mut module = module_of(text);
+    let answer = found_if_ready(alloc, &mut module, space, name);
+    discard_module(module);
+    answer
 }
 
 /// Parses a module in the text format, resolves it, and returns the index of a name in an index
@@ -317,7 +365,7 @@ pub fn number_in<'a>(
 /// # Guarantees
 ///
 /// - `answer`: the result is that of [`number_in`] for the module that the text denotes, or an error
-///   of the text, which denotes no module then, or one that is not well formed (`OfText`).
+///   of the text, which denotes no module then, unless allocation failed (`OfText`).
 /// - `place`: an error of the text is in the text or at its end.
 pub fn number_in_text<'a>(
     alloc: Global,
@@ -331,7 +379,7 @@ pub fn number_in_text<'a>(
 {
     bare_laws();
     match read_text(alloc, text, strings) {
-        Ok(module) => found_in(alloc, module, space, name, true),
+        Ok(module) => found_in_text(alloc, module, space, name),
         Err(error) => Err(Refused::Text(error)),
     }
 }

@@ -46,7 +46,8 @@ impl fmt::Display for UncoveredForm<'_> {
 /// This prints ``uncovered form: instruction beyond the table: `i64.add128` ``.
 #[derive(Clone, Copy, Debug, PartialEq, Eq)]
 pub enum Refused<'a> {
-    /// The text is not a module in the text format, or not well formed.
+    /// The text is not a module in the text format, or a parsed module was changed and is not well
+    /// formed any more, or allocation failed.
     Text(TextError),
     /// Resolving or encoding the module fails with this error.
     Module(Error<'a>),
@@ -62,7 +63,7 @@ const MEMORY: u32 = 12;
 
 impl Refused<'_> {
     /// Returns the number of the error, 1 for E1 to 13 for E13, or `None` if the text is not a
-    /// well-formed module.
+    /// module.
     ///
     /// It is 12 for each failed allocation, also for one before the text was read. Does not
     /// allocate.

@@ -28,7 +28,7 @@ use Rattle.wast_core.proofs.Fronts.{same_space_of, sigs_changed}
 use Rattle.wast_core.proofs.ToldTypes.{each_alike}
 use Rattle.wat_syntax.specs.Bare.{bare_id}
 use Rattle.wat_meaning.specs.Erasing.{erasing}
-use Rattle.wat_meaning.proofs.Erased.{name_kept}
+use Rattle.wat_ready.proofs.Erased.{name_kept}
 
 -- The change that sets ids to address 0.
 abbrev erased : Change

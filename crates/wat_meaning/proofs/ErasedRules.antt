@@ -24,7 +24,8 @@ use Rattle.wast_core.specs.Tree.{Index, Space, TypeUse, FunctionType, ModuleFiel
 use Rattle.wast_core.specs.Tree.index
 use Rattle.wast_core.specs.Tree.space
 use Rattle.wat_meaning.specs.Erasing.{erasing}
-use Rattle.wat_meaning.proofs.Erased.{name_kept, is_renaming}
+use Rattle.wat_ready.proofs.Erased.{name_kept}
+use Rattle.wat_meaning.proofs.Erased.{is_renaming}
 
 -- The change that sets ids to address 0, and an index after it.
 abbrev change : Change

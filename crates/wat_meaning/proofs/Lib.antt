@@ -14,13 +14,10 @@ pub mod ShownForms
 pub mod ShownInline
 pub mod ShownInlineLists
 pub mod ShownItems
-pub mod ShownLists
 pub mod ShownNames
 pub mod ShownParts
 pub mod ShownResolved
-pub mod ShownSites
 pub mod ShownSizes
-pub mod ShownTypeParts
 pub mod ShownTypes
 pub mod ShownTypesMapped
 pub mod WorkedMeanings

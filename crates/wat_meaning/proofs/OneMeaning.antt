@@ -15,7 +15,7 @@ use Rattle.wast_core.specs.Meaning.{meaning}
 use Rattle.wast_core.specs.OtherForms.{RenamedForms}
 use Rattle.wast_core.specs.Tree.{ModuleField}
 use Rattle.wat_syntax.specs.BareFields.{bare_fields}
-use Rattle.wat_meaning.specs.Shown.{shown_fields}
+use Rattle.wat_ready.specs.Shown.{shown_fields}
 use Rattle.wat_meaning.specs.Erasing.{erasing}
 use Rattle.wat_meaning.specs.Laws.{SameAnswer, SameMeaning, SameForms, SameCount, SameRules, SameGeneration, SameTooLarge, SameBounds}
 use Rattle.wat_meaning.proofs.Erased.{is_renaming, bare_is_shown}

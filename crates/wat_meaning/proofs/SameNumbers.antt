@@ -18,7 +18,7 @@ use Rattle.wast_core.specs.Tree.{Space, ModuleField}
 use Rattle.wat_syntax.specs.BareFields.{bare_fields}
 use Rattle.wat_meaning.specs.Erasing.{erasing}
 use Rattle.wat_meaning.specs.Laws.{SameNumbers}
-use Rattle.wat_meaning.specs.Shown.{shown_fields}
+use Rattle.wat_ready.specs.Shown.{shown_fields}
 use Rattle.wat_meaning.proofs.Erased.{is_renaming}
 use Rattle.wat_meaning.proofs.ErasedRules.{items_erased}
 use Rattle.wat_meaning.proofs.OneMeaning.{of_bare, same_generation}

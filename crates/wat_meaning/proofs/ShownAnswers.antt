@@ -8,7 +8,7 @@ use Rattle.wast_resolve_rules.specs.Demands.{first_unmet, demands, item_counts, 
 use Rattle.wast_resolve_rules.specs.Explicit.{explicit_fields}
 use Rattle.wast_resolve_rules.specs.Finished.{resolved_fields_from}
 use Rattle.wat_syntax.specs.Tree.{ModuleField}
-use Rattle.wat_meaning.specs.Shown.{shown_fields}
+use Rattle.wat_ready.specs.Shown.{shown_fields}
 use Rattle.wat_meaning.proofs.ShownDemands.{unmet_shown, item_counts_shown, body_counts_shown}
 use Rattle.wat_meaning.proofs.ShownForms.{forms_shown}
 use Rattle.wat_meaning.proofs.ShownResolved.{shown_explicit, shown_resolved_from}

@@ -22,8 +22,8 @@ use Rattle.wat_syntax.specs.Tree.dylink
 use Rattle.wat_syntax.specs.Tree.field
 use Rattle.wat_syntax.specs.Bare.{bare_text}
 use Rattle.wat_syntax.specs.BareFields.{bare_exported, bare_imported, bare_producers_field, bare_subsection, bare_version}
-use Rattle.wat_meaning.proofs.ShownLists.{map_same, flat_changed}
-use Rattle.wat_meaning.specs.Shown.{shown_custom, shown_field, shown_fields}
+use Rattle.wat_ready.proofs.ShownLists.{map_same, flat_changed}
+use Rattle.wat_ready.specs.Shown.{shown_custom, shown_field, shown_fields}
 
 -- The bytes of a list, if each item has the same bytes after a change.
 list_same : {A : Type 0} (f : A → A) (item : A → Encoding) → ((x : A) → (item (f x)).bytes ≡ (item x).bytes) → (xs : List A)

@@ -19,12 +19,12 @@ use Rattle.wat_syntax.specs.Tree.{Index, FunctionType, TypeUse, FuncKind, Module
 use Rattle.wat_syntax.specs.Tree.space
 use Rattle.wat_syntax.specs.Tree.func
 use Rattle.wat_syntax.specs.Tree.field
-use Rattle.wat_meaning.specs.Shown.{shown_field, shown_fields, shown_func_kind, shown_function_type, shown_type_use}
-use Rattle.wat_meaning.specs.ShownSites.{shown_locals, shown_site}
-use Rattle.wat_meaning.proofs.ShownLists.{flat_same}
-use Rattle.wat_meaning.proofs.ShownTypeParts.{use_asks, params_shown, locals_shown}
+use Rattle.wat_ready.specs.Shown.{shown_field, shown_fields, shown_func_kind, shown_function_type, shown_type_use}
+use Rattle.wat_ready.specs.ShownSites.{shown_locals, shown_site}
+use Rattle.wat_ready.proofs.ShownLists.{flat_same}
+use Rattle.wat_ready.proofs.ShownTypeParts.{use_asks, params_shown, locals_shown}
 use Rattle.wat_meaning.proofs.ShownItems.{items_shown, defined_shown, func_imported, table_imported, memory_imported, global_imported, tag_imported}
-use Rattle.wat_meaning.proofs.ShownSites.{field_shown, sites_shown}
+use Rattle.wat_ready.proofs.ShownSites.{field_shown, sites_shown}
 use Rattle.wat_meaning.proofs.ShownTypes.{signature_shown}
 use Rattle.wat_meaning.proofs.ShownResolved.{scope_shown, implicit_shown}
 

@@ -9,9 +9,9 @@ use Rattle.wast_tree_nodes.specs.Known.{id_context}
 use Rattle.wast_tree_nodes.specs.WellFormed.{are_kept, is_well_formed}
 use Rattle.wast_tree_nodes.specs.Uncovered.{uncovered_in, uncovered_forms}
 use Rattle.wat_syntax.specs.Tree.{ModuleField}
-use Rattle.wat_meaning.specs.Shown.{shown_fields}
+use Rattle.wat_ready.specs.Shown.{shown_fields}
 use Rattle.wat_meaning.proofs.ShownItems.{items_shown}
-use Rattle.wat_meaning.proofs.ShownSites.{checks_shown}
+use Rattle.wat_ready.proofs.ShownSites.{checks_shown}
 
 pub forms_shown : (xs : List ModuleField) → uncovered_forms (shown_fields xs) ≡ uncovered_forms xs
 forms_shown xs = ap (flat_map uncovered_in) (checks_shown xs)

@@ -28,10 +28,10 @@ use Rattle.wat_syntax.specs.Tree.export
 use Rattle.wat_syntax.specs.Tree.field
 use Rattle.wat_syntax.specs.Bare.{bare_text}
 use Rattle.wat_syntax.specs.BareFields.{bare_exports, bare_tag_kind}
-use Rattle.wat_meaning.specs.Shown.{shown_data_val, shown_expression, shown_field, shown_fields, shown_func, shown_func_kind, shown_global, shown_global_kind, shown_memory, shown_memory_kind, shown_payload, shown_table, shown_table_kind, shown_tag}
+use Rattle.wat_ready.specs.Shown.{shown_data_val, shown_expression, shown_field, shown_fields, shown_func, shown_func_kind, shown_global, shown_global_kind, shown_memory, shown_memory_kind, shown_payload, shown_table, shown_table_kind, shown_tag}
 use Rattle.wat_meaning.proofs.ShownInlineLists.{map_changed}
 use Rattle.wat_meaning.proofs.ShownItems.{items_of_shown}
-use Rattle.wat_meaning.proofs.ShownLists.{flat_same, flat_changed, both_changed}
+use Rattle.wat_ready.proofs.ShownLists.{flat_same, flat_changed, both_changed}
 
 -- The exports, and the segment of inline data or elements.
 exports_shown : (span : Span) (kind : ExportKind) (item : Index) (exports : InlineExport)

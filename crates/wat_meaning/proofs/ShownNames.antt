@@ -25,7 +25,7 @@ use Rattle.wat_syntax.specs.Tree.import_items
 use Rattle.wat_syntax.specs.Tree.func
 use Rattle.wat_syntax.specs.Tree.field
 use Rattle.wat_syntax.specs.Bare.{bare_name_option, bare_text}
-use Rattle.wat_meaning.specs.Shown.{shown_block, shown_composite, shown_field, shown_fields, shown_func, shown_func_kind, shown_function_type, shown_instr, shown_item, shown_item_kind, shown_item_sig, shown_items, shown_local, shown_param, shown_struct_field, shown_tag_type, shown_type, shown_type_use}
+use Rattle.wat_ready.specs.Shown.{shown_block, shown_composite, shown_field, shown_fields, shown_func, shown_func_kind, shown_function_type, shown_instr, shown_item, shown_item_kind, shown_item_sig, shown_items, shown_local, shown_param, shown_struct_field, shown_tag_type, shown_type, shown_type_use}
 use Rattle.wat_meaning.proofs.ShownItems.{kind_space}
 
 -- the name of an item

@@ -5,7 +5,7 @@ use Rattle.std.proofs.Common.{◌≡◌, ℕ, List, Option}
 use Rattle.wast_core_sections.specs.Sections.{parts}
 use Rattle.wast_core_sections.specs.Writable.{IsWritable}
 use Rattle.wast_core.specs.Tree.{ModuleField}
-use Rattle.wat_meaning.specs.Shown.{shown_field, shown_fields}
+use Rattle.wat_ready.specs.Shown.{shown_field, shown_fields}
 use Rattle.wat_meaning.proofs.SameParts.{KeepsParts, parts_stay, writable_stays}
 use Rattle.wat_meaning.proofs.ShownCustoms.{customs_same, ranges_same, own_same}
 use Rattle.wat_meaning.proofs.ShownEntries.{contributed_same, hinted_same, count_same}

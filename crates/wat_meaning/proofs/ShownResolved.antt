@@ -24,11 +24,11 @@ use Rattle.wat_syntax.specs.Tree.space
 use Rattle.wat_syntax.specs.Tree.inner
 use Rattle.wat_syntax.specs.Tree.ty
 use Rattle.wat_syntax.specs.Tree.field
-use Rattle.wat_meaning.specs.Shown.{shown_composite, shown_field, shown_fields, shown_function_type, shown_type, shown_type_use}
+use Rattle.wat_ready.specs.Shown.{shown_composite, shown_field, shown_fields, shown_function_type, shown_type, shown_type_use}
 use Rattle.wat_meaning.proofs.ShownInline.{shown_desugared, shown_desugared_from, shown_reference_count}
 use Rattle.wat_meaning.proofs.ShownItems.{items_shown}
-use Rattle.wat_meaning.proofs.ShownLists.{map_same, flat_same}
-use Rattle.wat_meaning.proofs.ShownTypeParts.{field_ids_shown}
+use Rattle.wat_ready.proofs.ShownLists.{map_same, flat_same}
+use Rattle.wat_ready.proofs.ShownTypeParts.{field_ids_shown}
 use Rattle.wat_meaning.proofs.ShownTypes.{signature_shown, shown_completed, shown_positioned, shown_expanded, shown_type_count}
 use Rattle.wat_meaning.proofs.ShownTypesMapped as mapped
 use Rattle.wat_meaning.proofs.ShownTypesMapped.{IgnoresNames, shown_mapped}

@@ -13,7 +13,7 @@ use Rattle.wast_resolve_rules.specs.Explicit.{explicit_fields, generated_id_coun
 use Rattle.wat_syntax.specs.Tree.{MemoryKind, ModuleField}
 use Rattle.wat_syntax.specs.Tree.memory
 use Rattle.wat_syntax.specs.Tree.field
-use Rattle.wat_meaning.specs.Shown.{shown_memory_kind, shown_field, shown_fields}
+use Rattle.wat_ready.specs.Shown.{shown_memory_kind, shown_field, shown_fields}
 use Rattle.wat_meaning.proofs.ShownAnswers.{shown_item_counts, shown_body_counts}
 use Rattle.wat_meaning.proofs.ShownDemands.{item_demands_shown}
 use Rattle.wat_meaning.proofs.ShownInline.{bytes_shown}

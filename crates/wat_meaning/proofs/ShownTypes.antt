@@ -28,12 +28,12 @@ use Rattle.wat_syntax.specs.Tree.space
 use Rattle.wat_syntax.specs.Tree.inner
 use Rattle.wat_syntax.specs.Tree.ty
 use Rattle.wat_syntax.specs.Tree.field
-use Rattle.wat_meaning.specs.Shown.{shown_composite, shown_field, shown_fields, shown_function_type, shown_param, shown_type, shown_type_def}
+use Rattle.wat_ready.specs.Shown.{shown_composite, shown_field, shown_fields, shown_function_type, shown_param, shown_type, shown_type_def}
 use Rattle.wat_meaning.proofs.ShownInline.{filled_shown, missing_shown}
-use Rattle.wat_meaning.specs.ShownSites.{shown_site}
+use Rattle.wat_ready.specs.ShownSites.{shown_site}
 use Rattle.wat_meaning.proofs.ShownItems.{items_shown}
-use Rattle.wat_meaning.proofs.ShownLists.{map_same, flat_same, both_changed}
-use Rattle.wat_meaning.proofs.ShownSites.{sites_shown}
+use Rattle.wat_ready.proofs.ShownLists.{map_same, flat_same, both_changed}
+use Rattle.wat_ready.proofs.ShownSites.{sites_shown}
 use Rattle.wat_meaning.proofs.ShownTypesMapped.{IgnoresNames, shown_mapped}
 
 -- The signature of a function type, and whether it is short.

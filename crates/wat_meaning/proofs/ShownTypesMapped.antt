@@ -28,11 +28,11 @@ use Rattle.wat_syntax.specs.Tree.payload
 use Rattle.wat_syntax.specs.Tree.data_kind
 use Rattle.wat_syntax.specs.Tree.field
 use Rattle.wat_syntax.specs.Bare.{bare_text}
-use Rattle.wat_meaning.specs.Shown.{shown_block, shown_call, shown_composite, shown_data, shown_data_kind, shown_elem, shown_elem_kind, shown_expression, shown_field, shown_fields, shown_func, shown_func_kind, shown_function_type, shown_global, shown_global_kind, shown_instr, shown_item, shown_item_kind, shown_item_sig, shown_items, shown_local, shown_param, shown_payload, shown_struct_field, shown_table, shown_table_kind, shown_tag, shown_tag_type, shown_try_table, shown_type, shown_type_def, shown_type_use}
-use Rattle.wat_meaning.specs.ShownSites.{shown_locals, shown_context}
+use Rattle.wat_ready.specs.Shown.{shown_block, shown_call, shown_composite, shown_data, shown_data_kind, shown_elem, shown_elem_kind, shown_expression, shown_field, shown_fields, shown_func, shown_func_kind, shown_function_type, shown_global, shown_global_kind, shown_instr, shown_item, shown_item_kind, shown_item_sig, shown_items, shown_local, shown_param, shown_payload, shown_struct_field, shown_table, shown_table_kind, shown_tag, shown_tag_type, shown_try_table, shown_type, shown_type_def, shown_type_use}
+use Rattle.wat_ready.specs.ShownSites.{shown_locals, shown_context}
 use Rattle.wat_meaning.proofs.ShownInlineLists.{map_changed, option_mapped}
-use Rattle.wat_meaning.proofs.ShownSites.{next_shown}
-use Rattle.wat_meaning.proofs.ShownTypeParts.{params_shown, locals_shown}
+use Rattle.wat_ready.proofs.ShownSites.{next_shown}
+use Rattle.wat_ready.proofs.ShownTypeParts.{params_shown, locals_shown}
 
 -- The change does not look at the addresses of names.
 pub record IgnoresNames (f : Change) : Type 0 where

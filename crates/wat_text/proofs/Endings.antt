@@ -1,5 +1,5 @@
 -- A function that reads to the end of the tokens meets its contract (specs/Finishes): what it returns, and what an error states.
-use Rattle.std.proofs.Common.{◌≡◌, ◌≢◌, ◌∙◌, ◌⊎◌, ℕ, Bool, true, false, List, map, Option, None, Some, Result, Ok, Err, refl, sym, ap, subst, inl, inr}
+use Rattle.std.proofs.Common.{◌≡◌, ◌≢◌, ◌∙◌, ℕ, Bool, true, false, List, map, Option, None, Some, Result, Ok, Err, refl, sym, ap, subst}
 use Rattle.std.specs.Prelude.{IfSome, IfOk, IfErr, is_some}
 use Rattle.std.specs.Borrow.{Bor}
 use Rattle.wast_tree_nodes.specs.WellFormed.{is_well_formed}
@@ -13,31 +13,18 @@ use Rattle.wat_syntax.specs.Customs.{strings}
 use Rattle.wat_syntax.specs.Bare.{bare_text, bare_name_option, bare_id_option}
 use Rattle.wat_syntax.specs.BareFields.{bare_fields}
 use Rattle.wat_text.specs.Readers.{left, IsClean, IsRefusal, IsRefused, Reads, Expects}
-use Rattle.wat_text.specs.Denotes.{Explains, IsIllFormed, AreFields, has_one_start, if_one_start, where_it_holds, rest_of_fields, pieces_of, module_end, module_position, fields_module, binary_module, is_well_formed_module, bare_opening, IsModule}
-use Rattle.wat_text.specs.Finishes.{Finishes, IsClauseFault, WasRefused}
+use Rattle.wat_text.specs.Denotes.{AreFields, has_one_start, if_one_start, where_it_holds, rest_of_fields, pieces_of, module_end, module_position, fields_module, binary_module, is_well_formed_module, bare_opening, IsModule}
+use Rattle.wat_text.specs.Finishes.{Finishes}
 use Rattle.wat_text.specs.declared.modules.ModuleHead.{ModuleHead}
 use Rattle.wat_text.specs.declared.modules.TextKind.TheVariants as kind
 use Rattle.wat_text.specs.declared.modules.TextModule.{TextModule}
 use Rattle.wat_text.specs.declared.reader.Reader.{Reader}
+use Rattle.wat_text.proofs.Ready.{rest_well}
 
-pub memory_or : (f : TextFault) → (f ≡ fault.Memory) ⊎ (f ≢ fault.Memory)
-memory_or fault.Memory = inl refl
-memory_or f = inr (λ e. cc)
-
-pub explains_nothing : {A : Type 0} (B : Type 0) (f : TextFault) → (IsRefusal f → A) → Explains A B f
-explains_nothing B fault.Memory h = tt
-explains_nothing B (fault.IllFormed clause) h = inl (h tt)
-explains_nothing B f h = h tt
-
-pub explains_ill : (A : Type 0) {B : Type 0} (f : TextFault) → IsClauseFault f → B → Explains A B f
-explains_ill A (fault.IllFormed clause) h b = inr b
-explains_ill A f h b = absurd h
-
-pub explains_map : (A B C D : Type 0) (f : TextFault) → (A → C) → (B → D) → Explains A B f → Explains C D f
-explains_map A B C D fault.Memory g h e = tt
-explains_map A B C D (fault.IllFormed clause) g h (inl a) = inl (g a)
-explains_map A B C D (fault.IllFormed clause) g h (inr b) = inr (h b)
-explains_map A B C D f g h e = g e
+-- a fault other than a failed allocation
+pub refusal : (f : TextFault) → f ≢ fault.Memory → IsRefusal f
+refusal fault.Memory h = absurd (h refl)
+refusal f h = tt
 
 -- A reader read a part by a rule, and all tokens that were left.
 pub record ReadsAll {T : Type 0} (rule : Option T) (old new : Reader) (part : T) : Type 0 where
@@ -113,12 +100,8 @@ fails_all is_well denoted nothing rule a c x e r h none = record {
   well = tt;
   made = λ m. r.made (h m).0;
   keeps = λ n m. sym (r.keeps n) ∙ (h m).1;
-  refuses = λ n. explains_nothing (IsIllFormed is_well denoted) e.fault (λ f. none (refused n f (memory_or e.fault)));
+  refuses = λ n m. none (r.refuses n (h m).0 (subst IsRefused (sym (h m).1) (refusal e.fault m)));
 }
-  where
-    refused : a.fault ≡ None → IsRefusal e.fault → (e.fault ≡ fault.Memory) ⊎ (e.fault ≢ fault.Memory) → rule ≡ None
-    refused n f (inl m) = absurd (subst IsRefusal m f)
-    refused n f (inr m) = r.refuses n (h m).0 (subst IsRefused (sym (h m).1) f)
 
 -- a part that is returned
 pub gives_all : {S T : Type 0} (is_well : S → Bool) (denoted : S → Type 0) (nothing : Type 0) (rule : Option T) (a c : Reader) (x : T) (s : S)
@@ -132,39 +115,34 @@ gives_all is_well denoted nothing rule a c x s r clean gives well = record {
   refuses = λ n. tt;
 }
 
--- fields that are returned unless they are not well formed
-pub fields_finish : (rule : Option (List ModuleField)) (a c : Reader) (fields : List ModuleField) (error : Option TextError) (result : Result (List ModuleField) TextError)
-    → ReadsAll rule a c (bare_fields fields) → Finished c error
-    → IfOk result (λ same. (error ≡ None) × (same ≡ fields) × (is_well_formed same ≡ true))
-    → IfErr result (λ e. WasRefused error (is_well_formed fields) e)
-    → Finishes is_well_formed (AreFields rule) (rule ≡ None) a result
-fields_finish rule a c fields error (Ok same) r f ok err =
-    gives_all is_well_formed (AreFields rule) (rule ≡ None) rule a c (bare_fields fields) same r (f.clean ok.0) (λ e. e ∙ ap (λ xs. Some (bare_fields xs)) (sym ok.1)) ok.2
-fields_finish rule a c fields (Some x) (Err e) r f ok err =
-    subst (λ y. Finishes is_well_formed (AreFields rule) (rule ≡ None) a (Err y)) (sym err)
-    (fails_all is_well_formed (AreFields rule) (rule ≡ None) rule a c (bare_fields fields) x r f.refused (λ h. h))
-fields_finish rule a c fields None (Err e) r f ok err =
-    let clean : IsClean c = f.clean refl in
-    record {
-      clean = tt;
-      gives = tt;
-      well = tt;
-      made = λ m. r.made clean.1;
-      keeps = λ n m. absurd (n (r.clean clean.0));
-      refuses = λ n. explains_ill (rule ≡ None) e.fault err.1 (record { part = fields; denotes = r.gives clean; ill = err.0 });
-    }
+-- fields that are returned unless there is an error
+module _ (is_written : Bool) (toks : Toks) where
+  abbrev all_fields : Option (List ModuleField)
+  all_fields = rest_of_fields is_written toks
+
+  pub fields_finish : (a c : Reader) (fields : List ModuleField) (error : Option TextError) (result : Result (List ModuleField) TextError)
+      → ReadsAll all_fields a c (bare_fields fields) → Finished c error
+      → IfOk result (λ same. (error ≡ None) × (same ≡ fields)) → IfErr result (λ e. error ≡ Some e)
+      → Finishes is_well_formed (AreFields all_fields) (all_fields ≡ None) a result
+  fields_finish a c fields error (Ok same) r f ok err =
+      let clean : IsClean c = f.clean ok.0 in
+      let given : all_fields ≡ Some (bare_fields fields) → all_fields ≡ Some (bare_fields same) = λ e. e ∙ ap (λ xs. Some (bare_fields xs)) (sym ok.1) in
+      gives_all is_well_formed (AreFields all_fields) (all_fields ≡ None) all_fields a c (bare_fields fields) same r clean given
+      (rest_well is_written toks same (given (r.gives clean)))
+  fields_finish a c fields error (Err e) r f ok err =
+      fails_all is_well_formed (AreFields all_fields) (all_fields ≡ None) all_fields a c (bare_fields fields) e r
+      (subst (λ o. IfSome o (λ x. x.fault ≢ fault.Memory → (c.make ≡ false) × (c.fault ≡ Some x))) err f.refused) (λ h. h)
 
 -- an error for one kind of part, as the error for another kind that has the same rules
 pub finish_err : {S T : Type 0} (is_well : S → Bool) (denoted : S → Type 0) (nothing : Type 0) (is_well' : T → Bool) (denoted' : T → Type 0) (nothing' : Type 0)
-    (a : Reader) (e : TextError) → Finishes is_well denoted nothing a (Err e) → (nothing → nothing') → (IsIllFormed is_well denoted → IsIllFormed is_well' denoted')
-    → Finishes is_well' denoted' nothing' a (Err e)
-finish_err is_well denoted nothing is_well' denoted' nothing' a e f none ill = record {
+    (a : Reader) (e : TextError) → Finishes is_well denoted nothing a (Err e) → (nothing → nothing') → Finishes is_well' denoted' nothing' a (Err e)
+finish_err is_well denoted nothing is_well' denoted' nothing' a e f none = record {
   clean = tt;
   gives = tt;
   well = tt;
   made = f.made;
   keeps = f.keeps;
-  refuses = λ n. explains_map nothing (IsIllFormed is_well denoted) nothing' (IsIllFormed is_well' denoted') e.fault none ill (f.refuses n);
+  refuses = λ n m. none (f.refuses n m);
 }
 
 -- fields as those of a module
@@ -185,7 +163,6 @@ module _ (span : Span) (h : ModuleHead) (toks : Toks) where
       finish_err is_well_formed (AreFields rule_of) (rule_of ≡ None) is_well_formed_module denotes_module (fields_module span (bare_opening h) toks ≡ None) a e
       (subst (λ w. Finishes is_well_formed (AreFields (rest_of_fields w toks)) (rest_of_fields w toks ≡ None) a (Err e)) same f)
       (λ e. ap (λ o. o >>= λ fs. Some (module_with span (bare_opening h) fs)) e)
-      (λ i. record { part = module_with span h i.part; denotes = ap (λ o. o >>= λ fs. Some (module_with span (bare_opening h) fs)) i.denotes; ill = i.ill })
 
 -- a rule after a token that is skipped
 pub skipped : {T : Type 0} (rule : Toks → Parse T) (end : Toks → Option Toks) (r s a b : Reader) (x : T) → left s ≡ after (left r) → s.fault ≡ r.fault → s.make ≡ r.make

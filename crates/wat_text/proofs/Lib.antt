@@ -22,6 +22,7 @@ pub mod Places
 pub mod Prefixes
 pub mod Producing
 pub mod Quoting
+pub mod Ready
 pub mod References
 pub mod Running
 pub mod Signs

@@ -1,5 +1,5 @@
 -- What is read after the opening of a module, and in a text in quotes, is the module of the tokens.
-use Rattle.std.proofs.Common.{◌≡◌, ◌≢◌, ◌∙◌, ◌⊎◌, ℕ, true, List, length, map, All, Option, None, Some, option_map, Result, Ok, Err, refl, sym, ap, subst, inl, inr}
+use Rattle.std.proofs.Common.{◌≡◌, ◌≢◌, ◌∙◌, ℕ, true, List, length, map, All, Option, None, Some, option_map, Result, Ok, Err, refl, sym, ap, subst}
 use Rattle.std.specs.Prelude.{IfOk, IfErr}
 use Rattle.std.specs.Option.{option_or}
 use Rattle.std.specs.Str.{is_utf8}
@@ -9,7 +9,6 @@ use Rattle.wat_grammar.specs.Tokens as grammar
 use Rattle.wat_grammar.specs.Tokens.{tokens, bytes_of}
 use Rattle.wat_tokens.specs.Scans.{seen_all, IsNamed}
 use Rattle.wat_tokens.specs.declared.faults.TextError.{TextError}
-use Rattle.wat_tokens.specs.declared.faults.TextFault.{TextFault}
 use Rattle.wat_tokens.specs.declared.faults.TextFault.TheVariants as fault
 use Rattle.wat_tokens.specs.declared.tokens.Placed.{Placed}
 use Rattle.wat_tokens.specs.declared.words.Key.{Key}
@@ -18,18 +17,21 @@ use Rattle.wat_syntax.specs.Tokens.{Toks, after, position, peek, key_of}
 use Rattle.wat_syntax.specs.Bare.{bare_id, bare_name, bare_placed}
 use Rattle.wat_syntax.specs.AtZero.{all_at_zero}
 use Rattle.wat_syntax.proofs.AtZero.{bare_tokens}
-use Rattle.wat_text.specs.Readers.{left, IsClean, IsRefusal, IsRefused, Decides, Reads, Expects}
-use Rattle.wat_text.specs.Denotes.{Contents, Fields, Quotes, contents_of, opening, quotes, quotes_of, text_in, source_of, sources, put_in, all_of, all_bare, module_end, module_position, fields_module, inner_opening, inner_module, tokens_if, tokens_in_quotes, module_in_quotes, module_as, module_after, module_in, module_of, bare_opening, bare_quote, is_well_formed_module, IsModule, MeansIllFormedIn, Denotes, DenotesNothing, DenotesIllFormed, Explains, IsIllFormed}
+use Rattle.wat_text.specs.Readers.{left, IsClean, IsRefused, Decides, Reads, Expects}
+use Rattle.wat_text.specs.Denotes.{Contents, Fields, Quotes, contents_of, opening, quotes, quotes_of, text_in, source_of, sources, put_in, all_of, all_bare, module_end, module_position, fields_module, inner_opening, inner_module, tokens_if, tokens_in_quotes, module_in_quotes, module_as, module_after, module_in, module_of, bare_opening, bare_quote, is_well_formed_module, IsModule, Denotes, DenotesNothing}
 use Rattle.wat_text.specs.Finishes.{Finishes}
 use Rattle.wat_text.specs.declared.modules.ModuleHead.{ModuleHead}
 use Rattle.wat_text.specs.declared.modules.TextModule.{TextModule}
 use Rattle.wat_text.specs.declared.quotes.Quote.{Quote}
 use Rattle.wat_text.specs.declared.reader.Reader.{Reader}
-use Rattle.wat_text.proofs.Endings.{memory_or, explains_nothing, explains_map, ReadsAll, skipped}
+use Rattle.wat_text.proofs.Endings.{refusal, ReadsAll, skipped}
 
 -- a module that is read to the end of the tokens, by what a rule makes of them
 abbrev pub Ends : Option TextModule → Reader → Result TextModule TextError → Type 0
 Ends rule old result = Finishes is_well_formed_module (IsModule rule) (rule ≡ None) old result
+
+some_not : {A : Type 0} {x : A} → Some x ≢ None
+some_not e = cc
 
 -- what is read after an opening, by what the rest of the rule makes
 pub opened : (next : ModuleHead × Toks → Option TextModule) (a b : Reader) (h : ModuleHead) (result : Result TextModule TextError)
@@ -48,20 +50,13 @@ opened next a b h (Err e) d f = record {
   well = tt;
   made = λ m. sym d.make ∙ f.made m;
   keeps = λ n m. sym (d.keeps n) ∙ f.keeps (λ z. n (d.clean z)) m;
-  refuses = λ n. go b.fault refl n;
+  refuses = λ n m. go b.fault refl n m;
 }
   where
-    refused : (o : Option TextError) → b.fault ≡ o → o ≢ None → IsRefusal e.fault → (e.fault ≡ fault.Memory) ⊎ (e.fault ≢ fault.Memory) → IsRefused b.fault
-    refused o s n r (inl m) = absurd (subst IsRefusal m r)
-    refused o s n r (inr m) = subst IsRefused (sym (f.keeps (λ z. n (sym s ∙ z)) m)) r
-
-    go : (o : Option TextError) → b.fault ≡ o → a.fault ≡ None
-        → Explains ((opening (left a) >>= next) ≡ None) (IsIllFormed is_well_formed_module (IsModule (opening (left a) >>= next))) e.fault
-    go None s n =
-        subst (λ (o : Option TextModule). Explains (o ≡ None) (IsIllFormed is_well_formed_module (IsModule o)) e.fault) (sym (ap (λ o. o >>= next) (d.gives s))) (f.refuses s)
-    go (Some y) s n =
-        explains_nothing (IsIllFormed is_well_formed_module (IsModule (opening (left a) >>= next))) e.fault
-        (λ r. ap (λ o. o >>= next) (d.refuses n (refused (Some y) s (λ z. cc) r (memory_or e.fault))))
+    go : (o : Option TextError) → b.fault ≡ o → a.fault ≡ None → e.fault ≢ fault.Memory → (opening (left a) >>= next) ≡ None
+    go None s n m = ap (λ o. o >>= next) (d.gives s) ∙ f.refuses s m
+    go (Some y) s n m =
+        ap (λ o. o >>= next) (d.refuses n (subst IsRefused (sym (f.keeps (λ z. some_not (sym s ∙ z)) m)) (refusal e.fault m)))
 
 -- a module after its opening, by what is in it
 pub means_as : (source : List ℕ) (c : Contents) (h : ModuleHead) (b : Reader) (k : Option Key) (result : Result TextModule TextError) → k ≡ key_of (peek 0 (left b))
@@ -85,11 +80,6 @@ inner_is h o x keyword id name = λ i. record {
   id = (sym (or_bare bare_id h.id o.id) ∙ ap (option_map bare_id) (sym id)) i;
   name = (sym (or_bare bare_name h.name o.name) ∙ ap (option_map bare_name) (sym name)) i;
 }
-
--- a fault that is no failed allocation
-unless_memory : {A : Type 0} {f : TextFault} → IsRefusal f → (f ≡ fault.Memory) ⊎ (f ≢ fault.Memory) → (f ≢ fault.Memory → A) → A
-unless_memory r (inl m) k = absurd (subst IsRefusal m r)
-unless_memory r (inr m) k = k m
 
 -- strings without addresses have the same text and the same places
 quotes_bare : (source : List ℕ) (first : Span) (qs : List Quote) → tokens_in_quotes source first (map bare_quote qs) ≡ tokens_in_quotes source first qs
@@ -173,30 +163,22 @@ module _ (source : List ℕ) (h : ModuleHead) where
         well = tt;
         made = λ m. before.1;
         keeps = λ n m. absurd (n before.0);
-        refuses = λ n. explains_nothing (IsIllFormed is_well_formed_module (IsModule (module_as source Quotes (bare_opening h) (left r)))) e.fault
-            (λ f. unless_memory f (memory_or e.fault) (λ m. nothing (ap (tokens_in_quotes source first) (sym lent) ∙ none m)));
+        refuses = λ n m. nothing (ap (tokens_in_quotes source first) (sym lent) ∙ none m);
       }
 
 -- the module of tokens, by what was read of them
 module _ (source : List ℕ) (toks : Toks) (a : Reader) (clean : IsClean a) (same : left a ≡ toks) where
   pub means_err : (result : Result TextModule TextError) → Ends (module_in source (left a)) a result
-      → IfErr result (λ e. Explains (module_in source toks ≡ None) (MeansIllFormedIn source toks) e.fault)
+      → IfErr result (λ e. e.fault ≢ fault.Memory → module_in source toks ≡ None)
   means_err (Ok m) f = tt
-  means_err (Err e) f = subst (λ t. Explains (module_in source t ≡ None) (MeansIllFormedIn source t) e.fault) same (f.refuses clean.0)
+  means_err (Err e) f = subst (λ t. e.fault ≢ fault.Memory → module_in source t ≡ None) same (f.refuses clean.0)
 
 -- the module of a text, by that of its tokens
 pub text_first : (text : List ℕ) (e first : TextError) → (e.fault ≢ fault.Memory → tokens bytes_of text ≡ None) → (e.fault ≡ fault.Memory → first.fault ≡ fault.Memory)
-    → Explains (DenotesNothing text) (DenotesIllFormed text) first.fault
+    → first.fault ≢ fault.Memory → DenotesNothing text
 unfolding module_of
-text_first text e first lexed memory = explains_nothing (DenotesIllFormed text) first.fault (λ f. go f (memory_or e.fault))
-  where
-    nothing : tokens bytes_of text ≡ None → DenotesNothing text
-    nothing none =
-        ap (λ (o : Option (List grammar.Placed)). (o >>= λ ts. all_at_zero ts) >>= λ found. module_in text (all_of found (record { offset = length text }))) none
-
-    go : IsRefusal first.fault → (e.fault ≡ fault.Memory) ⊎ (e.fault ≢ fault.Memory) → DenotesNothing text
-    go f (inl m) = absurd (subst IsRefusal (memory m) f)
-    go f (inr m) = nothing (lexed m)
+text_first text e first lexed memory m =
+    ap (λ (o : Option (List grammar.Placed)). (o >>= λ ts. all_at_zero ts) >>= λ found. module_in text (all_of found (record { offset = length text }))) (lexed (λ f. m (memory f)))
 
 module _ (text : List ℕ) (found : List Placed) (end : Span) (at : end ≡ record { offset = length text }) (lexed : tokens bytes_of text ≡ Some (seen_all found))
     (named : All (λ p. IsNamed p.token) found) where
@@ -210,10 +192,7 @@ module _ (text : List ℕ) (found : List Placed) (end : Span) (at : end ≡ reco
   text_ok (Ok m) e = sym in_text ∙ e
   text_ok (Err f) e = tt
 
-  pub text_err : (result : Result TextModule TextError) → IfErr result (λ e. Explains (module_in text (all_bare found end) ≡ None) (MeansIllFormedIn text (all_bare found end)) e.fault)
-      → IfErr result (λ e. Explains (DenotesNothing text) (DenotesIllFormed text) e.fault)
+  pub text_err : (result : Result TextModule TextError) → IfErr result (λ e. e.fault ≢ fault.Memory → module_in text (all_bare found end) ≡ None)
+      → IfErr result (λ e. e.fault ≢ fault.Memory → DenotesNothing text)
   text_err (Ok m) e = tt
-  text_err (Err f) e =
-      explains_map (module_in text (all_bare found end) ≡ None) (MeansIllFormedIn text (all_bare found end)) (DenotesNothing text) (DenotesIllFormed text) f.fault
-      (λ n. sym in_text ∙ n)
-      (λ i. record { part = i.part; denotes = sym in_text ∙ i.denotes; ill = i.ill }) e
+  text_err (Err f) e = λ m. sym in_text ∙ e m

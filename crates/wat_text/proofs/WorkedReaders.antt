@@ -1,9 +1,6 @@
--- What a reader returned, and the values of `producers`: each side of an equation computes to the other.
+-- The values of `producers`: each side of an equation computes to the other.
 use Rattle.std.proofs.Common.{refl}
-use Rattle.wat_text.specs.WorkedReaders.{Refusals, Producers}
-
-pub refusals : Refusals
-refusals = (tt, (λ h. h), (refl, tt), (λ h. absurd (cc h.0)), refl)
+use Rattle.wat_text.specs.WorkedReaders.{Producers}
 
 pub producers : Producers
 producers = (refl, (refl, refl, refl), refl, refl)

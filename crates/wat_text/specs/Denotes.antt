@@ -12,16 +12,13 @@
 -- The tokens of a text are without addresses here, and so is its module: each text in them is at address 0 (Bare and AtZero in
 -- wat_syntax). So a text has one module at most, which `module_of` computes. What the code reads has addresses, and is the module if it
 -- is so without them (Denotes).
-use Rattle.std.specs.Prelude.{◌≡◌, ◌⊎◌, ⊤, ℕ, ◌==◌, ◌&&◌, not, Bool, true, false, List, [], ◌∷◌, length, map, drop, replicate, flat_map, slice_get, Option, None, Some, is_some}
+use Rattle.std.specs.Prelude.{◌≡◌, ℕ, ◌==◌, ◌&&◌, not, Bool, true, false, List, [], ◌∷◌, length, map, drop, replicate, flat_map, slice_get, Option, None, Some, is_some}
 use Rattle.std.specs.Option.{option_or, unwrap_or}
 use Rattle.std.specs.Str.{is_utf8}
 use Rattle.std.specs.Borrow.{Bor}
 use Rattle.wast_base.specs.Ids.{text_start}
-use Rattle.wast_tree_nodes.specs.WellFormed.{is_well_formed}
 use Rattle.wat_grammar.specs.Parts.{◌>>=◌}
 use Rattle.wat_tokens.specs.Strings.{string_places}
-use Rattle.wat_tokens.specs.declared.faults.TextFault.{TextFault}
-use Rattle.wat_tokens.specs.declared.faults.TextFault.TheVariants as fault
 use Rattle.wat_tokens.specs.declared.tokens.Placed.{Placed}
 use Rattle.wat_tokens.specs.declared.words.Key.{Key}
 use Rattle.wat_tokens.specs.declared.words.Key.TheVariants as key
@@ -236,42 +233,12 @@ Denotes text m = module_of text ≡ Some (bare_module m)
 abbrev pub DenotesNothing : List ℕ → Type 0
 DenotesNothing text = module_of text ≡ None
 
--- What an error states about a text, by its fault. `Memory` states nothing, because an allocation failed. `IllFormed` states that
--- the rules produce nothing, or produce something that is not well formed. Each other fault states that the rules produce
--- nothing.
---
--- `IllFormed` is also a fault of the rules of expressions, for example if a branch hint has no instruction. Then the rules
--- produce nothing.
-abbrev pub Explains : Type 0 → Type 0 → TextFault → Type 0
-Explains nothing ill_formed fault.Memory = ⊤
-Explains nothing ill_formed (fault.IllFormed clause) = nothing ⊎ ill_formed
-Explains nothing ill_formed f = nothing
-
--- There is a part that the rules produce and that is not well formed.
-pub record IsIllFormed {T : Type 0} (is_well : T → Bool) (denoted : T → Type 0) : Type 0 where
-  pub part : T
-  pub denotes : denoted part
-  pub ill : is_well part ≡ false
-
 abbrev pub is_well_formed_module : TextModule → Bool
 is_well_formed_module m = is_well_formed_text m.kind
 
--- The fields that a rule produces, and whether they are not well formed. Then a module that is not well formed, by its tokens and
--- by its text.
+-- The fields that a rule produces, and a module that a rule produces.
 abbrev pub AreFields : Option (List ModuleField) → List ModuleField → Type 0
 AreFields rule fields = rule ≡ Some (bare_fields fields)
 
-abbrev pub AreIllFormed : Option (List ModuleField) → Type 0
-AreIllFormed rule = IsIllFormed is_well_formed (AreFields rule)
-
 abbrev pub IsModule : Option TextModule → TextModule → Type 0
 IsModule rule m = rule ≡ Some (bare_module m)
-
-abbrev pub MeansIllFormedIn : List ℕ → Toks → Type 0
-MeansIllFormedIn source toks = IsIllFormed is_well_formed_module (IsModule (module_in source toks))
-
-abbrev pub MeansIllFormed : Toks → Type 0
-MeansIllFormed toks = MeansIllFormedIn [] toks
-
-abbrev pub DenotesIllFormed : List ℕ → Type 0
-DenotesIllFormed text = IsIllFormed is_well_formed_module (Denotes text)

@@ -1,17 +1,15 @@
 -- The contract of a function that reads to the end of the tokens and consumes its reader.
 --
--- It returns a part that is well formed if no token is left, or else an error that explains why there is none (Explains in
--- Denotes).
+-- It returns a part if no token is left, which is well formed (wat_ready). Otherwise it returns an error, and the rules read no part,
+-- unless an allocation failed.
 --
 --   (start 0)      the fields of a module
 --   (start 0) x    an error, because a token is left
-use Rattle.std.specs.Prelude.{◌≡◌, ◌≢◌, ⊤, Bool, true, false, Option, None, Some, Result, IfOk, IfErr}
+use Rattle.std.specs.Prelude.{◌≡◌, ◌≢◌, Bool, true, false, None, Some, Result, IfOk, IfErr}
 use Rattle.wat_tokens.specs.declared.faults.TextError.{TextError}
-use Rattle.wat_tokens.specs.declared.faults.TextFault.{TextFault}
 use Rattle.wat_tokens.specs.declared.faults.TextFault.TheVariants as fault
 use Rattle.wat_text.specs.declared.reader.Reader.{Reader}
 use Rattle.wat_text.specs.Readers.{IsClean}
-use Rattle.wat_text.specs.Denotes.{Explains, IsIllFormed}
 
 -- `denoted` is what holds of a part that was read, and `nothing` states that the rules read none. An error that the reader had is
 -- returned.
@@ -21,14 +19,4 @@ pub record Finishes {T : Type 0} (is_well : T → Bool) (denoted : T → Type 0)
   pub well : IfOk result (λ x. is_well x ≡ true)
   pub made : IfErr result (λ e. e.fault ≢ fault.Memory → old.make ≡ false)
   pub keeps : old.fault ≢ None → IfErr result (λ e. e.fault ≢ fault.Memory → old.fault ≡ Some e)
-  pub refuses : old.fault ≡ None → IfErr result (λ e. Explains nothing (IsIllFormed is_well denoted) e.fault)
-
--- the fault of fields that are not well formed
-abbrev pub IsClauseFault : TextFault → Type 0
-IsClauseFault (fault.IllFormed clause) = ⊤
-IsClauseFault f = ⊥
-
--- The error that is returned instead of fields: the one that the reader had, or else that they are not well formed.
-abbrev pub WasRefused : Option TextError → Bool → TextError → Type 0
-WasRefused (Some e) is_well error = error ≡ e
-WasRefused None is_well error = (is_well ≡ false) × IsClauseFault error.fault
+  pub refuses : old.fault ≡ None → IfErr result (λ e. e.fault ≢ fault.Memory → nothing)

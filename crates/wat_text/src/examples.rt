@@ -1,7 +1,7 @@
 //! Texts, and what the definitions make of them.
 
 ghost use Rattle.wat_text.specs.WorkedDenotes.{Modules, Binaries, InQuotes, Positions, Openings, Denoted};
-ghost use Rattle.wat_text.specs.WorkedReaders.{Refusals, Producers};
+ghost use Rattle.wat_text.specs.WorkedReaders.{Producers};
 
 /// The modules of texts: fields alone, fields in parentheses, binary modules, and texts in quotes.
 #[tactic(auto, using(crate::proofs::WorkedDenotes::modules, crate::proofs::WorkedDenotes::binaries, crate::proofs::WorkedDenotes::in_quotes, crate::proofs::WorkedDenotes::openings, crate::proofs::WorkedDenotes::denoted))]
@@ -19,9 +19,8 @@ pub(crate) fn positions()
     ensures { Positions }
 {}
 
-/// What a reader returned, and the values of `producers`.
-#[tactic(auto, using(crate::proofs::WorkedReaders::refusals, crate::proofs::WorkedReaders::producers))]
+/// The values of `producers`.
+#[tactic(auto, using(crate::proofs::WorkedReaders::producers))]
 pub(crate) fn readers()
-    ensures refusals { Refusals }
-    ensures producers { Producers }
+    ensures { Producers }
 {}

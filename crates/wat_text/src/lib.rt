@@ -26,7 +26,8 @@
 //! - [`read`], `denotes`: the rules of the text format read the text as the module that is
 //!   returned.
 //! - [`read`], `refuses`: if the error is not [`TextFault::Memory`], the rules read the text as no
-//!   module, or as one that is not well formed.
+//!   module.
+//! - [`read`], `well_formed`: the module is well formed, because the rules read no other.
 //! - A text has one module by definition (`module_of`), which is without addresses in memory.
 #![tactic(auto)]
 

@@ -1,6 +1,6 @@
 //! Reads a whole module, and its fields one after another (text format: modules).
 
-ghost use Rattle.std.specs.Prelude.{◌≡◌, ◌≤◌, true, false, None, Some, length, map, is_none, is_some, IsTrue, IfOk, IfErr, IfSome};
+ghost use Rattle.std.specs.Prelude.{◌≡◌, ◌≢◌, ◌≤◌, None, Some, length, map, is_none, is_some, IsTrue, IfOk, IfErr};
 ghost use Rattle.std.specs.Option.{unwrap_or};
 ghost use Rattle.wast_base.specs.Ids.{text_start};
 ghost use Rattle.wast_tree_nodes.specs.WellFormed.{is_well_formed};
@@ -9,10 +9,11 @@ ghost use Rattle.wat_syntax.specs.Customs.{strings as strings_rule};
 ghost use Rattle.wat_syntax.specs.ModuleFields.{fieldform, open_field, modulefield, modulefields};
 ghost use Rattle.wat_text.specs.Readers.{left, Reads, Decides, Expects, Finds, Refuses, ReadsOnto, Pushes, Builds};
 ghost use Rattle.wat_text.specs.Texts.{is_well_formed_text};
-ghost use Rattle.wat_text.specs.Denotes.{opening, fields_of_module, all_bare, fields_module, module_as, module_in, module_of_tokens as tokens_rule, Denotes, DenotesNothing, Explains, is_well_formed_module, AreFields, AreIllFormed, IsModule, MeansIllFormed, MeansIllFormedIn, DenotesIllFormed};
+ghost use Rattle.wat_text.specs.Denotes.{opening, fields_of_module, all_bare, fields_module, module_as, module_in, module_of_tokens as tokens_rule, Denotes, DenotesNothing, is_well_formed_module, AreFields, IsModule};
 ghost use Rattle.wat_text.specs.Contents.{in_rule};
 ghost use Rattle.wat_text.specs.Denotes.{contents_of as contents_rule, module_after as after_rule, all_taken, module_keyword as keyword_rule, module_end as end_rule, has_one_start, is_start, where_it_holds, rest_of_fields as fields_rule, quote as quote_rule, quotes as quotes_rule, binary_module as binary_rule, Quotes as quotes_kind};
-ghost use Rattle.wat_text.specs.Finishes.{Finishes, IsClauseFault, WasRefused};
+ghost use Rattle.wat_text.specs.Finishes.{Finishes};
+ghost use Rattle.wat_tokens.specs.declared.faults.TextFault.TheVariants as fault;
 ghost use Rattle.wat_syntax.specs.Bare.{bare_text};
 ghost use Rattle.wat_syntax.specs.BareFields.{bare_field, bare_fields};
 ghost use Rattle.wat_text.specs.Denotes.{bare_opening, bare_quote};
@@ -21,9 +22,7 @@ use crate::errors::first_error;
 use crate::quotes::{Quote, quoted_tokens};
 use crate::reader::Reader;
 use std::alloc::Global;
-use wast_tree::{
-    Id, Index, ModuleField, NameAnnotation, Seq, Span, discard_fields, first_ill_formed,
-};
+use wast_tree::{Id, Index, ModuleField, NameAnnotation, Seq, Span, discard_fields};
 use wat_tokens::{Annotation, Key, Placed, Strings, TextError, TextFault, Token, tokens_of};
 
 /// What a module contains (text format: modules).
@@ -345,52 +344,19 @@ fn second_start_in<'a>(fields: &mut Seq<ModuleField<'a>>) -> Option<Span>
     second_start(fields.as_slice())
 }
 
-/// Returns the error of fields that are not well formed. The fields are borrowed mutably and not
-/// changed, because the prover would compare the type of the whole tree with itself for a shared
-/// borrow.
-fn ill_formed<'a>(fields: &mut Seq<ModuleField<'a>>) -> Option<TextError>
-    ensures none { is_none result ≡ is_well_formed fields.old }
-    ensures fault { IfSome result (λ e. IsClauseFault e.fault) }
-    ensures stays { fields.new ≡ fields.old }
-{
-    match first_ill_formed(fields.as_slice()) {
-        Some(ill_formed) => Some(TextError::new(
-            ill_formed.span,
-            TextFault::IllFormed(ill_formed.clause),
-        )),
-        None => None,
-    }
-}
-
-/// Returns the fields if they are well formed. Otherwise drops them and returns the error.
-fn unless_ill_formed<'a>(fields: Seq<ModuleField<'a>>) -> Result<Seq<ModuleField<'a>>, TextError>
-    ensures ok { IfOk result (λ same. (same ≡ fields.entry) × (is_well_formed same ≡ true)) }
-    ensures err { IfErr result (λ e. (is_well_formed fields.entry ≡ false) × IsClauseFault e.fault) }
-{
-    let mut fields = fields;
-    match ill_formed(&mut fields) {
-        None => Ok(fields),
-        Some(fault) => {
-            discard_fields(fields);
-            Err(fault)
-        }
-    }
-}
-
-/// Returns the fields if there is no error and they are well formed. Otherwise drops them and
-/// returns the error.
+/// Returns the fields if there is no error. Otherwise drops them and returns the error.
 fn unless<'a>(
-    fault: Option<TextError>,
+    error: Option<TextError>,
     fields: Seq<ModuleField<'a>>,
 ) -> Result<Seq<ModuleField<'a>>, TextError>
-    ensures ok { IfOk result (λ same. (fault ≡ None) × (same ≡ fields.entry) × (is_well_formed same ≡ true)) }
-    ensures err { IfErr result (λ e. WasRefused fault (is_well_formed fields.entry) e) }
+    ensures ok { IfOk result (λ same. (error ≡ None) × (same ≡ fields.entry)) }
+    ensures err { IfErr result (λ e. error ≡ Some e) }
 {
-    match fault {
-        None => unless_ill_formed(fields),
-        Some(fault) => {
+    match error {
+        None => Ok(fields),
+        Some(error) => {
             discard_fields(fields);
-            Err(fault)
+            Err(error)
         }
     }
 }
@@ -504,7 +470,7 @@ fn fields_of_tokens<'a>(
 ) -> Result<Seq<ModuleField<'a>>, TextError>
     ensures well_formed { IfOk result (λ fields. IsTrue (is_well_formed fields)) }
     ensures denotes { IfOk result (AreFields (fields_of_module (all_bare tokens.entry.items end))) }
-    ensures refuses { IfErr result (λ e. Explains (fields_of_module (all_bare tokens.entry.items end) ≡ None) (AreIllFormed (fields_of_module (all_bare tokens.entry.items end))) e.fault) }
+    ensures refuses { IfErr result (λ e. e.fault ≢ fault.Memory → fields_of_module (all_bare tokens.entry.items end) ≡ None) }
 {
     let mut reader = Reader::new(alloc, tokens, end);
     let head = reader.module_head();
@@ -563,7 +529,7 @@ pub(crate) fn module_of_tokens<'a>(
 ) -> Result<TextModule<'a>, TextError>
     ensures well_formed { IfOk result (λ m. IsTrue (is_well_formed_text m.kind)) }
     ensures denotes { IfOk result (IsModule (module_in source.now (all_bare tokens.entry.items end))) }
-    ensures refuses { IfErr result (λ e. Explains (module_in source.now (all_bare tokens.entry.items end) ≡ None) (MeansIllFormedIn source.now (all_bare tokens.entry.items end)) e.fault) }
+    ensures refuses { IfErr result (λ e. e.fault ≢ fault.Memory → module_in source.now (all_bare tokens.entry.items end) ≡ None) }
 {
     let mut reader = Reader::new(alloc, tokens, end);
     let head = reader.module_head();
@@ -580,7 +546,7 @@ fn module_up_to<'a>(
 ) -> Result<TextModule<'a>, TextError>
     ensures well_formed { IfOk result (λ m. IsTrue (is_well_formed_text m.kind)) }
     ensures denotes { IfOk result (IsModule (module_in source.now (all_bare tokens.entry.items end))) }
-    ensures refuses { IfErr result (λ e. Explains (module_in source.now (all_bare tokens.entry.items end) ≡ None) (MeansIllFormedIn source.now (all_bare tokens.entry.items end)) e.fault) }
+    ensures refuses { IfErr result (λ e. e.fault ≢ fault.Memory → module_in source.now (all_bare tokens.entry.items end) ≡ None) }
     ensures place { IfErr result (λ e. e.span.offset ≤ end.offset) }
 {
     match module_of_tokens(alloc, source, tokens, end, strings) {
@@ -617,17 +583,16 @@ fn module_up_to<'a>(
 /// example, it is the `[` of `(module quote "(fnuc) [")`.
 ///
 /// - [`TextFault::Memory`]: allocation failed.
-/// - [`TextFault::IllFormed`]: the fields break the rule of well-formedness of this number, as in
-///   [`ill_formed`](wast_tree::ill_formed). A branch hint without an instruction also has this
-///   fault.
+/// - [`TextFault::IllFormed`]: a branch hint has no instruction, or the blocks of a constant
+///   expression are not balanced. So the text is not a module.
 /// - Each other fault: the text is not a module.
 ///
 /// # Guarantees
 ///
-/// - `well_formed`: the fields are well formed. The bytes of a binary module are not checked.
+/// - `well_formed`: the fields are well formed, because the rules read no others (`ready_laws` of
+///   `wat_ready`). The bytes of a binary module are not checked.
 /// - `denotes`: the rules of the text format read the text as the module (`Denotes`).
-/// - `refuses`: unless the error is [`TextFault::Memory`], the rules read the text as no module. If
-///   it is [`TextFault::IllFormed`], they may also read it as a module that is not well formed.
+/// - `refuses`: unless the error is [`TextFault::Memory`], the rules read the text as no module.
 /// - `place`: the position of an error is in the text or at its end.
 ///
 /// # Memory
@@ -641,7 +606,7 @@ pub fn read<'a>(
 ) -> Result<TextModule<'a>, TextError>
     ensures well_formed { IfOk result (λ m. IsTrue (is_well_formed_text m.kind)) }
     ensures denotes { IfOk result (Denotes text.now) }
-    ensures refuses { IfErr result (λ e. Explains (DenotesNothing text.now) (DenotesIllFormed text.now) e.fault) }
+    ensures refuses { IfErr result (λ e. e.fault ≢ fault.Memory → DenotesNothing text.now) }
     ensures place { IfErr result (λ e. e.span.offset ≤ length text.now) }
 {
     let end = Span { offset: text.len() };
@@ -669,16 +634,15 @@ pub fn read<'a>(
 ///
 /// # Errors
 ///
-/// A [`TextFault`] with a position up to `end`: the tokens are not a module of fields, or the fields
-/// are not well formed, or allocation failed.
+/// A [`TextFault`] with a position up to `end`: the tokens are not a module of fields, or allocation
+/// failed.
 ///
 /// # Guarantees
 ///
 /// - `well_formed`: the fields are well formed.
 /// - `denotes`: the rules of the text format read the tokens as a module with these fields.
 /// - `refuses`: unless the error is [`TextFault::Memory`], the rules read the tokens as no module
-///   of fields. If it is [`TextFault::IllFormed`], they may also read fields that are not well
-///   formed.
+///   of fields.
 /// - `place`: the position of an error is not after `end`. So it is in the text or at its end, if
 ///   `end` is.
 ///
@@ -692,7 +656,7 @@ pub fn read_tokens<'a>(
 ) -> Result<Seq<ModuleField<'a>>, TextError>
     ensures well_formed { IfOk result (λ fields. IsTrue (is_well_formed fields)) }
     ensures denotes { IfOk result (AreFields (fields_of_module (all_bare tokens.entry.items end))) }
-    ensures refuses { IfErr result (λ e. Explains (fields_of_module (all_bare tokens.entry.items end) ≡ None) (AreIllFormed (fields_of_module (all_bare tokens.entry.items end))) e.fault) }
+    ensures refuses { IfErr result (λ e. e.fault ≢ fault.Memory → fields_of_module (all_bare tokens.entry.items end) ≡ None) }
     ensures place { IfErr result (λ e. e.span.offset ≤ end.offset) }
 {
     match fields_of_tokens(alloc, tokens, end) {
@@ -712,16 +676,13 @@ pub fn read_tokens<'a>(
 ///
 /// # Errors
 ///
-/// A [`TextFault`] with a position up to `end`: the tokens are not a module, or its fields are not
-/// well formed, or allocation failed.
+/// A [`TextFault`] with a position up to `end`: the tokens are not a module, or allocation failed.
 ///
 /// # Guarantees
 ///
 /// - `well_formed`: the fields are well formed. The bytes of a binary module are not checked.
 /// - `denotes`: the rules of the text format read the tokens as the module (`IsModule`).
 /// - `refuses`: unless the error is [`TextFault::Memory`], the rules read the tokens as no module.
-///   If it is [`TextFault::IllFormed`], they may also read them as a module that is not well
-///   formed.
 /// - `place`: the position of an error is not after `end`. So it is in the text or at its end, if
 ///   `end` is.
 ///
@@ -736,7 +697,7 @@ pub fn read_module_tokens<'a>(
 ) -> Result<TextModule<'a>, TextError>
     ensures well_formed { IfOk result (λ m. IsTrue (is_well_formed_text m.kind)) }
     ensures denotes { IfOk result (IsModule (tokens_rule (all_bare tokens.entry.items end))) }
-    ensures refuses { IfErr result (λ e. Explains (tokens_rule (all_bare tokens.entry.items end) ≡ None) (MeansIllFormed (all_bare tokens.entry.items end)) e.fault) }
+    ensures refuses { IfErr result (λ e. e.fault ≢ fault.Memory → tokens_rule (all_bare tokens.entry.items end) ≡ None) }
     ensures place { IfErr result (λ e. e.span.offset ≤ end.offset) }
 {
     module_up_to(alloc, "", tokens, end, strings)

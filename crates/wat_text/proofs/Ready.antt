@@ -1,4 +1,5 @@
--- The module of a text, rule by rule as in Denotes of wat_text: its id and its fields are what the rules of wat_syntax read.
+-- The module of a text, rule by rule as in Denotes: its id and its fields are what the rules of wat_syntax read. So it is well formed, and
+-- no id in it is generated (wat_ready).
 use Rattle.std.proofs.Common.{◌≡◌, ℕ, Bool, true, false, List, length, Option, None, Some, IsTrue, is_some, refl, subst}
 use Rattle.std.specs.Prelude.{⊤}
 use Rattle.std.specs.Option.{option_or}
@@ -6,6 +7,7 @@ use Rattle.wast_tree_nodes.specs.WellFormed.{is_well_formed}
 use Rattle.wast_tree_nodes.specs.Generations.{greatest_generation}
 use Rattle.wat_grammar.specs.Parts.{◌>>=◌}
 use Rattle.wat_syntax.specs.AtZero.{tokens_at_zero}
+use Rattle.wat_syntax.specs.BareFields.{bare_fields}
 use Rattle.wat_syntax.specs.ModuleFields.{modulefields}
 use Rattle.wat_syntax.specs.Tokens.{Toks, Parse, peek, after, position, key_of}
 use Rattle.wat_syntax.specs.Tree.{Span, Id, ModuleField}
@@ -17,7 +19,7 @@ use Rattle.wat_text.specs.declared.modules.TextModule.{TextModule}
 use Rattle.wat_ready.proofs.Parses.{Of, the_same, done, bind, skip, read}
 use Rattle.wat_ready.proofs.Checks.{IfId}
 use Rattle.wat_ready.proofs.Types.{of_optional_id}
-use Rattle.wat_ready.proofs.Ready.{well_formed, not_generated}
+use Rattle.wat_ready.proofs.Ready.{well_formed, well_formed_with_addresses, not_generated}
 
 -- What is made has this property, if something is made.
 pub record Made {T : Type 0} (P : T → Type 0) (o : Option T) : Type 0 where
@@ -41,9 +43,9 @@ after_rule : {S T : Type 0} {Q : S → Type 0} {P : T → Type 0} {o : Parse S} 
 after_rule {o = None} h k = nothing
 after_rule {o = Some y} h k = k y (h.at y refl)
 
--- fields, what a module contains, and a module
+-- fields, what a module contains, and a module; fields that are these at other addresses are well formed too
 abbrev pub FieldsOk : List ModuleField → Type 0
-FieldsOk fs = IsTrue (is_well_formed fs) × (greatest_generation fs ≡ 0)
+FieldsOk fs = IsTrue (is_well_formed fs) × (greatest_generation fs ≡ 0) × ((xs : List ModuleField) → fs ≡ bare_fields xs → IsTrue (is_well_formed xs))
 
 abbrev pub KindOk : TextKind → Type 0
 KindOk (kind.Fields fs) = FieldsOk fs
@@ -53,7 +55,7 @@ abbrev pub ModuleOk : TextModule → Type 0
 ModuleOk m = IfId m.id × KindOk m.kind
 
 of_fields : (t : Toks) → Of FieldsOk (modulefields t)
-of_fields t = record { at = λ x e. (well_formed t x e, not_generated t x e) }
+of_fields t = record { at = λ x e. (well_formed t x e, not_generated t x e, λ xs same. well_formed_with_addresses t xs x e same) }
 
 one_start : (fs : List ModuleField) → FieldsOk fs → Made FieldsOk (if_one_start fs)
 one_start fs p = by (has_one_start fs)
@@ -62,7 +64,7 @@ one_start fs p = by (has_one_start fs)
     by true = made p
     by false = nothing
 
-of_rest : (w : Bool) (t : Toks) → Made FieldsOk (rest_of_fields w t)
+pub of_rest : (w : Bool) (t : Toks) → Made FieldsOk (rest_of_fields w t)
 of_rest w t = and_then (of_end w t) one_start
   where
     of_end : (w : Bool) (t : Toks) → Made FieldsOk (fields_to_end w t)
@@ -91,3 +93,7 @@ of_tokens source t = after_rule (of_opening t) (λ o p. of_contents source (cont
 pub of_text : (bytes : List ℕ) → Made ModuleOk (module_of bytes)
 unfolding module_of
 of_text bytes = any (tokens_at_zero bytes) (λ found. of_tokens bytes (all_of found (record { offset = length bytes })))
+
+-- The fields that the code makes are well formed.
+pub rest_well : (w : Bool) (t : Toks) (xs : List ModuleField) → rest_of_fields w t ≡ Some (bare_fields xs) → is_well_formed xs ≡ true
+rest_well w t xs e = ((of_rest w t).at (bare_fields xs) e).2 xs refl

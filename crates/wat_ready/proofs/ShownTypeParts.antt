@@ -12,8 +12,8 @@ use Rattle.wat_syntax.specs.Tree.form
 use Rattle.wat_syntax.specs.Tree.space
 use Rattle.wat_syntax.specs.Tree.inner
 use Rattle.wat_syntax.specs.Tree.ty
-use Rattle.wat_meaning.specs.Shown.{shown_composite, shown_function_type, shown_local, shown_param, shown_rec, shown_struct_field, shown_type, shown_type_use}
-use Rattle.wat_meaning.proofs.ShownLists.{map_same, flat_same, option_same}
+use Rattle.wat_ready.specs.Shown.{shown_composite, shown_function_type, shown_local, shown_param, shown_rec, shown_struct_field, shown_type, shown_type_use}
+use Rattle.wat_ready.proofs.ShownLists.{map_same, flat_same, option_same}
 
 -- the checks of a function type
 pub signature_asks : (t : FunctionType) → in_signature (shown_function_type t) ≡ in_signature t

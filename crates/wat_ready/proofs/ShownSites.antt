@@ -33,10 +33,10 @@ use Rattle.wat_syntax.specs.Tree.dylink
 use Rattle.wat_syntax.specs.Tree.field
 use Rattle.wat_syntax.specs.Bare.{bare_text}
 use Rattle.wat_syntax.specs.BareFields.{bare_subsection}
-use Rattle.wat_meaning.specs.Shown.{shown_custom, shown_data_kind, shown_elem, shown_elem_kind, shown_expression, shown_field, shown_fields, shown_func, shown_func_kind, shown_global, shown_global_kind, shown_instr, shown_item, shown_item_kind, shown_items, shown_local, shown_memory_kind, shown_payload, shown_rec, shown_table_kind, shown_tag_type, shown_try_table, shown_type, shown_type_use}
-use Rattle.wat_meaning.specs.ShownSites.{shown_context, shown_site}
-use Rattle.wat_meaning.proofs.ShownLists.{map_same, flat_same, flat_changed, option_changed, both_changed}
-use Rattle.wat_meaning.proofs.ShownTypeParts.{use_asks, params_shown, type_asks, rec_asks, locals_asks, locals_shown}
+use Rattle.wat_ready.specs.Shown.{shown_custom, shown_data_kind, shown_elem, shown_elem_kind, shown_expression, shown_field, shown_fields, shown_func, shown_func_kind, shown_global, shown_global_kind, shown_instr, shown_item, shown_item_kind, shown_items, shown_local, shown_memory_kind, shown_payload, shown_rec, shown_table_kind, shown_tag_type, shown_try_table, shown_type, shown_type_use}
+use Rattle.wat_ready.specs.ShownSites.{shown_context, shown_site}
+use Rattle.wat_ready.proofs.ShownLists.{map_same, flat_same, flat_changed, option_changed, both_changed}
+use Rattle.wat_ready.proofs.ShownTypeParts.{use_asks, params_shown, type_asks, rec_asks, locals_asks, locals_shown}
 
 -- Checks are as before.
 pub asked_shown : (asks : List Check) → check_sites asks ≡ map shown_site (check_sites asks)

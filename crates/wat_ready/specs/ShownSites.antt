@@ -6,7 +6,7 @@
 --   (func (param (@name "a") i32) ..)      the site of the type use, with "a" at address 0; all others as before
 use Rattle.std.specs.Prelude.{option_map}
 use Rattle.wast_tree_nodes.specs.Sites.{Locals, BodyContext, Site, Asked, Used, Declared, LocalAt, FieldAt, LabelAt, Repeated, Begins, Ends}
-use Rattle.wat_meaning.specs.Shown.{shown_type_use}
+use Rattle.wat_ready.specs.Shown.{shown_type_use}
 
 -- the parameters and locals of a body
 abbrev pub shown_locals : Locals → Locals
