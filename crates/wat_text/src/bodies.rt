@@ -379,7 +379,7 @@ impl<'a> Reader<'a> {
         ensures { Expects (machine.without hint) self.old self.new }
     {
         if let Some(hint) = hint {
-            self.fail_at(hint.place, TextFault::IllFormed(2));
+            self.fail_at(hint.place, TextFault::HintWithoutInstruction);
         }
     }
 
@@ -389,7 +389,7 @@ impl<'a> Reader<'a> {
     {
         let place = self.place();
         let _second = self.hint(purpose);
-        self.fail_at(place, TextFault::IllFormed(2));
+        self.fail_at(place, TextFault::HintWithoutInstruction);
     }
 
     /// The part of a block whose word is next.
@@ -600,7 +600,7 @@ impl<'a> Reader<'a> {
     {
         let fault = match purpose {
             Purpose::Body => TextFault::Expected("`end` of this block"),
-            Purpose::Constant => TextFault::IllFormed(5),
+            Purpose::Constant => TextFault::UnbalancedBlocks,
         };
         self.fail_at(place, fault);
     }
@@ -639,7 +639,7 @@ impl<'a> Reader<'a> {
         ensures { Refuses self.old self.new }
     {
         match (purpose, part) {
-            (Purpose::Constant, Part::End) => self.fail(TextFault::IllFormed(5)),
+            (Purpose::Constant, Part::End) => self.fail(TextFault::UnbalancedBlocks),
             _ => self.fail(TextFault::Unexpected(part.name())),
         }
     }

@@ -583,9 +583,8 @@ fn module_up_to<'a>(
 /// example, it is the `[` of `(module quote "(fnuc) [")`.
 ///
 /// - [`TextFault::Memory`]: allocation failed.
-/// - [`TextFault::IllFormed`]: a branch hint has no instruction, or the blocks of a constant
-///   expression are not balanced. So the text is not a module.
-/// - Each other fault: the text is not a module.
+/// - Each other fault: the text is not a module. It is never [`TextFault::IllFormed`], because the
+///   rules read only well-formed fields.
 ///
 /// # Guarantees
 ///

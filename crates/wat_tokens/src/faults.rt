@@ -55,7 +55,12 @@ pub enum TextFault {
     Trailing,
     /// Several fields are start functions.
     Starts,
-    /// The fields are not well formed, by the clause of this number.
+    /// A branch hint comes before no instruction, or after another hint.
+    HintWithoutInstruction,
+    /// A block of a constant expression has no `end`, or an `end` has no block.
+    UnbalancedBlocks,
+    /// A parsed module was changed and is not well formed any more, by the rule of this number. No
+    /// text has this fault.
     IllFormed(u8),
 }
 
@@ -84,6 +89,10 @@ impl TextFault {
             TextFault::ParamBehindResult => "`param` must come before `result`",
             TextFault::Trailing => "unexpected token after module",
             TextFault::Starts => "multiple start sections",
+            TextFault::HintWithoutInstruction => {
+                "branch hints must be on instructions, in increasing order, with value 0 or 1"
+            }
+            TextFault::UnbalancedBlocks => "unbalanced blocks in constant expression",
             TextFault::IllFormed(clause) => clause_text(clause),
         }
     }
