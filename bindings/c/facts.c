@@ -154,7 +154,7 @@ static void words(void) {
         "no such status",
     };
     static const char *const of_fault[] = {
-        "the text is not a well-formed module",
+        "the text is not a module",
         "an import comes after a definition",
         "two items of one index space, or two locals, have the same id",
         "two fields of a struct have the same id",

@@ -101,7 +101,7 @@ static inline const char *rigyomad_status_text(uint32_t status) {
 static inline const char *rigyomad_fault_text(uint32_t number) {
     switch (number) {
     case 0:
-        return "the text is not a well-formed module";
+        return "the text is not a module";
     case RIGYOMAD_E1_IMPORT_AFTER:
         return "an import comes after a definition";
     case RIGYOMAD_E2_DUPLICATE:

@@ -71,7 +71,7 @@ export type Kind =
  * escapes as `escaped` has them, and so has `stack`. */
 export class WatError extends Error {
   private constructor();
-  /** 1 to 13 for E1 to E13 (docs/FORMATS.md); 0 if the text is not a well-formed module. */
+  /** 1 to 13 for E1 to E13 (docs/FORMATS.md); 0 if the text is not a module. */
   readonly number: number;
   readonly kind: Kind;
   /** From 1; 0 if the error has no position, as E10 and E12. */

@@ -31,7 +31,7 @@ impl fmt::Display for Place {
 #[derive(Clone, Copy, Debug, PartialEq, Eq, Hash)]
 #[non_exhaustive]
 pub enum Kind {
-    /// The text is not a well-formed module: the reader does not accept it, or it is not UTF-8.
+    /// The text is not a module: the reader does not accept it, or it is not UTF-8.
     Malformed = 0,
     /// E1: an import comes after a definition.
     ImportAfter = 1,
@@ -88,7 +88,7 @@ impl Kind {
     /// Returns what the kind says of any text that has it. [`Fault::message`] says it of one text.
     pub fn text(self) -> &'static str {
         match self {
-            Kind::Malformed => "the text is not a well-formed module",
+            Kind::Malformed => "the text is not a module",
             Kind::ImportAfter => "an import comes after a definition",
             Kind::Duplicate => "two items of one index space, or two locals, have the same id",
             Kind::DuplicateField => "two fields of a struct have the same id",
@@ -166,7 +166,7 @@ impl Fault {
     }
 
     /// Returns the number of the fault: 1 for E1, and so on to 13, as in [`Kind`]. Returns `None`
-    /// if the text is not a well-formed module.
+    /// if the text is not a module.
     pub fn number(&self) -> Option<u32> {
         self.kind.number()
     }

@@ -94,7 +94,7 @@ fn fault(text: &str) -> Fault {
 ///
 /// # Errors
 ///
-/// - no number: the text is not a well-formed module;
+/// - no number: the text is not a module;
 /// - E1 to E9: a name, an index or a type of it does not resolve;
 /// - E10: it is too large;
 /// - E11: it has a construct that cannot be encoded;

@@ -167,7 +167,7 @@ fn names_of(records: &[archive::Name], bytes: &[u8]) -> Result<Vec<Name>, Fault>
 ///
 /// # Errors
 ///
-/// - no number: the text is not a well-formed module;
+/// - no number: the text is not a module;
 /// - E1 to E9: a name, an index or a type of it does not resolve;
 /// - E10: it is too large;
 /// - E12: allocation failed, in the archive or here.

@@ -69,7 +69,7 @@ fn kinds_have_the_numbers_of_their_faults() {
 #[test]
 fn kinds_have_texts() {
     assert_eq!(Kind::Unknown.to_string(), "nothing has this name");
-    assert_eq!(format!("{:5}.", Kind::Malformed), "the text is not a well-formed module.");
+    assert_eq!(format!("{:5}.", Kind::Malformed), "the text is not a module.");
 }
 
 #[test]

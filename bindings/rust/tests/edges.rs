@@ -4,7 +4,7 @@ use rigyomad::{encode, names_within, parse_bytes, Kind, Within};
 
 /// Each kind, its number, and what it says.
 const KINDS: [(Kind, Option<u32>, &str); 14] = [
-    (Kind::Malformed, None, "the text is not a well-formed module"),
+    (Kind::Malformed, None, "the text is not a module"),
     (Kind::ImportAfter, Some(1), "an import comes after a definition"),
     (Kind::Duplicate, Some(2), "two items of one index space, or two locals, have the same id"),
     (Kind::DuplicateField, Some(3), "two fields of a struct have the same id"),

@@ -21,8 +21,8 @@ use wat_messages::{Diagnostic, Range};
 #[repr(C)]
 #[derive(Clone, Copy, Debug)]
 pub struct Diagnosis {
-    /// The number of the error: 1 for E1 to 13 for E13. It is 0 if the text is not a well-formed
-    /// module, or has no error.
+    /// The number of the error: 1 for E1 to 13 for E13. It is 0 if the text is not a module, or has
+    /// no error.
     pub number: u32,
     /// The number of bytes before the position, or 0 if there is no position.
     pub offset: usize,

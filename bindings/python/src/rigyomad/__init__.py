@@ -72,7 +72,7 @@ def _snippet(before: str, after: str, line: int, column: int) -> str:
 class WatError(ValueError):
     """Why a text has no bytes. It is printed in one line, with control characters as escapes."""
 
-    #: 1 to 13 for E1 to E13; 0 if the text is not a well-formed module.
+    #: 1 to 13 for E1 to E13; 0 if the text is not a module.
     number: int
     #: What the number says, as `KINDS` has it.
     kind: str
