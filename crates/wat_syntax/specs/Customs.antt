@@ -82,15 +82,15 @@ pub data ProducersField : Type 0 where
   Sdk : ProducersField
   ProcessedBy : ProducersField
 
-abbrev pub field_of : Option Key → Option ProducersField
-field_of (Some key.Language) = Some Language
-field_of (Some key.Sdk) = Some Sdk
-field_of (Some key.ProcessedBy) = Some ProcessedBy
-field_of k = None
+abbrev pub producers_field_of : Option Key → Option ProducersField
+producers_field_of (Some key.Language) = Some Language
+producers_field_of (Some key.Sdk) = Some Sdk
+producers_field_of (Some key.ProcessedBy) = Some ProcessedBy
+producers_field_of k = None
 
 -- the field that a keyword is, which is taken already
 abbrev pub known_field : Option Key → Toks → Parse ProducersField
-known_field k toks = field_of k >>= λ f. Some (f, toks)
+known_field k toks = producers_field_of k >>= λ f. Some (f, toks)
 
 -- the name of a tool and its version
 abbrev pub Version : Type 0

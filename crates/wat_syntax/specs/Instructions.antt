@@ -199,11 +199,11 @@ handle toks = index toks >>= λ x. elim (is_switch (word_of (peek 0 x.1))) [
 abbrev pub on : Toks → Parse Handle
 on toks = form key.On toks >>= λ t. handle t >>= λ h. rparen h.1 >>= λ rest. Some (h.0, rest)
 
-abbrev pub handlers : Toks → Parse (List Handle)
-handlers toks = many (is_form key.On) on (count toks) toks
+abbrev pub on_clauses : Toks → Parse (List Handle)
+on_clauses toks = many (is_form key.On) on (count toks) toks
 
 abbrev pub resumetable : Toks → Parse ResumeTable
-resumetable toks = handlers toks >>= λ hs. Some (record { handlers = hs.0 }, hs.1)
+resumetable toks = on_clauses toks >>= λ hs. Some (record { handlers = hs.0 }, hs.1)
 
 -- call_indirect x:tableidx t:typeuse, where the table may be left out (text format: control instructions): without the word
 abbrev pub callindirect : Toks → Parse CallIndirect

@@ -18,7 +18,7 @@ use Rattle.wat_text.specs.declared.bodies.Level.{Level}
 use Rattle.wat_text.specs.declared.bodies.Level.TheVariants as level
 use Rattle.wat_text.specs.declared.bodies.Hint as code
 use Rattle.wat_text.specs.declared.bodies.Open.{Open}
-use Rattle.wat_text.specs.Machine.{State, with_instr, opened, closed, first_by, next_by, put, turned, arm_entered, with_toks, hinted_step}
+use Rattle.wat_text.specs.Machine.{State, with_instr, opened, closed, first_by, next_by, append, replace_level, push_arm, with_toks, hinted_step}
 use Rattle.wat_text.specs.Machine as machine
 use Rattle.wat_text.proofs.Running.{run, add, in_turn}
 use Rattle.wat_text.proofs.Levels.{Base, hint_items, todo}
@@ -82,7 +82,7 @@ module _ (may : Bool) (b : Base) (m : ℕ) (os : List Open) (ws : List Instructi
       catch_one part = by (index (after (after t))) refl
         where
           goes : Parse Index → Option State
-          goes x = x >>= λ x. put (instr.catch x.0) (with_toks x.1 inside) >>= turned level.Catch >>= arm_entered
+          goes x = x >>= λ x. append (instr.catch x.0) (with_toks x.1 inside) >>= replace_level level.Catch >>= push_arm
 
           by : (x : Parse Index) → index (after (after t)) ≡ x → Same may b m (machine.catch_arm inside) (run catching e t)
           by None x = no_step may b m (ap goes x) (one_arm t t [] read (is_this Catch (Some Catch) part) ∙ catch_at (sequences may m) t arms_after e (is_this Catch (Some Catch) part) None x)
@@ -107,17 +107,17 @@ module _ (may : Bool) (b : Base) (m : ℕ) (os : List Open) (ws : List Instructi
       delegated part = by (index (after (after t))) refl
         where
           goes : Parse Index → Option State
-          goes x = x >>= λ x. rparen x.1 >>= λ rest. put (instr.delegate x.0) (with_toks rest inside) >>= turned level.Delegated
+          goes x = x >>= λ x. rparen x.1 >>= λ rest. append (instr.delegate x.0) (with_toks rest inside) >>= replace_level level.Delegated
 
           at_label : (x : Parse Index) → index (after (after t)) ≡ x
               → run (handlers w ∷ more) e t ≡ (x >>= λ x. run (terminal rparen ∷ terminal rparen ∷ more) (with_instr (instr.delegate x.0) e) x.1)
           at_label x read_x = delegate_at w t more e (is_this Delegate (Some Delegate) part) x read_x
 
           after_label : (x : Index × Toks) → index (after (after t)) ≡ Some x → (r : Option Toks) → rparen x.1 ≡ r → Same may b m (machine.delegate_arm inside) (run (handlers w ∷ more) e t)
-          after_label x read_x None r = no_step may b m (ap goes read_x ∙ ap (λ o. o >>= λ rest. put (instr.delegate x.0) (with_toks rest inside) >>= turned level.Delegated) r)
+          after_label x read_x None r = no_step may b m (ap goes read_x ∙ ap (λ o. o >>= λ rest. append (instr.delegate x.0) (with_toks rest inside) >>= replace_level level.Delegated) r)
               (at_label (Some x) read_x ∙ ap (λ o. (o >>= λ rest. let y : List Item × Toks = ([], rest) in Some y) >>= λ y. run (terminal rparen ∷ more) (add (with_instr (instr.delegate x.0) e) y.0) y.1) r)
           after_label x read_x (Some rest) r = one_step may b m zero (state (open_of level.Delegated place None ∷ os) ws (with_instr (instr.delegate x.0) e) rest)
-              (ap goes read_x ∙ ap (λ o. o >>= λ rest. put (instr.delegate x.0) (with_toks rest inside) >>= turned level.Delegated) r)
+              (ap goes read_x ∙ ap (λ o. o >>= λ rest. append (instr.delegate x.0) (with_toks rest inside) >>= replace_level level.Delegated) r)
               (at_label (Some x) read_x ∙ ap (λ o. (o >>= λ rest. let y : List Item × Toks = ([], rest) in Some y) >>= λ y. run (terminal rparen ∷ more) (add (with_instr (instr.delegate x.0) e) y.0) y.1) r)
 
           by : (x : Parse Index) → index (after (after t)) ≡ x → Same may b m (machine.delegate_arm inside) (run (handlers w ∷ more) e t)
@@ -136,7 +136,7 @@ module _ (may : Bool) (b : Base) (m : ℕ) (os : List Open) (ws : List Instructi
 
     -- the arms of `else` and `do`
     abbrev else_goes : Bool → Option State
-    else_goes x = ((elim x [ true ↦ Some (after (after t)) | false ↦ None ]) >>= λ rest. Some (with_toks rest opened_it)) >>= put (instr.else_ None) >>= turned level.Last >>= arm_entered
+    else_goes x = ((elim x [ true ↦ Some (after (after t)) | false ↦ None ]) >>= λ rest. Some (with_toks rest opened_it)) >>= append (instr.else_ None) >>= replace_level level.Last >>= push_arm
 
     else_one : (x : Bool) → same_part Else (part_in (after t)) ≡ x → Same may b m (machine.else_arm None opened_it) (run (else_arm w ∷ ends ∷ more) e t)
     else_one true there = one_step may b m zero (state (armed level.Last (after (after t))) ws (with_instr (instr.else_ None) e) (after (after t))) (ap else_goes there)
@@ -144,7 +144,7 @@ module _ (may : Bool) (b : Base) (m : ℕ) (os : List Open) (ws : List Instructi
     else_one false absent = no_step may b m (ap else_goes absent) (no_else w t (ends ∷ more) e (arm_by t Else is ∙ absent) ∙ no_end t more e (ap is_rparen is))
 
     abbrev do_goes : Bool → Option State
-    do_goes x = ((elim x [ true ↦ Some (after (after t)) | false ↦ None ]) >>= λ rest. Some (with_toks rest opened_it)) >>= turned level.Do >>= arm_entered
+    do_goes x = ((elim x [ true ↦ Some (after (after t)) | false ↦ None ]) >>= λ rest. Some (with_toks rest opened_it)) >>= replace_level level.Do >>= push_arm
 
     do_one : (x : Bool) → is_key key.Do (key_of (peek 0 (after t))) ≡ x → Same may b m (machine.do_arm None opened_it) (run (terminal (form key.Do) ∷ arm w ∷ handlers w ∷ more) e t)
     do_one true there = one_step may b m zero (state (armed level.Do (after (after t))) ws e (after (after t))) (ap do_goes there)
@@ -195,14 +195,14 @@ module _ (may : Bool) (b : Base) (m : ℕ) (os : List Open) (ws : List Instructi
     abbrev ended : State
     ended = state os ws (with_instr (instr.end_ None) e) (after t)
 
-    pub then_level : Same may b m (hinted_step h (at_level level.Then)) (run (else_arm w ∷ ends ∷ more) e toks)
-    then_level = by_token level.Then (else_arm w ∷ ends ∷ more) refl (λ p q. then_fails toks p q)
+    pub at_then : Same may b m (hinted_step h (at_level level.Then)) (run (else_arm w ∷ ends ∷ more) e toks)
+    at_then = by_token level.Then (else_arm w ∷ ends ∷ more) refl (λ p q. then_fails toks p q)
         (λ is none same. else_one t level.Then is (same_part Else (part_in (after t))) refl) (λ x. refl)
         (λ is. at_close may b m os ws place h0 e toks t h first level.Then ended (else_arm w ∷ ends ∷ more) is refl (λ q p. then_fails toks p q)
         (λ same at. no_else w toks (ends ∷ more) e (arm_not toks Else (ap is_lparen at)) ∙ ends_at toks more e (ap is_rparen at) ∙ ap (λ t. run more (with_instr (instr.end_ None) e) (after t)) same))
 
-    pub try_level : Same may b m (hinted_step h (at_level level.Try)) (run (terminal (form key.Do) ∷ arm w ∷ handlers w ∷ more) e toks)
-    try_level = by_token level.Try (terminal (form key.Do) ∷ arm w ∷ handlers w ∷ more) refl (λ p q. try_fails toks p q)
+    pub at_try : Same may b m (hinted_step h (at_level level.Try)) (run (terminal (form key.Do) ∷ arm w ∷ handlers w ∷ more) e toks)
+    at_try = by_token level.Try (terminal (form key.Do) ∷ arm w ∷ handlers w ∷ more) refl (λ p q. try_fails toks p q)
         (λ is none same. do_one t level.Try is (is_key key.Do (key_of (peek 0 (after t)))) refl) (λ x. refl)
         (λ is. no_step may b m (step_is may b m os ws place h0 e toks t h first level.Try (Some token.Close) is ∙ none_closed h)
         (no_form toks (arm w ∷ handlers w ∷ more) e key.Do (form_not toks key.Do (not_open may b m os ws place h0 e toks t h first (ap is_lparen is)))))
@@ -211,13 +211,13 @@ module _ (may : Bool) (b : Base) (m : ℕ) (os : List Open) (ws : List Instructi
         none_closed None = refl
         none_closed (Some x) = refl
 
-    pub last_level : Same may b m (hinted_step h (at_level level.Last)) (run (ends ∷ more) e toks)
-    last_level = by_token level.Last (ends ∷ more) refl (λ p q. no_end toks more e q) (λ is none same. no_step may b m refl (no_end t more e (ap is_rparen is))) (λ x. refl)
+    pub at_last : Same may b m (hinted_step h (at_level level.Last)) (run (ends ∷ more) e toks)
+    at_last = by_token level.Last (ends ∷ more) refl (λ p q. no_end toks more e q) (λ is none same. no_step may b m refl (no_end t more e (ap is_rparen is))) (λ x. refl)
         (λ is. at_close may b m os ws place h0 e toks t h first level.Last ended (ends ∷ more) is refl (λ q p. no_end toks more e q)
         (λ same at. ends_at toks more e (ap is_rparen at) ∙ ap (λ t. run more (with_instr (instr.end_ None) e) (after t)) same))
 
-    pub delegated_level : Same may b m (hinted_step h (at_level level.Delegated)) (run (terminal rparen ∷ more) e toks)
-    delegated_level = by_token level.Delegated (terminal rparen ∷ more) refl (λ p q. no_close toks more e q) (λ is none same. no_step may b m refl (no_close t more e (ap is_rparen is))) (λ x. refl)
+    pub at_delegated : Same may b m (hinted_step h (at_level level.Delegated)) (run (terminal rparen ∷ more) e toks)
+    at_delegated = by_token level.Delegated (terminal rparen ∷ more) refl (λ p q. no_close toks more e q) (λ is none same. no_step may b m refl (no_close t more e (ap is_rparen is))) (λ x. refl)
         (λ is. at_close may b m os ws place h0 e toks t h first level.Delegated (state os ws e (after t)) (terminal rparen ∷ more) is refl (λ q p. no_close toks more e q)
         (λ same at. closes toks more e (ap is_rparen at) ∙ ap (λ t. run more e (after t)) same))
 
@@ -231,14 +231,14 @@ module _ (may : Bool) (b : Base) (m : ℕ) (os : List Open) (ws : List Instructi
           read_value : Parse (List Item)
           read_value = Rattle.wat_syntax.specs.Values.string (after toks) >>= λ s. rule.hint_value s.0.now >>= λ v. rparen s.1 >>= λ rest. if may then Some (rule.Hint v ∷ [], rest) else None
 
-      pub catch_level : Same may b m (hinted_step h (at_level level.Catch)) (run catching e toks)
-      catch_level = by_token level.Catch catching refl (λ p q. no_arms toks t (hint_items h) read p q)
+      pub at_catch : Same may b m (hinted_step h (at_level level.Catch)) (run catching e toks)
+      at_catch = by_token level.Catch catching refl (λ p q. no_arms toks t (hint_items h) read p q)
           (λ is none same. next_one t (bare_hint none same) level.Catch is (part_in (after t)) refl) (λ x. refl)
           (λ is. at_close may b m os ws place h0 e toks t h first level.Catch ended catching is refl (λ q p. no_arms toks t (hint_items h) read p q)
           (λ same at. arms_close toks (bare_at same at) at ∙ ap (λ t. run more (with_instr (instr.end_ None) e) (after t)) same))
 
-      pub do_level : Same may b m (hinted_step h (at_level level.Do)) (run (handlers w ∷ more) e toks)
-      do_level = by_token level.Do (handlers w ∷ more) refl (λ p q. do_fails toks p q t (hint_items h) read)
+      pub at_do : Same may b m (hinted_step h (at_level level.Do)) (run (handlers w ∷ more) e toks)
+      at_do = by_token level.Do (handlers w ∷ more) refl (λ p q. do_fails toks p q t (hint_items h) read)
           (λ is none same. first_one t (bare_hint none same) level.Do is (part_in (after t)) refl) (λ x. refl)
           (λ is. at_close may b m os ws place h0 e toks t h first level.Do ended (handlers w ∷ more) is refl (λ q p. do_fails toks p q t (hint_items h) read)
           (λ same at. no_delegate w toks more e (arm_not toks Delegate (ap is_lparen at)) ∙ arms_close toks (bare_at same at) at ∙ ap (λ t. run more (with_instr (instr.end_ None) e) (after t)) same))

@@ -14,7 +14,7 @@ use Rattle.wat_syntax.specs.Bare.{bare_text, bare_name_option, bare_id_option}
 use Rattle.wat_syntax.specs.BareFields.{bare_fields}
 use Rattle.wat_text.specs.Readers.{left, IsClean, IsRefusal, IsRefused, Reads, Expects}
 use Rattle.wat_text.specs.Denotes.{AreFields, has_one_start, if_one_start, where_it_holds, rest_of_fields, pieces_of, module_end, module_position, fields_module, binary_module, is_well_formed_module, bare_opening, IsModule}
-use Rattle.wat_text.specs.Finishes.{Finishes}
+use Rattle.wat_text.specs.Finishes.{Finishes, ReadsModuleToEnd}
 use Rattle.wat_text.specs.declared.modules.ModuleHead.{ModuleHead}
 use Rattle.wat_text.specs.declared.modules.TextKind.TheVariants as kind
 use Rattle.wat_text.specs.declared.modules.TextModule.{TextModule}
@@ -181,7 +181,7 @@ module _ (h : ModuleHead) (r : Reader) where
 
   pub binary_err : (s a b : Reader) (pieces : List (Bor (List ℕ))) (e : TextError) → left s ≡ after (left r) → s.fault ≡ r.fault → s.make ≡ r.make
       → Reads strings s a (map bare_text pieces) → Expects (module_end true) a b → (e.fault ≢ fault.Memory → (b.make ≡ false) × (b.fault ≡ Some e))
-      → Finishes is_well_formed_module (IsModule (binary_module (bare_opening h) (left r))) (binary_module (bare_opening h) (left r) ≡ None) r (Err e)
+      → ReadsModuleToEnd (binary_module (bare_opening h)) r (Err e)
   binary_err s a b pieces e same fault make reads ends f =
       fails_all is_well_formed_module (IsModule (binary_module (bare_opening h) (left r))) (binary_module (bare_opening h) (left r) ≡ None) (pieces_of (left r)) r b (map bare_text pieces) e
       (skipped strings (module_end true) r s a b (map bare_text pieces) same fault make reads ends) f
@@ -189,7 +189,7 @@ module _ (h : ModuleHead) (r : Reader) where
 
   pub binary_ok : (s a b : Reader) (pieces : List (Bor (List ℕ))) (span : Span) → span ≡ module_position h → left s ≡ after (left r) → s.fault ≡ r.fault → s.make ≡ r.make
       → Reads strings s a (map bare_text pieces) → Expects (module_end true) a b → IsClean b
-      → Finishes is_well_formed_module (IsModule (binary_module (bare_opening h) (left r))) (binary_module (bare_opening h) (left r) ≡ None) r (Ok (of_pieces span pieces))
+      → ReadsModuleToEnd (binary_module (bare_opening h)) r (Ok (of_pieces span pieces))
   binary_ok s a b pieces span at same fault make reads ends clean =
       gives_all is_well_formed_module (IsModule (binary_module (bare_opening h) (left r))) (binary_module (bare_opening h) (left r) ≡ None) (pieces_of (left r)) r b (map bare_text pieces) (of_pieces span pieces)
       (skipped strings (module_end true) r s a b (map bare_text pieces) same fault make reads ends) clean

@@ -19,11 +19,11 @@ use Rattle.wat_text.specs.declared.bodies.Level.{Level}
 use Rattle.wat_text.specs.declared.bodies.Level.TheVariants as level
 use Rattle.wat_text.specs.declared.bodies.Hint as code
 use Rattle.wat_text.specs.declared.bodies.Open.{Open}
-use Rattle.wat_text.specs.Machine.{State, with_toks, without, else_word, no_part, taken, waited, stood, waiting_put, then_arm, else_arm, do_arm, catch_arm, catch_all_arm, delegate_arm, first_by, next_by, folded_block, operator_of, opened_in, closed_by, closed_in, part_at, parted_by, next_level, level_of, word_by, other, takes_plain, at_nothing, hinted_by, step, hint_of_level, is_closed}
+use Rattle.wat_text.specs.Machine.{State, with_toks, without, else_word, no_part, taken, read_operator, read_instr, append_hinted_operator, then_arm, else_arm, do_arm, catch_arm, catch_all_arm, delegate_arm, first_by, next_by, folded_block, operator_of, opened_in, closed_by, closed_in, part_at, parted_by, next_level, level_of, word_by, other, takes_plain, at_nothing, hinted_by, step, hint_of_level, is_closed}
 use Rattle.wat_text.proofs.Levels.{Base, Whole, One}
-use Rattle.wat_text.proofs.Machines.{goes_on, Reading, None_there, One_there, Bad, reading, step_as}
+use Rattle.wat_text.proofs.Machines.{takes_step, Reading, None_there, One_there, Bad, reading, step_as}
 use Rattle.wat_laws.proofs.Fewer.{one_less, Fewer, Takes, none, done, and_then, taking, some_of, either, cond, no_toks, toks, fewer, rparen_takes, keyword_takes, index_fewer, string_fewer}
-use Rattle.wat_text.proofs.MachineSteps.{waited_is, stood_is}
+use Rattle.wat_text.proofs.MachineSteps.{read_operator_is, read_instr_is}
 
 -- so many tokens at most are left in a state
 pub record Left (n : ℕ) (o : Option State) : Type 0 where
@@ -47,15 +47,15 @@ after_toks : {n : ℕ} {o : Option Toks} {f : Toks → Option State} → Takes n
 after_toks {o = None} h k = record { at = λ t e. absurd cc }
 after_toks {o = Some t} h k = k t (h.at t refl)
 
-after_part : {T : Type 0} {n : ℕ} {o : Parse T} {f : T × Toks → Option State} → Fewer n o → ((x : T × Toks) → count x.1 ≤ n → Left n (f x)) → Left n (o >>= f)
-after_part {o = None} h k = record { at = λ t e. absurd cc }
-after_part {o = Some x} h k = k x (h.at x refl)
+after_value : {T : Type 0} {n : ℕ} {o : Parse T} {f : T × Toks → Option State} → Fewer n o → ((x : T × Toks) → count x.1 ≤ n → Left n (f x)) → Left n (o >>= f)
+after_value {o = None} h k = record { at = λ t e. absurd cc }
+after_value {o = Some x} h k = k x (h.at x refl)
 
 one_of : (n : ℕ) (c : Bool) (a b : Option State) → Left n a → Left n b → Left n (elim c [ true ↦ a | false ↦ b ])
 one_of n true a b p q = p
 one_of n false a b p q = q
 
-open_yet : (b : Base) (t : Toks) (ls : List Open) → goes_on b ls t ≡ true → peek 0 t ≡ None → is_closed ls ≡ false
+open_yet : (b : Base) (t : Toks) (ls : List Open) → takes_step b ls t ≡ true → peek 0 t ≡ None → is_closed ls ≡ false
 open_yet Whole t [] on none = not_so (sym on ∙ ap (λ o. not (is_end o)) none)
   where
     not_so : true ≡ false → is_closed [] ≡ false
@@ -65,19 +65,19 @@ open_yet b t (o ∷ os) on none = refl
 
 module _ (shrinks : (t : Toks) (x : Instruction × Toks) → instruction t ≡ Some x → suc (count x.1) ≤ count t) where
   -- an instruction takes a token
-  waited_less : (n : ℕ) (s : State) → count s.toks ≤ suc n → Left n (waited s)
-  waited_less n s h = by (instruction s.toks) refl
+  read_operator_less : (n : ℕ) (s : State) → count s.toks ≤ suc n → Left n (read_operator s)
+  read_operator_less n s h = by (instruction s.toks) refl
     where
-      by : (i : Parse Instruction) → instruction s.toks ≡ i → Left n (waited s)
-      by None read = subst (Left n) (sym (waited_is s None read)) (stuck n)
-      by (Some i) read = subst (Left n) (sym (waited_is s (Some i) read)) (at_state n _ (let l : suc (count i.1) ≤ count s.toks = shrinks s.toks i read in omega arith))
+      by : (i : Parse Instruction) → instruction s.toks ≡ i → Left n (read_operator s)
+      by None read = subst (Left n) (sym (read_operator_is s None read)) (stuck n)
+      by (Some i) read = subst (Left n) (sym (read_operator_is s (Some i) read)) (at_state n _ (let l : suc (count i.1) ≤ count s.toks = shrinks s.toks i read in omega arith))
 
-  stood_less : (n : ℕ) (s : State) → count s.toks ≤ suc n → Left n (stood s)
-  stood_less n s h = by (instruction s.toks) refl
+  read_instr_less : (n : ℕ) (s : State) → count s.toks ≤ suc n → Left n (read_instr s)
+  read_instr_less n s h = by (instruction s.toks) refl
     where
-      by : (i : Parse Instruction) → instruction s.toks ≡ i → Left n (stood s)
-      by None read = subst (Left n) (sym (stood_is s None read)) (stuck n)
-      by (Some i) read = subst (Left n) (sym (stood_is s (Some i) read)) (at_state n _ (let l : suc (count i.1) ≤ count s.toks = shrinks s.toks i read in omega arith))
+      by : (i : Parse Instruction) → instruction s.toks ≡ i → Left n (read_instr s)
+      by None read = subst (Left n) (sym (read_instr_is s None read)) (stuck n)
+      by (Some i) read = subst (Left n) (sym (read_instr_is s (Some i) read)) (at_state n _ (let l : suc (count i.1) ≤ count s.toks = shrinks s.toks i read in omega arith))
 
   module _ (n : ℕ) where
     more : (s : State) → count s.toks ≤ n → count s.toks ≤ suc n
@@ -104,7 +104,7 @@ module _ (shrinks : (t : Toks) (x : Instruction × Toks) → instruction t ≡ S
     takes : (f : Toks → Option Toks) (s : State) → Takes n (f s.toks) → Left n (taken f s)
     takes f s h = after_toks h (λ t h. at_state n (with_toks t s) h)
 
-    waiting_left : (h : Option code.Hint) (s : State) → count s.toks ≤ n → Left n (waiting_put h s)
+    waiting_left : (h : Option code.Hint) (s : State) → count s.toks ≤ n → Left n (append_hinted_operator h s)
     waiting_left h s few = at_state n _ few
 
     then_left : (h : Option code.Hint) (s : State) → count s.toks ≤ n → Left n (then_arm h s)
@@ -120,13 +120,13 @@ module _ (shrinks : (t : Toks) (x : Instruction × Toks) → instruction t ≡ S
         (λ t few. at_state n _ few)) (λ t few. at_state n _ few)
 
     catch_left : (s : State) → count s.toks ≤ n → Left n (catch_arm s)
-    catch_left s few = after_part (index_fewer n (after s.toks) (fewer n s.toks few)) (λ x few. at_state n _ few)
+    catch_left s few = after_value (index_fewer n (after s.toks) (fewer n s.toks few)) (λ x few. at_state n _ few)
 
     catch_all_left : (s : State) → count s.toks ≤ n → Left n (catch_all_arm s)
     catch_all_left s few = at_state n _ (fewer n s.toks few)
 
     delegate_left : (s : State) → count s.toks ≤ n → Left n (delegate_arm s)
-    delegate_left s few = after_part (index_fewer n (after s.toks) (fewer n s.toks few)) (λ x few. after_toks (rparen_takes n x.1 few) (λ r few. at_state n _ few))
+    delegate_left s few = after_value (index_fewer n (after s.toks) (fewer n s.toks few)) (λ x few. after_toks (rparen_takes n x.1 few) (λ r few. at_state n _ few))
 
     first_left : (q : Option Part) (s : State) → count s.toks ≤ n → Left n (first_by q s)
     first_left (Some Catch) s few = catch_left s few
@@ -140,13 +140,13 @@ module _ (shrinks : (t : Toks) (x : Instruction × Toks) → instruction t ≡ S
     next_left q s few = stuck n
 
     block_left : (op : BlockOp) (h : Option code.Hint) (s : State) → count s.toks ≤ n → Left n (folded_block op h s)
-    block_left opens.if_ h s few = next (waited_less n s (more s few)) (λ t few. at_state n _ few)
-    block_left opens.try_ h s few = next (next (at_state n _ few) (λ t few. stood_less n t (more t few))) (λ t few. at_state n _ few)
-    block_left op h s few = next (next (at_state n _ few) (λ t few. stood_less n t (more t few))) (λ t few. at_state n _ few)
+    block_left opens.if_ h s few = next (read_operator_less n s (more s few)) (λ t few. at_state n _ few)
+    block_left opens.try_ h s few = next (next (at_state n _ few) (λ t few. read_instr_less n t (more t few))) (λ t few. at_state n _ few)
+    block_left op h s few = next (next (at_state n _ few) (λ t few. read_instr_less n t (more t few))) (λ t few. at_state n _ few)
 
     operator_left : (w : Option Word) (h : Option code.Hint) (s : State) → count s.toks ≤ n → Left n (operator_of w h s)
     operator_left (Some (word.Block op)) h s few = block_left op h s few
-    operator_left w h s few = next (next (takes no_part s (no_part_takes s.toks few)) (λ t few. waited_less n t (more t few))) (λ t few. at_state n _ few)
+    operator_left w h s few = next (next (takes no_part s (no_part_takes s.toks few)) (λ t few. read_operator_less n t (more t few))) (λ t few. at_state n _ few)
 
     opened_left : (l : Option Level) (h : Option code.Hint) (s : State) → count s.toks ≤ n → Left n (opened_in l h s)
     opened_left (Some level.Condition) h s few = one_of n (is_key key.Then (key_of (peek 0 s.toks))) _ _ (then_left h s few) (operator_left (word_of (peek 0 s.toks)) h s few)
@@ -183,9 +183,9 @@ module _ (shrinks : (t : Toks) (x : Instruction × Toks) → instruction t ≡ S
     parted_left (Some p) s few = part_left (next_level (level_of s.levels) p) s few
 
     word_less : (w : Option Word) (s : State) → count s.toks ≤ suc n → Left n (word_by w s)
-    word_less (Some (word.Block op)) s few = next (stood_less n s few) (λ t few. at_state n _ few)
+    word_less (Some (word.Block op)) s few = next (read_instr_less n s few) (λ t few. at_state n _ few)
     word_less None s few = stuck n
-    word_less (Some w) s few = next (parted_left (part_in s.toks) s few) (λ t few. stood_less n t few)
+    word_less (Some w) s few = next (parted_left (part_in s.toks) s few) (λ t few. read_instr_less n t few)
 
     other_less : (h : Option code.Hint) (s : State) → count s.toks ≤ suc n → Left n (other h s)
     other_less h s few = one_of n (takes_plain (level_of s.levels)) _ _ (next (at_state (suc n) _ few) (λ t few. word_less (word_of (peek 0 t.toks)) t few)) (stuck n)
@@ -215,10 +215,10 @@ module _ (shrinks : (t : Toks) (x : Instruction × Toks) → instruction t ≡ S
         (and_then (string_fewer (suc n) (after t) (fewer (suc n) t few)) (λ b few. some_of (hint_value b.0.now) (λ v. taking (rparen_takes (suc n) b.1 few) (λ r few. cond may (done (suc n) _ r few) (none (suc n))))))
         (done (suc n) _ t few)
 
-    pub falls : (may : Bool) (b : Base) (s : State) → goes_on b s.levels s.toks ≡ true → count s.toks ≤ suc n → Left n (step may s)
+    pub falls : (may : Bool) (b : Base) (s : State) → takes_step b s.levels s.toks ≡ true → count s.toks ≤ suc n → Left n (step may s)
     falls may b s on few = by (reading may s.toks)
       where
-        yet : (ls : List Open) → goes_on b ls s.toks ≡ true → peek 0 s.toks ≡ None → is_closed ls ≡ false
+        yet : (ls : List Open) → takes_step b ls s.toks ≡ true → peek 0 s.toks ≡ None → is_closed ls ≡ false
         yet = open_yet b s.toks
 
         by : Reading may s.toks → Left n (step may s)

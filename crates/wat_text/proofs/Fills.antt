@@ -1,5 +1,5 @@
 -- A fixed number of parts, as a loop reads them into an array: the lanes of `i8x16.shuffle`, for example.
-use Rattle.std.proofs.Common.{◌≡◌, ◌∙◌, ◌≢◌, ℕ, suc, ◌+◌, ◌-◌, ◌<◌, ◌≤◌, List, [], ◌∷◌, ◌++◌, length, take, Option, None, Some, refl, sym, ap, subst, append_assoc, arith}
+use Rattle.std.proofs.Common.{◌≡◌, ◌∙◌, ◌≢◌, ℕ, suc, ◌+◌, ◌-◌, ◌<◌, ◌≤◌, List, [], ◌∷◌, ◌++◌, length, take, Option, None, Some, refl, sym, ap, subst, arith}
 use Rattle.std.specs.Prelude.{set}
 use Rattle.std.proofs.lemmas.List.{take_more_set, take_all, length-set}
 use Rattle.wat_grammar.specs.Parts.{◌>>=◌}
@@ -8,7 +8,7 @@ use Rattle.wat_syntax.specs.Tokens.{Toks, Parse, with_parts}
 use Rattle.wat_syntax.specs.Instructions.{times}
 use Rattle.wat_text.specs.declared.reader.Reader.{Reader}
 use Rattle.wat_text.specs.Readers.{left, IsRefused, Decides}
-use Rattle.wat_text.proofs.Loops.{no_more, from_nothing}
+use Rattle.wat_text.proofs.Loops.{no_more, after_both, from_nothing}
 
 -- These parts of so many are read, and so many are left.
 pub record Fills {T : Type 0} (part : Toks → Parse T) (all more : ℕ) (old new : Reader) (found : List T) : Type 0 where
@@ -26,10 +26,6 @@ begun part all r = record {
   keeps = λ h. refl;
   refuses = λ clean refused. absurd (subst IsRefused clean refused);
 }
-
-after_both : {T : Type 0} (xs ys : List T) (p : Parse (List T)) → with_parts (xs ++ ys) p ≡ with_parts xs (with_parts ys p)
-after_both xs ys None = refl
-after_both xs ys (Some r) = ap (λ zs. Some (zs, r.1)) (append_assoc xs ys r.0)
 
 one_more : {T : Type 0} (part : Toks → Parse T) (n : ℕ) (toks rest : Toks) (x : T) (found : List T) → part toks ≡ Some (x, rest)
     → with_parts found (times (suc n) part toks) ≡ with_parts (found ++ x ∷ []) (times n part rest)

@@ -13,11 +13,11 @@ use Rattle.wat_syntax.specs.Instructions.{instruction}
 use Rattle.wat_syntax.specs.Bodies.{Item, Instr, Anywhere, Ends, Part, part_of, part_in, is_hint, next_of_token, at_end, sequences, expression_of, expression, folded_expression, folded_by, next_of_word, ◌>>◌}
 use Rattle.wat_syntax.specs.Bodies as rule
 use Rattle.wat_text.specs.declared.bodies.Level.TheVariants as level
-use Rattle.wat_text.specs.Machine.{State, step, folded_operator, operator_of, with_toks, waited, entered}
+use Rattle.wat_text.specs.Machine.{State, step, folded_operator, operator_of, with_toks, read_operator, push_level}
 use Rattle.wat_text.proofs.Running.{run, add, in_turn, Below, equal, joined, run_below, mix_above, mix_below, made_of}
 use Rattle.wat_text.proofs.Levels.{Base, Whole, One, todo_below, answer, mixed}
-use Rattle.wat_text.proofs.MachineSteps.{state, Same, folds, no_operator, waited_is, stood_is, next_is}
-use Rattle.wat_text.proofs.Machines.{goes_on, unfolds}
+use Rattle.wat_text.proofs.MachineSteps.{state, Same, folds, no_operator, read_operator_is, read_instr_is, next_is}
+use Rattle.wat_text.proofs.Machines.{takes_step, unfolds}
 
 -- If the state has a result with m steps, it is that of the rule. The result of the rule, if there is one, is also that of the
 -- state with n steps and one.
@@ -32,7 +32,7 @@ mixed_below : (may : Bool) (b : Base) (k m : ℕ) (s : State) → Below (mixed m
 mixed_below may b k m s = run_below _ _ (mix_below k _ _ (todo_below may b m s.levels s.waiting)) s.read s.toks
 
 -- a step
-pub goes : (may : Bool) (b : Base) (given : Parse Expression) (m n k : ℕ) (s t : State) → step may s ≡ Some t → goes_on b s.levels s.toks ≡ true → m ≡ suc k → Going may b given m n s → Going may b given k n t
+pub goes : (may : Bool) (b : Base) (given : Parse Expression) (m n k : ℕ) (s t : State) → step may s ≡ Some t → takes_step b s.levels s.toks ≡ true → m ≡ suc k → Going may b given m n s → Going may b given k n t
 goes may b given m n k s t steps on one going = record {
   sound = joined (forward k) (subst (λ i. Below (answer may b i s) given) one going.sound);
   whole = joined going.whole (backward n);
@@ -58,7 +58,7 @@ no_answer (Some x) answered below none = not_both (sym (below.gives x refl) ∙ 
     not_both e = e
 
 -- no step
-pub refused : (may : Bool) (b : Base) (given : Parse Expression) (m n : ℕ) (s : State) → step may s ≡ None → goes_on b s.levels s.toks ≡ true → Going may b given m n s → given ≡ None
+pub refused : (may : Bool) (b : Base) (given : Parse Expression) (m n : ℕ) (s : State) → step may s ≡ None → takes_step b s.levels s.toks ≡ true → Going may b given m n s → given ≡ None
 refused may b given m n s none on going = no_answer given (answer may b (suc n) s) going.whole
     ((unfolds may b n s.levels s.waiting s.read s.toks on).is ∙ ap (λ o. o >>= mixed may b (unfolds may b n s.levels s.waiting s.read s.toks on).k n) none)
 
@@ -120,14 +120,14 @@ module _ (t : Toks) where
   at_first = state [] [] nothing t
 
   -- what its operator is, and the tokens after it
-  operator_left : (w : Option Word) → part_of w ≡ part_in t → (i : Instruction × Toks) → instruction t ≡ Some i → (s : State) → operator_of w None at_first ≡ Some s → s.toks ≡ i.1
-  operator_left (Some (word.Block opens.if_)) is i read s e = toks_of _ s (sym (ap (λ o. o >>= entered level.Condition (position t) None) (waited_is at_first (Some i) read)) ∙ e)
-  operator_left (Some (word.Block opens.try_)) is i read s e = toks_of _ s (sym (ap (λ o. o >>= entered level.Try (position t) None) (stood_is at_first (Some i) read)) ∙ e)
-  operator_left (Some (word.Block op)) is i read s e = toks_of _ s (sym (ap (λ o. o >>= entered level.Block (position t) None) (stood_is at_first (Some i) read)) ∙ e)
-  operator_left w is i read s e = by (part_in t) e
+  operator_toks : (w : Option Word) → part_of w ≡ part_in t → (i : Instruction × Toks) → instruction t ≡ Some i → (s : State) → operator_of w None at_first ≡ Some s → s.toks ≡ i.1
+  operator_toks (Some (word.Block opens.if_)) is i read s e = toks_of _ s (sym (ap (λ o. o >>= push_level level.Condition (position t) None) (read_operator_is at_first (Some i) read)) ∙ e)
+  operator_toks (Some (word.Block opens.try_)) is i read s e = toks_of _ s (sym (ap (λ o. o >>= push_level level.Try (position t) None) (read_instr_is at_first (Some i) read)) ∙ e)
+  operator_toks (Some (word.Block op)) is i read s e = toks_of _ s (sym (ap (λ o. o >>= push_level level.Block (position t) None) (read_instr_is at_first (Some i) read)) ∙ e)
+  operator_toks w is i read s e = by (part_in t) e
     where
-      by : (q : Option Part) → (((elim q as (λ q. Option Toks) [ Some p ↦ None | None ↦ Some t ]) >>= λ r. Some (with_toks r at_first)) >>= waited >>= entered level.Operands (position t) None) ≡ Some s → s.toks ≡ i.1
-      by None e = toks_of _ s (sym (ap (λ o. o >>= entered level.Operands (position t) None) (waited_is at_first (Some i) read)) ∙ e)
+      by : (q : Option Part) → (((elim q as (λ q. Option Toks) [ Some p ↦ None | None ↦ Some t ]) >>= λ r. Some (with_toks r at_first)) >>= read_operator >>= push_level level.Operands (position t) None) ≡ Some s → s.toks ≡ i.1
+      by None e = toks_of _ s (sym (ap (λ o. o >>= push_level level.Operands (position t) None) (read_operator_is at_first (Some i) read)) ∙ e)
       by (Some p) e = none_is_some _ s e
 
   abbrev folded_rule : ℕ → Rattle.wat_syntax.specs.Bodies.Rule
@@ -177,7 +177,7 @@ module _ (t : Toks) where
           n₁ = suc (count i.1)
 
           at : s.toks ≡ i.1
-          at = operator_left (word_of (peek 0 t)) refl i read s read_it
+          at = operator_toks (word_of (peek 0 t)) refl i read s read_it
 
           is_mixed : folded_expression toks ≡ mixed false One (one_is (suc (count i.1))).k (suc (count i.1)) s
           is_mixed = given_is toks open_it i read ∙ (one_is (suc (count i.1))).is ∙ ap (λ o. o >>= mixed false One (one_is (suc (count i.1))).k (suc (count i.1))) read_it

@@ -13,11 +13,11 @@ use Rattle.wat_text.specs.declared.reader.Reader.{Reader}
 use Rattle.wat_text.specs.declared.bodies.Open.{Open}
 use Rattle.wat_text.specs.declared.bodies.Body.{Body}
 use Rattle.wat_text.specs.Readers.{left, IsClean, IsRefused, Reads, Expects}
-use Rattle.wat_text.specs.Machine.{State, state_of, Does, Finishes, step, plain, level_of, takes_plain, word_by, folded_operator, is_closed, is_done, hinted_by}
+use Rattle.wat_text.specs.Machine.{State, state_of, Does, EndsExpression, step, plain, level_of, takes_plain, word_by, folded_operator, is_closed, is_done, hinted_by}
 use Rattle.wat_text.specs.Machine as machine
 use Rattle.wat_text.proofs.Levels.{Base, Whole, One}
 use Rattle.wat_text.proofs.MachineSteps.{state}
-use Rattle.wat_text.proofs.Machines.{goes_on}
+use Rattle.wat_text.proofs.Machines.{takes_step}
 use Rattle.wat_laws.proofs.Shrinks.{shrinks}
 use Rattle.wat_text.proofs.Falls.{falls}
 use Rattle.wat_text.proofs.Goings.{Going, goes, refused, began, came, folded_began, folded_refused, folded_came, nothing}
@@ -45,7 +45,7 @@ none_refused a e r = subst IsRefused e r
 
 -- one step more
 pub held_on : (may : Bool) (b : Base) (given : Parse Expression) (old now next : Reader) (m n k i : ℕ) (before behind : Body) → Does (step may) now next before behind
-    → goes_on b (state_of now before).levels (left now) ≡ true → m ≡ suc k → k ≡ suc i → Held may b given old now m n (state_of now before) → Held may b given old next k n (state_of next behind)
+    → takes_step b (state_of now before).levels (left now) ≡ true → m ≡ suc k → k ≡ suc i → Held may b given old now m n (state_of now before) → Held may b given old next k n (state_of next behind)
 held_on may b given old now next m n k i before behind does on one again held = record {
   made = λ h. held.made (does.made h);
   clean = λ h. held.clean (does.clean h);
@@ -73,8 +73,8 @@ nothing_left toks e = by toks.left e
     by [] e = refl
     by (p ∷ ps) e = absurd cc
 
-no_step : (may : Bool) (s : State) → peek 0 s.toks ≡ None → is_closed s.levels ≡ false → step may s ≡ None
-no_step may s none open_yet = ap (λ r. (r >>= λ h. let o : Option Rattle.wat_text.specs.declared.bodies.Hint.Hint × Toks = (machine.hint_in (Rattle.wat_syntax.specs.Tokens.position s.toks) h.0, h.1) in Some o) >>= λ h. machine.hinted_step h.0 (machine.with_toks h.1 s)) no_hint
+stuck_at_end : (may : Bool) (s : State) → peek 0 s.toks ≡ None → is_closed s.levels ≡ false → step may s ≡ None
+stuck_at_end may s none open_yet = ap (λ r. (r >>= λ h. let o : Option Rattle.wat_text.specs.declared.bodies.Hint.Hint × Toks = (machine.hint_in (Rattle.wat_syntax.specs.Tokens.position s.toks) h.0, h.1) in Some o) >>= λ h. machine.hinted_step h.0 (machine.with_toks h.1 s)) no_hint
     ∙ ap (λ o. hinted_by o None s) none ∙ by s.levels refl
   where
     value : Parse (List Item)
@@ -94,18 +94,18 @@ no_step may s none open_yet = ap (λ r. (r >>= λ h. let o : Option Rattle.wat_t
         closed_not e = absurd cc
     by (o ∷ os) e = ap (λ ls. machine.at_nothing (level_of ls) None s) e ∙ ap (λ ls. elim (takes_plain (level_of ls)) as (λ x. Option State) [ true ↦ plain None s | false ↦ None ]) e ∙ plain_none o (takes_plain (Some o.level))
 
-going_whole : (ls : List Open) (toks : Toks) → is_done ls toks ≡ false → goes_on Whole ls toks ≡ true
+going_whole : (ls : List Open) (toks : Toks) → is_done ls toks ≡ false → takes_step Whole ls toks ≡ true
 going_whole [] toks e = ap not e
 going_whole (o ∷ os) toks e = refl
 
-going_one : (ls : List Open) (toks : Toks) → is_closed ls ≡ false → goes_on One ls toks ≡ true
+going_one : (ls : List Open) (toks : Toks) → is_closed ls ≡ false → takes_step One ls toks ≡ true
 going_one [] toks e = absurd cc
 going_one (o ∷ os) toks e = refl
 
-pub whole_goes : (ls : List Open) (toks : Toks) → is_done ls toks ≡ false → goes_on Whole ls toks ≡ true
+pub whole_goes : (ls : List Open) (toks : Toks) → is_done ls toks ≡ false → takes_step Whole ls toks ≡ true
 whole_goes = going_whole
 
-pub one_goes : (ls : List Open) (toks : Toks) → is_closed ls ≡ false → goes_on One ls toks ≡ true
+pub one_goes : (ls : List Open) (toks : Toks) → is_closed ls ≡ false → takes_step One ls toks ≡ true
 one_goes = going_one
 
 -- a test has one result
@@ -154,9 +154,9 @@ undone (o ∷ os) toks none e = refl
 
 -- the end
 held_last : (may : Bool) (b : Base) (given : Toks → Parse Expression) (old now new : Reader) (m n : ℕ) (body : Body) (done : Bool) (part : Expression)
-    → Held may b (given (left old)) old now m n (state_of now body) → Finishes done now new → part ≡ (state_of now body).read
+    → Held may b (given (left old)) old now m n (state_of now body) → EndsExpression done now new → part ≡ (state_of now body).read
     → (done ≡ true → Going may b (given (left old)) m n (state_of now body) → given (left old) ≡ Some ((state_of now body).read, left now))
-    → (done ≡ false → goes_on b (state_of now body).levels (left now) ≡ true) → (done ≡ false → count (left now) ≡ 0 → is_closed (state_of now body).levels ≡ false)
+    → (done ≡ false → takes_step b (state_of now body).levels (left now) ≡ true) → (done ≡ false → count (left now) ≡ 0 → is_closed (state_of now body).levels ≡ false)
     → (done ≡ false → m ≡ 1) → Reads given old new part
 held_last may b given old now new m n body done part held fin is came goes_yet open_yet last = record {
   made = λ h. held.made (sym fin.make ∙ h);
@@ -173,12 +173,12 @@ held_last may b given old now new m n body done part held fin is came goes_yet o
 
     by : old.fault ≡ None → new.make ≡ false → IsRefused new.fault → (f : Option TextError) → now.fault ≡ f → given (left old) ≡ None
     by h made gone None e = refused may b (given (left old)) m n (state_of now body)
-        (no_step may (state_of now body) (nothing_left (left now) (all_taken e made gone)) (open_yet (fin.undone e gone) (all_taken e made gone)))
+        (stuck_at_end may (state_of now body) (nothing_left (left now) (all_taken e made gone)) (open_yet (fin.undone e gone) (all_taken e made gone)))
         (goes_yet (fin.undone e gone)) (held.yet (e, sym fin.make ∙ made))
     by h made gone (Some f) e = held.lost h (sym fin.make ∙ made) (subst IsRefused (fin.keeps (is_some f now.fault e)) gone)
 
 pub whole_last : (may : Bool) (old now new : Reader) (m k n : ℕ) (body : Body) (done : Bool) (part : Expression)
-    → Held may Whole (expression may (left old)) old now m n (state_of now body) → m ≡ suc k → done ≡ is_done (reverse body.levels.items) (left now) → Finishes done now new
+    → Held may Whole (expression may (left old)) old now m n (state_of now body) → m ≡ suc k → done ≡ is_done (reverse body.levels.items) (left now) → EndsExpression done now new
     → part ≡ (state_of now body).read → (done ≡ false → m ≡ 1) → Reads (expression may) old new part
 whole_last may old now new m k n body done part held one at fin is last = held_last may Whole (expression may) old now new m n body done part held fin is
     (λ e going. came may (expression may (left old)) m k (state_of now body) (closed_if (reverse body.levels.items) (left now) (sym at ∙ e)) (end_if (reverse body.levels.items) (left now) (sym at ∙ e)) one n going)
@@ -186,7 +186,7 @@ whole_last may old now new m k n body done part held one at fin is last = held_l
     (λ e few. undone (reverse body.levels.items) (left now) (nothing_left (left now) few) (sym at ∙ e)) last
 
 pub folded_last : (old now new : Reader) (m n : ℕ) (body : Body) (done : Bool) (part : Expression)
-    → Held false One (folded_expression (left old)) old now m n (state_of now body) → done ≡ is_closed (reverse body.levels.items) → Finishes done now new
+    → Held false One (folded_expression (left old)) old now m n (state_of now body) → done ≡ is_closed (reverse body.levels.items) → EndsExpression done now new
     → part ≡ (state_of now body).read → (done ≡ false → m ≡ 1) → Reads folded_expression old new part
 folded_last old now new m n body done part held at fin is last = held_last false One folded_expression old now new m n body done part held fin is
     (λ e going. folded_came (folded_expression (left old)) m n (state_of now body) (no_levels (reverse body.levels.items) (sym at ∙ e)) going)

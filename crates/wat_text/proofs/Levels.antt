@@ -19,16 +19,16 @@ pub data Base : Type 0 where
   One : Base
 
 -- which instructions are read in a level, if any
-abbrev pub place_of : Level → Option Place
-place_of level.Operands = Some Folded
-place_of level.Condition = Some Folded
-place_of level.Catch = Some CatchArms
-place_of level.Then = None
-place_of level.Try = None
-place_of level.Do = None
-place_of level.Last = None
-place_of level.Delegated = None
-place_of l = Some Anywhere
+abbrev pub level_place : Level → Option Place
+level_place level.Operands = Some Folded
+level_place level.Condition = Some Folded
+level_place level.Catch = Some CatchArms
+level_place level.Then = None
+level_place level.Try = None
+level_place level.Do = None
+level_place level.Last = None
+level_place level.Delegated = None
+level_place l = Some Anywhere
 
 abbrev pub base_place : Base → Option Place
 base_place Whole = Some Anywhere
@@ -40,7 +40,7 @@ base_rules One = []
 
 abbrev pub place_in : Base → List Open → Option Place
 place_in b [] = base_place b
-place_in b (o ∷ os) = place_of o.level
+place_in b (o ∷ os) = level_place o.level
 
 -- the hint of an instruction, and the instruction that waits since last
 abbrev pub hint_items : Option code.Hint → List Item

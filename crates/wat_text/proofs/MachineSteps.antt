@@ -16,9 +16,10 @@ use Rattle.wat_syntax.specs.Bodies as rule
 use Rattle.wat_text.specs.declared.bodies.Level.TheVariants as level
 use Rattle.wat_text.specs.declared.bodies.Hint as code
 use Rattle.wat_text.specs.declared.bodies.Open.{Open}
-use Rattle.wat_text.specs.Machine.{State, last_of, before_last, with_toks, with_instr, with_hint, waited, stood, entered, hint_put, with_operands, folded_operator, operator_of, plain_level}
+use Rattle.wat_text.specs.Machine.{State, with_toks, with_instr, with_hint, read_operator, read_instr, push_level, append_hint, with_operands, folded_operator, operator_of, plain_level}
 use Rattle.wat_text.proofs.Running.{run, add, mix, chain, flat, in_turn, read_by, fails_by}
 use Rattle.wat_text.proofs.Levels.{Base, place_in, hint_items, placed, behind, todo, mixed}
+use Rattle.wat_text.proofs.Waiting.{last_is, before_is}
 
 abbrev pub state : List Open → List Instruction → Expression → Toks → State
 state ls ws e toks = record { levels = ls; waiting = ws; read = e; toks = toks }
@@ -26,31 +27,21 @@ state ls ws e toks = record { levels = ls; waiting = ws; read = e; toks = toks }
 abbrev pub open_of : Rattle.wat_text.specs.declared.bodies.Level.Level → Span → Option code.Hint → Open
 open_of l place h = record { level = l; place = place; hint = h }
 
-pub last_is : (ws : List Instruction) (i : Instruction) → last_of (ws ++ i ∷ []) ≡ Some i
-last_is [] i = refl
-last_is (w ∷ []) i = refl
-last_is (w ∷ v ∷ ws) i = last_is (v ∷ ws) i
-
-pub before_is : (ws : List Instruction) (i : Instruction) → before_last (ws ++ i ∷ []) ≡ ws
-before_is [] i = refl
-before_is (w ∷ []) i = refl
-before_is (w ∷ v ∷ ws) i = ap (λ vs. w ∷ vs) (before_is (v ∷ ws) i)
-
 -- an instruction with its hint
 pub with_both : (h : Option code.Hint) (i : Instruction) (e : Expression) → add e (hint_items h ++ Instr i ∷ []) ≡ with_instr i (with_hint h e)
 with_both None i e = refl
 with_both (Some h) i e = refl
 
-pub waited_is : (s : State) (i : Parse Instruction) → instruction s.toks ≡ i
-    → waited s ≡ (i >>= λ x. Some (record { levels = s.levels; waiting = s.waiting ++ x.0 ∷ []; read = s.read; toks = x.1 }))
-waited_is s None e = ap (λ o. with_parts s.waiting (o >>= λ x. Some (x.0 ∷ [], x.1)) >>= λ w. Some (record { levels = s.levels; waiting = w.0; read = s.read; toks = w.1 })) e
-waited_is s (Some i) e = ap (λ o. with_parts s.waiting (o >>= λ x. Some (x.0 ∷ [], x.1)) >>= λ w. Some (record { levels = s.levels; waiting = w.0; read = s.read; toks = w.1 })) e
+pub read_operator_is : (s : State) (i : Parse Instruction) → instruction s.toks ≡ i
+    → read_operator s ≡ (i >>= λ x. Some (record { levels = s.levels; waiting = s.waiting ++ x.0 ∷ []; read = s.read; toks = x.1 }))
+read_operator_is s None e = ap (λ o. with_parts s.waiting (o >>= λ x. Some (x.0 ∷ [], x.1)) >>= λ w. Some (record { levels = s.levels; waiting = w.0; read = s.read; toks = w.1 })) e
+read_operator_is s (Some i) e = ap (λ o. with_parts s.waiting (o >>= λ x. Some (x.0 ∷ [], x.1)) >>= λ w. Some (record { levels = s.levels; waiting = w.0; read = s.read; toks = w.1 })) e
 
-pub stood_is : (s : State) (i : Parse Instruction) → instruction s.toks ≡ i
-    → stood s ≡ (i >>= λ x. Some (record { levels = s.levels; waiting = s.waiting; read = with_instr x.0 s.read; toks = x.1 }))
-stood_is s None e = ap (λ o. with_parts s.read.instrs (o >>= λ x. Some (x.0 ∷ [], x.1)) >>= λ w.
+pub read_instr_is : (s : State) (i : Parse Instruction) → instruction s.toks ≡ i
+    → read_instr s ≡ (i >>= λ x. Some (record { levels = s.levels; waiting = s.waiting; read = with_instr x.0 s.read; toks = x.1 }))
+read_instr_is s None e = ap (λ o. with_parts s.read.instrs (o >>= λ x. Some (x.0 ∷ [], x.1)) >>= λ w.
     Some (record { levels = s.levels; waiting = s.waiting; read = record { instrs = w.0; branch_hints = s.read.branch_hints }; toks = w.1 })) e
-stood_is s (Some i) e = ap (λ o. with_parts s.read.instrs (o >>= λ x. Some (x.0 ∷ [], x.1)) >>= λ w.
+read_instr_is s (Some i) e = ap (λ o. with_parts s.read.instrs (o >>= λ x. Some (x.0 ∷ [], x.1)) >>= λ w.
     Some (record { levels = s.levels; waiting = s.waiting; read = record { instrs = w.0; branch_hints = s.read.branch_hints }; toks = w.1 })) e
 
 -- The result of the grammar from a state, and from the state after a step, if there is one. Some of the first rules have one step
@@ -122,42 +113,42 @@ module _ (may : Bool) (b : Base) (m : ℕ) where
 
       -- no instruction is read
       pub no_operator : (w : Option Word) → instruction t ≡ None → operator_of w h s ≡ None
-      no_operator (Some (word.Block opens.if_)) none = ap (λ o. o >>= entered level.Condition (position t) h) (waited_is s None none)
-      no_operator (Some (word.Block opens.try_)) none = ap (λ o. o >>= entered level.Try (position t) None) (stood_is (state ls ws (with_hint h e) t) None none)
-      no_operator (Some (word.Block op)) none = ap (λ o. o >>= entered level.Block (position t) None) (stood_is (state ls ws (with_hint h e) t) None none)
+      no_operator (Some (word.Block opens.if_)) none = ap (λ o. o >>= push_level level.Condition (position t) h) (read_operator_is s None none)
+      no_operator (Some (word.Block opens.try_)) none = ap (λ o. o >>= push_level level.Try (position t) None) (read_instr_is (state ls ws (with_hint h e) t) None none)
+      no_operator (Some (word.Block op)) none = ap (λ o. o >>= push_level level.Block (position t) None) (read_instr_is (state ls ws (with_hint h e) t) None none)
       no_operator w none = unless_part (part_in t)
         where
-          unless_part : (q : Option Part) → (((elim q [ Some p ↦ None | None ↦ Some t ]) >>= λ r. Some (with_toks r s)) >>= waited >>= entered level.Operands (position t) h) ≡ None
-          unless_part None = ap (λ o. o >>= entered level.Operands (position t) h) (waited_is s None none)
+          unless_part : (q : Option Part) → (((elim q [ Some p ↦ None | None ↦ Some t ]) >>= λ r. Some (with_toks r s)) >>= read_operator >>= push_level level.Operands (position t) h) ≡ None
+          unless_part None = ap (λ o. o >>= push_level level.Operands (position t) h) (read_operator_is s None none)
           unless_part (Some p) = refl
 
       -- an instruction with operands
       operands_step : (i : Instruction × Toks) → instruction t ≡ Some i
-          → Same may b m (waited s >>= entered level.Operands (position t) h) (run (rule.operands (sequences may m) (hint_items h ++ Instr i.0 ∷ []) ∷ rest) e i.1)
+          → Same may b m (read_operator s >>= push_level level.Operands (position t) h) (run (rule.operands (sequences may m) (hint_items h ++ Instr i.0 ∷ []) ∷ rest) e i.1)
       operands_step i read = let o = hint_items h ++ Instr i.0 ∷ [] in
           one_step (suc (suc (suc c))) (state (open_of level.Operands (position t) h ∷ ls) (ws ++ i.0 ∷ []) e i.1)
-          (ap (λ x. x >>= entered level.Operands (position t) h) (waited_is s (Some i) read))
+          (ap (λ x. x >>= push_level level.Operands (position t) h) (read_operator_is s (Some i) read))
           (flat (sequences may m Folded) (terminal rparen ∷ writes o ∷ []) rest e i.1
           ∙ sym (mixed_own (suc (suc (suc c))) (state (open_of level.Operands (position t) h ∷ ls) (ws ++ i.0 ∷ []) e i.1) (operands_of m o) (operands_of (suc m) o)
           (operands_at m (position t) h i.0) (operands_at (suc m) (position t) h i.0) (λ ps qs. refl)))
 
       -- a block
       block_step : (i : Instruction × Toks) → instruction t ≡ Some i
-          → Same may b m (hint_put h s >>= stood >>= entered level.Block (position t) None) (run (chain (writes (hint_items h ++ Instr i.0 ∷ [])) (sequences may m Anywhere ∷ ends ∷ []) ∷ rest) e i.1)
+          → Same may b m (append_hint h s >>= read_instr >>= push_level level.Block (position t) None) (run (chain (writes (hint_items h ++ Instr i.0 ∷ [])) (sequences may m Anywhere ∷ ends ∷ []) ∷ rest) e i.1)
       block_step i read = let o = hint_items h ++ Instr i.0 ∷ [] in let f = with_instr i.0 (with_hint h e) in
           one_step (suc (suc c)) (state (open_of level.Block (position t) None ∷ ls) ws f i.1)
-          (ap (λ x. x >>= entered level.Block (position t) None) (stood_is (state ls ws (with_hint h e) t) (Some i) read))
+          (ap (λ x. x >>= push_level level.Block (position t) None) (read_instr_is (state ls ws (with_hint h e) t) (Some i) read))
           (flat (writes o) (sequences may m Anywhere ∷ ends ∷ []) rest e i.1
           ∙ ap (λ g. run (sequences may m Anywhere ∷ ends ∷ rest) g i.1) (with_both h i.0 e)
           ∙ sym (mixed_own (suc (suc c)) (state (open_of level.Block (position t) None ∷ ls) ws f i.1) (sequences may m Anywhere ∷ ends ∷ []) (sequences may (suc m) Anywhere ∷ ends ∷ [])
           refl refl (λ ps qs. refl)))
 
       try_step : (i : Instruction × Toks) → instruction t ≡ Some i
-          → Same may b m (hint_put h s >>= stood >>= entered level.Try (position t) None)
+          → Same may b m (append_hint h s >>= read_instr >>= push_level level.Try (position t) None)
           (run (chain (writes (hint_items h ++ Instr i.0 ∷ [])) (terminal (form key.Do) ∷ arm (sequences may m) ∷ handlers (sequences may m) ∷ []) ∷ rest) e i.1)
       try_step i read = let o = hint_items h ++ Instr i.0 ∷ [] in let f = with_instr i.0 (with_hint h e) in
           one_step (suc (suc (suc c))) (state (open_of level.Try (position t) None ∷ ls) ws f i.1)
-          (ap (λ x. x >>= entered level.Try (position t) None) (stood_is (state ls ws (with_hint h e) t) (Some i) read))
+          (ap (λ x. x >>= push_level level.Try (position t) None) (read_instr_is (state ls ws (with_hint h e) t) (Some i) read))
           (flat (writes o) (terminal (form key.Do) ∷ arm (sequences may m) ∷ handlers (sequences may m) ∷ []) rest e i.1
           ∙ ap (λ g. run (terminal (form key.Do) ∷ arm (sequences may m) ∷ handlers (sequences may m) ∷ rest) g i.1) (with_both h i.0 e)
           ∙ sym (mixed_own (suc (suc (suc c))) (state (open_of level.Try (position t) None ∷ ls) ws f i.1)
@@ -165,10 +156,10 @@ module _ (may : Bool) (b : Base) (m : ℕ) where
           refl refl (λ ps qs. refl)))
 
       if_step : (i : Instruction × Toks) → instruction t ≡ Some i
-          → Same may b m (waited s >>= entered level.Condition (position t) h) (run (rule.folded_if (sequences may m) (hint_items h ++ Instr i.0 ∷ []) ∷ rest) e i.1)
+          → Same may b m (read_operator s >>= push_level level.Condition (position t) h) (run (rule.folded_if (sequences may m) (hint_items h ++ Instr i.0 ∷ []) ∷ rest) e i.1)
       if_step i read = let o = hint_items h ++ Instr i.0 ∷ [] in let k = suc (suc (suc (suc (suc (suc c))))) in
           one_step k (state (open_of level.Condition (position t) h ∷ ls) (ws ++ i.0 ∷ []) e i.1)
-          (ap (λ x. x >>= entered level.Condition (position t) h) (waited_is s (Some i) read))
+          (ap (λ x. x >>= push_level level.Condition (position t) h) (read_operator_is s (Some i) read))
           (flat (sequences may m Folded) (terminal (form key.Then) ∷ writes o ∷ arm (sequences may m) ∷ else_arm (sequences may m) ∷ ends ∷ []) rest e i.1
           ∙ sym (mixed_own k (state (open_of level.Condition (position t) h ∷ ls) (ws ++ i.0 ∷ []) e i.1) (conditions m o) (conditions (suc m) o)
           (condition_at m (position t) h i.0) (condition_at (suc m) (position t) h i.0) (λ ps qs. refl)))
@@ -183,8 +174,8 @@ module _ (may : Bool) (b : Base) (m : ℕ) where
 
       operand_or_part : (w : Option Word) (q : Option Part) → part_in t ≡ q → (i : Instruction × Toks) → instruction t ≡ Some i
           → Same may b m (with_operands h s) (run (folded_by (elim q [ Some p ↦ Ends | None ↦ Stands ]) (sequences may m) (hint_items h ++ Instr i.0 ∷ []) ∷ rest) e i.1)
-      operand_or_part w None is i read = by_both (ap (λ q. ((elim q [ Some p ↦ None | None ↦ Some t ]) >>= λ r. Some (with_toks r s)) >>= waited >>= entered level.Operands (position t) h) is) refl (operands_step i read)
-      operand_or_part w (Some p) is i read = no_step (ap (λ q. ((elim q [ Some p ↦ None | None ↦ Some t ]) >>= λ r. Some (with_toks r s)) >>= waited >>= entered level.Operands (position t) h) is) refl
+      operand_or_part w None is i read = by_both (ap (λ q. ((elim q [ Some p ↦ None | None ↦ Some t ]) >>= λ r. Some (with_toks r s)) >>= read_operator >>= push_level level.Operands (position t) h) is) refl (operands_step i read)
+      operand_or_part w (Some p) is i read = no_step (ap (λ q. ((elim q [ Some p ↦ None | None ↦ Some t ]) >>= λ r. Some (with_toks r s)) >>= read_operator >>= push_level level.Operands (position t) h) is) refl
 
       folds_by : (w : Option Word) → part_of w ≡ part_in t → (i : Parse Instruction) → instruction t ≡ i → Same may b m (operator_of w h s) (run (folded_next w ∷ rest) e t)
       folds_by w is None read = no_step (no_operator w read) (answer_is w None read)
@@ -211,11 +202,11 @@ module _ (may : Bool) (b : Base) (m : ℕ) where
 
     -- an instruction without parentheses
     pub stands : (h : Option code.Hint) (e : Expression) (toks t : Toks) (i : Parse Instruction) → instruction t ≡ i
-        → Same may b m (hint_put h (state ls ws e t) >>= stood) (run (sequence may (sequences may m) Stands p toks (hint_items h) ∷ behind may b (suc m) ls ws) e t)
-    stands h e toks t None read = no_step (stood_is (state ls ws (with_hint h e) t) None read)
+        → Same may b m (append_hint h (state ls ws e t) >>= read_instr) (run (sequence may (sequences may m) Stands p toks (hint_items h) ∷ behind may b (suc m) ls ws) e t)
+    stands h e toks t None read = no_step (read_instr_is (state ls ws (with_hint h e) t) None read)
         (in_turn (hinted (hint_items h)) (sequences may m p) (behind may b (suc m) ls ws) e t ∙ fails_by (hinted (hint_items h)) then_on e t (hinted_is (hint_items h) t None read))
     stands h e toks t (Some i) read = let f = with_instr i.0 (with_hint h e) in
-        one_step (c ls ws) (state ls ws f i.1) (stood_is (state ls ws (with_hint h e) t) (Some i) read)
+        one_step (c ls ws) (state ls ws f i.1) (read_instr_is (state ls ws (with_hint h e) t) (Some i) read)
         (in_turn (hinted (hint_items h)) (sequences may m p) (behind may b (suc m) ls ws) e t
         ∙ read_by (hinted (hint_items h)) then_on e t i.1 (hint_items h ++ Instr i.0 ∷ []) (hinted_is (hint_items h) t (Some i) read)
         ∙ ap (λ g. run then_on g i.1) (with_both h i.0 e)
@@ -226,13 +217,13 @@ module _ (may : Bool) (b : Base) (m : ℕ) where
     opens_level : (op : BlockOp) (x : ℕ → Rule) (l : Rattle.wat_text.specs.declared.bodies.Level.Level) (h : Option code.Hint) (e : Expression) (toks t : Toks)
         → ((n : ℕ) (place : Span) → todo may b n (open_of l place None ∷ ls) ws ≡ (sequences may n Anywhere ∷ x n ∷ []) ++ todo may b n ls ws)
         → (i : Parse Instruction) → instruction t ≡ i
-        → Same may b m (hint_put h (state ls ws e t) >>= stood >>= entered l (position t) None)
+        → Same may b m (append_hint h (state ls ws e t) >>= read_instr >>= push_level l (position t) None)
         (run (chain (hinted (hint_items h)) ((sequences may m Anywhere >> x m) ∷ sequences may m p ∷ []) ∷ behind may b (suc m) ls ws) e t)
-    opens_level op x l h e toks t todo_is None read = no_step (ap (λ o. o >>= entered l (position t) None) (stood_is (state ls ws (with_hint h e) t) None read))
+    opens_level op x l h e toks t todo_is None read = no_step (ap (λ o. o >>= push_level l (position t) None) (read_instr_is (state ls ws (with_hint h e) t) None read))
         (flat (hinted (hint_items h)) ((sequences may m Anywhere >> x m) ∷ sequences may m p ∷ []) (behind may b (suc m) ls ws) e t
         ∙ fails_by (hinted (hint_items h)) ((sequences may m Anywhere >> x m) ∷ then_on) e t (hinted_is (hint_items h) t None read))
     opens_level op x l h e toks t todo_is (Some i) read = let f = with_instr i.0 (with_hint h e) in let s = state (open_of l (position t) None ∷ ls) ws f i.1 in
-        one_step (suc (suc (c ls ws))) s (ap (λ o. o >>= entered l (position t) None) (stood_is (state ls ws (with_hint h e) t) (Some i) read))
+        one_step (suc (suc (c ls ws))) s (ap (λ o. o >>= push_level l (position t) None) (read_instr_is (state ls ws (with_hint h e) t) (Some i) read))
         (flat (hinted (hint_items h)) ((sequences may m Anywhere >> x m) ∷ sequences may m p ∷ []) (behind may b (suc m) ls ws) e t
         ∙ read_by (hinted (hint_items h)) ((sequences may m Anywhere >> x m) ∷ then_on) e t i.1 (hint_items h ++ Instr i.0 ∷ []) (hinted_is (hint_items h) t (Some i) read)
         ∙ ap (λ g. run ((sequences may m Anywhere >> x m) ∷ then_on) g i.1) (with_both h i.0 e)
@@ -241,7 +232,7 @@ module _ (may : Bool) (b : Base) (m : ℕ) where
         ∙ sym (mixed_own ls ws (suc (suc (c ls ws))) s (sequences may m Anywhere ∷ x m ∷ []) (sequences may (suc m) Anywhere ∷ x (suc m) ∷ []) (todo_is m (position t)) (todo_is (suc m) (position t)) (λ ps qs. refl)))
 
     pub opens_block : (op : BlockOp) (h : Option code.Hint) (e : Expression) (toks t : Toks)
-        → Same may b m (hint_put h (state ls ws e t) >>= stood >>= entered (plain_level op) (position t) None)
+        → Same may b m (append_hint h (state ls ws e t) >>= read_instr >>= push_level (plain_level op) (position t) None)
         (run (sequence may (sequences may m) (Opens op) p toks (hint_items h) ∷ behind may b (suc m) ls ws) e t)
     opens_block opens.if_ h e toks t = opens_level opens.if_ (λ n. else_to_end may (sequences may n)) level.PlainIf h e toks t (λ n place. refl) (instruction t) refl
     opens_block opens.try_ h e toks t = opens_level opens.try_ (λ n. catches_to_end may (sequences may n)) level.PlainTry h e toks t (λ n place. refl) (instruction t) refl

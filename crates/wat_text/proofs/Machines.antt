@@ -20,8 +20,8 @@ use Rattle.wat_text.proofs.Running.{run, add}
 use Rattle.wat_text.proofs.Levels.{Base, Whole, One, hint_items, behind, todo, answer}
 use Rattle.wat_text.proofs.MachineSteps.{state, open_of, Same, no_step, by_both}
 use Rattle.wat_text.proofs.Unfolds.{anywhere}
-use Rattle.wat_text.proofs.Turns.{First, Bare, Hinted, a_hint, plain_level, if_level, try_level as plain_try_level, catch_level as plain_catch_level, block_level, arm_level, operands_level, condition_level}
-use Rattle.wat_text.proofs.Arms.{then_level, try_level, last_level, delegated_level, catch_level, do_level, then_fails, try_fails, do_fails_at}
+use Rattle.wat_text.proofs.Turns.{First, Bare, Hinted, a_hint, at_plain, at_plain_if, at_plain_try, at_plain_catch, at_block, at_arm, at_operands, at_condition}
+use Rattle.wat_text.proofs.Arms.{at_then, at_try, at_last, at_delegated, at_catch, at_do, then_fails, try_fails, do_fails_at}
 use Rattle.wat_text.proofs.Places.{no_end, no_close}
 
 -- what a hint reads as
@@ -62,10 +62,10 @@ reading may toks = by (peek 0 toks) refl
     by None is = None_there (ap read_as is)
 
 -- whether the machine takes a step: not at the end of what is read
-abbrev pub goes_on : Base → List Open → Toks → Bool
-goes_on b (o ∷ os) toks = true
-goes_on Whole [] toks = not (is_end (peek 0 toks))
-goes_on One [] toks = false
+abbrev pub takes_step : Base → List Open → Toks → Bool
+takes_step b (o ∷ os) toks = true
+takes_step Whole [] toks = not (is_end (peek 0 toks))
+takes_step One [] toks = false
 
 module _ (may : Bool) (b : Base) (m : ℕ) where
   abbrev w : Place → Rule
@@ -74,20 +74,20 @@ module _ (may : Bool) (b : Base) (m : ℕ) where
   -- an open level
   by_level : (l : Level) (os : List Open) (ws : List Instruction) (place : Span) (h0 : Option code.Hint) (e : Expression) (toks t : Toks) (h : Option code.Hint) → First toks t h
       → rule.hint may toks ≡ Some (hint_items h, t) → Same may b m (hinted_step h (state (open_of l place h0 ∷ os) ws e t)) (run (todo may b (suc m) (open_of l place h0 ∷ os) ws) e toks)
-  by_level level.Plain os ws place h0 e toks t h first read = plain_level may b m os ws place h0 e toks t h first read
-  by_level level.PlainIf os ws place h0 e toks t h first read = if_level may b m os ws place h0 e toks t h first read
-  by_level level.PlainTry os ws place h0 e toks t h first read = plain_try_level may b m os ws place h0 e toks t h first read
-  by_level level.PlainCatch os ws place h0 e toks t h first read = plain_catch_level may b m os ws place h0 e toks t h first read
-  by_level level.Operands os ws place h0 e toks t h first read = operands_level may b m os ws place h0 e toks t h first read
-  by_level level.Block os ws place h0 e toks t h first read = block_level may b m os ws place h0 e toks t h first read
-  by_level level.Condition os ws place h0 e toks t h first read = condition_level may b m os ws place h0 e toks t h first read
-  by_level level.Then os ws place h0 e toks t h first read = then_level may b m os ws place h0 e toks t h first
-  by_level level.Try os ws place h0 e toks t h first read = try_level may b m os ws place h0 e toks t h first
-  by_level level.Do os ws place h0 e toks t h first read = do_level may b m os ws place h0 e toks t h first read
-  by_level level.Catch os ws place h0 e toks t h first read = catch_level may b m os ws place h0 e toks t h first read
-  by_level level.Last os ws place h0 e toks t h first read = last_level may b m os ws place h0 e toks t h first
-  by_level level.Delegated os ws place h0 e toks t h first read = delegated_level may b m os ws place h0 e toks t h first
-  by_level level.Arm os ws place h0 e toks t h first read = arm_level may b m os ws place h0 e toks t h first read
+  by_level level.Plain os ws place h0 e toks t h first read = at_plain may b m os ws place h0 e toks t h first read
+  by_level level.PlainIf os ws place h0 e toks t h first read = at_plain_if may b m os ws place h0 e toks t h first read
+  by_level level.PlainTry os ws place h0 e toks t h first read = at_plain_try may b m os ws place h0 e toks t h first read
+  by_level level.PlainCatch os ws place h0 e toks t h first read = at_plain_catch may b m os ws place h0 e toks t h first read
+  by_level level.Operands os ws place h0 e toks t h first read = at_operands may b m os ws place h0 e toks t h first read
+  by_level level.Block os ws place h0 e toks t h first read = at_block may b m os ws place h0 e toks t h first read
+  by_level level.Condition os ws place h0 e toks t h first read = at_condition may b m os ws place h0 e toks t h first read
+  by_level level.Then os ws place h0 e toks t h first read = at_then may b m os ws place h0 e toks t h first
+  by_level level.Try os ws place h0 e toks t h first read = at_try may b m os ws place h0 e toks t h first
+  by_level level.Do os ws place h0 e toks t h first read = at_do may b m os ws place h0 e toks t h first read
+  by_level level.Catch os ws place h0 e toks t h first read = at_catch may b m os ws place h0 e toks t h first read
+  by_level level.Last os ws place h0 e toks t h first read = at_last may b m os ws place h0 e toks t h first
+  by_level level.Delegated os ws place h0 e toks t h first read = at_delegated may b m os ws place h0 e toks t h first
+  by_level level.Arm os ws place h0 e toks t h first read = at_arm may b m os ws place h0 e toks t h first read
 
   -- a hint that cannot be read
   placed_fails : (p : Place) (ps : List Rule) (e : Expression) (toks : Toks) → rule.hint may toks ≡ None → run (w p ∷ ps) e toks ≡ None
@@ -133,7 +133,7 @@ module _ (may : Bool) (b : Base) (m : ℕ) where
       → step may (state ls ws e toks) ≡ ((r >>= λ h. let o : Option code.Hint × Toks = (hint_in (position toks) h.0, h.1) in Some o) >>= λ h. hinted_step h.0 (state ls ws e h.1))
   step_as ls ws e toks r read = ap (λ r. (r >>= λ h. let o : Option code.Hint × Toks = (hint_in (position toks) h.0, h.1) in Some o) >>= λ h. hinted_step h.0 (state ls ws e h.1)) read
 
-pub unfolds : (may : Bool) (b : Base) (m : ℕ) (ls : List Open) (ws : List Instruction) (e : Expression) (toks : Toks) → goes_on b ls toks ≡ true
+pub unfolds : (may : Bool) (b : Base) (m : ℕ) (ls : List Open) (ws : List Instruction) (e : Expression) (toks : Toks) → takes_step b ls toks ≡ true
     → Same may b m (step may (state ls ws e toks)) (answer may b (suc m) (state ls ws e toks))
 unfolds may One m [] ws e toks going = absurd cc
 unfolds may Whole m [] ws e toks going = by (reading may toks)

@@ -34,9 +34,9 @@ some_not : {A : Type 0} {x : A} → Some x ≢ None
 some_not e = cc
 
 -- what is read after an opening, by what the rest of the rule makes
-pub opened : (next : ModuleHead × Toks → Option TextModule) (a b : Reader) (h : ModuleHead) (result : Result TextModule TextError)
+pub after_opening : (next : ModuleHead × Toks → Option TextModule) (a b : Reader) (h : ModuleHead) (result : Result TextModule TextError)
     → Decides opening a b h → Ends (next (h, left b)) b result → Ends (opening (left a) >>= next) a result
-opened next a b h (Ok m) d f = record {
+after_opening next a b h (Ok m) d f = record {
   clean = (d.clean f.clean.0, sym d.make ∙ f.clean.1);
   gives = ap (λ o. o >>= next) (d.gives f.clean.0) ∙ f.gives;
   well = f.well;
@@ -44,7 +44,7 @@ opened next a b h (Ok m) d f = record {
   keeps = λ n. tt;
   refuses = λ n. tt;
 }
-opened next a b h (Err e) d f = record {
+after_opening next a b h (Err e) d f = record {
   clean = tt;
   gives = tt;
   well = tt;
@@ -96,7 +96,7 @@ module _ (source : List ℕ) (h : ModuleHead) where
       → inner_opening (bare_opening h) (bare_opening o) ≡ bare_opening x → span ≡ module_position h
       → Ends (fields_module span (bare_opening x) (left b)) b result → Ends (inner_module (bare_opening h) (left a)) a result
   inner_opened a b o x span result d same at f =
-      opened (λ p. fields_module (module_position h) (inner_opening (bare_opening h) p.0) p.1) a b (bare_opening o) result d
+      after_opening (λ p. fields_module (module_position h) (inner_opening (bare_opening h) p.0) p.1) a b (bare_opening o) result d
       (subst (λ y. Ends (fields_module (module_position h) y (left b)) b result) (sym same)
       (subst (λ s. Ends (fields_module s (bare_opening x) (left b)) b result) at f))
 

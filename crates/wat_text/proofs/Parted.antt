@@ -12,11 +12,11 @@ use Rattle.wat_text.specs.declared.bodies.Level.{Level}
 use Rattle.wat_text.specs.declared.bodies.Level.TheVariants as level
 use Rattle.wat_text.specs.declared.bodies.Hint as code
 use Rattle.wat_text.specs.declared.bodies.Open.{Open}
-use Rattle.wat_text.specs.Machine.{with_instr, with_hint, stood, part_at, after_part}
+use Rattle.wat_text.specs.Machine.{with_instr, with_hint, read_instr, part_at, after_part}
 use Rattle.wat_text.proofs.Running.{run, flat, in_turn, read_by, fails_by}
 use Rattle.wat_text.proofs.Levels.{Base, hint_items, own, todo, mixed}
-use Rattle.wat_text.proofs.MachineSteps.{state, open_of, with_both, stood_is, Same, no_step, one_step, by_both, next_is}
-use Rattle.wat_text.proofs.Places.{part_at as part_there, no_part_at, else_part, no_else_part, catch_all_part, no_catch_all_part, delegate_part, no_delegate_part}
+use Rattle.wat_text.proofs.MachineSteps.{state, open_of, with_both, read_instr_is, Same, no_step, one_step, by_both, next_is}
+use Rattle.wat_text.proofs.Places.{part_there, no_part_there, else_part, no_else_part, catch_all_part, no_catch_all_part, delegate_part, no_delegate_part}
 
 -- whether a level is that of a block without parentheses
 abbrev pub takes_parts : Level → Bool
@@ -32,16 +32,16 @@ module _ (may : Bool) (b : Base) (m : ℕ) where
     items = hint_items h
 
     -- an instruction is appended, and these rules follow
-    put_part : (k : ℕ) (ls : List Open) (rs : List Rule) → ((f : Expression) (r : Toks) → mixed may b k m (state ls ws f r) ≡ run rs f r)
-        → Same may b m (stood (state ls ws (with_hint h e) t)) (run (hinted items ∷ rs) e t)
-    put_part k ls rs same = by (instruction t) refl
+    append_part : (k : ℕ) (ls : List Open) (rs : List Rule) → ((f : Expression) (r : Toks) → mixed may b k m (state ls ws f r) ≡ run rs f r)
+        → Same may b m (read_instr (state ls ws (with_hint h e) t)) (run (hinted items ∷ rs) e t)
+    append_part k ls rs same = by (instruction t) refl
       where
         hinted_is : (i : Parse Instruction) → instruction t ≡ i → hinted items t ≡ (i >>= λ x. let o : List Item × Toks = (items ++ Instr x.0 ∷ [], x.1) in Some o)
         hinted_is i read = ap (λ o. o >>= λ x. let o : List Item × Toks = (items ++ Instr x.0 ∷ [], x.1) in Some o) read
 
-        by : (i : Parse Instruction) → instruction t ≡ i → Same may b m (stood (state ls ws (with_hint h e) t)) (run (hinted items ∷ rs) e t)
-        by None read = no_step may b m (stood_is (state ls ws (with_hint h e) t) None read) (fails_by (hinted items) rs e t (hinted_is None read))
-        by (Some i) read = one_step may b m k (state ls ws (with_instr i.0 (with_hint h e)) i.1) (stood_is (state ls ws (with_hint h e) t) (Some i) read)
+        by : (i : Parse Instruction) → instruction t ≡ i → Same may b m (read_instr (state ls ws (with_hint h e) t)) (run (hinted items ∷ rs) e t)
+        by None read = no_step may b m (read_instr_is (state ls ws (with_hint h e) t) None read) (fails_by (hinted items) rs e t (hinted_is None read))
+        by (Some i) read = one_step may b m k (state ls ws (with_instr i.0 (with_hint h e)) i.1) (read_instr_is (state ls ws (with_hint h e) t) (Some i) read)
             (read_by (hinted items) rs e t i.1 (items ++ Instr i.0 ∷ []) (hinted_is (Some i) read) ∙ ap (λ g. run rs g i.1) (with_both h i.0 e) ∙ sym (same (with_instr i.0 (with_hint h e)) i.1))
 
     module _ (os : List Open) (place : Span) (h0 : Option code.Hint) where
@@ -52,21 +52,21 @@ module _ (may : Bool) (b : Base) (m : ℕ) where
       w = sequences may (suc m)
 
       abbrev PartStep : Level → Part → Type 0
-      PartStep l q = Same may b m (part_at (after_part l q) (state (open_of l place h0 ∷ os) ws (with_hint h e) t) >>= stood) (run (own may w l h0 ws ++ more) e toks)
+      PartStep l q = Same may b m (part_at (after_part l q) (state (open_of l place h0 ∷ os) ws (with_hint h e) t) >>= read_instr) (run (own may w l h0 ws ++ more) e toks)
 
-      closes_block : Same may b m (stood (state os ws (with_hint h e) t)) (run (hinted items ∷ more) e t)
-      closes_block = put_part zero os more (λ f r. refl)
+      closes_block : Same may b m (read_instr (state os ws (with_hint h e) t)) (run (hinted items ∷ more) e t)
+      closes_block = append_part zero os more (λ f r. refl)
 
       -- to its `end` alone
-      goes_to_end : Same may b m (stood (state (open_of level.Plain place None ∷ os) ws (with_hint h e) t)) (run (hinted items ∷ to_end may w ∷ more) e t)
-      goes_to_end = put_part zero (open_of level.Plain place None ∷ os) (to_end may w ∷ more) (λ f r. sym (in_turn (w Anywhere) (part may End) more f r))
+      goes_to_end : Same may b m (read_instr (state (open_of level.Plain place None ∷ os) ws (with_hint h e) t)) (run (hinted items ∷ to_end may w ∷ more) e t)
+      goes_to_end = append_part zero (open_of level.Plain place None ∷ os) (to_end may w ∷ more) (λ f r. sym (in_turn (w Anywhere) (part may End) more f r))
 
-      catches_more : Same may b m (stood (state (open_of level.PlainCatch place None ∷ os) ws (with_hint h e) t))
+      catches_more : Same may b m (read_instr (state (open_of level.PlainCatch place None ∷ os) ws (with_hint h e) t))
           (run (hinted items ∷ sequences may m Anywhere ∷ sequences may m Catches ∷ catch_all_to_end may w ∷ more) e t)
-      catches_more = put_part (suc (suc zero)) (open_of level.PlainCatch place None ∷ os) (sequences may m Anywhere ∷ sequences may m Catches ∷ catch_all_to_end may w ∷ more) (λ f r. refl)
+      catches_more = append_part (suc (suc zero)) (open_of level.PlainCatch place None ∷ os) (sequences may m Anywhere ∷ sequences may m Catches ∷ catch_all_to_end may w ∷ more) (λ f r. refl)
 
       end_only : (q : Option Part) → part_in t ≡ q → same_part End q ≡ false → run (part may End ∷ more) e toks ≡ None
-      end_only q is absent = no_part_at may toks t items read more e End (ap (same_part End) is ∙ absent)
+      end_only q is absent = no_part_there may toks t items read more e End (ap (same_part End) is ∙ absent)
 
       end_there : part_in t ≡ Some End → run (part may End ∷ more) e toks ≡ run (hinted items ∷ more) e t
       end_there is = part_there may toks t items read more e End (ap (same_part End) is)

@@ -119,12 +119,12 @@ module _ (w : Within) (toks : Toks) (ps : List Rule) (e : Expression) where
   no_delegate h = not_chosen (is_arm Delegate) (terminal (arm_word Delegate) >> delegate_label >> terminal rparen >> terminal rparen) (w CatchArms >> catch_all_arm w >> ends) ps e toks h
       ∙ flat (w CatchArms) (catch_all_arm w ∷ ends ∷ []) ps e toks
 
--- the instruction that waited, with its hint
-pub waited_put : (h : Option Rattle.wat_text.specs.declared.bodies.Hint.Hint) (w : Option Instruction) (e : Expression) → add e (hint_items h ++ item_of w) ≡ with_last w (with_hint h e)
-waited_put None None e = refl
-waited_put None (Some i) e = refl
-waited_put (Some h) None e = refl
-waited_put (Some h) (Some i) e = refl
+-- the operator that waited for its operands, with its hint
+pub hinted_operator_is : (h : Option Rattle.wat_text.specs.declared.bodies.Hint.Hint) (w : Option Instruction) (e : Expression) → add e (hint_items h ++ item_of w) ≡ with_last w (with_hint h e)
+hinted_operator_is None None e = refl
+hinted_operator_is None (Some i) e = refl
+hinted_operator_is (Some h) None e = refl
+hinted_operator_is (Some h) (Some i) e = refl
 
 -- the parts of a block without parentheses, after a hint that reads as these items
 module _ (may : Bool) (toks t : Toks) (h : List Item) (read : rule.hint may toks ≡ Some (h, t)) where
@@ -136,11 +136,11 @@ module _ (may : Bool) (toks t : Toks) (h : List Item) (read : rule.hint may toks
       ∙ ap (λ b. (elim b [ true ↦ hinted h t | false ↦ None ]) >>= λ x. run ps (add e x.0) x.1) there
 
   module _ (ps : List Rule) (e : Expression) where
-    pub part_at : (p : Part) → same_part p (part_in t) ≡ true → run (part may p ∷ ps) e toks ≡ run (hinted h ∷ ps) e t
-    part_at p there = part_on ps e p there
+    pub part_there : (p : Part) → same_part p (part_in t) ≡ true → run (part may p ∷ ps) e toks ≡ run (hinted h ∷ ps) e t
+    part_there p there = part_on ps e p there
 
-    pub no_part_at : (p : Part) → same_part p (part_in t) ≡ false → run (part may p ∷ ps) e toks ≡ None
-    no_part_at p absent = ap (λ o. (o >>= λ h. elim (same_part p (part_in h.1)) [ true ↦ hinted h.0 h.1 | false ↦ None ]) >>= λ x. run ps (add e x.0) x.1) read
+    pub no_part_there : (p : Part) → same_part p (part_in t) ≡ false → run (part may p ∷ ps) e toks ≡ None
+    no_part_there p absent = ap (λ o. (o >>= λ h. elim (same_part p (part_in h.1)) [ true ↦ hinted h.0 h.1 | false ↦ None ]) >>= λ x. run ps (add e x.0) x.1) read
         ∙ ap (λ b. (elim b [ true ↦ hinted h t | false ↦ None ]) >>= λ x. run ps (add e x.0) x.1) absent
 
     module _ (w : Within) where
@@ -159,7 +159,7 @@ module _ (may : Bool) (toks t : Toks) (h : List Item) (read : rule.hint may toks
       no_catch_all_part absent = not_chosen (is_part may CatchAll) (part may CatchAll >> to_end may w) (part may End) ps e toks (part_is CatchAll ∙ absent)
 
       pub delegate_part : same_part Delegate (part_in t) ≡ true → run (catches_to_end may w ∷ ps) e toks ≡ run (hinted h ∷ ps) e t
-      delegate_part there = chosen (is_part may Delegate) (part may Delegate) (w Catches >> catch_all_to_end may w) ps e toks (part_is Delegate ∙ there) ∙ part_at Delegate there
+      delegate_part there = chosen (is_part may Delegate) (part may Delegate) (w Catches >> catch_all_to_end may w) ps e toks (part_is Delegate ∙ there) ∙ part_there Delegate there
 
       pub no_delegate_part : same_part Delegate (part_in t) ≡ false → run (catches_to_end may w ∷ ps) e toks ≡ run (w Catches ∷ catch_all_to_end may w ∷ ps) e toks
       no_delegate_part absent = not_chosen (is_part may Delegate) (part may Delegate) (w Catches >> catch_all_to_end may w) ps e toks (part_is Delegate ∙ absent)

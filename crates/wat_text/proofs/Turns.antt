@@ -23,7 +23,7 @@ use Rattle.wat_text.specs.Machine as machine
 use Rattle.wat_text.proofs.Running.{run, in_turn}
 use Rattle.wat_text.proofs.Levels.{Base, hint_items, waits, behind, todo}
 use Rattle.wat_text.proofs.MachineSteps.{state, open_of, Same, no_step, one_step, by_both, next_is, no_operator}
-use Rattle.wat_text.proofs.Places.{form_by, form_not, closes, no_close, ends_at, no_end, form_at, no_form, waited_put}
+use Rattle.wat_text.proofs.Places.{form_by, form_not, closes, no_close, ends_at, no_end, form_at, no_form, hinted_operator_is}
 use Rattle.wat_text.proofs.Parted.{parts, no_parts}
 use Rattle.wat_text.proofs.Unfolds.{one_folded, anywhere, plain_none}
 
@@ -114,32 +114,32 @@ module _ (may : Bool) (b : Base) (m : ℕ) where
       part_none : (o : Option Token) → peek 0 t ≡ o → word_of o ≡ None → part_in t ≡ None
       part_none o is none = ap (λ w. part_of w) (ap word_of is ∙ none)
 
-      pub plain_level : Same may b m (hinted_step h (at_level level.Plain)) (run (w Anywhere ∷ follows level.Plain) e toks)
-      plain_level = anywhere may b m (open_of level.Plain place h0 ∷ os) ws h e toks t read refl refl
+      pub at_plain : Same may b m (hinted_step h (at_level level.Plain)) (run (w Anywhere ∷ follows level.Plain) e toks)
+      at_plain = anywhere may b m (open_of level.Plain place h0 ∷ os) ws h e toks t read refl refl
           (λ is. no_step may b m (closed_none level.Plain refl) (no_parts may b m ws h e toks t read os place h0 level.Plain (part_none (Some token.Close) is refl) refl))
           (λ is. no_step may b m (plain_none may b m (open_of level.Plain place h0 ∷ os) ws h e toks t read refl refl None is refl)
           (no_parts may b m ws h e toks t read os place h0 level.Plain (part_none None is refl) refl))
           (λ q is l r n. parts may b m ws h e toks t read os place h0 level.Plain q is refl)
           refl
 
-      pub if_level : Same may b m (hinted_step h (at_level level.PlainIf)) (run (w Anywhere ∷ follows level.PlainIf) e toks)
-      if_level = anywhere may b m (open_of level.PlainIf place h0 ∷ os) ws h e toks t read refl refl
+      pub at_plain_if : Same may b m (hinted_step h (at_level level.PlainIf)) (run (w Anywhere ∷ follows level.PlainIf) e toks)
+      at_plain_if = anywhere may b m (open_of level.PlainIf place h0 ∷ os) ws h e toks t read refl refl
           (λ is. no_step may b m (closed_none level.PlainIf refl) (no_parts may b m ws h e toks t read os place h0 level.PlainIf (part_none (Some token.Close) is refl) refl))
           (λ is. no_step may b m (plain_none may b m (open_of level.PlainIf place h0 ∷ os) ws h e toks t read refl refl None is refl)
           (no_parts may b m ws h e toks t read os place h0 level.PlainIf (part_none None is refl) refl))
           (λ q is l r n. parts may b m ws h e toks t read os place h0 level.PlainIf q is refl)
           refl
 
-      pub try_level : Same may b m (hinted_step h (at_level level.PlainTry)) (run (w Anywhere ∷ follows level.PlainTry) e toks)
-      try_level = anywhere may b m (open_of level.PlainTry place h0 ∷ os) ws h e toks t read refl refl
+      pub at_plain_try : Same may b m (hinted_step h (at_level level.PlainTry)) (run (w Anywhere ∷ follows level.PlainTry) e toks)
+      at_plain_try = anywhere may b m (open_of level.PlainTry place h0 ∷ os) ws h e toks t read refl refl
           (λ is. no_step may b m (closed_none level.PlainTry refl) (no_parts may b m ws h e toks t read os place h0 level.PlainTry (part_none (Some token.Close) is refl) refl))
           (λ is. no_step may b m (plain_none may b m (open_of level.PlainTry place h0 ∷ os) ws h e toks t read refl refl None is refl)
           (no_parts may b m ws h e toks t read os place h0 level.PlainTry (part_none None is refl) refl))
           (λ q is l r n. parts may b m ws h e toks t read os place h0 level.PlainTry q is refl)
           refl
 
-      pub catch_level : Same may b m (hinted_step h (at_level level.PlainCatch)) (run (w Anywhere ∷ follows level.PlainCatch) e toks)
-      catch_level = anywhere may b m (open_of level.PlainCatch place h0 ∷ os) ws h e toks t read refl refl
+      pub at_plain_catch : Same may b m (hinted_step h (at_level level.PlainCatch)) (run (w Anywhere ∷ follows level.PlainCatch) e toks)
+      at_plain_catch = anywhere may b m (open_of level.PlainCatch place h0 ∷ os) ws h e toks t read refl refl
           (λ is. no_step may b m (closed_none level.PlainCatch refl) (no_parts may b m ws h e toks t read os place h0 level.PlainCatch (part_none (Some token.Close) is refl) refl))
           (λ is. no_step may b m (plain_none may b m (open_of level.PlainCatch place h0 ∷ os) ws h e toks t read refl refl None is refl)
           (no_parts may b m ws h e toks t read os place h0 level.PlainCatch (part_none None is refl) refl))
@@ -147,8 +147,8 @@ module _ (may : Bool) (b : Base) (m : ℕ) where
           refl
 
       -- a block in parentheses, and an arm
-      pub block_level : Same may b m (hinted_step h (at_level level.Block)) (run (w Anywhere ∷ follows level.Block) e toks)
-      block_level = anywhere may b m (open_of level.Block place h0 ∷ os) ws h e toks t read refl refl
+      pub at_block : Same may b m (hinted_step h (at_level level.Block)) (run (w Anywhere ∷ follows level.Block) e toks)
+      at_block = anywhere may b m (open_of level.Block place h0 ∷ os) ws h e toks t read refl refl
           (λ is. by_both may b m (sym (step_is level.Block (Some token.Close) is)) refl
           (at_close level.Block (state os ws (with_instr (instr.end_ None) e) (after t)) (follows level.Block) is refl
           (λ r l. no_end toks (todo may b (suc m) os ws) e r)
@@ -158,8 +158,8 @@ module _ (may : Bool) (b : Base) (m : ℕ) where
           (λ q is l r n. no_step may b m refl (no_end toks (todo may b (suc m) os ws) e (not_close r)))
           refl
 
-      pub arm_level : Same may b m (hinted_step h (at_level level.Arm)) (run (w Anywhere ∷ follows level.Arm) e toks)
-      arm_level = anywhere may b m (open_of level.Arm place h0 ∷ os) ws h e toks t read refl refl
+      pub at_arm : Same may b m (hinted_step h (at_level level.Arm)) (run (w Anywhere ∷ follows level.Arm) e toks)
+      at_arm = anywhere may b m (open_of level.Arm place h0 ∷ os) ws h e toks t read refl refl
           (λ is. by_both may b m (sym (step_is level.Arm (Some token.Close) is)) refl
           (at_close level.Arm (state os ws e (after t)) (follows level.Arm) is refl
           (λ r l. no_close toks (todo may b (suc m) os ws) e r)
@@ -177,8 +177,8 @@ module _ (may : Bool) (b : Base) (m : ℕ) where
       then_ends : is_form key.Then t ≡ true → next_of Folded t ≡ Ends
       then_ends p = ap (λ b. elim b [ true ↦ Ends | false ↦ elim (is_lparen (peek 0 t)) [ true ↦ Folds | false ↦ Ends ] ]) p
 
-      folded_next : is_form key.Then t ≡ false → peek 0 t ≡ Some token.Open → next_of Folded t ≡ Folds
-      folded_next p is = ap (λ b. elim b [ true ↦ Ends | false ↦ elim (is_lparen (peek 0 t)) [ true ↦ Folds | false ↦ Ends ] ]) p
+      folds_at_open : is_form key.Then t ≡ false → peek 0 t ≡ Some token.Open → next_of Folded t ≡ Folds
+      folds_at_open p is = ap (λ b. elim b [ true ↦ Ends | false ↦ elim (is_lparen (peek 0 t)) [ true ↦ Folds | false ↦ Ends ] ]) p
           ∙ ap (λ o. elim (is_lparen o) [ true ↦ Folds | false ↦ Ends ]) is
 
       -- `then` is no instruction
@@ -186,8 +186,8 @@ module _ (may : Bool) (b : Base) (m : ℕ) where
       then_alone (Some (token.Word (word.Key k) n)) is there = ap (λ o. instruction_of o (after (after t))) is
       then_alone o is there = absurd cc
 
-      pub operands_level : Same may b m (hinted_step h (at_level level.Operands)) (run (w Folded ∷ follows level.Operands) e toks)
-      operands_level = by (peek 0 t) refl
+      pub at_operands : Same may b m (hinted_step h (at_level level.Operands)) (run (w Folded ∷ follows level.Operands) e toks)
+      at_operands = by (peek 0 t) refl
         where
           fails : is_rparen (peek 0 toks) ≡ false → run (follows level.Operands) e toks ≡ None
           fails r = no_close toks (writes (waits h0 ws) ∷ todo may b (suc m) os (before_last ws)) e r
@@ -197,14 +197,14 @@ module _ (may : Bool) (b : Base) (m : ℕ) where
               (step_is level.Operands (Some token.Open) is ∙ no_operator may b m (open_of level.Operands place h0 ∷ os) ws h e (after t) (word_of (peek 0 (after t)))
               (then_alone (peek 0 (after t)) refl (sym (form_by t key.Then is) ∙ there)))
               (at_next level.Operands Folded Ends (then_ends there) ∙ fails (not_close (ap is_rparen is)))
-          at_paren is false there = one_folded may b m (open_of level.Operands place h0 ∷ os) ws h e toks t read Folded refl (folded_next there is) is refl
+          at_paren is false there = one_folded may b m (open_of level.Operands place h0 ∷ os) ws h e toks t read Folded refl (folds_at_open there is) is refl
 
           by : (o : Option Token) → peek 0 t ≡ o → Same may b m (hinted_step h (at_level level.Operands)) (run (w Folded ∷ follows level.Operands) e toks)
           by (Some token.Open) is = at_paren is (is_form key.Then t) refl
           by (Some token.Close) is = by_both may b m refl (at_next level.Operands Folded Ends (folded_ends (ap is_lparen is)))
               (at_close level.Operands (state os (before_last ws) (with_last (last_of ws) (with_hint h0 e)) (after t)) (follows level.Operands) is refl (λ r l. fails r)
               (λ same at. closes toks (writes (waits h0 ws) ∷ todo may b (suc m) os (before_last ws)) e (ap is_rparen at)
-              ∙ ap (λ f. run (todo may b (suc m) os (before_last ws)) f (after toks)) (waited_put h0 (last_of ws) e)
+              ∙ ap (λ f. run (todo may b (suc m) os (before_last ws)) f (after toks)) (hinted_operator_is h0 (last_of ws) e)
               ∙ ap (λ t. run (todo may b (suc m) os (before_last ws)) (with_last (last_of ws) (with_hint h0 e)) (after t)) same))
           by o is = neither level.Operands refl (ap is_lparen is) (ap is_rparen is) _ (at_next level.Operands Folded Ends (folded_ends (ap is_lparen is)) ∙ fails (not_close (ap is_rparen is)))
 
@@ -218,13 +218,13 @@ module _ (may : Bool) (b : Base) (m : ℕ) where
           (state (open_of level.Arm (after (after t)).before None ∷ open_of level.Then place None ∷ os) (before_last ws) (with_last (last_of ws) (with_hint h0 e)) (after (after t)))
           (ap (λ h. machine.then_arm h (state (open_of level.Condition place h0 ∷ os) ws e (after t))) none)
           (ap (λ t. run (follows level.Condition) e t) same ∙ form_at t (writes (waits h0 ws) ∷ arms_of_if) e key.Then there
-          ∙ ap (λ f. run arms_of_if f (after (after t))) (waited_put h0 (last_of ws) e)
+          ∙ ap (λ f. run arms_of_if f (after (after t))) (hinted_operator_is h0 (last_of ws) e)
           ∙ in_turn (w Anywhere) (terminal rparen) (else_arm w ∷ ends ∷ todo may b (suc m) os (before_last ws)) (with_last (last_of ws) (with_hint h0 e)) (after (after t)))
       then_arm_at is there (Hinted x some at) = no_step may b m (ap (λ h. machine.then_arm h (state (open_of level.Condition place h0 ∷ os) ws e (after t))) some)
           (no_form toks (writes (waits h0 ws) ∷ arms_of_if) e key.Then (form_not toks key.Then (ap is_lparen at)))
 
-      pub condition_level : Same may b m (hinted_step h (at_level level.Condition)) (run (w Folded ∷ follows level.Condition) e toks)
-      condition_level = by (peek 0 t) refl
+      pub at_condition : Same may b m (hinted_step h (at_level level.Condition)) (run (w Folded ∷ follows level.Condition) e toks)
+      at_condition = by (peek 0 t) refl
         where
           fails : is_lparen (peek 0 toks) ≡ false → run (follows level.Condition) e toks ≡ None
           fails p = no_form toks (writes (waits h0 ws) ∷ arms_of_if) e key.Then (form_not toks key.Then p)
@@ -237,7 +237,7 @@ module _ (may : Bool) (b : Base) (m : ℕ) where
 
           at_paren : peek 0 t ≡ Some token.Open → (x : Bool) → is_form key.Then t ≡ x → Same may b m (hinted_step h (at_level level.Condition)) (run (w Folded ∷ follows level.Condition) e toks)
           at_paren is true there = by_both may b m (step_is level.Condition (Some token.Open) is ∙ then_or true is there) (at_next level.Condition Folded Ends (then_ends there)) (then_arm_at is there first)
-          at_paren is false there = one_folded may b m (open_of level.Condition place h0 ∷ os) ws h e toks t read Folded refl (folded_next there is) is (then_or false is there)
+          at_paren is false there = one_folded may b m (open_of level.Condition place h0 ∷ os) ws h e toks t read Folded refl (folds_at_open there is) is (then_or false is there)
 
           by : (o : Option Token) → peek 0 t ≡ o → Same may b m (hinted_step h (at_level level.Condition)) (run (w Folded ∷ follows level.Condition) e toks)
           by (Some token.Open) is = at_paren is (is_form key.Then t) refl

@@ -15,15 +15,15 @@ use Rattle.wat_syntax.specs.Bodies.{Instr, Rule, Place, Anywhere, Next, Ends, Fo
 use Rattle.wat_syntax.specs.Bodies as rule
 use Rattle.wat_text.specs.declared.bodies.Hint as code
 use Rattle.wat_text.specs.declared.bodies.Open.{Open}
-use Rattle.wat_text.specs.Machine.{State, with_hint, hint_put, stood, part_at, next_level, level_of, takes_plain, parted_by, parted_if_any, word_by, plain, other, opened, closed, at_nothing, folded_operator, hinted_by, hinted_step}
+use Rattle.wat_text.specs.Machine.{State, with_hint, append_hint, read_instr, part_at, next_level, level_of, takes_plain, parted_by, parted_if_any, word_by, plain, other, opened, closed, at_nothing, folded_operator, hinted_by, hinted_step}
 use Rattle.wat_text.proofs.Running.{run, add, in_turn}
 use Rattle.wat_text.proofs.Levels.{Base, place_in, hint_items, placed, behind}
-use Rattle.wat_text.proofs.MachineSteps.{state, stood_is, Same, no_step, by_both, next_is, stands, opens_block, folds}
+use Rattle.wat_text.proofs.MachineSteps.{state, read_instr_is, Same, no_step, by_both, next_is, stands, opens_block, folds}
 
 -- a word is that of a block, or it is read as a part or alone
 data Kind (w : Word) : Type 0 where
   Block : (op : BlockOp) → w ≡ word.Block op → Kind w
-  Other : next_of_word (Some w) ≡ (elim (part_of (Some w)) [ Some p ↦ Ends | None ↦ Stands ]) → ((s : State) → word_by (Some w) s ≡ (parted_if_any s >>= stood)) → Kind w
+  Other : next_of_word (Some w) ≡ (elim (part_of (Some w)) [ Some p ↦ Ends | None ↦ Stands ]) → ((s : State) → word_by (Some w) s ≡ (parted_if_any s >>= read_instr)) → Kind w
 
 kind : (w : Word) → Kind w
 kind (word.Block op) = Block op refl
@@ -75,10 +75,10 @@ module _ (may : Bool) (b : Base) (m : ℕ) (ls : List Open) (ws : List Instructi
           (next Anywhere Stands (ap next_of_token is ∙ stand)
           ∙ (stands may b m ls ws Anywhere at h e toks t None (ap (λ o. instruction_of o (after t)) is ∙ no_instr (after t))).is
           ∙ ap (λ o. o >>= Rattle.wat_text.proofs.Levels.mixed may b (stands may b m ls ws Anywhere at h e toks t None (ap (λ o. instruction_of o (after t)) is ∙ no_instr (after t))).k m)
-          (stood_none (ap (λ o. instruction_of o (after t)) is ∙ no_instr (after t))))
+          (read_instr_none (ap (λ o. instruction_of o (after t)) is ∙ no_instr (after t))))
         where
-          stood_none : instruction t ≡ None → (hint_put h s >>= stood) ≡ None
-          stood_none none = stood_is (state ls ws (with_hint h e) t) None none
+          read_instr_none : instruction t ≡ None → (append_hint h s >>= read_instr) ≡ None
+          read_instr_none none = read_instr_is (state ls ws (with_hint h e) t) None none
 
       pub plain_none : (o : Option Token) → peek 0 t ≡ o → word_of o ≡ None → other h s ≡ None
       plain_none o is none = other_is ∙ plain_is None (ap word_of is ∙ none)
@@ -86,19 +86,19 @@ module _ (may : Bool) (b : Base) (m : ℕ) (ls : List Open) (ws : List Instructi
       module _ (at_close : peek 0 t ≡ Some token.Close → Same may b m (closed h (state ls ws e (after t))) (run follows e toks))
           (at_none : peek 0 t ≡ None → Same may b m (at_nothing (level_of ls) h s) (run follows e toks))
           (at_part : (q : Part) → part_in t ≡ Some q → is_lparen (peek 0 t) ≡ false → is_rparen (peek 0 t) ≡ false → is_end (peek 0 t) ≡ false
-          → Same may b m (part_at (next_level (level_of ls) q) (state ls ws (with_hint h e) t) >>= stood) (run follows e toks))
+          → Same may b m (part_at (next_level (level_of ls) q) (state ls ws (with_hint h e) t) >>= read_instr) (run follows e toks))
           (goes : opened h (state ls ws e (after t)) ≡ folded_operator h (state ls ws e (after t))) where
         by_part : (w : Word) (n : Bor (List ℕ)) → peek 0 t ≡ Some (token.Word w n)
-            → next_of_word (Some w) ≡ (elim (part_of (Some w)) [ Some p ↦ Ends | None ↦ Stands ]) → ((s : State) → word_by (Some w) s ≡ (parted_if_any s >>= stood))
+            → next_of_word (Some w) ≡ (elim (part_of (Some w)) [ Some p ↦ Ends | None ↦ Stands ]) → ((s : State) → word_by (Some w) s ≡ (parted_if_any s >>= read_instr))
             → (q : Option Part) → part_of (Some w) ≡ q → Same may b m (hinted_step h s) (run (sequences may (suc m) Anywhere ∷ follows) e toks)
         by_part w n is next_word by_word None part = by_both may b m
             (step_is (Some (token.Word w n)) is ∙ other_is ∙ plain_is (Some w) (ap word_of is) ∙ by_word (state ls ws (with_hint h e) t)
-            ∙ ap (λ q. parted_by q (state ls ws (with_hint h e) t) >>= stood) (ap (λ o. part_of (word_of o)) is ∙ part))
+            ∙ ap (λ q. parted_by q (state ls ws (with_hint h e) t) >>= read_instr) (ap (λ o. part_of (word_of o)) is ∙ part))
             (next Anywhere Stands (ap next_of_token is ∙ next_word ∙ ap (λ q. elim q [ Some p ↦ Ends | None ↦ Stands ]) part))
             (stands may b m ls ws Anywhere at h e toks t (instruction t) refl)
         by_part w n is next_word by_word (Some q) part = by_both may b m
             (step_is (Some (token.Word w n)) is ∙ other_is ∙ plain_is (Some w) (ap word_of is) ∙ by_word (state ls ws (with_hint h e) t)
-            ∙ ap (λ q. parted_by q (state ls ws (with_hint h e) t) >>= stood) (ap (λ o. part_of (word_of o)) is ∙ part))
+            ∙ ap (λ q. parted_by q (state ls ws (with_hint h e) t) >>= read_instr) (ap (λ o. part_of (word_of o)) is ∙ part))
             (next Anywhere Ends (ap next_of_token is ∙ next_word ∙ ap (λ q. elim q [ Some p ↦ Ends | None ↦ Stands ]) part))
             (at_part q (ap (λ o. part_of (word_of o)) is ∙ part) (ap is_lparen is) (ap is_rparen is) (ap is_end is))
 

@@ -4,12 +4,12 @@ use Rattle.std.specs.Prelude.{option_to_list}
 use Rattle.wat_text.specs.Machine.{last_of, before_last}
 use Rattle.wat_text.proofs.Loops.{mapped, no_more}
 
-last_is : {T : Type 0} (ws : List T) (i : T) → last_of (ws ++ i ∷ []) ≡ Some i
+pub last_is : {T : Type 0} (ws : List T) (i : T) → last_of (ws ++ i ∷ []) ≡ Some i
 last_is [] i = refl
 last_is (w ∷ []) i = refl
 last_is (w ∷ v ∷ ws) i = last_is (v ∷ ws) i
 
-before_is : {T : Type 0} (ws : List T) (i : T) → before_last (ws ++ i ∷ []) ≡ ws
+pub before_is : {T : Type 0} (ws : List T) (i : T) → before_last (ws ++ i ∷ []) ≡ ws
 before_is [] i = refl
 before_is (w ∷ []) i = refl
 before_is (w ∷ v ∷ ws) i = ap (λ vs. w ∷ vs) (before_is (v ∷ ws) i)

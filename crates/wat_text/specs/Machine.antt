@@ -1,8 +1,8 @@
 -- The machine that reads expressions, as steps from state to state (text format: instructions, folded instructions).
 --
 -- The code keeps the blocks and forms that are not closed in a list of levels, so that its calls do not nest as deeply as the
--- text does. A function here is what a function of src/bodies.rt does to the state. It is `None` if the code rejects the tokens.
--- proofs/ shows that the steps read exactly what the grammar reads.
+-- text does. A function here is what a function of src/bodies.rt does to the state, mostly the function of the same name. It is `None`
+-- if the code rejects the tokens. proofs/ shows that the steps read exactly what the grammar reads.
 --
 --   (drop (i32.const 0))      `drop` waits in a level of its own until the last ')', and is appended after `i32.const 0`
 use Rattle.std.specs.Prelude.{ℕ, ◌≡◌, ◌≢◌, ◌&&◌, Bool, true, false, List, [], ◌∷◌, ◌++◌, length, map, reverse, Option, None, Some}
@@ -64,7 +64,7 @@ pub record Does (step : State → Option State) (old new : Reader) (before behin
   pub refuses : old.fault ≡ None → new.make ≡ false → IsRefused new.fault → step (state_of old before) ≡ None
 
 -- A reader ended an expression that is read whole, or it refused the tokens because it is not.
-pub record Finishes (is_done : Bool) (old new : Reader) : Type 0 where
+pub record EndsExpression (is_done : Bool) (old new : Reader) : Type 0 where
   pub make : new.make ≡ old.make
   pub clean : new.fault ≡ None → old.fault ≡ None
   pub done : new.fault ≡ None → is_done ≡ true
@@ -156,25 +156,25 @@ with_levels ls s = record { levels = ls; waiting = s.waiting; read = s.read; tok
 abbrev pub with_toks : Toks → State → State
 with_toks t s = record { levels = s.levels; waiting = s.waiting; read = s.read; toks = t }
 
-abbrev pub entered : Level → Span → Option Hint → State → Option State
-entered l place h s = Some (with_levels (record { level = l; place = place; hint = h } ∷ s.levels) s)
+abbrev pub push_level : Level → Span → Option Hint → State → Option State
+push_level l place h s = Some (with_levels (record { level = l; place = place; hint = h } ∷ s.levels) s)
 
-abbrev pub arm_entered : State → Option State
-arm_entered s = entered level.Arm s.toks.before None s
+abbrev pub push_arm : State → Option State
+push_arm s = push_level level.Arm s.toks.before None s
 
-abbrev pub turned_levels : Level → List Open → List Open
-turned_levels l [] = []
-turned_levels l (o ∷ os) = record { level = l; place = o.place; hint = None } ∷ os
+abbrev pub with_innermost : Level → List Open → List Open
+with_innermost l [] = []
+with_innermost l (o ∷ os) = record { level = l; place = o.place; hint = None } ∷ os
 
-abbrev pub turned : Level → State → Option State
-turned l s = Some (with_levels (turned_levels l s.levels) s)
+abbrev pub replace_level : Level → State → Option State
+replace_level l s = Some (with_levels (with_innermost l s.levels) s)
 
 abbrev pub outer : List Open → List Open
 outer [] = []
 outer (o ∷ os) = os
 
-abbrev pub left_level : State → Option State
-left_level s = Some (with_levels (outer s.levels) s)
+abbrev pub pop_level : State → Option State
+pop_level s = Some (with_levels (outer s.levels) s)
 
 -- instructions and hints that are appended
 abbrev pub with_hint : Option Hint → Expression → Expression
@@ -184,27 +184,27 @@ with_hint (Some h) e = record { instrs = e.instrs; branch_hints = e.branch_hints
 abbrev pub with_instr : Instruction → Expression → Expression
 with_instr i e = record { instrs = e.instrs ++ i ∷ []; branch_hints = e.branch_hints }
 
-abbrev pub hint_put : Option Hint → State → Option State
-hint_put h s = Some (record { levels = s.levels; waiting = s.waiting; read = with_hint h s.read; toks = s.toks })
+abbrev pub append_hint : Option Hint → State → Option State
+append_hint h s = Some (record { levels = s.levels; waiting = s.waiting; read = with_hint h s.read; toks = s.toks })
 
-abbrev pub put : Instruction → State → Option State
-put i s = Some (record { levels = s.levels; waiting = s.waiting; read = with_instr i s.read; toks = s.toks })
+abbrev pub append : Instruction → State → Option State
+append i s = Some (record { levels = s.levels; waiting = s.waiting; read = with_instr i s.read; toks = s.toks })
 
 abbrev pub with_last : Option Instruction → Expression → Expression
 with_last None e = e
 with_last (Some i) e = with_instr i e
 
-abbrev pub last_put : State → Option State
-last_put s = Some (record { levels = s.levels; waiting = before_last s.waiting; read = with_last (last_of s.waiting) s.read; toks = s.toks })
+abbrev pub append_operator : State → Option State
+append_operator s = Some (record { levels = s.levels; waiting = before_last s.waiting; read = with_last (last_of s.waiting) s.read; toks = s.toks })
 
-abbrev pub waiting_put : Option Hint → State → Option State
-waiting_put h s = hint_put h s >>= last_put
+abbrev pub append_hinted_operator : Option Hint → State → Option State
+append_hinted_operator h s = append_hint h s >>= append_operator
 
-abbrev pub waited : State → Option State
-waited s = with_parts s.waiting (one instruction s.toks) >>= λ w. Some (record { levels = s.levels; waiting = w.0; read = s.read; toks = w.1 })
+abbrev pub read_operator : State → Option State
+read_operator s = with_parts s.waiting (one instruction s.toks) >>= λ w. Some (record { levels = s.levels; waiting = w.0; read = s.read; toks = w.1 })
 
-abbrev pub stood : State → Option State
-stood s = with_parts s.read.instrs (one instruction s.toks) >>= λ w.
+abbrev pub read_instr : State → Option State
+read_instr s = with_parts s.read.instrs (one instruction s.toks) >>= λ w.
     Some (record { levels = s.levels; waiting = s.waiting; read = record { instrs = w.0; branch_hints = s.read.branch_hints }; toks = w.1 })
 
 -- tokens that are taken without a value
@@ -216,25 +216,25 @@ skipped s = Some (with_toks (after s.toks) s)
 
 -- the arms of `if` and `try`
 abbrev pub then_arm : Option Hint → State → Option State
-then_arm h s = taken (without h) s >>= skipped >>= waiting_put (hint_of_level s.levels) >>= turned level.Then >>= arm_entered
+then_arm h s = taken (without h) s >>= skipped >>= append_hinted_operator (hint_of_level s.levels) >>= replace_level level.Then >>= push_arm
 
 abbrev pub else_word : Toks → Option Toks
 else_word toks = elim (rule.same_part Else (rule.part_in toks)) [ true ↦ Some (after toks) | false ↦ None ]
 
 abbrev pub else_arm : Option Hint → State → Option State
-else_arm h s = taken (without h) s >>= taken else_word >>= put (instr.else_ None) >>= turned level.Last >>= arm_entered
+else_arm h s = taken (without h) s >>= taken else_word >>= append (instr.else_ None) >>= replace_level level.Last >>= push_arm
 
 abbrev pub do_arm : Option Hint → State → Option State
-do_arm h s = taken (without h) s >>= taken (keyword key.Do) >>= turned level.Do >>= arm_entered
+do_arm h s = taken (without h) s >>= taken (keyword key.Do) >>= replace_level level.Do >>= push_arm
 
 abbrev pub catch_arm : State → Option State
-catch_arm s = index (after s.toks) >>= λ x. put (instr.catch x.0) (with_toks x.1 s) >>= turned level.Catch >>= arm_entered
+catch_arm s = index (after s.toks) >>= λ x. append (instr.catch x.0) (with_toks x.1 s) >>= replace_level level.Catch >>= push_arm
 
 abbrev pub catch_all_arm : State → Option State
-catch_all_arm s = skipped s >>= put (instr.Plain (plainly.Bare bare.catch_all)) >>= turned level.Last >>= arm_entered
+catch_all_arm s = skipped s >>= append (instr.Plain (plainly.Bare bare.catch_all)) >>= replace_level level.Last >>= push_arm
 
 abbrev pub delegate_arm : State → Option State
-delegate_arm s = index (after s.toks) >>= λ x. rparen x.1 >>= λ rest. put (instr.delegate x.0) (with_toks rest s) >>= turned level.Delegated
+delegate_arm s = index (after s.toks) >>= λ x. rparen x.1 >>= λ rest. append (instr.delegate x.0) (with_toks rest s) >>= replace_level level.Delegated
 
 abbrev pub first_by : Option Part → State → Option State
 first_by (Some Catch) s = catch_arm s
@@ -255,15 +255,15 @@ next_handler s = next_by (rule.part_in s.toks) s
 
 -- folded instructions
 abbrev pub folded_block : BlockOp → Option Hint → State → Option State
-folded_block opens.if_ h s = waited s >>= entered level.Condition (position s.toks) h
-folded_block opens.try_ h s = hint_put h s >>= stood >>= entered level.Try (position s.toks) None
-folded_block op h s = hint_put h s >>= stood >>= entered level.Block (position s.toks) None
+folded_block opens.if_ h s = read_operator s >>= push_level level.Condition (position s.toks) h
+folded_block opens.try_ h s = append_hint h s >>= read_instr >>= push_level level.Try (position s.toks) None
+folded_block op h s = append_hint h s >>= read_instr >>= push_level level.Block (position s.toks) None
 
 abbrev pub no_part : Toks → Option Toks
 no_part toks = elim (rule.part_in toks) [ Some p ↦ None | None ↦ Some toks ]
 
 abbrev pub with_operands : Option Hint → State → Option State
-with_operands h s = taken no_part s >>= waited >>= entered level.Operands (position s.toks) h
+with_operands h s = taken no_part s >>= read_operator >>= push_level level.Operands (position s.toks) h
 
 abbrev pub operator_of : Option Word → Option Hint → State → Option State
 operator_of (Some (word.Block op)) h s = folded_block op h s
@@ -290,30 +290,30 @@ opened h s = opened_in (level_of s.levels) h s
 
 -- ')'
 abbrev pub closed_by : Level → Option Hint → State → Option State
-closed_by level.Operands h s = waiting_put h s
-closed_by level.Block h s = put (instr.end_ None) s
-closed_by level.Then h s = put (instr.end_ None) s
-closed_by level.Do h s = put (instr.end_ None) s
-closed_by level.Catch h s = put (instr.end_ None) s
-closed_by level.Last h s = put (instr.end_ None) s
+closed_by level.Operands h s = append_hinted_operator h s
+closed_by level.Block h s = append (instr.end_ None) s
+closed_by level.Then h s = append (instr.end_ None) s
+closed_by level.Do h s = append (instr.end_ None) s
+closed_by level.Catch h s = append (instr.end_ None) s
+closed_by level.Last h s = append (instr.end_ None) s
 closed_by level.Delegated h s = Some s
 closed_by level.Arm h s = Some s
 closed_by l h s = None
 
-abbrev pub level_closed : Open → State → Option State
-level_closed o s = closed_by o.level o.hint s
+abbrev pub close_level : Open → State → Option State
+close_level o s = closed_by o.level o.hint s
 
 abbrev pub closed_in : List Open → State → Option State
 closed_in [] s = None
-closed_in (o ∷ os) s = level_closed o (with_levels os s)
+closed_in (o ∷ os) s = close_level o (with_levels os s)
 
 abbrev pub closed : Option Hint → State → Option State
 closed h s = taken (without h) s >>= λ t. closed_in t.levels t
 
 -- instructions without parentheses
 abbrev pub part_at : Option (Option Level) → State → Option State
-part_at (Some (Some l)) s = turned l s
-part_at (Some None) s = left_level s
+part_at (Some (Some l)) s = replace_level l s
+part_at (Some None) s = pop_level s
 part_at None s = None
 
 abbrev pub next_level : Option Level → Part → Option (Option Level)
@@ -331,15 +331,15 @@ abbrev pub parted_if_any : State → Option State
 parted_if_any s = parted_by (rule.part_in s.toks) s
 
 abbrev pub word_by : Option Word → State → Option State
-word_by (Some (word.Block op)) s = stood s >>= entered (plain_level op) (position s.toks) None
-word_by (Some w) s = parted_if_any s >>= stood
+word_by (Some (word.Block op)) s = read_instr s >>= push_level (plain_level op) (position s.toks) None
+word_by (Some w) s = parted_if_any s >>= read_instr
 word_by None s = None
 
 abbrev pub operator_word : State → Option State
 operator_word s = word_by (word_of (peek 0 s.toks)) s
 
 abbrev pub plain : Option Hint → State → Option State
-plain h s = hint_put h s >>= operator_word
+plain h s = append_hint h s >>= operator_word
 
 abbrev pub other : Option Hint → State → Option State
 other h s = elim (takes_plain (level_of s.levels)) [ true ↦ plain h s | false ↦ None ]

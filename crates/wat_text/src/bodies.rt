@@ -10,7 +10,7 @@ ghost use Rattle.std.specs.Prelude.{◌≡◌, true, false, [], None, Some, map,
 ghost use Rattle.wat_syntax.specs.Tokens.{keyword, peek, word_of};
 ghost use Rattle.wat_syntax.specs.Bodies.{part_of, expression as expression_rule, folded_expression};
 ghost use Rattle.wat_text.specs.Readers.{left, Reads, Decides, Expects, Refuses};
-ghost use Rattle.wat_text.specs.Machine.{Does, Finishes, in_rule};
+ghost use Rattle.wat_text.specs.Machine.{Does, EndsExpression, in_rule};
 ghost use Rattle.wat_text.specs.Machine as machine;
 ghost use Rattle.wat_tokens.specs.declared.words.Key.TheVariants as key;
 ghost use Rattle.wat_syntax.specs.BareInstructions.{bare_expression, bare_instr};
@@ -198,7 +198,7 @@ impl<'a> Body<'a> {
         }
     }
 
-    /// The instruction that waits since last.
+    /// The operator that waits since last.
     fn take_waiting(&mut self, alloc: Global) -> Option<Instruction<'a>>
         ensures last { option_map bare_instr result ≡ machine.last_of (map bare_instr self.old.waiting) }
         ensures others { map bare_instr self.new.waiting ≡ machine.before_last (map bare_instr self.old.waiting) }
@@ -263,8 +263,8 @@ impl<'a> Body<'a> {
 
 impl<'a> Reader<'a> {
     /// Opens a level at the place of its word.
-    fn enter(&mut self, body: &mut Body<'a>, level: Level, place: Span, hint: Option<Hint>)
-        ensures { Does (machine.entered level place hint) self.old self.new body.old body.new }
+    fn push_level(&mut self, body: &mut Body<'a>, level: Level, place: Span, hint: Option<Hint>)
+        ensures { Does (machine.push_level level place hint) self.old self.new body.old body.new }
     {
         let open = Open { level, place, hint };
         if body.levels.push(open).is_err() {
@@ -273,25 +273,25 @@ impl<'a> Reader<'a> {
     }
 
     /// Opens an arm of the level that is open.
-    fn enter_arm(&mut self, body: &mut Body<'a>)
-        ensures { Does machine.arm_entered self.old self.new body.old body.new }
+    fn push_arm(&mut self, body: &mut Body<'a>)
+        ensures { Does machine.push_arm self.old self.new body.old body.new }
     {
         let place = self.place_before();
-        self.enter(body, Level::Arm, place, None);
+        self.push_level(body, Level::Arm, place, None);
     }
 
-    /// Puts another level in the place of the last one, whose hint is used.
-    fn turn(&mut self, body: &mut Body<'a>, level: Level)
-        ensures { Does (machine.turned level) self.old self.new body.old body.new }
+    /// Replaces the last level by another at the same position. Its hint is used.
+    fn replace_level(&mut self, body: &mut Body<'a>, level: Level)
+        ensures { Does (machine.replace_level level) self.old self.new body.old body.new }
     {
         if let Some(open) = body.levels.pop() {
-            self.enter(body, level, open.place, None);
+            self.push_level(body, level, open.place, None);
         }
     }
 
-    /// Puts a branch hint on the instruction that is put next.
-    fn put_hint(&mut self, body: &mut Body<'a>, hint: Option<Hint>)
-        ensures { Does (machine.hint_put hint) self.old self.new body.old body.new }
+    /// Appends a branch hint for the instruction that is appended next.
+    fn append_hint(&mut self, body: &mut Body<'a>, hint: Option<Hint>)
+        ensures { Does (machine.append_hint hint) self.old self.new body.old body.new }
     {
         if let Some(hint) = hint {
             let pushed = body
@@ -301,40 +301,40 @@ impl<'a> Reader<'a> {
         }
     }
 
-    /// Puts an instruction.
-    fn put(&mut self, body: &mut Body<'a>, instruction: Instruction<'a>)
-        ensures { Does (machine.put (bare_instr instruction.entry)) self.old self.new body.old body.new }
+    /// Appends an instruction.
+    fn append(&mut self, body: &mut Body<'a>, instruction: Instruction<'a>)
+        ensures { Does (machine.append (bare_instr instruction.entry)) self.old self.new body.old body.new }
     {
         self.make.push_instruction(&mut body.instrs, instruction);
     }
 
-    /// Puts the instruction that waits since last, if there is one.
-    fn put_last(&mut self, body: &mut Body<'a>)
-        ensures { Does machine.last_put self.old self.new body.old body.new }
+    /// Appends the operator that waits since last, if there is one.
+    fn append_operator(&mut self, body: &mut Body<'a>)
+        ensures { Does machine.append_operator self.old self.new body.old body.new }
     {
         if let Some(instruction) = body.take_waiting(self.alloc) {
-            self.put(body, instruction);
+            self.append(body, instruction);
         }
     }
 
-    /// Puts the instruction that waits since last, with its branch hint.
-    fn put_waiting(&mut self, body: &mut Body<'a>, hint: Option<Hint>)
-        ensures { Does (machine.waiting_put hint) self.old self.new body.old body.new }
+    /// Appends the operator that waits since last, with its branch hint.
+    fn append_hinted_operator(&mut self, body: &mut Body<'a>, hint: Option<Hint>)
+        ensures { Does (machine.append_hinted_operator hint) self.old self.new body.old body.new }
     {
-        self.put_hint(body, hint);
-        self.put_last(body);
+        self.append_hint(body, hint);
+        self.append_operator(body);
     }
 
-    /// Reads an instruction that waits for its operands.
-    fn wait(&mut self, body: &mut Body<'a>)
-        ensures { Does machine.waited self.old self.new body.old body.new }
+    /// Reads an operator. It waits for its operands, because it comes after them in the tree.
+    fn read_operator(&mut self, body: &mut Body<'a>)
+        ensures { Does machine.read_operator self.old self.new body.old body.new }
     {
         self.instruction(&mut body.waiting);
     }
 
-    /// Reads an instruction and puts it.
-    fn stand(&mut self, body: &mut Body<'a>)
-        ensures { Does machine.stood self.old self.new body.old body.new }
+    /// Reads an instruction and appends it.
+    fn read_instr(&mut self, body: &mut Body<'a>)
+        ensures { Does machine.read_instr self.old self.new body.old body.new }
     {
         self.instruction(&mut body.instrs);
     }
@@ -409,9 +409,9 @@ impl<'a> Reader<'a> {
         self.no_hint(hint);
         self.skip();
         let open = body.open_hint();
-        self.put_waiting(body, open);
-        self.turn(body, Level::Then);
-        self.enter_arm(body);
+        self.append_hinted_operator(body, open);
+        self.replace_level(body, Level::Then);
+        self.push_arm(body);
     }
 
     /// Reads `else`.
@@ -430,9 +430,9 @@ impl<'a> Reader<'a> {
     {
         self.no_hint(hint);
         self.else_word();
-        self.put(body, Instruction::else_(None));
-        self.turn(body, Level::Last);
-        self.enter_arm(body);
+        self.append(body, Instruction::else_(None));
+        self.replace_level(body, Level::Last);
+        self.push_arm(body);
     }
 
     /// Reads `do`.
@@ -450,8 +450,8 @@ impl<'a> Reader<'a> {
     {
         self.no_hint(hint);
         self.do_word();
-        self.turn(body, Level::Do);
-        self.enter_arm(body);
+        self.replace_level(body, Level::Do);
+        self.push_arm(body);
     }
 
     /// Reads `catch` of an open `try`, from the word on.
@@ -460,9 +460,9 @@ impl<'a> Reader<'a> {
     {
         self.skip();
         let tag = self.index();
-        self.put(body, Instruction::catch(tag));
-        self.turn(body, Level::Catch);
-        self.enter_arm(body);
+        self.append(body, Instruction::catch(tag));
+        self.replace_level(body, Level::Catch);
+        self.push_arm(body);
     }
 
     /// Reads `catch_all` of an open `try`, from the word on.
@@ -470,9 +470,9 @@ impl<'a> Reader<'a> {
         ensures { Does machine.catch_all_arm self.old self.new body.old body.new }
     {
         self.skip();
-        self.put(body, Instruction::Plain(Plain::Bare(BareOp::catch_all)));
-        self.turn(body, Level::Last);
-        self.enter_arm(body);
+        self.append(body, Instruction::Plain(Plain::Bare(BareOp::catch_all)));
+        self.replace_level(body, Level::Last);
+        self.push_arm(body);
     }
 
     /// Reads `delegate` of an open `try`, from the word to its `)`.
@@ -482,8 +482,8 @@ impl<'a> Reader<'a> {
         self.skip();
         let label = self.index();
         self.close();
-        self.put(body, Instruction::delegate(label));
-        self.turn(body, Level::Delegated);
+        self.append(body, Instruction::delegate(label));
+        self.replace_level(body, Level::Delegated);
     }
 
     /// Reads an arm of an open `try` that has its `do`, after the `(` of the arm.
@@ -516,18 +516,18 @@ impl<'a> Reader<'a> {
         let place = self.place();
         match op {
             BlockOp::if_ => {
-                self.wait(body);
-                self.enter(body, Level::Condition, place, hint);
+                self.read_operator(body);
+                self.push_level(body, Level::Condition, place, hint);
             }
             BlockOp::try_ => {
-                self.put_hint(body, hint);
-                self.stand(body);
-                self.enter(body, Level::Try, place, None);
+                self.append_hint(body, hint);
+                self.read_instr(body);
+                self.push_level(body, Level::Try, place, None);
             }
             BlockOp::block | BlockOp::loop_ | BlockOp::try_table => {
-                self.put_hint(body, hint);
-                self.stand(body);
-                self.enter(body, Level::Block, place, None);
+                self.append_hint(body, hint);
+                self.read_instr(body);
+                self.push_level(body, Level::Block, place, None);
             }
         }
     }
@@ -547,8 +547,8 @@ impl<'a> Reader<'a> {
     {
         let place = self.place();
         self.no_part();
-        self.wait(body);
-        self.enter(body, Level::Operands, place, hint);
+        self.read_operator(body);
+        self.push_level(body, Level::Operands, place, hint);
     }
 
     /// Reads a folded instruction after its `(` (text format, folded instructions).
@@ -607,12 +607,12 @@ impl<'a> Reader<'a> {
 
     /// Ends a level at its `)`.
     fn close_level(&mut self, body: &mut Body<'a>, last: Open, purpose: Purpose)
-        ensures { Does (machine.level_closed last) self.old self.new body.old body.new }
+        ensures { Does (machine.close_level last) self.old self.new body.old body.new }
     {
         match last.level {
-            Level::Operands => self.put_waiting(body, last.hint),
+            Level::Operands => self.append_hinted_operator(body, last.hint),
             Level::Block | Level::Then | Level::Do | Level::Catch | Level::Last => {
-                self.put(body, Instruction::end_(None));
+                self.append(body, Instruction::end_(None));
             }
             Level::Condition => self.expected("`then`"),
             Level::Try => self.expected("`do`"),
@@ -653,7 +653,7 @@ impl<'a> Reader<'a> {
             None => None,
         };
         match next {
-            Some(Some(level)) => self.turn(body, level),
+            Some(Some(level)) => self.replace_level(body, level),
             Some(None) => {
                 let _closed = body.levels.pop();
             }
@@ -677,12 +677,12 @@ impl<'a> Reader<'a> {
         let place = self.place();
         match self.word(0) {
             Some(Word::Block(op)) => {
-                self.stand(body);
-                self.enter(body, plain_level(op), place, None);
+                self.read_instr(body);
+                self.push_level(body, plain_level(op), place, None);
             }
             Some(_) => {
                 self.part_if_any(body, purpose);
-                self.stand(body);
+                self.read_instr(body);
             }
             None => self.fail(TextFault::Operator),
         }
@@ -692,7 +692,7 @@ impl<'a> Reader<'a> {
     fn plain(&mut self, body: &mut Body<'a>, hint: Option<Hint>, purpose: Purpose)
         ensures { Does (machine.plain hint) self.old self.new body.old body.new }
     {
-        self.put_hint(body, hint);
+        self.append_hint(body, hint);
         self.operator_word(body, purpose);
     }
 
@@ -820,7 +820,7 @@ impl<'a> Reader<'a> {
 
     /// Refuses what is left open. Each step takes a token, so no token is left then.
     fn end_body(&mut self, body: &Body<'a>, is_done: bool, purpose: Purpose)
-        ensures { Finishes is_done self.old self.new }
+        ensures { EndsExpression is_done self.old self.new }
     {
         if !is_done {
             self.unfinished(body, purpose);

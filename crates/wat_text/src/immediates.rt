@@ -7,7 +7,7 @@ ghost use Rattle.wat_tokens.specs.declared.words.Key.TheVariants as key;
 ghost use Rattle.wat_tokens.specs.declared.words.OwnOp.TheVariants as own;
 ghost use Rattle.wat_syntax.specs.Tokens.{peek, is_form};
 ghost use Rattle.wat_syntax.specs.Instructions.{assignment, offset, align, memory_ordering, memarg, memarg_of, is_assigned, is_lane_alone, lane_memarg, struct_access, one_or_two, none_or_two, array_new_fixed, select, atomic_instr, atomic_of, br_table, callindirect, cast, handle, on, resumetable, own_instr};
-ghost use Rattle.wat_syntax.specs.Instructions.{handlers as handlers_rule};
+ghost use Rattle.wat_syntax.specs.Instructions.{on_clauses as on_clauses_rule};
 ghost use Rattle.wat_syntax.specs.Types.{indices};
 ghost use Rattle.wat_text.specs.Readers.{left, Reads, Decides, Finds, ReadsOnto, Pushes};
 ghost use Rattle.wat_syntax.specs.Bare.{bare_index, bare_indices};
@@ -306,7 +306,7 @@ impl<'a> Reader<'a> {
     /// Reads forms `(on ..)` as long as one is next, and appends the handlers.
     #[tactic(auto, using(crate::proofs::Steps::one_bare, crate::proofs::Loops::part_end, crate::proofs::Loops::part_last, crate::proofs::Loops::none_after))]
     fn on_clauses(&mut self, handlers: &mut Seq<Handle<'a>>)
-        ensures { ReadsOnto handlers_rule self.old self.new (map bare_handle handlers.old) (map bare_handle handlers.new) }
+        ensures { ReadsOnto on_clauses_rule self.old self.new (map bare_handle handlers.old) (map bare_handle handlers.new) }
     {
         for _ in 0..self.left() {
             if !self.is_form(Key::On) {

@@ -7,16 +7,19 @@ ghost use Rattle.wast_tree_nodes.specs.WellFormed.{is_well_formed};
 ghost use Rattle.wat_syntax.specs.Modules.{startfield};
 ghost use Rattle.wat_syntax.specs.Customs.{strings as strings_rule};
 ghost use Rattle.wat_syntax.specs.ModuleFields.{fieldform, open_field, modulefield, modulefields};
-ghost use Rattle.wat_text.specs.Readers.{left, Reads, Decides, Expects, Finds, Refuses, ReadsOnto, Pushes, Builds};
+ghost use Rattle.wat_text.specs.Readers.{Reads, Decides, Expects, Finds, Refuses, ReadsOnto, Pushes, Builds};
 ghost use Rattle.wat_text.specs.Texts.{is_well_formed_text};
-ghost use Rattle.wat_text.specs.Denotes.{opening, fields_of_module, all_bare, fields_module, module_as, module_in, module_of_tokens as tokens_rule, Denotes, DenotesNothing, is_well_formed_module, AreFields, IsModule};
+ghost use Rattle.wat_text.specs.Denotes.{Denotes, DenotesNothing, IsModule, AreFields, all_bare, bare_opening, bare_quote};
+ghost use Rattle.wat_text.specs.Denotes.{opening, all_taken, has_one_start, is_start, where_it_holds};
+ghost use Rattle.wat_text.specs.Denotes.{fields_of_module, fields_module, module_as, module_in, Quotes as quotes_kind};
+ghost use Rattle.wat_text.specs.Denotes.{module_keyword as keyword_rule, module_end as end_rule, rest_of_fields as fields_rule};
+ghost use Rattle.wat_text.specs.Denotes.{quote as quote_rule, quotes as quotes_rule, binary_module as binary_rule};
+ghost use Rattle.wat_text.specs.Denotes.{contents_of as contents_rule, module_after as after_rule, module_of_tokens as tokens_rule};
 ghost use Rattle.wat_text.specs.Contents.{in_rule};
-ghost use Rattle.wat_text.specs.Denotes.{contents_of as contents_rule, module_after as after_rule, all_taken, module_keyword as keyword_rule, module_end as end_rule, has_one_start, is_start, where_it_holds, rest_of_fields as fields_rule, quote as quote_rule, quotes as quotes_rule, binary_module as binary_rule, Quotes as quotes_kind};
-ghost use Rattle.wat_text.specs.Finishes.{Finishes};
+ghost use Rattle.wat_text.specs.Finishes.{ReadsFieldsToEnd, ReadsModuleToEnd};
 ghost use Rattle.wat_tokens.specs.declared.faults.TextFault.TheVariants as fault;
 ghost use Rattle.wat_syntax.specs.Bare.{bare_text};
 ghost use Rattle.wat_syntax.specs.BareFields.{bare_field, bare_fields};
-ghost use Rattle.wat_text.specs.Denotes.{bare_opening, bare_quote};
 
 use crate::errors::first_error;
 use crate::quotes::{Quote, quoted_tokens};
@@ -367,7 +370,7 @@ fn rest_of_fields<'a>(
     reader: Reader<'a>,
     is_written: bool,
 ) -> Result<Seq<ModuleField<'a>>, TextError>
-    ensures { Finishes is_well_formed (AreFields (fields_rule is_written (left reader.entry))) (fields_rule is_written (left reader.entry) ≡ None) reader.entry result }
+    ensures { ReadsFieldsToEnd (fields_rule is_written) reader.entry result }
 {
     let mut reader = reader;
     let mut fields = reader.fields();
@@ -382,7 +385,7 @@ fn module_of_fields<'a>(
     span: Span,
     head: ModuleHead<'a>,
 ) -> Result<TextModule<'a>, TextError>
-    ensures { Finishes is_well_formed_module (IsModule (fields_module span (bare_opening head.entry) (left reader.entry))) (fields_module span (bare_opening head.entry) (left reader.entry) ≡ None) reader.entry result }
+    ensures { ReadsModuleToEnd (fields_module span (bare_opening head.entry)) reader.entry result }
 {
     match rest_of_fields(reader, head.keyword.is_some()) {
         Ok(fields) => Ok(TextModule {
@@ -407,7 +410,7 @@ fn module_place(keyword: Option<Span>) -> Span
 
 /// Reads a binary module from `binary` on, and returns its pieces.
 fn binary_module<'a>(reader: Reader<'a>, head: ModuleHead<'a>) -> Result<TextModule<'a>, TextError>
-    ensures { Finishes is_well_formed_module (IsModule (binary_rule (bare_opening head.entry) (left reader.entry))) (binary_rule (bare_opening head.entry) (left reader.entry) ≡ None) reader.entry result }
+    ensures { ReadsModuleToEnd (binary_rule (bare_opening head.entry)) reader.entry result }
 {
     let mut reader = reader;
     reader.skip();
@@ -434,7 +437,7 @@ fn quoted_module<'a>(
     head: ModuleHead<'a>,
     strings: &'a Strings,
 ) -> Result<TextModule<'a>, TextError>
-    ensures { Finishes is_well_formed_module (IsModule (module_as source.now quotes_kind (bare_opening head.entry) (left reader.entry))) (module_as source.now quotes_kind (bare_opening head.entry) (left reader.entry) ≡ None) reader.entry result }
+    ensures { ReadsModuleToEnd (module_as source.now quotes_kind (bare_opening head.entry)) reader.entry result }
 {
     let alloc = reader.alloc;
     let mut reader = reader;
@@ -509,7 +512,7 @@ fn module_after<'a>(
     head: ModuleHead<'a>,
     strings: &'a Strings,
 ) -> Result<TextModule<'a>, TextError>
-    ensures { Finishes is_well_formed_module (IsModule (after_rule source.now (bare_opening head.entry) (left reader.entry))) (after_rule source.now (bare_opening head.entry) (left reader.entry) ≡ None) reader.entry result }
+    ensures { ReadsModuleToEnd (after_rule source.now (bare_opening head.entry)) reader.entry result }
 {
     match contents_by(head.keyword, reader.key(0)) {
         Contents::Fields => module_of_fields(reader, module_place(head.keyword), head),
