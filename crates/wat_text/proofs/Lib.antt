@@ -26,6 +26,7 @@ pub mod Ready
 pub mod References
 pub mod Running
 pub mod Signs
+pub mod Simple
 pub mod Starts
 pub mod Steps
 pub mod Taken

@@ -7,12 +7,14 @@
 --   (drop (i32.const 0))      `drop` waits in a level of its own until the last ')', and is appended after `i32.const 0`
 use Rattle.std.specs.Prelude.{ℕ, ◌≡◌, ◌≢◌, ◌&&◌, Bool, true, false, List, [], ◌∷◌, ◌++◌, length, map, reverse, Option, None, Some}
 use Rattle.wast_base.specs.declared.ids.Span.{Span}
+use Rattle.wast_base.specs.declared.index_ops.IndexOp.TheVariants as indexed
 use Rattle.wat_grammar.specs.Parts.{◌>>=◌}
 use Rattle.wat_tokens.specs.declared.words.Key.TheVariants as key
 use Rattle.wat_tokens.specs.declared.words.Word.{Word}
 use Rattle.wat_tokens.specs.declared.words.Word.TheVariants as word
 use Rattle.wat_tokens.specs.declared.words.BlockOp.{BlockOp}
 use Rattle.wat_tokens.specs.declared.words.BlockOp.TheVariants as opens
+use Rattle.wat_tokens.specs.declared.words.OwnOp.TheVariants as own
 use Rattle.wat_tokens.specs.declared.tokens.Token.{Token}
 use Rattle.wat_tokens.specs.declared.tokens.Token.TheVariants as token
 use Rattle.wat_syntax.specs.Tree.{Instruction, Expression}
@@ -118,6 +120,16 @@ takes_plain (Some level.PlainCatch) = true
 takes_plain (Some level.Block) = true
 takes_plain (Some level.Arm) = true
 takes_plain l = false
+
+-- whether a word is that of an instruction that neither opens a block nor is a part of one
+abbrev pub is_simple : Word → Bool
+is_simple (word.Block op) = false
+is_simple (word.Own own.end_) = false
+is_simple (word.Own own.else_) = false
+is_simple (word.Index indexed.Catch) = false
+is_simple (word.Index indexed.Delegate) = false
+is_simple (word.Plain (plainly.Bare bare.catch_all)) = false
+is_simple w = true
 
 abbrev pub plain_level : BlockOp → Level
 plain_level opens.if_ = level.PlainIf

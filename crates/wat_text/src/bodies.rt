@@ -13,6 +13,8 @@ ghost use Rattle.wat_text.specs.Readers.{left, Reads, Decides, Expects, Refuses}
 ghost use Rattle.wat_text.specs.Machine.{Does, EndsExpression, in_rule};
 ghost use Rattle.wat_text.specs.Machine as machine;
 ghost use Rattle.wat_tokens.specs.declared.words.Key.TheVariants as key;
+ghost use Rattle.wat_tokens.specs.declared.tokens.Token.TheVariants as token;
+ghost use Rattle.wat_syntax.specs.Bare.{bare_text};
 ghost use Rattle.wat_syntax.specs.BareInstructions.{bare_expression, bare_instr};
 
 use crate::reader::Reader;
@@ -118,6 +120,20 @@ fn plain_level(op: BlockOp) -> Level
         BlockOp::block | BlockOp::loop_ | BlockOp::try_table => Level::Plain,
         BlockOp::if_ => Level::PlainIf,
         BlockOp::try_ => Level::PlainTry,
+    }
+}
+
+/// Whether a word is that of an instruction that neither opens a block nor is a part of one. `drop` and `i32.const` are, and
+/// `block`, `else` and `end` are not.
+fn is_simple(word: Word) -> bool
+    ensures { result ≡ machine.is_simple word }
+{
+    match word {
+        Word::Block(_) => false,
+        Word::Own(OwnOp::end_ | OwnOp::else_) => false,
+        Word::Index(IndexOp::Catch | IndexOp::Delegate) => false,
+        Word::Plain(Plain::Bare(BareOp::catch_all)) => false,
+        _ => true,
     }
 }
 
@@ -737,12 +753,44 @@ impl<'a> Reader<'a> {
         }
     }
 
-    /// The next step of an expression.
-    fn body_step(&mut self, body: &mut Body<'a>, purpose: Purpose)
+    /// The next step of an expression, at any token. It is not put into its callers, because most steps do not need it.
+    #[inline(never)]
+    fn whole_step(&mut self, body: &mut Body<'a>, purpose: Purpose)
         ensures { Does (machine.step (machine.may_hint purpose)) self.old self.new body.old body.new }
     {
         let hint = self.hint(purpose);
         self.hinted_step(body, hint, purpose);
+    }
+
+    /// Reads an instruction by its word, and appends it. Requires that the word is next.
+    fn read_instr_at(&mut self, body: &mut Body<'a>, word: Word, name: &'a str)
+        requires { peek 0 (left self.old) ≡ Some (token.Word word (bare_text name)) }
+        ensures { Does machine.read_instr self.old self.new body.old body.new }
+    {
+        self.worded(word, name, &mut body.instrs);
+    }
+
+    /// The next step of an expression, at a word. Most instructions are simple, and are read at once: they have no hint, and change
+    /// nothing that is open. Requires that the word is next.
+    fn word_step(&mut self, body: &mut Body<'a>, word: Word, name: &'a str, purpose: Purpose)
+        requires { peek 0 (left self.old) ≡ Some (token.Word word (bare_text name)) }
+        ensures { Does (machine.step (machine.may_hint purpose)) self.old self.new body.old body.new }
+    {
+        if is_simple(word) && body.takes_plain() {
+            self.read_instr_at(body, word, name);
+        } else {
+            self.whole_step(body, purpose);
+        }
+    }
+
+    /// The next step of an expression.
+    fn body_step(&mut self, body: &mut Body<'a>, purpose: Purpose)
+        ensures { Does (machine.step (machine.may_hint purpose)) self.old self.new body.old body.new }
+    {
+        match self.look(0) {
+            Some(Token::Word(word, name)) => self.word_step(body, word, name, purpose),
+            _ => self.whole_step(body, purpose),
+        }
     }
 
     /// Whether nothing is open, and the form or the text ends.

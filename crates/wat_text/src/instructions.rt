@@ -1,8 +1,14 @@
 //! Reads one instruction: its keyword and its immediates (text format: instructions).
 
 ghost use Rattle.std.specs.Prelude.{◌≡◌, true, Some, map};
+ghost use Rattle.wat_grammar.specs.Parts.{◌>>=◌};
 ghost use Rattle.wat_syntax.specs.Tokens.{one, peek, word_of};
+ghost use Rattle.wat_syntax.specs.Values.{index as index_rule};
+ghost use Rattle.wat_syntax.specs.Operators.{index_instr};
+ghost use Rattle.wat_syntax.specs.Instructions.{memarg, own_instr};
 ghost use Rattle.wat_syntax.specs.Instructions.{instruction as instruction_rule, blocktype, is_catch_word, is_catch, catch_clause, catch as catch_rule, catches as catches_rule, try_table_of, opener, is_plaininstr, plaininstr};
+ghost use Rattle.wat_tokens.specs.Words.{alignment_bytes};
+ghost use Rattle.wat_tokens.specs.declared.words.OwnOp.TheVariants as own;
 ghost use Rattle.wat_tokens.specs.declared.tokens.Token.TheVariants as token;
 ghost use Rattle.wat_text.specs.Readers.{left, Reads, Decides, ReadsOnto, Pushes, Builds};
 ghost use Rattle.wat_syntax.specs.Tree.instr;
@@ -11,11 +17,11 @@ ghost use Rattle.wat_syntax.specs.BareInstructions.{bare_block, bare_catch, bare
 
 use crate::operators::{with_index, with_pair, with_uncovered};
 use crate::reader::Reader;
-use wast_base::IndexOp;
+use wast_base::{IndexOp, MemOp};
 use wast_tree::{
     BareOp, BlockKind, BlockType, Instruction, Plain, Seq, TryTableCatch, TryTableCatchKind,
 };
-use wat_tokens::{BlockOp, Key, TextFault, Token, Word};
+use wat_tokens::{Alignment, BlockOp, Key, OwnOp, TextFault, Token, Word};
 
 impl<'a> Reader<'a> {
     /// Reads the label and the type of a block (text format: control instructions). For example,
@@ -179,6 +185,7 @@ impl<'a> Reader<'a> {
 
     /// Reads the block type of a block instruction, after its keyword, and appends the instruction.
     /// The instructions in the block are not read.
+    #[inline(never)]
     #[tactic(auto, using(crate::proofs::Loops::mapped))]
     fn block(&mut self, op: BlockOp, instrs: &mut Seq<Instruction<'a>>)
         ensures { ReadsOnto (one (opener op)) self.old self.new (map bare_instr instrs.old) (map bare_instr instrs.new) }
@@ -193,23 +200,55 @@ impl<'a> Reader<'a> {
         }
     }
 
-    /// Reads the immediates of an instruction that begins no block, after its keyword, and returns
-    /// the instruction (text format: instructions). If the tree has no variant for it, the result
-    /// has only its name, as for `i64.add128`. Requires that the keyword is that of an instruction
-    /// and begins no block.
-    fn operator(&mut self, word: Word, name: &'a str) -> Instruction<'a>
+    /// Reads the memory argument of a load or a store, and returns the instruction.
+    #[inline(never)]
+    fn access(&mut self, op: MemOp, align: Alignment) -> Instruction<'a>
+        ensures { Decides (λ toks. memarg (alignment_bytes align) toks >>= λ m. Some (instr.Mem op m.0, m.1)) self.old self.new (bare_instr result) }
+    {
+        Instruction::Mem(op, self.mem_arg(align.bytes()))
+    }
+
+    /// Reads the index of an instruction such as `local.get`, and returns the instruction.
+    #[inline(never)]
+    fn indexed(&mut self, op: IndexOp) -> Instruction<'a>
+        ensures { Decides (λ toks. index_rule toks >>= λ x. Some (index_instr op x.0, x.1)) self.old self.new (bare_instr result) }
+    {
+        with_index(op, self.index())
+    }
+
+    /// Reads the number of `i32.const`, and returns the instruction.
+    #[inline(never)]
+    fn i32_const(&mut self) -> Instruction<'a>
+        ensures { Decides (own_instr own.i32_const) self.old self.new (bare_instr result) }
+    {
+        Instruction::i32_const(self.integer32())
+    }
+
+    /// Reads the label of an `end`, if it has one, and returns the instruction.
+    #[inline(never)]
+    fn end_word(&mut self) -> Instruction<'a>
+        ensures { Decides (own_instr own.end_) self.old self.new (bare_instr result) }
+    {
+        Instruction::end_(self.id())
+    }
+
+    /// Reads the immediates of an instruction of any kind, as `operator` does, which reads the most
+    /// frequent kinds without this function. The compiler sets the locals of all its arms to zero at
+    /// its start, so it costs more than an instruction with one index does.
+    #[inline(never)]
+    fn any_operator(&mut self, word: Word, name: &'a str) -> Instruction<'a>
         requires { is_plaininstr word ≡ true }
         ensures { Reads (plaininstr word (bare_text name.entry)) self.old self.new (bare_instr result) }
     {
         match word {
             Word::Plain(op) => Instruction::Plain(op),
-            Word::Mem(op, align) => Instruction::Mem(op, self.mem_arg(align.bytes())),
+            Word::Mem(op, align) => self.access(op, align),
             Word::Lane(op) => Instruction::Lane(op, self.lane_arg()),
             Word::MemLane(op, align) => Instruction::MemLane(
                 op,
                 self.load_or_store_lane(align.bytes()),
             ),
-            Word::Index(op) => with_index(op, self.index()),
+            Word::Index(op) => self.indexed(op),
             Word::IndexOrZero(op) => with_index(op.op(), self.index_or_zero()),
             Word::Uncovered(op) => with_uncovered(op, self.index()),
             Word::UncoveredOrZero(op) => with_uncovered(op, self.index_or_zero()),
@@ -231,9 +270,27 @@ impl<'a> Reader<'a> {
         }
     }
 
+    /// Reads the immediates of an instruction that begins no block, after its keyword, and returns
+    /// the instruction (text format: instructions). If the tree has no variant for it, the result
+    /// has only its name, as for `i64.add128`. Requires that the keyword is that of an instruction
+    /// and begins no block.
+    fn operator(&mut self, word: Word, name: &'a str) -> Instruction<'a>
+        requires { is_plaininstr word ≡ true }
+        ensures { Reads (plaininstr word (bare_text name.entry)) self.old self.new (bare_instr result) }
+    {
+        match word {
+            Word::Plain(op) => Instruction::Plain(op),
+            Word::Mem(op, align) => self.access(op, align),
+            Word::Index(op) => self.indexed(op),
+            Word::Own(OwnOp::i32_const) => self.i32_const(),
+            Word::Own(OwnOp::end_) => self.end_word(),
+            _ => self.any_operator(word, name),
+        }
+    }
+
     /// Reads an instruction by its keyword, and appends it. Requires that the keyword is next.
     #[tactic(auto, using(crate::proofs::Words::not_opener, crate::proofs::Loops::mapped))]
-    fn worded(&mut self, word: Word, name: &'a str, instrs: &mut Seq<Instruction<'a>>)
+    pub(crate) fn worded(&mut self, word: Word, name: &'a str, instrs: &mut Seq<Instruction<'a>>)
         requires { peek 0 (left self.old) ≡ Some (token.Word word (bare_text name)) }
         ensures { ReadsOnto (one instruction_rule) self.old self.new (map bare_instr instrs.old) (map bare_instr instrs.new) }
     {

@@ -118,7 +118,7 @@ unfinished f radix under nothing = refl
 unfinished f radix under (an_underscore {n = n} {back = bs} is) = no_digit f radix 0x5f bs under
 
 -- the characters up to the next, the last of them first
-turned : (i : ℕ) (text : List ℕ) → i < length text → reverse (take (i + 1) text) ≡ get_or text i 0 ∷ reverse (take i text)
+pub turned : (i : ℕ) (text : List ℕ) → i < length text → reverse (take (i + 1) text) ≡ get_or text i 0 ∷ reverse (take i text)
 turned i text h = ap reverse (take_more text i 0 h) ∙ reverse-append (take i text) (get_or text i 0 ∷ [])
 
 -- all of a text from one of its characters on

@@ -25,6 +25,11 @@ front_end is zero (x ∷ xs) h = absurd (omega arith)
 front_end is (suc i) [] h = refl
 front_end is (suc i) (x ∷ xs) h = front_end is i xs (omega arith)
 
+-- a text whose first character does not pass
+pub front_none : (is : ℕ → Bool) (cs : List ℕ) → is (get_or cs 0 0) ≡ false → length (front is cs) ≡ 0
+front_none is [] h = refl
+front_none is (c ∷ cs) h = ap length (stops is c cs h)
+
 front_of : (is : ℕ → Bool) (c : ℕ) (cs : List ℕ) (b : Bool) → is c ≡ b → take (length (front is cs)) cs ≡ front is cs → take (length (front is (c ∷ cs))) (c ∷ cs) ≡ front is (c ∷ cs)
 front_of is c cs true h ih = ap (λ xs. take (length xs) (c ∷ cs)) (begins is c cs h) ∙ ap (λ xs. c ∷ xs) ih ∙ sym (begins is c cs h)
 front_of is c cs false h ih = rw (stops is c cs h) refl

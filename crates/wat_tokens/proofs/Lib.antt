@@ -7,6 +7,7 @@ pub mod Kept
 pub mod Numerals
 pub mod Rounded
 pub mod Scanned
+pub mod ShortNumbers
 pub mod SignedFloats
 pub mod TwosComplement
 pub mod WorkedStrings

@@ -12,10 +12,10 @@ use Rattle.wat_tokens.specs.declared.faults.TextFault.{TextFault}
 use Rattle.wat_tokens.proofs.Backwards.{none_first}
 
 -- no number begins with a sign
-no_minus : (cs : List ℕ) → natural (0x2d ∷ cs) ≡ None
+pub no_minus : (cs : List ℕ) → natural (0x2d ∷ cs) ≡ None
 no_minus cs = none_first digit 10 0x2d cs refl refl
 
-no_plus : (cs : List ℕ) → natural (0x2b ∷ cs) ≡ None
+pub no_plus : (cs : List ℕ) → natural (0x2b ∷ cs) ≡ None
 no_plus cs = none_first digit 10 0x2b cs refl refl
 
 -- what the three kinds of text give: one without a sign, one with, and one with a '+' before a number that only uN has
@@ -109,7 +109,7 @@ within half text = natural (sign text).1 >>= λ n. bits_in half (sign text).0 n
 abbrev from_sign : ℕ → List ℕ → Bool × List ℕ → Option (List ℕ) → Option ℕ
 from_sign N text s a = first_some (unsigned_in N (natural text)) (signed_in N s.0 (natural s.1)) (a >>= λ digits. uN N digits)
 
-no_sign : (c : ℕ) (cs : List ℕ) → c == 0x2d ≡ false → c == 0x2b ≡ false → sign (c ∷ cs) ≡ (false, c ∷ cs)
+pub no_sign : (c : ℕ) (cs : List ℕ) → c == 0x2d ≡ false → c == 0x2b ≡ false → sign (c ∷ cs) ≡ (false, c ∷ cs)
 no_sign c cs e f = ap (λ b. if b then (true, cs) else (if c == 0x2b then (false, cs) else (false, c ∷ cs))) e ∙ ap (λ b. if b then (false, cs) else (false, c ∷ cs)) f
 
 not_after : (c : ℕ) (cs : List ℕ) → c == 0x2b ≡ false → after (codes "+") (c ∷ cs) ≡ None

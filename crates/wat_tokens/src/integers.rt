@@ -1,6 +1,6 @@
 //! Integers of a text.
 
-ghost use Rattle.std.specs.Prelude.{◌≡◌, ◌<◌, ◌≤◌, ◌+◌, ◌*◌, ◌^◌, ℕ, IfSome, IfOk, option_map};
+ghost use Rattle.std.specs.Prelude.{◌≡◌, Some, ◌<◌, ◌≤◌, ◌+◌, ◌*◌, ◌^◌, ℕ, IfSome, IfOk, option_map};
 ghost use Rattle.wat_grammar.specs.Integers.{natural, uN, sign, signed, integer, signed_of};
 ghost use Rattle.wat_tokens.specs.Numbers.{answer, digit_in, radix_of, number_in, fits, sized, bits_in, wrapped};
 
@@ -80,10 +80,32 @@ pub(crate) fn magnitude(digits: &[u8], is_hex: bool) -> Result<u64, TextFault>
     }
 }
 
+/// The value of a text of decimal digits without underscores, if it is below 10^18. Most numbers are so short, and for them no sign
+/// and no `0x` is looked for. For other texts it is `None`, whether they are numbers or not.
+fn short(text: &[u8]) -> Option<u64>
+    ensures value { IfSome result (λ n. natural text.now ≡ Some n) }
+    ensures below { IfSome result (λ n. n < 2 ^ 64) }
+{
+    if text.is_empty() {
+        return None;
+    }
+    let mut value = 0;
+    for byte in text {
+        if *byte < b'0' || *byte > b'9' || value > 99_999_999_999_999_999 {
+            return None;
+        }
+        value = value * 10 + (*byte - b'0') as u64;
+    }
+    Some(value)
+}
+
 /// The value of an integer without a sign (text format, integers).
 pub(crate) fn natural(text: &str) -> Result<u64, TextFault>
     ensures { result ≡ answer (natural text.now) (uN 64 text.now) }
 {
+    if let Some(value) = short(text.as_bytes()) {
+        return Ok(value);
+    }
     match text.strip_prefix("0x") {
         Some(digits) => magnitude(digits.as_bytes(), true),
         None => magnitude(text.as_bytes(), false),
@@ -118,6 +140,9 @@ fn wrapped(text: &str, half: u64) -> Result<u64, TextFault>
     ensures value { result ≡ wrapped half (sign text.now).0 (natural (sign text.now).1) }
     ensures below { IfOk result (λ b. b < 2 * half) }
 {
+    if let Some(value) = short(text.as_bytes()) {
+        return bits(value, false, half).ok_or(TextFault::Range);
+    }
     let Signed { is_negative, rest } = cut_sign(text);
     match natural(rest) {
         Ok(value) => bits(value, is_negative, half).ok_or(TextFault::Range),

@@ -61,8 +61,9 @@ fn word_length(text: &[u8]) -> usize
     text.len()
 }
 
-/// Returns how many spaces, tabs and line ends a text begins with. It skips four spaces at a time, because most lines of a
-/// printed module are indented.
+/// Returns how many spaces, tabs and line ends a text begins with. It looks for their end first, because most words have one space
+/// before them, and skips four spaces at a time, because most lines of a printed module are indented.
+#[tactic(auto, using(crate::proofs::FirstBytes::dark_stops))]
 fn blank_length(text: &[u8]) -> usize
     ensures short { result ≤ length text.now }
     ensures front { result ≡ length (front is_blank text.now) }
@@ -70,6 +71,7 @@ fn blank_length(text: &[u8]) -> usize
     let mut rest = text;
     for _ in 0..text.len() {
         rest = match rest {
+            [b'!'..=0xff, ..] => break,
             [b' ', b' ', b' ', b' ', more @ ..] => more,
             [b' ' | b'\n' | b'\t' | b'\r', more @ ..] => more,
             _ => break,
@@ -456,7 +458,9 @@ impl<'a> Source<'a> {
         }
     }
 
-    /// Returns the part that is this token, if a token may end at this place.
+    /// Returns the part that is this token, if a token may end at this place. The loop over the parts of a text has this and all that
+    /// return a part in it, so that no part is ever in memory.
+    #[inline(always)]
     fn one_token(&self, token: Token<'a>, place: usize, end: usize) -> Result<Part<'a>, TextError>
         requires place { place < end }
         requires end { end ≤ length self.now.text.now }
@@ -614,6 +618,7 @@ impl<'a> Source<'a> {
     }
 
     /// Reads `(@` and an id at `place`, and the whole annotation if it has no meaning.
+    #[inline(always)]
     fn annotation_at(&self, place: usize) -> Result<Part<'a>, TextError>
         requires utf8 { IsUtf8 self.now.text.now }
         requires at { is_first 0x40 (drop (place + 1) self.now.text.now) ≡ true }
@@ -642,6 +647,7 @@ impl<'a> Source<'a> {
     }
 
     /// Returns the part that is a parenthesis.
+    #[inline(always)]
     fn parenthesis(&self, token: Token<'a>, place: usize) -> Part<'a>
         requires begin { place < length self.now.text.now }
         ensures token { result.token ≡ Some (placed token.entry place) }
@@ -655,6 +661,7 @@ impl<'a> Source<'a> {
     }
 
     /// Reads `(` at `place`, which may begin a comment or an annotation.
+    #[inline(always)]
     #[tactic(auto, using(crate::proofs::Ascii::below, crate::proofs::Ascii::first_below))]
     fn open_at(&self, place: usize) -> Result<Part<'a>, TextError>
         requires utf8 { IsUtf8 self.now.text.now }
@@ -676,6 +683,7 @@ impl<'a> Source<'a> {
     }
 
     /// Reads a word at `place`. If it begins with a letter, it may be a keyword, which has a meaning of its own.
+    #[inline(always)]
     #[tactic(auto, using(crate::proofs::Ascii::at_byte, crate::proofs::Ascii::idchar_boundary, crate::proofs::Ascii::some_word, crate::proofs::Buckets::low_word))]
     fn word_token_at(&self, place: usize, first: u8) -> Result<Part<'a>, TextError>
         requires utf8 { IsUtf8 self.now.text.now }
@@ -696,6 +704,7 @@ impl<'a> Source<'a> {
     }
 
     /// Reads a string at `place`.
+    #[inline(always)]
     fn string_token_at(&self, place: usize) -> Result<Part<'a>, TextError>
         requires begin { place < length self.now.text.now }
         ensures end { MatchResult result (λ x. IsInside self.now.text.now place x.end) (λ e. e.span.offset ≤ length self.now.text.now) }
@@ -709,6 +718,7 @@ impl<'a> Source<'a> {
     }
 
     /// Reads an id at `place`, whose name may be in quotes.
+    #[inline(always)]
     #[tactic(auto, using(crate::proofs::Ascii::after_first, crate::proofs::Ascii::below))]
     fn id_token_at(&self, place: usize) -> Result<Part<'a>, TextError>
         requires utf8 { IsUtf8 self.now.text.now }
@@ -724,6 +734,7 @@ impl<'a> Source<'a> {
     }
 
     /// Reads what the text has at a place: white space, a comment, an annotation or a token.
+    #[inline(always)]
     #[tactic(auto, using(crate::proofs::FirstBytes::word_is_idchar, crate::proofs::FirstBytes::is_dollar))]
     fn part_at(&self, place: usize) -> Result<Part<'a>, TextError>
         requires utf8 { IsUtf8 self.now.text.now }
@@ -758,6 +769,7 @@ impl<'a> Source<'a> {
 }
 
 /// Appends a token, if there is one.
+#[inline(always)]
 #[tactic(auto, using(crate::proofs::Steps::seen_more, crate::proofs::Steps::named_more))]
 fn put<'a>(found: &mut Vec<Placed<'a>>, token: Option<Placed<'a>>) -> Result<(), TextFault>
     ensures put { MatchResult result (λ u. seen_all found.new.items ≡ seen_all found.old.items ++ token_of token.entry) (λ f. f ≡ fault.Memory) }

@@ -1,6 +1,7 @@
 //! Strings of a text, without their escapes.
 
-ghost use Rattle.std.specs.Prelude.{◌≡◌, ◌≢◌, ◌<◌, ◌≤◌, ◌+◌, ◌-◌, ◌^◌, ◌++◌, ◌∷◌, [], length, take, drop, replicate, None, Some, Ok, Err, IfOk, IfSome, IfErr, MatchOption, MatchResult};
+ghost use Rattle.std.specs.Prelude.{◌≡◌, ◌≢◌, ◌<◌, ◌≤◌, ◌+◌, ◌-◌, ◌^◌, ◌++◌, ◌∷◌, [], not, length, take, drop, map, replicate, None, Some, Ok, Err, IfOk, IfSome, IfErr, MatchOption, MatchResult};
+ghost use Rattle.std.specs.Simd.Lanes.{mask_l};
 ghost use Rattle.wat_grammar.specs.Characters.{hexdigit};
 ghost use Rattle.wat_grammar.specs.Parts.{front};
 ghost use Rattle.wat_grammar.specs.Strings.{is_raw, braced, unicode, byte, escape, stringelem, string};
@@ -11,6 +12,7 @@ use crate::faults::TextFault;
 use crate::integers::magnitude;
 use bumpalo::Bump;
 use std::alloc::{AllocError, Global};
+use std::simd::prelude::*;
 
 /// Where strings with escapes are kept, for as long as the tree that is read lives. It takes memory as strings come.
 ///
@@ -89,17 +91,51 @@ fn is_raw(byte: u8) -> bool
     byte >= 0x20 && byte != 0x7f && byte != b'"' && byte != b'\\'
 }
 
+/// Returns a number that has a bit for each of these bytes, the first one the lowest: 1 if the byte is not itself in a string.
+#[inline(always)]
+fn not_raw_bits(bytes: u8x16) -> u64
+    ensures { result ≡ mask_l (map (λ c. not (is_raw c)) bytes) }
+{
+    (bytes.simd_lt(u8x16::splat(0x20))
+        | bytes.simd_eq(u8x16::splat(0x7f))
+        | bytes.simd_eq(u8x16::splat(b'"'))
+        | bytes.simd_eq(u8x16::splat(b'\\')))
+    .to_bitmask()
+}
+
+/// Returns how many bytes at the start of a text are themselves in a string. It looks at the first 16 bytes, and returns 0 if there are
+/// fewer.
+#[inline(always)]
+fn raw_run(text: &[u8]) -> usize
+    ensures short { result ≤ length text.now }
+    ensures front { result ≤ length (front is_raw text.now) }
+{
+    if text.len() < 16 {
+        return 0;
+    }
+    let found = not_raw_bits(u8x16::from_slice(text));
+    if found != 0 {
+        return found.trailing_zeros() as usize;
+    }
+    16
+}
+
 /// Returns how many bytes at the start of a text are themselves in a string.
-#[tactic(auto, using(crate::proofs::Fronts::front_more, crate::proofs::Fronts::front_stop, crate::proofs::Fronts::front_end))]
+#[tactic(auto, using(crate::proofs::Fronts::front_none))]
 fn raw_length(text: &[u8]) -> usize
     ensures { result ≡ length (front is_raw text.now) }
 {
-    for (count, byte) in text.iter().enumerate() {
-        if !is_raw(*byte) {
-            return count;
-        }
+    let mut rest = text;
+    for _ in 0..text.len() {
+        rest = match rest {
+            [] => break,
+            [byte, more @ ..] => match is_raw(*byte) {
+                true => &more[raw_run(more)..],
+                false => break,
+            },
+        };
     }
-    text.len()
+    text.len() - rest.len()
 }
 
 /// For each byte, its value as a hexadecimal digit, or 16 if it is none.

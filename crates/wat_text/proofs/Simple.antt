@@ -1,0 +1,72 @@
+-- The step of the machine at a simple word reads an instruction, and nothing else: there is no hint, and nothing is opened or closed.
+use Rattle.std.proofs.Common.{◌≡◌, ◌∙◌, ℕ, Bool, true, false, if◌then◌else◌, List, [], ◌∷◌, map, reverse, Option, None, Some, refl, ap}
+use Rattle.std.specs.Borrow.{Bor}
+use Rattle.wast_base.specs.declared.index_ops.IndexOp.TheVariants as indexed
+use Rattle.wat_grammar.specs.Parts.{◌>>=◌}
+use Rattle.wat_tokens.specs.declared.words.Word.{Word}
+use Rattle.wat_tokens.specs.declared.words.Word.TheVariants as word
+use Rattle.wat_tokens.specs.declared.words.OwnOp.TheVariants as own
+use Rattle.wat_tokens.specs.declared.tokens.Token.{Token}
+use Rattle.wat_tokens.specs.declared.tokens.Token.TheVariants as token
+use Rattle.wat_syntax.specs.Tree.{Instruction, Expression}
+use Rattle.wat_syntax.specs.Tree.bare
+use Rattle.wat_syntax.specs.Tree.plain as plainly
+use Rattle.wat_syntax.specs.Tokens.{Toks, Parse, peek, after, position, word_of, rparen}
+use Rattle.wat_syntax.specs.Values.{string, annotation_of}
+use Rattle.wat_syntax.specs.Bodies.{Item, Hint, is_hint, hint_value, part_of}
+use Rattle.wat_syntax.specs.Bodies as rule
+use Rattle.wat_syntax.specs.BareInstructions.{bare_instr}
+use Rattle.wat_text.specs.declared.reader.Reader.{Reader}
+use Rattle.wat_text.specs.declared.bodies.Hint as code
+use Rattle.wat_text.specs.declared.bodies.Open.{Open}
+use Rattle.wat_text.specs.declared.bodies.Body.{Body}
+use Rattle.wat_text.specs.Readers.{left}
+use Rattle.wat_text.specs.Machine.{State, Does, state_of, is_simple, level_of, takes_plain, hint_in, hinted_by, hinted_step, plain, word_by, parted_by, read_instr, step}
+
+no_part : (w : Word) → is_simple w ≡ true → part_of (Some w) ≡ None
+no_part (word.Own own.end_) simple = absurd cc
+no_part (word.Own own.else_) simple = absurd cc
+no_part (word.Index indexed.Catch) simple = absurd cc
+no_part (word.Index indexed.Delegate) simple = absurd cc
+no_part (word.Plain (plainly.Bare bare.catch_all)) simple = absurd cc
+no_part w simple = refl
+
+module _ (may : Bool) (ls : List Open) (ws : List Instruction) (e : Expression) (toks : Toks) where
+  abbrev s : State
+  s = record { levels = ls; waiting = ws; read = e; toks = toks }
+
+  at_word : (w : Word) → is_simple w ≡ true → rule.part_in toks ≡ part_of (Some w) → word_by (Some w) s ≡ read_instr s
+  at_word (word.Block op) simple same = absurd cc
+  at_word w simple same = ap (λ p. parted_by p s >>= read_instr) (same ∙ no_part w simple)
+
+  no_hint : (w : Word) (name : Bor (List ℕ)) → peek 0 toks ≡ Some (token.Word w name) → rule.hint may toks ≡ Some ([], toks)
+  no_hint w name next = ap read_as next
+    where
+      read_as : Option Token → Parse (List Item)
+      read_as o = elim (is_hint (annotation_of o)) [
+        | true ↦ string (after toks) >>= λ b. hint_value b.0.now >>= λ v. rparen b.1 >>= λ rest. if may then Some (Hint v ∷ [], rest) else None
+        | false ↦ Some ([], toks)
+      ]
+
+  pub simple_is : (w : Word) (name : Bor (List ℕ)) → peek 0 toks ≡ Some (token.Word w name) → is_simple w ≡ true → takes_plain (level_of ls) ≡ true → step may s ≡ read_instr s
+  simple_is w name next simple taken =
+      ap (λ r. (r >>= λ h. let o : Option code.Hint × Toks = (hint_in (position toks) h.0, h.1) in Some o)
+      >>= λ h. hinted_step h.0 (record { levels = ls; waiting = ws; read = e; toks = h.1 })) (no_hint w name next)
+      ∙ ap (λ o. hinted_by o None s) next
+      ∙ ap (λ b. elim b as (λ b. Option State) [ true ↦ plain None s | false ↦ None ]) taken
+      ∙ ap (λ o. word_by (word_of o) s) next
+      ∙ at_word w simple (ap (λ o. part_of (word_of o)) next)
+
+-- an instruction is read at a simple word
+pub simple_does : (may : Bool) (old new : Reader) (before behind : Body) (w : Word) (name : Bor (List ℕ)) → peek 0 (left old) ≡ Some (token.Word w name) → is_simple w ≡ true
+    → takes_plain (level_of (reverse before.levels.items)) ≡ true → Does read_instr old new before behind → Does (step may) old new before behind
+simple_does may old new before behind w name next simple taken d = record {
+  made = d.made;
+  clean = d.clean;
+  gives = λ h. same ∙ d.gives h;
+  keeps = d.keeps;
+  refuses = λ h m f. same ∙ d.refuses h m f;
+}
+  where
+    same : step may (state_of old before) ≡ read_instr (state_of old before)
+    same = simple_is may (reverse before.levels.items) (map bare_instr before.waiting) (record { instrs = map bare_instr before.instrs; branch_hints = before.hints }) (left old) w name next simple taken
