@@ -1,5 +1,6 @@
 -- The alternatives of `either`: one step, and the value that counts them.
-use Rattle.std.proofs.Common.{◌≡◌, ◌∙◌, ℕ, suc, ◌+◌, ◌-◌, ◌<◌, ◌≤◌, Bool, true, false, List, [], ◌∷◌, ◌++◌, length, map, codes, All, Option, None, Some, refl, sym, ap, subst, arith, length-append, append_assoc}
+use Rattle.std.proofs.Common.{◌≡◌, ◌∙◌, ℕ, suc, ◌+◌, ◌-◌, ◌<◌, ◌≤◌, Bool, true, false, List, [], ◌∷◌, ◌++◌, length, map}
+use Rattle.std.proofs.Common.{codes, All, Option, None, Some, refl, sym, ap, subst, arith, length-append, append_assoc}
 use Rattle.std.specs.Prelude.{slice_set}
 use Rattle.std.specs.Global.{Vec}
 use Rattle.std.proofs.lemmas.List.{length-map, map_push, map-set, set_at}
@@ -28,9 +29,11 @@ branch n d toks closes opens = elim closes [
   ]
 ]
 
-step_is : (n depth d : ℕ) (toks : Toks) (closes : Bool) (opens : Option Toks) → depth ≡ suc d → is_rparen (peek 0 toks) ≡ closes → form (codes "either") toks ≡ opens
+step_is : (n depth d : ℕ) (toks : Toks) (closes : Bool) (opens : Option Toks) → depth ≡ suc d
+    → is_rparen (peek 0 toks) ≡ closes → form (codes "either") toks ≡ opens
     → alternatives (suc n) depth toks ≡ branch n d toks closes opens
-step_is n depth d toks closes opens e f g = ap (λ k. alternatives (suc n) k toks) e ∙ ap (λ c. branch n d toks c (form (codes "either") toks)) f ∙ ap (branch n d toks closes) g
+step_is n depth d toks closes opens e f g = ap (λ k. alternatives (suc n) k toks) e
+    ∙ ap (λ c. branch n d toks c (form (codes "either") toks)) f ∙ ap (branch n d toks closes) g
 
 -- a step that adds no value
 without_value : (depth behind : ℕ) (a b : Reader) → b.lists ≡ a.lists → b.tokens ≡ a.tokens → b.fault ≡ a.fault → behind ≤ suc depth
@@ -41,18 +44,22 @@ without_value depth behind a b lists tokens fault few step = record {
   clean = λ h. sym fault ∙ h;
   lanes = λ h l. subst HaveLanes (sym lists) l;
   few = few;
-  gives = λ h l n d e. ap (with_parts (read_values a.lists)) (step n d e) ∙ ap (λ (l : Lists). with_parts (read_values l) (alternatives n behind (left b))) (sym lists);
+  gives = λ h l n d e. ap (with_parts (read_values a.lists)) (step n d e)
+      ∙ ap (λ (l : Lists). with_parts (read_values l) (alternatives n behind (left b))) (sym lists);
   keeps = λ h. fault;
   refuses = λ h l f. absurd (none_refused b.fault (fault ∙ h) f);
 }
 
 -- the end of one, and one in another
-pub closes_one : (depth behind : ℕ) (a b : Reader) → is_rparen (peek 0 (left a)) ≡ true → Moves after a b → behind ≡ depth - 1 → TakesAlternative depth behind a b
+pub closes_one : (depth behind : ℕ) (a b : Reader) → is_rparen (peek 0 (left a)) ≡ true
+    → Moves after a b → behind ≡ depth - 1 → TakesAlternative depth behind a b
 closes_one depth behind a b is m less = without_value depth behind a b m.lists m.tokens m.fault (omega (arith, less))
     (λ n d e. let one : d ≡ behind = omega (arith, less, e) in
-    step_is n depth d (left a) true (form (codes "either") (left a)) e is refl ∙ ap (λ k. alternatives n k (after (left a))) one ∙ ap (alternatives n behind) (sym m.left))
+    step_is n depth d (left a) true (form (codes "either") (left a)) e is refl
+        ∙ ap (λ k. alternatives n k (after (left a))) one ∙ ap (alternatives n behind) (sym m.left))
 
-pub opens_one : (depth behind : ℕ) (a b : Reader) → is_rparen (peek 0 (left a)) ≡ false → Accepts (form (codes "either")) a b true → behind ≡ depth + 1 → TakesAlternative depth behind a b
+pub opens_one : (depth behind : ℕ) (a b : Reader) → is_rparen (peek 0 (left a)) ≡ false
+    → Accepts (form (codes "either")) a b true → behind ≡ depth + 1 → TakesAlternative depth behind a b
 opens_one depth behind a b is m more = without_value depth behind a b m.lists m.tokens m.fault (omega (arith, more))
     (λ n d e. let one : suc (suc d) ≡ behind = omega (arith, more, e) in
     step_is n depth d (left a) false (Some (left b)) e is (m.there refl) ∙ ap (λ k. alternatives n k (left b)) one)
@@ -62,7 +69,8 @@ single o = o >>= λ v. Some (v.0 ∷ [], v.1)
 
 one_is : (p : Parse Value) (ms : List Value) (rest : Toks) → single p ≡ Some (ms, rest) → (v : Value) × ((p ≡ Some (v, rest)) × (ms ≡ v ∷ []))
 one_is None ms rest e = absurd cc
-one_is (Some r) ms rest e = (r.0, (ap (λ t. let o : Value × Toks = (r.0, t) in Some o) (ap (λ (o : List Value × Toks). o.1) (the_same e)), sym (ap (λ (o : List Value × Toks). o.0) (the_same e))))
+one_is (Some r) ms rest e = (r.0, (ap (λ t. let o : Value × Toks = (r.0, t) in Some o) (ap (λ (o : List Value × Toks). o.1) (the_same e)),
+    sym (ap (λ (o : List Value × Toks). o.0) (the_same e))))
   where
     the_same : {A : Type 0} {x y : A} → Some x ≡ Some y → x ≡ y
     the_same e = cc
@@ -72,7 +80,8 @@ none_is None e = refl
 none_is (Some r) e = absurd cc
 
 -- a value
-pub reads_one : (depth : ℕ) (a m b : Reader) → is_rparen (peek 0 (left a)) ≡ false → Accepts (form (codes "either")) a m false → ReadsOnto (one_value usage.Result) m b → TakesAlternative depth depth a b
+pub reads_one : (depth : ℕ) (a m b : Reader) → is_rparen (peek 0 (left a)) ≡ false → Accepts (form (codes "either")) a m false
+    → ReadsOnto (one_value usage.Result) m b → TakesAlternative depth depth a b
 reads_one depth a m b is not r = record {
   commands = r.commands ∙ ap (λ (l : Lists). l.commands) not.lists;
   tokens = r.tokens ∙ not.tokens;
@@ -92,7 +101,8 @@ reads_one depth a m b is not r = record {
   keeps = λ h. r.keeps (λ g. h (sym not.fault ∙ g)) ∙ not.fault;
   refuses = λ h l f n d e. step_is n depth d (left a) false None e is (not.absent refl)
       ∙ ap (λ t. value usage.Result t >>= λ v. alternatives n (suc d) v.1 >>= λ vs. Some (v.0 ∷ vs.0, vs.1)) (sym (not.stays refl))
-      ∙ ap (λ o. o >>= λ v. alternatives n (suc d) v.1 >>= λ vs. Some (v.0 ∷ vs.0, vs.1)) (none_is (value usage.Result (left m)) (r.refuses (not.fault ∙ h) (at_mid l) f));
+      ∙ ap (λ o. o >>= λ v. alternatives n (suc d) v.1 >>= λ vs. Some (v.0 ∷ vs.0, vs.1))
+          (none_is (value usage.Result (left m)) (r.refuses (not.fault ∙ h) (at_mid l) f));
 }
   where
     at_mid : HaveLanes a.lists → HaveLanes m.lists
@@ -114,7 +124,8 @@ either_read a b c d at count first p r few s = record {
       ∙ ap (λ vs. let o : List Value × Toks = (vs, left c) in Some o) (sym (all_seen h l))
       ∙ ap (λ t. let o : List Value × Toks = (read_values d.lists, t) in Some o) (sym s.left);
   keeps = λ h. s.fault ∙ r.keeps (λ g. h (p.clean g)) ∙ p.keeps h;
-  refuses = λ h l f. by_fault b c r.keeps (subst IsRefused s.fault f) (λ g. ap (λ t. made (all_alternatives t)) (sym (p.left g)) ∙ ap made (r.refuses g (pushed_at g l) (subst IsRefused s.fault f)))
+  refuses = λ h l f. by_fault b c r.keeps (subst IsRefused s.fault f)
+      (λ g. ap (λ t. made (all_alternatives t)) (sym (p.left g)) ∙ ap made (r.refuses g (pushed_at g l) (subst IsRefused s.fault f)))
       (λ g. absurd (p.memory h g));
 }
   where
@@ -123,30 +134,35 @@ either_read a b c d at count first p r few s = record {
 
     pushed_at : b.fault ≡ None → HaveLanes a.lists → HaveLanes b.lists
     pushed_at g l = subst (λ (n : Vec Number). All (HasLanes (length n.items)) b.lists.values.items) (sym p.lanes)
-        (subst (All (HasLanes (length a.lists.lanes.items))) (sym (p.pushed g)) (All-push (HasLanes (length a.lists.lanes.items)) a.lists.values.items (val.Either 0) l tt))
+        (subst (All (HasLanes (length a.lists.lanes.items))) (sym (p.pushed g))
+            (All-push (HasLanes (length a.lists.lanes.items)) a.lists.values.items (val.Either 0) l tt))
 
     pushed : d.fault ≡ None → HaveLanes a.lists → HaveLanes b.lists
     pushed h l = pushed_at (r.clean (sym s.fault ∙ h)) l
 
     before : d.fault ≡ None → read_values b.lists ≡ read_values a.lists ++ Either 0 ∷ []
-    before h = ap (λ (n : Vec Number). map (value_in n.items) b.lists.values.items) p.lanes ∙ ap (map (value_in a.lists.lanes.items)) (p.pushed (r.clean (sym s.fault ∙ h)))
+    before h = ap (λ (n : Vec Number). map (value_in n.items) b.lists.values.items) p.lanes
+        ∙ ap (map (value_in a.lists.lanes.items)) (p.pushed (r.clean (sym s.fault ∙ h)))
         ∙ map_push (value_in a.lists.lanes.items) a.lists.values.items (val.Either 0)
 
-    more : d.fault ≡ None → HaveLanes a.lists → (vs : List Value) × ((all_alternatives (left b) ≡ Some (vs, left c)) × (read_values c.lists ≡ read_values b.lists ++ vs))
+    more : d.fault ≡ None → HaveLanes a.lists
+        → (vs : List Value) × ((all_alternatives (left b) ≡ Some (vs, left c)) × (read_values c.lists ≡ read_values b.lists ++ vs))
     more h l = more_is (read_values b.lists) (read_values c.lists) (all_alternatives (left b)) (left c) (r.gives (sym s.fault ∙ h) (pushed h l))
 
     whole : (h : d.fault ≡ None) (l : HaveLanes a.lists) → read_values c.lists ≡ read_values a.lists ++ Either 0 ∷ (more h l).0
     whole h l = (more h l).1.1 ∙ ap (λ vs. vs ++ (more h l).0) (before h) ∙ append_assoc (read_values a.lists) (Either 0 ∷ []) (more h l).0
 
     sizes : (h : d.fault ≡ None) (l : HaveLanes a.lists) → length c.lists.values.items ≡ length a.lists.values.items + suc (length (more h l).0)
-    sizes h l = sym (length-map c.lists.values.items (value_in c.lists.lanes.items)) ∙ ap length (whole h l) ∙ length-append (read_values a.lists) (Either 0 ∷ (more h l).0)
+    sizes h l = sym (length-map c.lists.values.items (value_in c.lists.lanes.items))
+        ∙ ap length (whole h l) ∙ length-append (read_values a.lists) (Either 0 ∷ (more h l).0)
         ∙ ap (λ n. n + suc (length (more h l).0)) (length-map a.lists.values.items (value_in a.lists.lanes.items))
 
     room : (h : d.fault ≡ None) (l : HaveLanes a.lists) → at < length c.lists.values.items
     room h l = let n = length (more h l).0 in let e : length c.lists.values.items ≡ length a.lists.values.items + suc n = sizes h l in omega (arith, e, first)
 
     counted : (h : d.fault ≡ None) (l : HaveLanes a.lists) → count ≡ length (more h l).0
-    counted h l = let n = length (more h l).0 in let e : length c.lists.values.items ≡ length a.lists.values.items + suc n = sizes h l in omega (arith, e, first, few)
+    counted h l = let n = length (more h l).0 in
+        let e : length c.lists.values.items ≡ length a.lists.values.items + suc n = sizes h l in omega (arith, e, first, few)
 
     all_seen : (h : d.fault ≡ None) (l : HaveLanes a.lists) → read_values d.lists ≡ read_values a.lists ++ Either count ∷ (more h l).0
     all_seen h l = ap (λ (n : Vec Number). map (value_in n.items) d.lists.values.items) s.lanes ∙ ap (map (value_in c.lists.lanes.items)) (s.values (room h l))
@@ -161,7 +177,8 @@ either_result a m b is r = record {
   tokens = r.tokens ∙ is.tokens;
   clean = λ h. sym is.fault ∙ r.clean h;
   lanes = λ h l. r.lanes h (at_mid l);
-  gives = λ h l. ap (λ o. with_parts (read_values a.lists) (by_form o)) (is.there refl) ∙ ap (λ (k : Lists). with_parts (read_values k) (either (left m))) (sym is.lists) ∙ r.gives h (at_mid l);
+  gives = λ h l. ap (λ o. with_parts (read_values a.lists) (by_form o)) (is.there refl)
+      ∙ ap (λ (k : Lists). with_parts (read_values k) (either (left m))) (sym is.lists) ∙ r.gives h (at_mid l);
   keeps = λ h. r.keeps (λ g. h (sym is.fault ∙ g)) ∙ is.fault;
   refuses = λ h l f. ap by_form (is.there refl) ∙ r.refuses (is.fault ∙ h) (at_mid l) f;
 }

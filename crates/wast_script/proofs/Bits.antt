@@ -90,28 +90,36 @@ back32 b h = grind arith
 back64 : (b : ℕ) → b < 0x1_0000_0000_0000_0000 → cast_signed w64 b ≡ signed_of 64 b
 back64 b h = grind arith
 
-pub bits8 : (text : List ℕ) (z : ℤ) → answer (signed text) (option_map (signed_of 8) (integer 8 text)) ≡ Ok z → option_map num.Bits (integer 8 text) ≡ Some (num.Bits (cast_unsigned w8 z))
+pub bits8 : (text : List ℕ) (z : ℤ) → answer (signed text) (option_map (signed_of 8) (integer 8 text)) ≡ Ok z
+    → option_map num.Bits (integer 8 text) ≡ Some (num.Bits (cast_unsigned w8 z))
 bits8 text z e = bits_at w8 8 (integer 8 text) z
     (λ n is. let small : n < 0x100 = few 8 127 refl refl text n is in ap (cast_unsigned w8) (sym (back8 n small)) ∙ of_z-to_z w8 n small) (signed_is 8 text z e)
 
-pub bits16 : (text : List ℕ) (z : ℤ) → answer (signed text) (option_map (signed_of 16) (integer 16 text)) ≡ Ok z → option_map num.Bits (integer 16 text) ≡ Some (num.Bits (cast_unsigned w16 z))
+pub bits16 : (text : List ℕ) (z : ℤ) → answer (signed text) (option_map (signed_of 16) (integer 16 text)) ≡ Ok z
+    → option_map num.Bits (integer 16 text) ≡ Some (num.Bits (cast_unsigned w16 z))
 bits16 text z e = bits_at w16 16 (integer 16 text) z
-    (λ n is. let small : n < 0x1_0000 = few 16 0x7fff refl refl text n is in ap (cast_unsigned w16) (sym (back16 n small)) ∙ of_z-to_z w16 n small) (signed_is 16 text z e)
+    (λ n is. let small : n < 0x1_0000 = few 16 0x7fff refl refl text n is in
+        ap (cast_unsigned w16) (sym (back16 n small)) ∙ of_z-to_z w16 n small) (signed_is 16 text z e)
 
-pub bits32 : (text : List ℕ) (z : ℤ) → answer (signed text) (option_map (signed_of 32) (integer 32 text)) ≡ Ok z → option_map num.Bits (integer 32 text) ≡ Some (num.Bits (cast_unsigned w32 z))
+pub bits32 : (text : List ℕ) (z : ℤ) → answer (signed text) (option_map (signed_of 32) (integer 32 text)) ≡ Ok z
+    → option_map num.Bits (integer 32 text) ≡ Some (num.Bits (cast_unsigned w32 z))
 bits32 text z e = bits_at w32 32 (integer 32 text) z
-    (λ n is. let small : n < 0x1_0000_0000 = few 32 0x7fff_ffff refl refl text n is in ap (cast_unsigned w32) (sym (back32 n small)) ∙ of_z-to_z w32 n small) (signed_is 32 text z e)
+    (λ n is. let small : n < 0x1_0000_0000 = few 32 0x7fff_ffff refl refl text n is in
+        ap (cast_unsigned w32) (sym (back32 n small)) ∙ of_z-to_z w32 n small) (signed_is 32 text z e)
 
-pub bits64 : (text : List ℕ) (z : ℤ) → answer (signed text) (option_map (signed_of 64) (integer 64 text)) ≡ Ok z → option_map num.Bits (integer 64 text) ≡ Some (num.Bits (cast_unsigned w64 z))
+pub bits64 : (text : List ℕ) (z : ℤ) → answer (signed text) (option_map (signed_of 64) (integer 64 text)) ≡ Ok z
+    → option_map num.Bits (integer 64 text) ≡ Some (num.Bits (cast_unsigned w64 z))
 bits64 text z e = bits_at w64 64 (integer 64 text) z
-    (λ n is. let small : n < 0x1_0000_0000_0000_0000 = few 64 0x7fff_ffff_ffff_ffff refl refl text n is in ap (cast_unsigned w64) (sym (back64 n small)) ∙ of_z-to_z w64 n small) (signed_is 64 text z e)
+    (λ n is. let small : n < 0x1_0000_0000_0000_0000 = few 64 0x7fff_ffff_ffff_ffff refl refl text n is in
+        ap (cast_unsigned w64) (sym (back64 n small)) ∙ of_z-to_z w64 n small) (signed_is 64 text z e)
 
 unmapped : {S T : Type 0} (f : S → T) (o : Option S) → option_map f o ≡ None → o ≡ None
 unmapped f None e = refl
 unmapped f (Some x) e = absurd cc
 
 -- the bits of a text that has no signed integer
-pub bits_not : (N : ℕ) (text : List ℕ) (e : TextFault) → answer (signed text) (option_map (signed_of N) (integer N text)) ≡ Err e → option_map num.Bits (integer N text) ≡ None
+pub bits_not : (N : ℕ) (text : List ℕ) (e : TextFault)
+    → answer (signed text) (option_map (signed_of N) (integer N text)) ≡ Err e → option_map num.Bits (integer N text) ≡ None
 bits_not N text e h = ap (option_map num.Bits) (unmapped (signed_of N) (integer N text) (signed_not N text e h))
 
 -- what is no failed allocation here is none in wat_text
@@ -120,5 +128,6 @@ refusal fault.Memory h = h
 refusal e h = tt
 
 -- a text that has no floating-point number
-pub float_not : (f : Format) (text : List ℕ) (e : TextFault) → UnlessMemory (MayLack (sign text).1) (Err e) (answer (magnitude (sign text).1) (fN f text)) → IsRefusal e → fN f text ≡ None
+pub float_not : (f : Format) (text : List ℕ) (e : TextFault)
+    → UnlessMemory (MayLack (sign text).1) (Err e) (answer (magnitude (sign text).1) (fN f text)) → IsRefusal e → fN f text ≡ None
 float_not f text e h r = text_float_not f text e h (refusal e r)

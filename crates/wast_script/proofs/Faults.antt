@@ -20,7 +20,8 @@ faulty old new fault span f h = go old.fault refl h
     go (Some y) e h = absurd (cc (f.keeps (λ n. cc)))
 
 -- what follows from a rejection: the reader before had no fault, or it rejected the tokens
-pub by_fault : {X : Type 0} (old new : Reader) → (old.fault ≢ None → new.fault ≡ old.fault) → IsRefused new.fault → (old.fault ≡ None → X) → (IsRefused old.fault → X) → X
+pub by_fault : {X : Type 0} (old new : Reader) → (old.fault ≢ None → new.fault ≡ old.fault)
+    → IsRefused new.fault → (old.fault ≡ None → X) → (IsRefused old.fault → X) → X
 by_fault {X = X} old new keeps f clean refused = go old.fault refl
   where
     go : (o : Option TextError) → old.fault ≡ o → X

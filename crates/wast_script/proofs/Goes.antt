@@ -35,21 +35,26 @@ chain a b c p q r s t = record {
 
 -- a reader that keeps its fault
 pub same_fault : {T : Type 0} (old new : Reader) (p q : Option T) → new.fault ≡ old.fault → p ≡ q → Goes old new p q
-same_fault old new p q same e = record { clean = λ h. sym same ∙ h; goes = λ h. e; keeps = λ h. same; refuses = λ h f. absurd (none_refused new.fault (same ∙ h) f) }
+same_fault old new p q same e =
+    record { clean = λ h. sym same ∙ h; goes = λ h. e; keeps = λ h. same; refuses = λ h f. absurd (none_refused new.fault (same ∙ h) f) }
 
 -- all of a rule
 pub as_goes : {T : Type 0} (rule : Toks → Parse T) (old new : Reader) (x : T) → Decides rule old new x → Goes old new (rule (left old)) (Some (x, left new))
 as_goes rule old new x d = record { clean = d.clean; goes = d.gives; keeps = d.keeps; refuses = d.refuses }
 
-pub decided_by : {T : Type 0} (rule : Toks → Parse T) (old new : Reader) (x : T) → new.lists ≡ old.lists → new.tokens ≡ old.tokens → Goes old new (rule (left old)) (Some (x, left new)) → Decides rule old new x
+pub decided_by : {T : Type 0} (rule : Toks → Parse T) (old new : Reader) (x : T) → new.lists ≡ old.lists
+    → new.tokens ≡ old.tokens → Goes old new (rule (left old)) (Some (x, left new)) → Decides rule old new x
 decided_by rule old new x lists tokens g = record { lists = lists; tokens = tokens; clean = g.clean; gives = g.goes; keeps = g.keeps; refuses = g.refuses }
 
 pub decides : {S T : Type 0} (rule : Toks → Parse S) (old new : Reader) (x : S) (next : S × Toks → Option T) → Decides rule old new x
     → Goes old new (rule (left old) >>= next) (next (x, left new))
-decides rule old new x next d = record { clean = d.clean; goes = λ h. ap (λ o. o >>= next) (d.gives h); keeps = d.keeps; refuses = λ h f. ap (λ o. o >>= next) (d.refuses h f) }
+decides rule old new x next d = record { clean = d.clean; goes = λ h. ap (λ o. o >>= next) (d.gives h);
+    keeps = d.keeps; refuses = λ h f. ap (λ o. o >>= next) (d.refuses h f) }
 
-pub expects : {T : Type 0} (rule : Toks → Option Toks) (old new : Reader) (next : Toks → Option T) → Expects rule old new → Goes old new (rule (left old) >>= next) (next (left new))
-expects rule old new next d = record { clean = d.clean; goes = λ h. ap (λ o. o >>= next) (d.gives h); keeps = d.keeps; refuses = λ h f. ap (λ o. o >>= next) (d.refuses h f) }
+pub expects : {T : Type 0} (rule : Toks → Option Toks) (old new : Reader) (next : Toks → Option T)
+    → Expects rule old new → Goes old new (rule (left old) >>= next) (next (left new))
+expects rule old new next d = record { clean = d.clean; goes = λ h. ap (λ o. o >>= next) (d.gives h);
+    keeps = d.keeps; refuses = λ h f. ap (λ o. o >>= next) (d.refuses h f) }
 
 pub finds : {S T : Type 0} (rule : Toks → Parse S) (old new : Reader) (x : Option S) (next : Option S × Toks → Option T) → Finds rule old new x
     → Goes old new (optional rule (left old) >>= next) (next (x, left new))
@@ -57,13 +62,15 @@ finds rule old new x next d = same_fault old new (optional rule (left old) >>= n
 
 a_value : {T : Type 0} (rule : Toks → Parse Value) (old new : Reader) (v : code_value.Value) (next : Value × Toks → Option T) → ReadsValue rule old new v
     → Goes old new (rule (left old) >>= next) (next (value_in new.lists.lanes.items v, left new))
-a_value rule old new v next d = record { clean = d.clean; goes = λ h. ap (λ o. o >>= next) (d.gives h); keeps = d.keeps; refuses = λ h f. ap (λ o. o >>= next) (d.refuses h f) }
+a_value rule old new v next d = record { clean = d.clean; goes = λ h. ap (λ o. o >>= next) (d.gives h);
+    keeps = d.keeps; refuses = λ h f. ap (λ o. o >>= next) (d.refuses h f) }
 
 pub first_same : {T : Type 0} (xs ys : List T) → ys ≡ xs → IsFirst xs ys
 first_same xs ys e = record { more = []; is = e ∙ sym (append-nil xs) }
 
 -- a value in its parentheses
-pub form_read : (u : Use) (a b c d e : Reader) (word : Constant) (v : code_value.Value) → Expects lparen a b → Decides (next_constant u) b c word → ReadsValue (constant_of word u) c d v → Expects rparen d e
+pub form_read : (u : Use) (a b c d e : Reader) (word : Constant) (v : code_value.Value) → Expects lparen a b
+    → Decides (next_constant u) b c word → ReadsValue (constant_of word u) c d v → Expects rparen d e
     → ReadsValue (value u) a e v
 form_read u a b c d e word v open_ next is close = record {
   commands = ap (λ (l : Lists). l.commands) close.lists ∙ is.commands ∙ ap (λ (l : Lists). l.commands) (next.lists ∙ open_.lists);
@@ -88,7 +95,8 @@ form_read u a b c d e word v open_ next is close = record {
         (expects rparen d e (λ rest. Some (value_in d.lists.lanes.items v, rest)) close)))
 
 -- a value without lanes
-pub plain_read : (rule : Toks → Parse Value) (old new : Reader) (v : code_value.Value) → Decides rule old new (value_in [] v) → ((ls : List Number) → value_in ls v ≡ value_in [] v) → ((n : ℕ) → HasLanes n v)
+pub plain_read : (rule : Toks → Parse Value) (old new : Reader) (v : code_value.Value) → Decides rule old new (value_in [] v)
+    → ((ls : List Number) → value_in ls v ≡ value_in [] v) → ((n : ℕ) → HasLanes n v)
     → ReadsValue rule old new v
 plain_read rule old new v d plain few = record {
   commands = ap (λ (l : Lists). l.commands) d.lists;
@@ -103,9 +111,11 @@ plain_read rule old new v d plain few = record {
 }
 
 -- what a rule reads onto a list: what the list has more then
-pub more_is : {T : Type 0} (xs ys : List T) (p : Parse (List T)) (rest : Toks) → with_parts xs p ≡ Some (ys, rest) → (more : List T) × ((p ≡ Some (more, rest)) × (ys ≡ xs ++ more))
+pub more_is : {T : Type 0} (xs ys : List T) (p : Parse (List T)) (rest : Toks)
+    → with_parts xs p ≡ Some (ys, rest) → (more : List T) × ((p ≡ Some (more, rest)) × (ys ≡ xs ++ more))
 more_is xs ys None rest e = absurd cc
-more_is xs ys (Some r) rest e = (r.0, (ap (λ t. let o : List _ × Toks = (r.0, t) in Some o) (ap (λ (o : List _ × Toks). o.1) (the_same e)), sym (ap (λ (o : List _ × Toks). o.0) (the_same e))))
+more_is xs ys (Some r) rest e = (r.0, (ap (λ t. let o : List _ × Toks = (r.0, t) in Some o) (ap (λ (o : List _ × Toks). o.1) (the_same e)),
+    sym (ap (λ (o : List _ × Toks). o.0) (the_same e))))
   where
     the_same : {A : Type 0} {x y : A} → Some x ≡ Some y → x ≡ y
     the_same e = cc
@@ -137,14 +147,16 @@ vector_read u a b c s start end d l first last = record {
     whole o = o >>= λ x. lanes x.0 u x.1 >>= λ ns. Some (V128 x.0 ns.0, ns.1)
 
 -- the values that were read and added, as a part of all values
-pub values_read : (u : Use) (old new : Reader) (start end : ℕ) → start ≡ length old.lists.values.items → end ≡ length new.lists.values.items → ReadsOnto (values u) old new
+pub values_read : (u : Use) (old new : Reader) (start end : ℕ) → start ≡ length old.lists.values.items
+    → end ≡ length new.lists.values.items → ReadsOnto (values u) old new
     → Reads (values u) old new (part (record { start = start; end = end })) (λ n. end ≤ n)
 values_read u old new start end first last r = record {
   commands = r.commands;
   tokens = r.tokens;
   clean = r.clean;
   lanes = r.lanes;
-  values = λ h l. let m = more_is (read_values old.lists) (read_values new.lists) (values u (left old)) (left new) (r.gives h l) in record { more = m.0; is = m.1.1 };
+  values = λ h l. let m = more_is (read_values old.lists) (read_values new.lists) (values u (left old)) (left new) (r.gives h l) in
+      record { more = m.0; is = m.1.1 };
   within = λ h l. omega (arith, last);
   gives = λ h l. let m = more_is (read_values old.lists) (read_values new.lists) (values u (left old)) (left new) (r.gives h l) in
       m.1.0 ∙ ap (λ vs. let o : List Value × Toks = (vs, left new) in Some o)

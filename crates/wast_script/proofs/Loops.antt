@@ -22,7 +22,8 @@ skipping_first old n e = record { lists = refl; tokens = refl; fault = refl; goe
 one_token : (n depth d : ℕ) (toks : Toks) → depth ≡ suc d → form_end (suc n) depth toks ≡ form_end n (depth_after (peek 0 toks) depth) (after toks)
 one_token n depth d toks e = ap (λ k. form_end (suc n) k toks) e ∙ ap (λ k. form_end n (depth_after (peek 0 toks) k) (after toks)) (sym e)
 
-pub skipping_more : (old now new : Reader) (counter end depth after_it : ℕ) → counter < end → depth ≢ 0 → Skipping old now (end - counter) depth → Moves after now new
+pub skipping_more : (old now new : Reader) (counter end depth after_it : ℕ) → counter < end
+    → depth ≢ 0 → Skipping old now (end - counter) depth → Moves after now new
     → after_it ≡ depth_after (peek 0 (left now)) depth → Skipping old new (end - (counter + 1)) after_it
 skipping_more old now new counter end depth after_it few some s m is =
     let n = end - (counter + 1) in
@@ -39,7 +40,8 @@ skipping_more old now new counter end depth after_it few some s m is =
 
 -- no parenthesis is open, or no step is left
 pub skips_end : (old now : Reader) (n depth : ℕ) → depth ≡ 0 → Skipping old now n depth → Skips depth old now
-skips_end old now n depth e s = record { lists = s.lists; tokens = s.tokens; fault = s.fault; goes = s.goes ∙ ap (λ k. form_end n k (left now)) e ∙ sym (ap (λ k. form_end 0 k (left now)) e) }
+skips_end old now n depth e s = record { lists = s.lists; tokens = s.tokens; fault = s.fault; goes = s.goes
+    ∙ ap (λ k. form_end n k (left now)) e ∙ sym (ap (λ k. form_end 0 k (left now)) e) }
 
 pub skips_last : (old now : Reader) (n depth : ℕ) → n ≡ 0 → Skipping old now n depth → Skips depth old now
 skips_last old now n depth e s = record { lists = s.lists; tokens = s.tokens; fault = s.fault; goes = s.goes ∙ ap (λ k. form_end k depth (left now)) e }
@@ -59,7 +61,8 @@ form_ends old new depth e s = record {
   refuses = λ h f. absurd (none_refused new.fault (s.fault ∙ h) f);
 }
 
-pub no_form_end : (old mid new : Reader) (depth : ℕ) (fault : TextFault) (span : Span) → 0 < depth → Skips depth old mid → Fails fault span mid new → Expects form_rest old new
+pub no_form_end : (old mid new : Reader) (depth : ℕ) (fault : TextFault) (span : Span)
+    → 0 < depth → Skips depth old mid → Fails fault span mid new → Expects form_rest old new
 no_form_end old mid new depth fault span some s f = record {
   lists = f.lists ∙ s.lists;
   tokens = f.tokens ∙ s.tokens;
@@ -82,7 +85,8 @@ strings_first old n e = record { lists = refl; tokens = refl; fault = refl; goes
 one_string : (n : ℕ) (toks : Toks) → is_string (peek 0 toks) ≡ true → after_strings (suc n) toks ≡ after_strings n (after toks)
 one_string n toks e = ap (λ b. elim b as (λ b. Toks) [ true ↦ after_strings n (after toks) | false ↦ toks ]) e
 
-pub strings_more : (old now new : Reader) (counter end : ℕ) → counter < end → is_string (peek 0 (left now)) ≡ true → Strings old now (end - counter) → Moves after now new
+pub strings_more : (old now new : Reader) (counter end : ℕ) → counter < end
+    → is_string (peek 0 (left now)) ≡ true → Strings old now (end - counter) → Moves after now new
     → Strings old new (end - (counter + 1))
 strings_more old now new counter end few is s m =
     let n = end - (counter + 1) in

@@ -1,5 +1,6 @@
 -- A module of a script, by its tokens that the code gives to wat_text.
-use Rattle.std.proofs.Common.{◌≡◌, ◌≢◌, ◌∙◌, ℕ, ◌-◌, ◌<◌, ◌≤◌, List, [], ◌∷◌, ◌++◌, length, map, drop, get_or, Result, None, Ok, Err, refl, sym, ap, subst, arith}
+use Rattle.std.proofs.Common.{◌≡◌, ◌≢◌, ◌∙◌, ℕ, ◌-◌, ◌<◌, ◌≤◌, List, [], ◌∷◌, ◌++◌, length, map}
+use Rattle.std.proofs.Common.{drop, get_or, Result, None, Ok, Err, refl, sym, ap, subst, arith}
 use Rattle.std.proofs.lemmas.List.{length-map, map-append}
 use Rattle.std.specs.Prelude.{IfOk, IfErr}
 use Rattle.wast_base.specs.Ids.{text_start}
@@ -19,7 +20,8 @@ use Rattle.wat_text.proofs.Lefts.{placed}
 use Rattle.wast_script.proofs.Parts.{part_mapped}
 
 -- the position of the last token
-pub last_is : (found : List Placed) (k : ℕ) (p : Placed) → k ≡ length found - 1 → k < length found → p ≡ get_or found k p → p.span ≡ last_position (map bare_placed found)
+pub last_is : (found : List Placed) (k : ℕ) (p : Placed) → k ≡ length found - 1
+    → k < length found → p ≡ get_or found k p → p.span ≡ last_position (map bare_placed found)
 last_is found k p at few is =
     placed k found text_start p few is
     ∙ ap (λ n. position_in (drop n (map bare_placed found)) text_start) (at ∙ ap (λ n. n - 1) (sym (length-map found bare_placed)))

@@ -13,7 +13,8 @@ use Rattle.wast_script.proofs.Faults.{by_fault}
 
 -- A reader read the text of a number, and then its value.
 pub number_read : {T : Type 0} (meaning : List ℕ → Option T) (old mid new : Reader) (text : Bor (List ℕ)) (x : T) → Decides number_text old mid (bare_text text)
-    → new.lists ≡ mid.lists → new.tokens ≡ mid.tokens → (new.fault ≡ None → mid.fault ≡ None) → (new.fault ≡ None → meaning text.now ≡ Some x) → (new.fault ≡ None → left new ≡ left mid)
+    → new.lists ≡ mid.lists → new.tokens ≡ mid.tokens → (new.fault ≡ None → mid.fault ≡ None)
+    → (new.fault ≡ None → meaning text.now ≡ Some x) → (new.fault ≡ None → left new ≡ left mid)
     → (mid.fault ≢ None → new.fault ≡ mid.fault) → (mid.fault ≡ None → IsRefused new.fault → meaning text.now ≡ None) → Decides (number meaning) old new x
 number_read {T = T} meaning old mid new text x d lists tokens clean gives stays keeps refuses = record {
   lists = lists ∙ d.lists;
@@ -28,10 +29,12 @@ number_read {T = T} meaning old mid new text x d lists tokens clean gives stays 
     rest p = p >>= λ t. meaning t.0.now >>= λ n. Some (n, t.1)
 
 -- the value of a text, or that it has none, by what the code found
-pub ok_of : {T : Type 0} (meaning : List ℕ → Option T) (text : List ℕ) (found : Result T TextFault) (x : T) → IfOk found (λ n. meaning text ≡ Some n) → found ≡ Ok x → meaning text ≡ Some x
+pub ok_of : {T : Type 0} (meaning : List ℕ → Option T) (text : List ℕ) (found : Result T TextFault) (x : T)
+    → IfOk found (λ n. meaning text ≡ Some n) → found ≡ Ok x → meaning text ≡ Some x
 ok_of meaning text (Ok y) x h e = h ∙ ap Some cc
 ok_of meaning text (Err f) x h e = absurd cc
 
-pub err_of : {T : Type 0} (meaning : List ℕ → Option T) (text : List ℕ) (found : Result T TextFault) (f : TextFault) → IfErr found (λ e. IsRefusal e → meaning text ≡ None) → found ≡ Err f → IsRefusal f → meaning text ≡ None
+pub err_of : {T : Type 0} (meaning : List ℕ → Option T) (text : List ℕ) (found : Result T TextFault) (f : TextFault)
+    → IfErr found (λ e. IsRefusal e → meaning text ≡ None) → found ≡ Err f → IsRefusal f → meaning text ≡ None
 err_of meaning text (Ok y) f h e r = absurd cc
 err_of meaning text (Err g) f h e r = let same : f ≡ g = cc in h (subst IsRefusal same r)

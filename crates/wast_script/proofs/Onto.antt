@@ -1,5 +1,6 @@
 -- Values that a reader adds to those that it had, and what lists that grow do to earlier values.
-use Rattle.std.proofs.Common.{◌≡◌, ◌≢◌, ◌∙◌, ℕ, zero, suc, ◌+◌, ◌-◌, ◌<◌, ◌≤◌, true, List, [], ◌∷◌, ◌++◌, length, map, All, None, Some, refl, sym, ap, subst, arith, append-nil}
+use Rattle.std.proofs.Common.{◌≡◌, ◌≢◌, ◌∙◌, ℕ, zero, suc, ◌+◌, ◌-◌, ◌<◌, ◌≤◌, true, List, [], ◌∷◌, ◌++◌}
+use Rattle.std.proofs.Common.{length, map, All, None, Some, refl, sym, ap, subst, arith, append-nil}
 use Rattle.std.proofs.lemmas.List.{map_push}
 use Rattle.std.proofs.lemmas.List.Elements.{All-tail, All-push}
 use Rattle.std.specs.Global.{Vec}
@@ -15,7 +16,8 @@ use Rattle.wast_script.specs.declared.reader.Lists.{Lists}
 use Rattle.wast_script.specs.declared.reader.Reader.{Reader}
 use Rattle.wast_script.specs.Constants.{Value, V128, value, one_value, is_form_next, argument_or_result, alternatives, all_alternatives}
 use Rattle.wast_script.specs.Scripts.{value_in}
-use Rattle.wast_script.specs.Readers.{left, read_values, IsRefused, IsFirst, HasLanes, HaveLanes, PushesValue, Fails, ReadsOnto, ReadsValue, TakesAlternative, TakesAlternatives}
+use Rattle.wast_script.specs.Readers.{left, read_values, IsRefused, IsFirst, HasLanes, HaveLanes, PushesValue}
+use Rattle.wast_script.specs.Readers.{Fails, ReadsOnto, ReadsValue, TakesAlternative, TakesAlternatives}
 use Rattle.wast_script.proofs.Faults.{none_refused, faulty, by_fault}
 use Rattle.wast_script.proofs.Parts.{part_stays, longer}
 use Rattle.wat_text.proofs.Loops.{none_after, list_more, list_none}
@@ -73,7 +75,8 @@ adds_first old p q e = record {
 }
 
 -- all steps are taken
-pub adds_last : (rule : Toks → Parse (List Value)) (old new : Reader) (rest : Parse (List Value)) → Adds old new (with_parts (read_values old.lists) (rule (left old))) rest
+pub adds_last : (rule : Toks → Parse (List Value)) (old new : Reader) (rest : Parse (List Value))
+    → Adds old new (with_parts (read_values old.lists) (rule (left old))) rest
     → (new.fault ≡ None → rest ≡ Some (read_values new.lists, left new)) → ReadsOnto rule old new
 adds_last rule old new rest s e = record {
   commands = s.commands;
@@ -93,8 +96,10 @@ value_pushed u a b c v r p = record {
   clean = λ h. r.clean (p.clean h);
   lanes = λ h l. subst (λ (n : Vec Number). All (HasLanes (length n.items)) c.lists.values.items) (sym p.lanes)
       (subst (All (HasLanes (length b.lists.lanes.items))) (sym (added h))
-      (All-push (HasLanes (length b.lists.lanes.items)) a.lists.values.items v (have_more a.lists.values.items _ _ (r.lanes (p.clean h)) l) (r.within (p.clean h))));
-  gives = λ h l. ap alone (r.gives (p.clean h)) ∙ ap (λ vs. let o : List Value × Toks = (vs, left b) in Some o) (sym (seen h l)) ∙ ap (λ t. let o : List Value × Toks = (read_values c.lists, t) in Some o) (sym (p.left h));
+      (All-push (HasLanes (length b.lists.lanes.items)) a.lists.values.items v
+          (have_more a.lists.values.items _ _ (r.lanes (p.clean h)) l) (r.within (p.clean h))));
+  gives = λ h l. ap alone (r.gives (p.clean h)) ∙ ap (λ vs. let o : List Value × Toks = (vs, left b) in Some o) (sym (seen h l))
+      ∙ ap (λ t. let o : List Value × Toks = (read_values c.lists, t) in Some o) (sym (p.left h));
   keeps = λ h. p.keeps (λ e. h (r.clean e)) ∙ r.keeps h;
   refuses = λ h l f. by_fault b c p.keeps f (λ e. absurd (p.memory e f)) (λ g. ap single (r.refuses h g));
 }
@@ -114,7 +119,8 @@ value_pushed u a b c v r p = record {
         ∙ ap (λ vs. vs ++ value_in b.lists.lanes.items v ∷ []) (values_on a.lists.values.items a.lists.lanes.items b.lists.lanes.items l (r.lanes (p.clean h)))
 
 -- a list of values more
-pub values_more : (u : Use) (start : Parse (List Value)) (first old new : Reader) (counter end : ℕ) → counter < end → is_form_next (left old) ≡ true → ReadsOnto (argument_or_result u) old new
+pub values_more : (u : Use) (start : Parse (List Value)) (first old new : Reader) (counter end : ℕ)
+    → counter < end → is_form_next (left old) ≡ true → ReadsOnto (argument_or_result u) old new
     → Adds first old start (with_parts (read_values old.lists) (many_lists is_form_next (argument_or_result u) (end - counter) (left old)))
     → Adds first new start (with_parts (read_values new.lists) (many_lists is_form_next (argument_or_result u) (end - (counter + 1)) (left new)))
 values_more u start first old new counter end few yet r s =
@@ -125,13 +131,15 @@ values_more u start first old new counter end few yet r s =
       tokens = r.tokens;
       clean = r.clean;
       lanes = r.lanes;
-      goes = λ h l. list_more is_form_next (argument_or_result u) (end - counter) n (left old) (left new) (read_values old.lists) (read_values new.lists) one yet (r.gives h l);
+      goes = λ h l. list_more is_form_next (argument_or_result u) (end - counter) n (left old)
+          (left new) (read_values old.lists) (read_values new.lists) one yet (r.gives h l);
       keeps = r.keeps;
       refuses = λ h l f. list_none is_form_next (argument_or_result u) (end - counter) n (left old) (read_values old.lists) one yet (r.refuses h l f);
     })
 
 -- one step more in the alternatives of `either`
-pub alternative_more : (start : Parse (List Value)) (first old new : Reader) (counter end before behind : ℕ) → counter < end → before ≢ 0 → TakesAlternative before behind old new
+pub alternative_more : (start : Parse (List Value)) (first old new : Reader) (counter end before behind : ℕ)
+    → counter < end → before ≢ 0 → TakesAlternative before behind old new
     → Adds first old start (with_parts (read_values old.lists) (alternatives (end - counter) before (left old)))
     → Adds first new start (with_parts (read_values new.lists) (alternatives (end - (counter + 1)) behind (left new)))
 alternative_more start first old new counter end before behind few some r s =
@@ -146,11 +154,13 @@ alternative_more start first old new counter end before behind few some r s =
       lanes = r.lanes;
       goes = λ h l. ap (λ k. with_parts (read_values old.lists) (alternatives k before (left old))) one ∙ r.gives h l n d open_;
       keeps = r.keeps;
-      refuses = λ h l f. ap (λ k. with_parts (read_values old.lists) (alternatives k before (left old))) one ∙ ap (with_parts (read_values old.lists)) (r.refuses h l f n d open_);
+      refuses = λ h l f. ap (λ k. with_parts (read_values old.lists) (alternatives k before (left old))) one
+          ∙ ap (with_parts (read_values old.lists)) (r.refuses h l f n d open_);
     })
 
 -- all alternatives are read, or no token is left
-taken : (old now : Reader) (depth : ℕ) (rest : Parse (List Value)) → rest ≡ alternatives 0 depth (left now) → Adds old now (with_parts (read_values old.lists) (all_alternatives (left old))) (with_parts (read_values now.lists) rest)
+taken : (old now : Reader) (depth : ℕ) (rest : Parse (List Value)) → rest ≡ alternatives 0 depth (left now)
+    → Adds old now (with_parts (read_values old.lists) (all_alternatives (left old))) (with_parts (read_values now.lists) rest)
     → TakesAlternatives depth old now
 taken old now depth rest e s = record {
   commands = s.commands;
@@ -163,11 +173,14 @@ taken old now depth rest e s = record {
 }
 
 pub takes_end : (old now : Reader) (n depth : ℕ) → depth ≡ 0
-    → Adds old now (with_parts (read_values old.lists) (all_alternatives (left old))) (with_parts (read_values now.lists) (alternatives n depth (left now))) → TakesAlternatives depth old now
-takes_end old now n depth e s = taken old now depth (alternatives n depth (left now)) (ap (λ k. alternatives n k (left now)) e ∙ sym (ap (λ k. alternatives 0 k (left now)) e)) s
+    → Adds old now (with_parts (read_values old.lists) (all_alternatives (left old)))
+        (with_parts (read_values now.lists) (alternatives n depth (left now))) → TakesAlternatives depth old now
+takes_end old now n depth e s = taken old now depth (alternatives n depth (left now))
+    (ap (λ k. alternatives n k (left now)) e ∙ sym (ap (λ k. alternatives 0 k (left now)) e)) s
 
 pub takes_last : (old now : Reader) (n depth : ℕ) → n ≡ 0
-    → Adds old now (with_parts (read_values old.lists) (all_alternatives (left old))) (with_parts (read_values now.lists) (alternatives n depth (left now))) → TakesAlternatives depth old now
+    → Adds old now (with_parts (read_values old.lists) (all_alternatives (left old)))
+        (with_parts (read_values now.lists) (alternatives n depth (left now))) → TakesAlternatives depth old now
 takes_last old now n depth e s = taken old now depth (alternatives n depth (left now)) (ap (λ k. alternatives k depth (left now)) e) s
 
 pub all_taken : (old new : Reader) (depth : ℕ) → depth ≤ 0 → TakesAlternatives depth old new → ReadsOnto all_alternatives old new
@@ -176,7 +189,9 @@ all_taken old new depth few s = record {
   tokens = s.tokens;
   clean = s.clean;
   lanes = s.lanes;
-  gives = λ h l. let none : depth ≡ 0 = omega (arith, few) in s.goes h l ∙ ap (λ k. with_parts (read_values new.lists) (alternatives 0 k (left new))) none ∙ ap (λ vs. let o : List Value × Toks = (vs, left new) in Some o) (append-nil (read_values new.lists));
+  gives = λ h l. let none : depth ≡ 0 = omega (arith, few) in
+      s.goes h l ∙ ap (λ k. with_parts (read_values new.lists) (alternatives 0 k (left new))) none
+      ∙ ap (λ vs. let o : List Value × Toks = (vs, left new) in Some o) (append-nil (read_values new.lists));
   keeps = s.keeps;
   refuses = s.refuses;
 }
@@ -185,7 +200,8 @@ none_left : (depth : ℕ) (toks : Toks) → 0 < depth → alternatives 0 depth t
 none_left zero toks some = absurd (omega (arith, some))
 none_left (suc d) toks some = refl
 
-pub none_taken : (old mid new : Reader) (depth : ℕ) (fault : TextFault) (span : Span) → 0 < depth → TakesAlternatives depth old mid → Fails fault span mid new → ReadsOnto all_alternatives old new
+pub none_taken : (old mid new : Reader) (depth : ℕ) (fault : TextFault) (span : Span) → 0 < depth
+    → TakesAlternatives depth old mid → Fails fault span mid new → ReadsOnto all_alternatives old new
 none_taken old mid new depth fault span some s f = record {
   commands = ap (λ (l : Lists). l.commands) f.lists ∙ s.commands;
   tokens = f.tokens ∙ s.tokens;
@@ -194,6 +210,7 @@ none_taken old mid new depth fault span some s f = record {
   gives = λ h l. absurd (faulty mid new fault span f h);
   keeps = λ h. f.keeps (λ g. h (s.clean g)) ∙ s.keeps h;
   refuses = λ h l g. by_fault mid new f.keeps g
-      (λ is. none_after (read_values old.lists) (all_alternatives (left old)) (s.goes is l ∙ ap (with_parts (read_values mid.lists)) (none_left depth (left mid) some)))
+      (λ is. none_after (read_values old.lists) (all_alternatives (left old))
+          (s.goes is l ∙ ap (with_parts (read_values mid.lists)) (none_left depth (left mid) some)))
       (s.refuses h l);
 }

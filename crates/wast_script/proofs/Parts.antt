@@ -1,5 +1,6 @@
 -- Parts of lists: the last elements of a list, parts of a list that grows, and the tokens between two places.
-use Rattle.std.proofs.Common.{◌≡◌, ◌∙◌, ℕ, ◌+◌, ◌-◌, ◌<◌, ◌≤◌, min, Bool, true, false, ◌&&◌, List, [], ◌++◌, length, map, take, drop, refl, sym, ap, arith, length-append, length-drop}
+use Rattle.std.proofs.Common.{◌≡◌, ◌∙◌, ℕ, ◌+◌, ◌-◌, ◌<◌, ◌≤◌, min, Bool, true, false, ◌&&◌, List, [], ◌++◌}
+use Rattle.std.proofs.Common.{length, map, take, drop, refl, sym, ap, arith, length-append, length-drop}
 use Rattle.std.specs.Prelude.{nat_le, if◌then◌else◌, slice_range}
 use Rattle.std.proofs.lemmas.Bool.{leb-true, leb-false, le-leb, lt-leb}
 use Rattle.std.proofs.lemmas.List.{length-map, take_all, take-append-le, take-map, drop_at, drop-append-le, drop_min, drop-map}
@@ -54,7 +55,8 @@ part_stays p xs ys h = go (nat_le p.start p.end) refl
     both = length-append xs ys
 
     go : (b : Bool) → nat_le p.start p.end ≡ b → part p (xs ++ ys) ≡ part p xs
-    go false e = is_part p (xs ++ ys) false true e (le-leb p.end (length (xs ++ ys)) (omega (arith, h, both))) ∙ sym (is_part p xs false true e (le-leb p.end (length xs) h))
+    go false e = is_part p (xs ++ ys) false true e (le-leb p.end (length (xs ++ ys)) (omega (arith, h, both)))
+        ∙ sym (is_part p xs false true e (le-leb p.end (length xs) h))
     go true e =
         let few : p.start ≤ p.end = leb-true p.start p.end e in
         let within : p.start ≤ length xs = omega (arith, few, h) in
@@ -67,7 +69,8 @@ pub part_on : {T : Type 0} (p : Part) (xs zs : List T) (n : ℕ) → p.end ≤ n
 part_on p xs zs n h e f = ap (part p) f.is ∙ part_stays p xs f.more (omega (arith, h, e))
 
 pub longer : {T : Type 0} (xs zs : List T) → IsFirst xs zs → length xs ≤ length zs
-longer xs zs f = let one : length zs ≡ length (xs ++ f.more) = ap length f.is in let two : length (xs ++ f.more) ≡ length xs + length f.more = length-append xs f.more in omega (arith, one, two)
+longer xs zs f = let one : length zs ≡ length (xs ++ f.more) = ap length f.is in
+    let two : length (xs ++ f.more) ≡ length xs + length f.more = length-append xs f.more in omega (arith, one, two)
 
 pub bare_same : (a b : Reader) → b.tokens ≡ a.tokens → all_bare b ≡ all_bare a
 bare_same a b e = ap (λ (t : Vec Placed). map bare_placed t.items) e
@@ -97,7 +100,8 @@ part_between a b xs s e first all = go (nat_le s e) refl
         ∙ ap (take (e - (length xs - (length xs - a)))) (ap (λ m. drop m xs) least ∙ drop_min a xs)
         ∙ ap (λ m. take m (drop a xs)) size
 
-pub between_is : (old new : Reader) (s e : ℕ) → new.tokens ≡ old.tokens → s ≡ length old.tokens.items - count (left old) → e ≡ length new.tokens.items - count (left new)
+pub between_is : (old new : Reader) (s e : ℕ) → new.tokens ≡ old.tokens
+    → s ≡ length old.tokens.items - count (left old) → e ≡ length new.tokens.items - count (left new)
     → part (record { start = s; end = e }) (all_bare new) ≡ between (left old) (left new)
 unfolding left count
 between_is old new s e same first all =

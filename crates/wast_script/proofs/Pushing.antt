@@ -18,7 +18,8 @@ module _ (old mid new : Reader) (span : Span) (f : Fails fault.Memory span mid n
   no_refusal : old.fault ≡ None → IsRefused new.fault → ⊥
   no_refusal h r = subst IsRefused (f.first (same ∙ h)) r
 
-  pub lane_failed : (lane : Number) → mid.lists.commands ≡ old.lists.commands → mid.lists.values ≡ old.lists.values → mid.tokens ≡ old.tokens → PushesLane old new lane
+  pub lane_failed : (lane : Number) → mid.lists.commands ≡ old.lists.commands
+      → mid.lists.values ≡ old.lists.values → mid.tokens ≡ old.tokens → PushesLane old new lane
   lane_failed lane commands values tokens = record {
     commands = ap (λ (l : Lists). l.commands) f.lists ∙ commands;
     values = ap (λ (l : Lists). l.values) f.lists ∙ values;
@@ -30,7 +31,8 @@ module _ (old mid new : Reader) (span : Span) (f : Fails fault.Memory span mid n
     memory = no_refusal;
   }
 
-  pub value_failed : (value : code_value.Value) → mid.lists.commands ≡ old.lists.commands → mid.lists.lanes ≡ old.lists.lanes → mid.tokens ≡ old.tokens → PushesValue old new value
+  pub value_failed : (value : code_value.Value) → mid.lists.commands ≡ old.lists.commands
+      → mid.lists.lanes ≡ old.lists.lanes → mid.tokens ≡ old.tokens → PushesValue old new value
   value_failed value commands lanes tokens = record {
     commands = ap (λ (l : Lists). l.commands) f.lists ∙ commands;
     lanes = ap (λ (l : Lists). l.lanes) f.lists ∙ lanes;
@@ -42,7 +44,8 @@ module _ (old mid new : Reader) (span : Span) (f : Fails fault.Memory span mid n
     memory = no_refusal;
   }
 
-  pub command_failed : (c : code_command.Command) → mid.lists.values ≡ old.lists.values → mid.lists.lanes ≡ old.lists.lanes → mid.tokens ≡ old.tokens → Pushes old new c
+  pub command_failed : (c : code_command.Command) → mid.lists.values ≡ old.lists.values
+      → mid.lists.lanes ≡ old.lists.lanes → mid.tokens ≡ old.tokens → Pushes old new c
   command_failed c values lanes tokens = record {
     tokens = f.tokens ∙ tokens;
     values = ap (λ (l : Lists). l.values) f.lists ∙ values;
@@ -56,7 +59,8 @@ module _ (old mid new : Reader) (span : Span) (f : Fails fault.Memory span mid n
 
 -- It is added: there is a fault if there was one.
 module _ (old new : Reader) (tokens : new.tokens ≡ old.tokens) (same : new.fault ≡ old.fault) (stays : left new ≡ left old) where
-  pub lane_pushed : (lane : Number) → new.lists.commands ≡ old.lists.commands → new.lists.values ≡ old.lists.values → new.lists.lanes.items ≡ old.lists.lanes.items ++ lane ∷ [] → PushesLane old new lane
+  pub lane_pushed : (lane : Number) → new.lists.commands ≡ old.lists.commands → new.lists.values ≡ old.lists.values
+      → new.lists.lanes.items ≡ old.lists.lanes.items ++ lane ∷ [] → PushesLane old new lane
   lane_pushed lane commands values pushed = record {
     commands = commands;
     values = values;
@@ -68,7 +72,8 @@ module _ (old new : Reader) (tokens : new.tokens ≡ old.tokens) (same : new.fau
     memory = λ h r. none_refused new.fault (same ∙ h) r;
   }
 
-  pub value_pushed : (value : code_value.Value) → new.lists.commands ≡ old.lists.commands → new.lists.lanes ≡ old.lists.lanes → new.lists.values.items ≡ old.lists.values.items ++ value ∷ [] → PushesValue old new value
+  pub value_pushed : (value : code_value.Value) → new.lists.commands ≡ old.lists.commands → new.lists.lanes ≡ old.lists.lanes
+      → new.lists.values.items ≡ old.lists.values.items ++ value ∷ [] → PushesValue old new value
   value_pushed value commands lanes pushed = record {
     commands = commands;
     lanes = lanes;
@@ -80,7 +85,8 @@ module _ (old new : Reader) (tokens : new.tokens ≡ old.tokens) (same : new.fau
     memory = λ h r. none_refused new.fault (same ∙ h) r;
   }
 
-  pub command_pushed : (c : code_command.Command) → new.lists.values ≡ old.lists.values → new.lists.lanes ≡ old.lists.lanes → new.lists.commands.items ≡ old.lists.commands.items ++ c ∷ [] → Pushes old new c
+  pub command_pushed : (c : code_command.Command) → new.lists.values ≡ old.lists.values → new.lists.lanes ≡ old.lists.lanes
+      → new.lists.commands.items ≡ old.lists.commands.items ++ c ∷ [] → Pushes old new c
   command_pushed c values lanes pushed = record {
     tokens = tokens;
     values = values;

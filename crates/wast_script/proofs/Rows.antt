@@ -35,7 +35,8 @@ one_lane : (rule : Toks → Parse Number) (n : ℕ) (toks rest : Toks) (x : Numb
 one_lane rule n toks rest x xs e =
     ap (λ o. with_parts xs (o >>= λ y. times n rule y.1 >>= λ ys. Some (y.0 ∷ ys.0, ys.1))) e ∙ sym (after_both xs (x ∷ []) (times n rule rest))
 
-pub rows_more : (rule : Toks → Parse Number) (all counter end : ℕ) (first old mid new : Reader) (x : Number) → counter < end → Rows rule all (end - counter) first old → Decides rule old mid x → PushesLane mid new x
+pub rows_more : (rule : Toks → Parse Number) (all counter end : ℕ) (first old mid new : Reader) (x : Number)
+    → counter < end → Rows rule all (end - counter) first old → Decides rule old mid x → PushesLane mid new x
     → Rows rule all (end - (counter + 1)) first new
 rows_more rule all counter end first old mid new x few r d p = record {
   commands = p.commands ∙ ap (λ (l : Lists). l.commands) d.lists ∙ r.commands;
@@ -49,7 +50,8 @@ rows_more rule all counter end first old mid new x few r d p = record {
   keeps = λ h. p.keeps (λ g. h (r.clean (d.clean g))) ∙ d.keeps (λ g. h (r.clean g)) ∙ r.keeps h;
   refuses = λ h f. by_fault mid new p.keeps f (λ e. absurd (p.memory e f))
       (λ g. by_fault old mid d.keeps g
-      (λ e. none_after first.lists.lanes.items (times all rule (left first)) (r.goes e ∙ ap (λ k. with_parts old.lists.lanes.items (times k rule (left old))) one
+      (λ e. none_after first.lists.lanes.items (times all rule (left first))
+          (r.goes e ∙ ap (λ k. with_parts old.lists.lanes.items (times k rule (left old))) one
       ∙ ap (λ o. with_parts old.lists.lanes.items (o >>= λ y. times n rule y.1 >>= λ ys. Some (y.0 ∷ ys.0, ys.1))) (d.refuses e g)))
       (r.refuses h));
 }
@@ -66,7 +68,8 @@ rows_last rule all more old now none r = record {
   values = r.values;
   tokens = r.tokens;
   clean = r.clean;
-  gives = λ h. r.goes h ∙ ap (λ k. with_parts now.lists.lanes.items (times k rule (left now))) none ∙ ap (λ xs. let o : List Number × Toks = (xs, left now) in Some o) (append-nil now.lists.lanes.items);
+  gives = λ h. r.goes h ∙ ap (λ k. with_parts now.lists.lanes.items (times k rule (left now))) none
+      ∙ ap (λ xs. let o : List Number × Toks = (xs, left now) in Some o) (append-nil now.lists.lanes.items);
   keeps = r.keeps;
   refuses = r.refuses;
 }

@@ -93,7 +93,8 @@ by_reads rule old new part has next d = record {
 }
 
 -- all of a rule, as its steps
-pub as_steps : {T : Type 0} (rule : Toks → Parse T) (old new : Reader) (part : List Value → T) (has : ℕ → Type 0) → Reads rule old new part has → Steps old new (rule (left old)) (Some (part (read_values new.lists), left new))
+pub as_steps : {T : Type 0} (rule : Toks → Parse T) (old new : Reader) (part : List Value → T) (has : ℕ → Type 0)
+    → Reads rule old new part has → Steps old new (rule (left old)) (Some (part (read_values new.lists), left new))
 as_steps rule old new part has r = record {
   commands = r.commands;
   tokens = r.tokens;
@@ -107,7 +108,8 @@ as_steps rule old new part has r = record {
 
 -- all steps are taken
 pub all_read : {T : Type 0} (rule : Toks → Parse T) (old new : Reader) (part : List Value → T) (has : ℕ → Type 0)
-    → Steps old new (rule (left old)) (Some (part (read_values new.lists), left new)) → (new.fault ≡ None → HaveLanes old.lists → has (length new.lists.values.items))
+    → Steps old new (rule (left old)) (Some (part (read_values new.lists), left new))
+    → (new.fault ≡ None → HaveLanes old.lists → has (length new.lists.values.items))
     → Reads rule old new part has
 all_read rule old new part has s h = record {
   commands = s.commands;

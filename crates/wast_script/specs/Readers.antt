@@ -256,7 +256,8 @@ pub record TakesCommand (before behind : ℕ) (old new : Reader) : Type 0 where
   pub gives : new.fault ≡ None → HaveLanes old.lists → HaveValues old.lists → (n k : ℕ) → count (left old) ≡ suc k
       → with_commands (read_commands old) (commands_in (suc n) before (left old)) ≡ with_commands (read_commands new) (commands_in n behind (left new))
   pub keeps : old.fault ≢ None → new.fault ≡ old.fault
-  pub refuses : old.fault ≡ None → HaveLanes old.lists → IsRefused new.fault → (n k : ℕ) → count (left old) ≡ suc k → commands_in (suc n) before (left old) ≡ None
+  pub refuses : old.fault ≡ None → HaveLanes old.lists → IsRefused new.fault → (n k : ℕ)
+      → count (left old) ≡ suc k → commands_in (suc n) before (left old) ≡ None
 
 -- A reader read all commands, and so many threads are open.
 pub record TakesCommands (threads : ℕ) (old new : Reader) : Type 0 where
@@ -276,7 +277,8 @@ pub record TakesAlternatives (depth : ℕ) (old new : Reader) : Type 0 where
   pub tokens : new.tokens ≡ old.tokens
   pub clean : new.fault ≡ None → old.fault ≡ None
   pub lanes : new.fault ≡ None → HaveLanes old.lists → HaveLanes new.lists
-  pub goes : new.fault ≡ None → HaveLanes old.lists → with_parts (read_values old.lists) (all_alternatives (left old)) ≡ with_parts (read_values new.lists) (alternatives 0 depth (left new))
+  pub goes : new.fault ≡ None → HaveLanes old.lists
+      → with_parts (read_values old.lists) (all_alternatives (left old)) ≡ with_parts (read_values new.lists) (alternatives 0 depth (left new))
   pub keeps : old.fault ≢ None → new.fault ≡ old.fault
   pub refuses : old.fault ≡ None → HaveLanes old.lists → IsRefused new.fault → all_alternatives (left old) ≡ None
 

@@ -7,7 +7,9 @@ use Rattle.wat_tokens.specs.declared.tokens.Token.TheVariants as token
 use Rattle.wat_tokens.specs.declared.tokens.Placed.{Placed}
 use Rattle.wat_syntax.specs.Bare.{bare_placed, bare_id, bare_id_option, bare_heap, bare_index_option}
 use Rattle.wast_script.specs.Constants.{Value, I32, I64, F32, F64, V128, RefNull, RefExtern, RefHost, RefFunc, Ref, Either}
-use Rattle.wast_script.specs.Grammar.{Contents, Module, Action, Execution, Runs, Instantiates, Kind, Module_, Definition, Instance, Register, Acts, AssertReturn, AssertTrap, AssertExhaustion, AssertException, AssertSuspension, AssertMalformed, AssertMalformedCustom, AssertInvalid, AssertInvalidCustom, AssertUnlinkable, Thread, ThreadEnd, Wait, Command}
+use Rattle.wast_script.specs.Grammar.{Contents, Module, Action, Execution, Runs, Instantiates, Kind, Module_, Definition, Instance, Register, Acts}
+use Rattle.wast_script.specs.Grammar.{AssertReturn, AssertTrap, AssertExhaustion, AssertException, AssertSuspension, AssertMalformed}
+use Rattle.wast_script.specs.Grammar.{AssertMalformedCustom, AssertInvalid, AssertInvalidCustom, AssertUnlinkable, Thread, ThreadEnd, Wait, Command}
 use Rattle.wast_script.specs.declared.values.Part.{Part}
 use Rattle.wast_script.specs.declared.values.Number.{Number}
 use Rattle.wast_script.specs.declared.values.Value as code_value
@@ -46,7 +48,8 @@ contents_in c tokens = record { form = c.0; strings = part c.1 tokens }
 
 -- a module, by the tokens of the script
 abbrev pub module_in : List Placed → ScriptModule → Module
-module_in tokens m = record { span = m.span; id = bare_id_option m.id; form = m.form; tokens = part m.head tokens ++ part m.rest tokens; strings = part m.strings tokens }
+module_in tokens m = record { span = m.span; id = bare_id_option m.id; form = m.form;
+    tokens = part m.head tokens ++ part m.rest tokens; strings = part m.strings tokens }
 
 -- an action, by the values of all commands
 abbrev pub action_in : List Value → code_action.Action → Action

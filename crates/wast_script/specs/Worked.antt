@@ -36,7 +36,8 @@ kinds_of text = script_of text >>= λ cs. Some (map (λ c. c.kind) cs)
 -- `(i32.const -1)` is a value, and a NaN is one of a result alone. Of `(either (i32.const 1) (i32.const 2))` both are alternatives.
 abbrev pub Values : Type 0
 Values = (made (values usage.Argument (toks (token.Open ∷ num (codes "i32.const") ∷ num (codes "-1") ∷ token.Close ∷ []))) ≡ Some (I32 (negsuc 0) ∷ [], 0))
-    × (made (values usage.Result (toks (token.Open ∷ num (codes "f32.const") ∷ num (codes "nan:canonical") ∷ token.Close ∷ []))) ≡ Some (F32 number.Canonical ∷ [], 0))
+    × (made (values usage.Result (toks (token.Open ∷ num (codes "f32.const") ∷ num (codes "nan:canonical") ∷ token.Close ∷ [])))
+        ≡ Some (F32 number.Canonical ∷ [], 0))
     × (made (values usage.Argument (toks (token.Open ∷ num (codes "f32.const") ∷ num (codes "nan:canonical") ∷ token.Close ∷ []))) ≡ None)
     × (made (values usage.Argument (toks (token.Open ∷ num (codes "v128.const") ∷ num (codes "i64x2") ∷ num (codes "1") ∷ num (codes "-1") ∷ token.Close ∷ [])))
     ≡ Some (V128 shape.I64x2 (number.Bits 1 ∷ number.Bits 18446744073709551615 ∷ []) ∷ [], 0))
@@ -45,13 +46,15 @@ Values = (made (values usage.Argument (toks (token.Open ∷ num (codes "i32.cons
 
 -- A module is its tokens, without the word `definition`. Its strings are those of a binary module, or of one in quotes.
 abbrev pub Modules : Type 0
-Modules = (made (in_parentheses (toks (token.Open ∷ num (codes "module") ∷ named (codes "m") ∷ num (codes "quote") ∷ quoted (codes "(") ∷ token.Close ∷ num (codes "x") ∷ [])))
+Modules = (made (in_parentheses (toks
+    (token.Open ∷ num (codes "module") ∷ named (codes "m") ∷ num (codes "quote") ∷ quoted (codes "(") ∷ token.Close ∷ num (codes "x") ∷ [])))
     ≡ Some (
       record {
         span = at 1;
         id = Some (id_at 2 (codes "m"));
         form = module_form.Quote;
-        tokens = token_at 0 token.Open ∷ token_at 1 (num (codes "module")) ∷ token_at 2 (named (codes "m")) ∷ token_at 3 (num (codes "quote")) ∷ token_at 4 (quoted (codes "(")) ∷ token_at 5 token.Close ∷ [];
+        tokens = token_at 0 token.Open ∷ token_at 1 (num (codes "module")) ∷ token_at 2 (named (codes "m"))
+            ∷ token_at 3 (num (codes "quote")) ∷ token_at 4 (quoted (codes "(")) ∷ token_at 5 token.Close ∷ [];
         strings = token_at 4 (quoted (codes "(")) ∷ [];
       },
       1,
@@ -67,4 +70,5 @@ Scripts = (script_of (codes "(wait $t)") ≡ Some (command_at 1 (Wait (id_at 6 (
     × (kinds_of (codes "(thread $t (wait $u))") ≡ Some (Thread (id_at 8 (codes "t")) None ∷ Wait (id_at 17 (codes "u")) ∷ ThreadEnd ∷ []))
     × (kinds_of (codes "(invoke \"f\" (i32.const 7))")
     ≡ Some (Acts (record { span = at 1; kind = action_kind.Invoke; «module» = None; name = codes "f"; arguments = I32 (pos 7) ∷ [] }) ∷ []))
-    × (kinds_of (codes "()") ≡ Some (Module_ (record { span = at 0; id = None; form = module_form.Fields; tokens = token_at 0 token.Open ∷ token_at 1 token.Close ∷ []; strings = [] }) ∷ []))
+    × (kinds_of (codes "()") ≡ Some (Module_ (record { span = at 0; id = None; form = module_form.Fields;
+        tokens = token_at 0 token.Open ∷ token_at 1 token.Close ∷ []; strings = [] }) ∷ []))

@@ -11,9 +11,12 @@ ghost use Rattle.wast_script.specs.Words.{shape_named, constant_named};
 ghost use Rattle.wast_script.specs.declared.values.Number.TheVariants as num;
 ghost use Rattle.wast_script.specs.declared.words.Constant.TheVariants as constant;
 ghost use Rattle.wast_script.specs.declared.words.Use.TheVariants as usage;
-ghost use Rattle.wast_script.specs.Constants.{nan_of, float_of, lane_of, lane_count, lanes, vector, word_in, word_that, abstract_heap, shared_heap, heap_type, null_type, host_number, function_index, constant_of, value_word, next_constant, value, one_value, all_alternatives, either, argument_or_result, values, Value as ListedValue};
+ghost use Rattle.wast_script.specs.Constants.{nan_of, float_of, lane_of, lane_count, lanes, vector, word_in, word_that, abstract_heap, shared_heap};
+ghost use Rattle.wast_script.specs.Constants.{heap_type, null_type, host_number, function_index, constant_of, value_word, next_constant, value};
+ghost use Rattle.wast_script.specs.Constants.{one_value, all_alternatives, either, argument_or_result, values, Value as ListedValue};
 ghost use Rattle.wast_script.specs.Scripts.{part, value_in};
-ghost use Rattle.wast_script.specs.Readers.{left, read_values, IsRefusal, IsRefused, IsFirst, HasLanes, HaveLanes, Decides, Finds, PushesLane, PushesValue, SetsEither, TakesAlternative, TakesAlternatives, ReadsLanes, ReadsValue, ReadsOnto, Reads};
+ghost use Rattle.wast_script.specs.Readers.{left, read_values, IsRefusal, IsRefused, IsFirst, HasLanes, HaveLanes, Decides, Finds, PushesLane};
+ghost use Rattle.wast_script.specs.Readers.{PushesValue, SetsEither, TakesAlternative, TakesAlternatives, ReadsLanes, ReadsValue, ReadsOnto, Reads};
 
 use crate::reader::Reader;
 use crate::values::{Number, Part, Shape, Value};

@@ -7,10 +7,15 @@ ghost use Rattle.wast_script.specs.Constants.{word_in, word_that, Value};
 ghost use Rattle.wat_tokens.specs.declared.tokens.Placed.{Placed};
 ghost use Rattle.wat_syntax.specs.Bare.{bare_id, bare_id_option};
 ghost use Rattle.wast_script.specs.declared.commands.CommandKind.TheVariants as kind;
-ghost use Rattle.wast_script.specs.Grammar.{module_command, module_or_instance, instance, register_command, action_command, message, return_command, exhaustion_command, exception_command, shared_module, thread_command, wait_command, command_of, command, command_or_end, commands_in, threads_after, ends_thread, begins_command, script};
-ghost use Rattle.wast_script.specs.Grammar.{verb_in, about_module, about_run, AssertTrap, AssertSuspension, AssertMalformed, AssertMalformedCustom, AssertInvalid, AssertInvalidCustom, AssertUnlinkable, module_assertion, run_assertion, module_of_thread, all_commands, all_module};
+ghost use Rattle.wast_script.specs.Grammar.{module_command, module_or_instance, instance, register_command, action_command, message};
+ghost use Rattle.wast_script.specs.Grammar.{return_command, exhaustion_command, exception_command, shared_module, thread_command, wait_command};
+ghost use Rattle.wast_script.specs.Grammar.{command_of, command, command_or_end, commands_in, threads_after, ends_thread, begins_command, script};
+ghost use Rattle.wast_script.specs.Grammar.{verb_in, about_module, about_run, AssertTrap, AssertSuspension, AssertMalformed};
+ghost use Rattle.wast_script.specs.Grammar.{AssertMalformedCustom, AssertInvalid, AssertInvalidCustom, AssertUnlinkable};
+ghost use Rattle.wast_script.specs.Grammar.{module_assertion, run_assertion, module_of_thread, all_commands, all_module};
 ghost use Rattle.wast_script.specs.Scripts.{part, module_in, execution_in, kind_in, command_in};
-ghost use Rattle.wast_script.specs.Readers.{left, all_bare, read_commands, read_values, HasExecuted, HasValues, HaveLanes, HaveValues, IsRefused, IsNew, Decides, Moves, Reads, Pushes, TakesCommand, TakesCommands, ReadsAll};
+ghost use Rattle.wast_script.specs.Readers.{left, all_bare, read_commands, read_values, HasExecuted, HasValues, HaveLanes, HaveValues};
+ghost use Rattle.wast_script.specs.Readers.{IsRefused, IsNew, Decides, Moves, Reads, Pushes, TakesCommand, TakesCommands, ReadsAll};
 
 use crate::commands::{ActionKind, Command, CommandKind, Execution, ScriptModule};
 use crate::reader::Reader;

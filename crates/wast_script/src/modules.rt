@@ -2,7 +2,8 @@
 
 ghost use Rattle.std.specs.Prelude.{◌≡◌, ◌<◌, ◌-◌, ◌^◌};
 ghost use Rattle.wat_syntax.specs.Tokens.{peek, after};
-ghost use Rattle.wast_script.specs.Grammar.{depth_after, is_name_next, after_name, behind_strings, form_rest, strings_to_end, contents, contents_of, module_after, in_parentheses, lone_module};
+ghost use Rattle.wast_script.specs.Grammar.{depth_after, is_name_next, after_name, behind_strings, form_rest, strings_to_end};
+ghost use Rattle.wast_script.specs.Grammar.{contents, contents_of, module_after, in_parentheses, lone_module};
 ghost use Rattle.wast_script.specs.Scripts.{part, contents_in, module_in};
 ghost use Rattle.wast_script.specs.Readers.{left, all_bare, Decides, Expects, Moves, Skips};
 

@@ -3,7 +3,8 @@
 use Rattle.std.specs.Prelude.{⊤}
 use Rattle.std.specs.Borrow.{Bor}
 use Rattle.std.specs.Global.{Vec}
-use Rattle.std.proofs.Common.{◌≡◌, inl, inr, ℕ, max, ◌<◌, List, [], ◌∷◌, ◌++◌, map, Option, None, Some, Result, Ok, Err, IsTrue, refl, sym, ap, subst, ◌∙◌, arith}
+use Rattle.std.proofs.Common.{◌≡◌, inl, inr, ℕ, max, ◌<◌, List, [], ◌∷◌, ◌++◌, map, Option, None}
+use Rattle.std.proofs.Common.{Some, Result, Ok, Err, IsTrue, refl, sym, ap, subst, ◌∙◌, arith}
 use Rattle.wast_base.specs.declared.faults.Error.{Error}
 use Rattle.wast_base.specs.declared.faults.Fault.TheVariants as fault
 use Rattle.wast_base.specs.declared.faults.Form.{Form}
@@ -102,7 +103,8 @@ module _ (laws : Laws) where
   bound_bare (held.Fields xs) = laws.generation xs
   bound_bare (held.Binary ps) = refl
 
-  bounds_bare : (t : TextModule) → max (generation_or_zero (mark_of_option (bare_id_option t.id))) (bound_of_kind (kind_of (bare_kind t.kind))) ≡ max (generation_or_zero (mark_of_option t.id)) (bound_of_kind (kind_of t.kind))
+  bounds_bare : (t : TextModule) → max (generation_or_zero (mark_of_option (bare_id_option t.id))) (bound_of_kind (kind_of (bare_kind t.kind)))
+      ≡ max (generation_or_zero (mark_of_option t.id)) (bound_of_kind (kind_of t.kind))
   bounds_bare t = λ i. max (id_bare t.id i) (bound_bare t.kind i)
 
   ready_bare : (t : TextModule) → IsReady (module_of t) 1 → IsReady (module_of (bare_module t)) 1
@@ -130,7 +132,8 @@ module _ (laws : Laws) where
   encodes_kind name (held.Fields xs) (Err e) left above (inl x) = record {
     left = kind.Refused e;
     encodes = inl (
-      answers_map (IsTooLarge 1 xs) (IsTooLarge 1 (bare_fields xs)) (diagnostic_of e) (first_unmet (demands (explicit_fields xs))) (first_unmet (demands (explicit_fields (bare_fields xs))))
+      answers_map (IsTooLarge 1 xs) (IsTooLarge 1 (bare_fields xs)) (diagnostic_of e)
+          (first_unmet (demands (explicit_fields xs))) (first_unmet (demands (explicit_fields (bare_fields xs))))
           (laws.large 1 xs).0 (laws.answer xs) x.0,
       refl,
     );
@@ -140,7 +143,8 @@ module _ (laws : Laws) where
     encodes = inr (
       laws.answer xs ∙ x.0,
       subst (λ o. IsUnwritten o (IsBounded 1 name (bare_fields xs)) e) (sym (ap head_of (laws.forms 1 xs above x.0)))
-          (unwritten_map (head_of (uncovered_forms (resolved_fields_from 1 xs))) (IsBounded 1 name xs) (IsBounded 1 name (bare_fields xs)) e (laws.bounds 1 name xs) x.1),
+          (unwritten_map (head_of (uncovered_forms (resolved_fields_from 1 xs))) (IsBounded 1 name xs)
+              (IsBounded 1 name (bare_fields xs)) e (laws.bounds 1 name xs) x.1),
       refl,
     );
   }
@@ -175,12 +179,15 @@ module _ (laws : Laws) where
   number_kind t (held.Fields xs) is above s name = laws.numbers 1 xs above s name
   number_kind t (held.Binary ps) is above s name = refl
 
-  number_bare : (t : TextModule) → IsReady (module_of t) 1 → (s : Space) (name : List ℕ) → number_in (module_of (bare_module t)) s name ≡ number_in (module_of t) s name
+  number_bare : (t : TextModule) → IsReady (module_of t) 1 → (s : Space) (name : List ℕ)
+      → number_in (module_of (bare_module t)) s name ≡ number_in (module_of t) s name
   number_bare t ready s name = number_kind t t.kind refl (past t ready) s name
 
-  unresolved_kind : (k : TextKind) (e : Error) (left : ModuleKind) → ResolvesKind 1 (kind_of k) (Err e) left → ResolvesKind 1 (kind_of (bare_kind k)) (Err e) (kind.Refused e)
+  unresolved_kind : (k : TextKind) (e : Error) (left : ModuleKind) → ResolvesKind 1 (kind_of k) (Err e) left
+      → ResolvesKind 1 (kind_of (bare_kind k)) (Err e) (kind.Refused e)
   unresolved_kind (held.Fields xs) e left x = (
-    answers_map (IsTooLarge 1 xs) (IsTooLarge 1 (bare_fields xs)) (diagnostic_of e) (first_unmet (demands (explicit_fields xs))) (first_unmet (demands (explicit_fields (bare_fields xs))))
+    answers_map (IsTooLarge 1 xs) (IsTooLarge 1 (bare_fields xs)) (diagnostic_of e)
+        (first_unmet (demands (explicit_fields xs))) (first_unmet (demands (explicit_fields (bare_fields xs))))
         (laws.large 1 xs).0 (laws.answer xs) x.0,
     refl,
   )
@@ -201,7 +208,8 @@ module _ (laws : Laws) where
   listed_bare t (Err (answer.Module e)) (inr x) = inr (ready_bare t x.0, x.1)
   listed_bare t (Err (answer.Uncovered u)) x = x
 
-  pub numbered_bare : (s : Space) (name : List ℕ) (t : TextModule) (r : Result (Option ℕ) Refused) → NumbersText s name t r → NumbersText s name (bare_module t) r
+  pub numbered_bare : (s : Space) (name : List ℕ) (t : TextModule) (r : Result (Option ℕ) Refused)
+      → NumbersText s name t r → NumbersText s name (bare_module t) r
   numbered_bare s name t (Ok found) x = record {
     resolves = resolvable_bare t x.resolves;
     denotes = x.denotes ∙ sym (number_bare t x.resolves.ready s name);

@@ -1,5 +1,6 @@
 -- The list that a lister makes of the items that it visits.
-use Rattle.std.proofs.Common.{◌≡◌, ◌+◌, ◌<◌, ℕ, true, false, cond, List, [], ◌∷◌, ◌++◌, map, flat_map, length, take, get_or, Option, Some, None, refl, sym, ap, ◌∙◌, subst, append_assoc, append-nil, length-append, arith}
+use Rattle.std.proofs.Common.{◌≡◌, ◌+◌, ◌<◌, ℕ, true, false, cond, List, [], ◌∷◌, ◌++◌, map, flat_map, length, take, get_or}
+use Rattle.std.proofs.Common.{Option, Some, None, refl, sym, ap, ◌∙◌, subst, append_assoc, append-nil, length-append, arith}
 use Rattle.std.proofs.lemmas.List.{map-append, take_more, flat_map_more}
 use Rattle.wast_base.specs.declared.ids.Span.{Span}
 use Rattle.wast_base.specs.declared.spaces.Space.{Space}
@@ -24,16 +25,19 @@ written_id (Written text) place is = refl
 written_id (Generated n) place is = absurd cc
 
 -- One more item, without a source id or with one.
-pub adds_none : (a b : Lister) (id : Option Mark) → id ≡ None → b.space ≡ a.space → b.is_stopped ≡ a.is_stopped → b.next ≡ a.next + 1 → b.listed.items ≡ a.listed.items → ListsOn a (id ∷ []) b
+pub adds_none : (a b : Lister) (id : Option Mark) → id ≡ None → b.space ≡ a.space → b.is_stopped ≡ a.is_stopped
+    → b.next ≡ a.next + 1 → b.listed.items ≡ a.listed.items → ListsOn a (id ∷ []) b
 adds_none a b id none space stopped next listed =
     record {
       space = space;
       runs = λ r. sym stopped ∙ r;
       next = λ r. next;
-      listed = λ r. ap (map content_of) listed ∙ (sym (append-nil (map content_of a.listed.items)) ∙ ap (λ o. map content_of a.listed.items ++ map (λ e. (a.space, e)) (named_from a.next (o ∷ []))) (sym none));
+      listed = λ r. ap (map content_of) listed ∙ (sym (append-nil (map content_of a.listed.items))
+          ∙ ap (λ o. map content_of a.listed.items ++ map (λ e. (a.space, e)) (named_from a.next (o ∷ []))) (sym none));
     }
 
-pub adds_entry : (a b : Lister) (id : Option Mark) (d : Denoted) → id ≡ Some (mark_of d.id) → d.space ≡ a.space → d.number ≡ a.next → b.space ≡ a.space → b.is_stopped ≡ a.is_stopped → b.next ≡ a.next + 1
+pub adds_entry : (a b : Lister) (id : Option Mark) (d : Denoted) → id ≡ Some (mark_of d.id) → d.space ≡ a.space
+    → d.number ≡ a.next → b.space ≡ a.space → b.is_stopped ≡ a.is_stopped → b.next ≡ a.next + 1
     → b.listed.items ≡ a.listed.items ++ d ∷ [] → ListsOn a (id ∷ []) b
 adds_entry a b id d some own number space stopped next listed =
     let entry : content_of d ≡ (a.space, (a.next, mark_of d.id)) = λ i. (own i, (number i, mark_of d.id)) in
@@ -44,7 +48,8 @@ adds_entry a b id d some own number space stopped next listed =
       listed = λ r.
           ap (map content_of) listed
           ∙ (map-append content_of a.listed.items (d ∷ [])
-          ∙ (ap (λ e. map content_of a.listed.items ++ e ∷ []) entry ∙ ap (λ o. map content_of a.listed.items ++ map (λ e. (a.space, e)) (named_from a.next (o ∷ []))) (sym some)));
+          ∙ (ap (λ e. map content_of a.listed.items ++ e ∷ []) entry
+              ∙ ap (λ o. map content_of a.listed.items ++ map (λ e. (a.space, e)) (named_from a.next (o ∷ []))) (sym some)));
     }
 
 -- After a failure nothing is said.
@@ -67,7 +72,8 @@ after : (s : Space) (n : ℕ) (all : List Entry) (xs ys : List (Option Mark))
     → (all ++ map (λ e. (s, e)) (named_from n xs)) ++ map (λ e. (s, e)) (named_from (n + length xs) ys) ≡ all ++ map (λ e. (s, e)) (named_from n (xs ++ ys))
 after s n all xs ys =
     append_assoc all (map (λ e. (s, e)) (named_from n xs)) (map (λ e. (s, e)) (named_from (n + length xs) ys))
-    ∙ ap (λ l. all ++ l) (sym (map-append (λ e. (s, e)) (named_from n xs) (named_from (n + length xs) ys)) ∙ ap (map (λ e. (s, e))) (sym (named_append n xs ys)))
+    ∙ ap (λ l. all ++ l)
+        (sym (map-append (λ e. (s, e)) (named_from n xs) (named_from (n + length xs) ys)) ∙ ap (map (λ e. (s, e))) (sym (named_append n xs ys)))
 
 -- Items after others.
 pub lists_both : (a b c : Lister) (xs ys : List (Option Mark)) → ListsOn a xs b → ListsOn b ys c → ListsOn a (xs ++ ys) c

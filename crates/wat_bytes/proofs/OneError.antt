@@ -66,7 +66,8 @@ both_kinds : (n : Option (List ℕ)) (k : TextKind) (d e : Error) (left rest : M
 both_kinds n (held.Fields xs) d e left rest x y = both_unencoded n xs d e left rest x y
 both_kinds n (held.Binary ps) d e left rest x y = inl (inl (ap diagnostic_of x.0))
 
-both_ready : (m : TextModule) (d e : Error) → EncodesReady (module_of m) (Err d) → EncodesReady (module_of m) (Err e) → AreOne (diagnostic_of d) (diagnostic_of e)
+both_ready : (m : TextModule) (d e : Error) → EncodesReady (module_of m) (Err d)
+    → EncodesReady (module_of m) (Err e) → AreOne (diagnostic_of d) (diagnostic_of e)
 both_ready m d e x y = both_kinds (name_of_module (module_of m)) m.kind d e x.left y.left x.encodes y.encodes
 
 -- The same for the errors of calls. An unsupported construct is not of limits.

@@ -63,7 +63,8 @@ module _ (s : Space) where
   own true n x e = let g = given n x e in ap ids g.new ∙ sym (ap ids g.old)
 
   -- the source ids of a field whose inline parts are expanded, and of the fields after it
-  of_field : (r : Reference) (x : ModuleField) (ys : List ModuleField) → ids (items (desugar_field r x ++ ys)) ≡ (ids (segments x) ++ ids (items_in x)) ++ ids (items ys)
+  of_field : (r : Reference) (x : ModuleField) (ys : List ModuleField)
+      → ids (items (desugar_field r x ++ ys)) ≡ (ids (segments x) ++ ids (items_in x)) ++ ids (items ys)
   of_field r x ys =
       ap ids (flat_map-append items_in (desugar_field r x) ys ∙ ap (λ zs. zs ++ items ys) (field_items r x))
       ∙ (ids_both (segments x ++ items_in x) (items ys) ∙ ap (λ l. l ++ ids (items ys)) (ids_both (segments x) (items_in x)))
@@ -81,7 +82,8 @@ module _ (s : Space) where
   completed xs =
       ap ids (flat_map-append items_in xs (map unnamed_type (implied_signatures xs))) ∙ ids_both (items xs) (items (map unnamed_type (implied_signatures xs)))
 
-  both_completed : (n : ℕ) (xs : List ModuleField) → ids (items (fields_with_implied_types (desugared_from n xs))) ≡ ids (items (fields_with_implied_types (desugared_by_position xs)))
+  both_completed : (n : ℕ) (xs : List ModuleField)
+      → ids (items (fields_with_implied_types (desugared_from n xs))) ≡ ids (items (fields_with_implied_types (desugared_by_position xs)))
   both_completed n xs =
       let types = alike_implied (written_looks n xs) in
       completed (desugared_from n xs)
@@ -94,14 +96,16 @@ module _ (s : Space) where
   resolved n xs = ap ids (finished_items n xs) ∙ explicit n xs
 
 -- Items with the same source ids in each index space have the same entries.
-entries_alike : (xs ys : List Item) → ((s : Space) → flat_map (id_in s) xs ≡ flat_map (id_in s) ys) → (ss : List Space) → flat_map (entries_in xs) ss ≡ flat_map (entries_in ys) ss
+entries_alike : (xs ys : List Item) → ((s : Space) → flat_map (id_in s) xs ≡ flat_map (id_in s) ys)
+    → (ss : List Space) → flat_map (entries_in xs) ss ≡ flat_map (entries_in ys) ss
 entries_alike xs ys same [] = refl
 entries_alike xs ys same (s ∷ ss) = λ i. map (λ e. (s, e)) (named_from 0 (same s i)) ++ entries_alike xs ys same ss i
 
 -- The entries of a resolved module are those of the module before.
 pub entries_held : (old new : ModuleKind) (names : KnownNames) → ResolvesKind 1 old (Ok names) new → entries_of (items_held new) ≡ entries_of (items_of old)
 entries_held (kind.Text fields) new names h =
-    ap (λ k. entries_of (items_held k)) h.1 ∙ entries_alike (items (resolved_fields_from 1 fields)) (items (explicit_fields fields)) (λ s. resolved s 1 fields) spaces
+    ap (λ k. entries_of (items_held k)) h.1
+    ∙ entries_alike (items (resolved_fields_from 1 fields)) (items (explicit_fields fields)) (λ s. resolved s 1 fields) spaces
 entries_held (kind.Binary pieces) new names h = ap (λ k. entries_of (items_held k)) h.1
 entries_held (kind.Refused e) new names h = absurd h
 

@@ -39,7 +39,8 @@ ready bytes m is =
     let p = (of_text bytes).at m is in
     record {
       well_formed = kind_well m.kind p.1;
-      above = below_one (generation_or_zero (mark_of_option m.id)) (bound_of_kind (kind_of m.kind)) (mark_zero (mark_of_option m.id) p.0) (kind_zero m.kind p.1);
+      above = below_one (generation_or_zero (mark_of_option m.id)) (bound_of_kind (kind_of m.kind))
+          (mark_zero (mark_of_option m.id) p.0) (kind_zero m.kind p.1);
     }
 
 -- So may the module that `read` returns.

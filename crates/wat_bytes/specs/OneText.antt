@@ -43,7 +43,8 @@ diagnostic_in (answer.Uncovered u) = Some (diagnostic_of (error_without_place (f
 -- Two calls that fail return the same error of the module, or both return an error of the text, unless one fails because of a limit.
 -- For example, `(module (start $f))` has E4 at `$f` each time.
 abbrev pub SameError : Type 0
-SameError = (bytes : List ℕ) (q r : Refused) → OfText EncodesText bytes (Err q) → OfText EncodesText bytes (Err r) → IsOfLimits q ⊎ (IsOfLimits r ⊎ (diagnostic_in q ≡ diagnostic_in r))
+SameError = (bytes : List ℕ) (q r : Refused) → OfText EncodesText bytes (Err q)
+    → OfText EncodesText bytes (Err r) → IsOfLimits q ⊎ (IsOfLimits r ⊎ (diagnostic_in q ≡ diagnostic_in r))
 
 -- Two calls that look a name up in one index space return the same index, or both return none.
 abbrev pub SameNumber : Type 0
@@ -51,11 +52,13 @@ SameNumber = (s : Space) (name bytes : List ℕ) (m n : Option ℕ) → OfText (
 
 -- If a name is looked up with success, no other call with this name and index space fails for a cause that is in the text.
 abbrev pub SameLookUp : Type 0
-SameLookUp = (s : Space) (name bytes : List ℕ) (found : Option ℕ) (r : Refused) → OfText (NumbersText s name) bytes (Ok found) → OfText (NumbersText s name) bytes (Err r) → IsOfLimits r
+SameLookUp = (s : Space) (name bytes : List ℕ) (found : Option ℕ) (r : Refused)
+    → OfText (NumbersText s name) bytes (Ok found) → OfText (NumbersText s name) bytes (Err r) → IsOfLimits r
 
 -- Two calls that succeed list the same names with the same indices and positions, in the same order.
 abbrev pub SameList : Type 0
-SameList = (bytes : List ℕ) (a b : Vec Denoted) → OfText ListsText bytes (Ok a) → OfText ListsText bytes (Ok b) → map content_of a.items ≡ map content_of b.items
+SameList = (bytes : List ℕ) (a b : Vec Denoted) → OfText ListsText bytes (Ok a)
+    → OfText ListsText bytes (Ok b) → map content_of a.items ≡ map content_of b.items
 
 -- If a list is returned, no other call fails for a cause that is in the text.
 abbrev pub SameListing : Type 0

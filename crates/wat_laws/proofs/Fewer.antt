@@ -5,10 +5,12 @@ use Rattle.wat_grammar.specs.Parts.{◌>>=◌}
 use Rattle.wat_tokens.specs.declared.words.Key.{Key}
 use Rattle.wat_tokens.specs.declared.tokens.Token.{Token}
 use Rattle.wat_tokens.specs.declared.tokens.Placed.{Placed}
-use Rattle.wat_syntax.specs.Tokens.{Toks, Parse, first, after, after_first, count, peek, is_lparen, is_rparen, is_key, key_of, is_form, lparen, rparen, keyword, form, keyword_in, optional, is_there, many, many_lists}
+use Rattle.wat_syntax.specs.Tokens.{Toks, Parse, first, after, after_first, count, peek, is_lparen, is_rparen, is_key, key_of}
+use Rattle.wat_syntax.specs.Tokens.{is_form, lparen, rparen, keyword, form, keyword_in, optional, is_there, many, many_lists}
 use Rattle.std.specs.Prelude.{if◌then◌else◌}
 use Rattle.std.specs.Str.{is_utf8}
-use Rattle.wat_syntax.specs.Values.{number_text, number_in, number, u32, string, string_in, name, id, id_in, name_annotation, index, optional_index, index_or_zero, is_name, annotation_of, is_index}
+use Rattle.wat_syntax.specs.Values.{number_text, number_in, number, u32, string, string_in, name, id, id_in}
+use Rattle.wat_syntax.specs.Values.{name_annotation, index, optional_index, index_or_zero, is_name, annotation_of, is_index}
 
 -- what a rule made leaves so many tokens at most
 pub record Fewer {T : Type 0} (n : ℕ) (o : Parse T) : Type 0 where
@@ -53,11 +55,13 @@ pub cond : {T : Type 0} {n : ℕ} (c : Bool) {a b : Parse T} → Fewer n a → F
 cond true a b = a
 cond false a b = b
 
-pub if_taken : {T : Type 0} {n : ℕ} (o : Option Toks) {f : Toks → Parse T} {b : Parse T} → Takes n o → ((t : Toks) → count t ≤ n → Fewer n (f t)) → Fewer n b → Fewer n (elim o [ Some t ↦ f t | None ↦ b ])
+pub if_taken : {T : Type 0} {n : ℕ} (o : Option Toks) {f : Toks → Parse T} {b : Parse T} → Takes n o
+    → ((t : Toks) → count t ≤ n → Fewer n (f t)) → Fewer n b → Fewer n (elim o [ Some t ↦ f t | None ↦ b ])
 if_taken None h k b = b
 if_taken (Some t) h k b = k t (h.at t refl)
 
-pub if_read : {S T : Type 0} {n : ℕ} (o : Parse S) {f : S × Toks → Parse T} {b : Parse T} → Fewer n o → ((x : S × Toks) → count x.1 ≤ n → Fewer n (f x)) → Fewer n b → Fewer n (elim o [ Some x ↦ f x | None ↦ b ])
+pub if_read : {S T : Type 0} {n : ℕ} (o : Parse S) {f : S × Toks → Parse T} {b : Parse T} → Fewer n o
+    → ((x : S × Toks) → count x.1 ≤ n → Fewer n (f x)) → Fewer n b → Fewer n (elim o [ Some x ↦ f x | None ↦ b ])
 if_read None h k b = b
 if_read (Some t) h k b = k t (h.at t refl)
 
@@ -148,13 +152,17 @@ module _ (n : ℕ) (t : Toks) (h : count t ≤ n) where
 
 -- parts one after another
 module _ (n : ℕ) where
-  pub many_fewer : {T : Type 0} (is_next : Toks → Bool) (part : Toks → Parse T) → ((t : Toks) → count t ≤ n → Fewer n (part t)) → (k : ℕ) (t : Toks) → count t ≤ n → Fewer n (many is_next part k t)
+  pub many_fewer : {T : Type 0} (is_next : Toks → Bool) (part : Toks → Parse T)
+      → ((t : Toks) → count t ≤ n → Fewer n (part t)) → (k : ℕ) (t : Toks) → count t ≤ n → Fewer n (many is_next part k t)
   many_fewer is_next part p zero t h = done n [] t h
-  many_fewer is_next part p (suc k) t h = either (is_next t) (and_then (p t h) (λ x h. and_then (many_fewer is_next part p k x.1 h) (λ xs h. done n _ xs.1 h))) (done n [] t h)
+  many_fewer is_next part p (suc k) t h =
+      either (is_next t) (and_then (p t h) (λ x h. and_then (many_fewer is_next part p k x.1 h) (λ xs h. done n _ xs.1 h))) (done n [] t h)
 
-  pub lists_fewer : {T : Type 0} (is_next : Toks → Bool) (part : Toks → Parse (List T)) → ((t : Toks) → count t ≤ n → Fewer n (part t)) → (k : ℕ) (t : Toks) → count t ≤ n → Fewer n (many_lists is_next part k t)
+  pub lists_fewer : {T : Type 0} (is_next : Toks → Bool) (part : Toks → Parse (List T))
+      → ((t : Toks) → count t ≤ n → Fewer n (part t)) → (k : ℕ) (t : Toks) → count t ≤ n → Fewer n (many_lists is_next part k t)
   lists_fewer is_next part p zero t h = done n [] t h
-  lists_fewer is_next part p (suc k) t h = either (is_next t) (and_then (p t h) (λ x h. and_then (lists_fewer is_next part p k x.1 h) (λ xs h. done n _ xs.1 h))) (done n [] t h)
+  lists_fewer is_next part p (suc k) t h =
+      either (is_next t) (and_then (p t h) (λ x h. and_then (lists_fewer is_next part p k x.1 h) (λ xs h. done n _ xs.1 h))) (done n [] t h)
 
   pub name_annotation_fewer : (t : Toks) → count t ≤ n → Fewer n (name_annotation t)
   name_annotation_fewer t h = either (is_name (annotation_of (peek 0 t)))

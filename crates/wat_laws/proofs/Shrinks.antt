@@ -28,10 +28,19 @@ use Rattle.wat_syntax.specs.Tree.plain as plainly
 use Rattle.wat_syntax.specs.Tree.bare
 use Rattle.wat_syntax.specs.Tokens.{Toks, Parse, first, is_lparen, keyword_in, after, count, peek, keyword, form, is_form, word_of}
 use Rattle.wat_syntax.specs.Values.{id, index}
-use Rattle.wat_syntax.specs.Types.{absheaptype, heaptype_form, heaptype, refword, shared_reftype, reftype_form, reftype, numtype_or_vectype, valtype, valtypes, goes_on, unnamed_param, param, result, all_results, functype, related, typeuse, is_index_next, indices}
-use Rattle.wat_syntax.specs.Instructions.{u8, signed_number, f32, f64, laneidx, times, f64x2, f32x4, i64x2, i32x4, i16x8, v128const, struct_access, memory_ordering, assigned, assignment, offset, align, memarg, is_lane_alone, lane_memarg, one_or_two, none_or_two, select, array_new_fixed, br_table, callindirect, cast, is_switch, handle, on, resumetable, own_instr, atomic_of, ordering_or_default, plaininstr, blocktype, is_catch, catch_of, catch, catches, opener, instruction_of, instruction}
+use Rattle.wat_syntax.specs.Types.{absheaptype, heaptype_form, heaptype, refword, shared_reftype, reftype_form}
+use Rattle.wat_syntax.specs.Types.{reftype, numtype_or_vectype, valtype, valtypes, goes_on, unnamed_param, param}
+use Rattle.wat_syntax.specs.Types.{result, all_results, functype, related, typeuse, is_index_next, indices}
+use Rattle.wat_syntax.specs.Instructions.{u8, signed_number, f32, f64, laneidx, times, f64x2, f32x4, i64x2, i32x4, i16x8, v128const}
+use Rattle.wat_syntax.specs.Instructions.{struct_access, memory_ordering, assigned, assignment, offset, align, memarg, is_lane_alone}
+use Rattle.wat_syntax.specs.Instructions.{lane_memarg, one_or_two, none_or_two, select, array_new_fixed, br_table, callindirect, cast}
+use Rattle.wat_syntax.specs.Instructions.{is_switch, handle, on, resumetable, own_instr, atomic_of, ordering_or_default, plaininstr}
+use Rattle.wat_syntax.specs.Instructions.{blocktype, is_catch, catch_of, catch, catches, opener, instruction_of, instruction}
 use Rattle.wat_laws.specs.Lengths.{TakesToken}
-use Rattle.wat_laws.proofs.Fewer.{one_less, Fewer, none, done, and_then, taking, some_of, either, cond, if_taken, if_read, fewer, lparen_takes, rparen_takes, keyword_takes, form_takes, number_fewer, id_fewer, u32_fewer, index_fewer, optional_fewer, optional_index_fewer, index_or_zero_fewer, many_fewer, name_annotation_fewer, lists_fewer, is_there_fewer, keyword_in_fewer}
+use Rattle.wat_laws.proofs.Fewer.{one_less, Fewer, none, done, and_then, taking, some_of, either, cond, if_taken, if_read}
+use Rattle.wat_laws.proofs.Fewer.{fewer, lparen_takes, rparen_takes, keyword_takes, form_takes, number_fewer, id_fewer}
+use Rattle.wat_laws.proofs.Fewer.{u32_fewer, index_fewer, optional_fewer, optional_index_fewer, index_or_zero_fewer}
+use Rattle.wat_laws.proofs.Fewer.{many_fewer, name_annotation_fewer, lists_fewer, is_there_fewer, keyword_in_fewer}
 
 module _ (n : ℕ) where
   heaptype_form_fewer : (t : Toks) → count t ≤ n → Fewer n (heaptype_form t)
@@ -55,7 +64,8 @@ module _ (n : ℕ) where
       (if_taken (form key.Shared t) (form_takes n t h key.Shared) (λ t h. shared_reftype_fewer t h) (reftype_form_fewer t h))
 
   valtype_fewer : (t : Toks) → count t ≤ n → Fewer n (valtype t)
-  valtype_fewer t h = if_read (keyword_in numtype_or_vectype t) (keyword_in_fewer n t h numtype_or_vectype) (λ x h. done n _ x.1 h) (and_then (reftype_fewer t h) (λ x h. done n _ x.1 h))
+  valtype_fewer t h = if_read (keyword_in numtype_or_vectype t) (keyword_in_fewer n t h numtype_or_vectype)
+      (λ x h. done n _ x.1 h) (and_then (reftype_fewer t h) (λ x h. done n _ x.1 h))
 
   valtypes_fewer : (t : Toks) → count t ≤ n → Fewer n (valtypes t)
   valtypes_fewer t h = many_fewer n goes_on valtype valtype_fewer (count t) t h
@@ -64,7 +74,8 @@ module _ (n : ℕ) where
   unnamed_param_fewer t h = and_then (valtype_fewer t h) (λ x h. done n _ x.1 h)
 
   param_fewer : (t : Toks) → count t ≤ n → Fewer n (param false t)
-  param_fewer t h = taking (form_takes n t h key.Param) (λ t h. and_then (many_fewer n goes_on unnamed_param unnamed_param_fewer (count t) t h) (λ x h. taking (rparen_takes n x.1 h) (λ r h. done n _ r h)))
+  param_fewer t h = taking (form_takes n t h key.Param) (λ t h. and_then
+      (many_fewer n goes_on unnamed_param unnamed_param_fewer (count t) t h) (λ x h. taking (rparen_takes n x.1 h) (λ r h. done n _ r h)))
 
   result_fewer : (t : Toks) → count t ≤ n → Fewer n (result t)
   result_fewer t h = taking (form_takes n t h key.Result) (λ t h. and_then (valtypes_fewer t h) (λ x h. taking (rparen_takes n x.1 h) (λ r h. done n _ r h)))
@@ -73,13 +84,16 @@ module _ (n : ℕ) where
   all_results_fewer t h = lists_fewer n (is_form key.Result) result result_fewer (count t) t h
 
   functype_fewer : (t : Toks) → count t ≤ n → Fewer n (functype false t)
-  functype_fewer t h = and_then (lists_fewer n (is_form key.Param) (param false) param_fewer (count t) t h) (λ x h. and_then (all_results_fewer x.1 h) (λ y h. either (is_form key.Param y.1) (none n) (done n _ y.1 h)))
+  functype_fewer t h = and_then (lists_fewer n (is_form key.Param) (param false) param_fewer (count t) t h)
+      (λ x h. and_then (all_results_fewer x.1 h) (λ y h. either (is_form key.Param y.1) (none n) (done n _ y.1 h)))
 
   related_fewer : (k : Key) (t : Toks) → count t ≤ n → Fewer n (related k t)
-  related_fewer k t h = if_taken (form k t) (form_takes n t h k) (λ t h. and_then (index_fewer n t h) (λ x h. taking (rparen_takes n x.1 h) (λ r h. done n _ r h))) (done n _ t h)
+  related_fewer k t h = if_taken (form k t) (form_takes n t h k)
+      (λ t h. and_then (index_fewer n t h) (λ x h. taking (rparen_takes n x.1 h) (λ r h. done n _ r h))) (done n _ t h)
 
   typeuse_fewer : (t : Toks) → count t ≤ n → Fewer n (typeuse false t)
-  typeuse_fewer t h = and_then (related_fewer key.Ty t h) (λ x h. either (is_form key.Param x.1 || is_form key.Result x.1) (and_then (functype_fewer x.1 h) (λ y h. done n _ y.1 h)) (done n _ x.1 h))
+  typeuse_fewer t h = and_then (related_fewer key.Ty t h) (λ x h. either (is_form key.Param x.1 || is_form key.Result x.1)
+      (and_then (functype_fewer x.1 h) (λ y h. done n _ y.1 h)) (done n _ x.1 h))
 
   indices_fewer : (t : Toks) → count t ≤ n → Fewer n (indices t)
   indices_fewer t h = many_fewer n is_index_next index (λ t h. index_fewer n t h) (count t) t h
@@ -99,7 +113,8 @@ module _ (n : ℕ) where
   laneidx_fewer : (t : Toks) → count t ≤ n → Fewer n (laneidx t)
   laneidx_fewer t h = and_then (u8_fewer t h) (λ x h. done n _ x.1 h)
 
-  times_fewer : {T : Type 0} (k : ℕ) (part : Toks → Parse T) → ((t : Toks) → count t ≤ n → Fewer n (part t)) → (t : Toks) → count t ≤ n → Fewer n (times k part t)
+  times_fewer : {T : Type 0} (k : ℕ) (part : Toks → Parse T) → ((t : Toks) → count t ≤ n → Fewer n (part t))
+      → (t : Toks) → count t ≤ n → Fewer n (times k part t)
   times_fewer zero part p t h = done n [] t h
   times_fewer (suc k) part p t h = and_then (p t h) (λ x h. and_then (times_fewer k part p x.1 h) (λ xs h. done n _ xs.1 h))
 
@@ -107,19 +122,24 @@ module _ (n : ℕ) where
   f64x2_fewer t h = taking (keyword_takes n t h key.F64x2) (λ t h. and_then (times_fewer 2 f64 f64_fewer t h) (λ x h. done n _ x.1 h))
 
   f32x4_fewer : (t : Toks) → count t ≤ n → Fewer n (f32x4 t)
-  f32x4_fewer t h = if_taken (keyword key.F32x4 t) (keyword_takes n t h key.F32x4) (λ t h. and_then (times_fewer 4 f32 f32_fewer t h) (λ x h. done n _ x.1 h)) (f64x2_fewer t h)
+  f32x4_fewer t h = if_taken (keyword key.F32x4 t) (keyword_takes n t h key.F32x4)
+      (λ t h. and_then (times_fewer 4 f32 f32_fewer t h) (λ x h. done n _ x.1 h)) (f64x2_fewer t h)
 
   i64x2_fewer : (t : Toks) → count t ≤ n → Fewer n (i64x2 t)
-  i64x2_fewer t h = if_taken (keyword key.I64x2 t) (keyword_takes n t h key.I64x2) (λ t h. and_then (times_fewer 2 (signed_number 64) (signed_fewer 64) t h) (λ x h. done n _ x.1 h)) (f32x4_fewer t h)
+  i64x2_fewer t h = if_taken (keyword key.I64x2 t) (keyword_takes n t h key.I64x2)
+      (λ t h. and_then (times_fewer 2 (signed_number 64) (signed_fewer 64) t h) (λ x h. done n _ x.1 h)) (f32x4_fewer t h)
 
   i32x4_fewer : (t : Toks) → count t ≤ n → Fewer n (i32x4 t)
-  i32x4_fewer t h = if_taken (keyword key.I32x4 t) (keyword_takes n t h key.I32x4) (λ t h. and_then (times_fewer 4 (signed_number 32) (signed_fewer 32) t h) (λ x h. done n _ x.1 h)) (i64x2_fewer t h)
+  i32x4_fewer t h = if_taken (keyword key.I32x4 t) (keyword_takes n t h key.I32x4)
+      (λ t h. and_then (times_fewer 4 (signed_number 32) (signed_fewer 32) t h) (λ x h. done n _ x.1 h)) (i64x2_fewer t h)
 
   i16x8_fewer : (t : Toks) → count t ≤ n → Fewer n (i16x8 t)
-  i16x8_fewer t h = if_taken (keyword key.I16x8 t) (keyword_takes n t h key.I16x8) (λ t h. and_then (times_fewer 8 (signed_number 16) (signed_fewer 16) t h) (λ x h. done n _ x.1 h)) (i32x4_fewer t h)
+  i16x8_fewer t h = if_taken (keyword key.I16x8 t) (keyword_takes n t h key.I16x8)
+      (λ t h. and_then (times_fewer 8 (signed_number 16) (signed_fewer 16) t h) (λ x h. done n _ x.1 h)) (i32x4_fewer t h)
 
   v128_fewer : (t : Toks) → count t ≤ n → Fewer n (v128const t)
-  v128_fewer t h = if_taken (keyword key.I8x16 t) (keyword_takes n t h key.I8x16) (λ t h. and_then (times_fewer 16 (signed_number 8) (signed_fewer 8) t h) (λ x h. done n _ x.1 h)) (i16x8_fewer t h)
+  v128_fewer t h = if_taken (keyword key.I8x16 t) (keyword_takes n t h key.I8x16)
+      (λ t h. and_then (times_fewer 16 (signed_number 8) (signed_fewer 8) t h) (λ x h. done n _ x.1 h)) (i16x8_fewer t h)
 
   access_fewer : (t : Toks) → count t ≤ n → Fewer n (struct_access t)
   access_fewer t h = and_then (index_fewer n t h) (λ x h. and_then (index_fewer n x.1 h) (λ y h. done n _ y.1 h))
@@ -132,17 +152,20 @@ module _ (n : ℕ) where
   assignment_fewer name t h = some_of (assigned name (peek 0 t)) (λ text. done n text (after t) (fewer n t h))
 
   offset_fewer : (t : Toks) → count t ≤ n → Fewer n (offset t)
-  offset_fewer t h = if_read (assignment (codes "offset=") t) (assignment_fewer (codes "offset=") t h) (λ x h. some_of (uN 64 x.0) (λ k. done n k x.1 h)) (done n _ t h)
+  offset_fewer t h = if_read (assignment (codes "offset=") t) (assignment_fewer (codes "offset=") t h)
+      (λ x h. some_of (uN 64 x.0) (λ k. done n k x.1 h)) (done n _ t h)
 
   align_fewer : (N : ℕ) (t : Toks) → count t ≤ n → Fewer n (align N t)
   align_fewer N t h = if_read (assignment (codes "align=") t) (assignment_fewer (codes "align=") t h)
       (λ x h. some_of (uN 64 x.0) (λ k. cond (is_power_of_two k) (done n k x.1 h) (none n))) (done n _ t h)
 
   memarg_fewer : (N : ℕ) (t : Toks) → count t ≤ n → Fewer n (memarg N t)
-  memarg_fewer N t h = and_then (ordering_fewer t h) (λ o h. and_then (index_or_zero_fewer n o.1 h) (λ x h. and_then (offset_fewer x.1 h) (λ k h. and_then (align_fewer N k.1 h) (λ a h. done n _ a.1 h))))
+  memarg_fewer N t h = and_then (ordering_fewer t h) (λ o h. and_then (index_or_zero_fewer n o.1 h)
+      (λ x h. and_then (offset_fewer x.1 h) (λ k h. and_then (align_fewer N k.1 h) (λ a h. done n _ a.1 h))))
 
   lane_memarg_fewer : (N : ℕ) (t : Toks) → count t ≤ n → Fewer n (lane_memarg N t)
-  lane_memarg_fewer N t h = either (is_lane_alone t) (and_then (laneidx_fewer t h) (λ l h. done n _ l.1 h)) (and_then (memarg_fewer N t h) (λ x h. and_then (laneidx_fewer x.1 h) (λ l h. done n _ l.1 h)))
+  lane_memarg_fewer N t h = either (is_lane_alone t) (and_then (laneidx_fewer t h) (λ l h. done n _ l.1 h))
+      (and_then (memarg_fewer N t h) (λ x h. and_then (laneidx_fewer x.1 h) (λ l h. done n _ l.1 h)))
 
   one_or_two_fewer : (t : Toks) → count t ≤ n → Fewer n (one_or_two t)
   one_or_two_fewer t h = and_then (index_fewer n t h) (λ x h. and_then (optional_index_fewer n x.1 h) (λ y h. by x.0 y.0 y.1 h))
@@ -156,7 +179,8 @@ module _ (n : ℕ) where
   none_or_two_fewer t h = and_then (optional_index_fewer n t h) (λ x h. by x.0 x.1 h)
     where
       by : (o : Option Index) (r : Toks) → count r ≤ n
-          → Fewer {T = Index × Index} n (elim o [ Some first ↦ index r >>= λ y. Some ((first, y.0), y.1) | None ↦ Some ((by_id.Num 0 t.before, by_id.Num 0 t.before), r) ])
+          → Fewer {T = Index × Index} n
+              (elim o [ Some first ↦ index r >>= λ y. Some ((first, y.0), y.1) | None ↦ Some ((by_id.Num 0 t.before, by_id.Num 0 t.before), r) ])
       by None r h = done n _ r h
       by (Some x) r h = and_then (index_fewer n r h) (λ y h. done n _ y.1 h)
 
@@ -209,7 +233,8 @@ module _ (n : ℕ) where
   own_fewer own.array_new_fixed t h = new_fixed_fewer t h
   own_fewer own.atomic_fence t h = and_then (ordering_fewer t h) (λ x h. done n _ x.1 h)
   own_fewer own.resume t h = and_then (index_fewer n t h) (λ x h. and_then (resume_fewer x.1 h) (λ y h. done n _ y.1 h))
-  own_fewer own.resume_throw t h = and_then (index_fewer n t h) (λ x h. and_then (index_fewer n x.1 h) (λ y h. and_then (resume_fewer y.1 h) (λ z h. done n _ z.1 h)))
+  own_fewer own.resume_throw t h =
+      and_then (index_fewer n t h) (λ x h. and_then (index_fewer n x.1 h) (λ y h. and_then (resume_fewer y.1 h) (λ z h. done n _ z.1 h)))
   own_fewer own.resume_throw_ref t h = and_then (index_fewer n t h) (λ x h. and_then (resume_fewer x.1 h) (λ y h. done n _ y.1 h))
 
   atomic_of_fewer : (op : AtomicOp) (o : Ordering) (t : Toks) → count t ≤ n → Fewer n (atomic_of op o t)
@@ -236,7 +261,8 @@ module _ (n : ℕ) where
   plain_fewer w name t h = none n
 
   blocktype_fewer : (t : Toks) → count t ≤ n → Fewer n (blocktype t)
-  blocktype_fewer t h = and_then (optional_fewer n t h id (id_fewer n t h)) (λ l h. and_then (name_annotation_fewer n l.1 h) (λ a h. and_then (typeuse_fewer a.1 h) (λ u h. done n _ u.1 h)))
+  blocktype_fewer t h = and_then (optional_fewer n t h id (id_fewer n t h))
+      (λ l h. and_then (name_annotation_fewer n l.1 h) (λ a h. and_then (typeuse_fewer a.1 h) (λ u h. done n _ u.1 h)))
 
   catch_of_fewer : (w : Option Word) (t : Toks) → count t ≤ n → Fewer n (catch_of w t)
   catch_of_fewer (Some (word.Index one.Catch)) t h = and_then (index_fewer n t h) (λ x h. and_then (index_fewer n x.1 h) (λ y h. done n _ y.1 h))
@@ -246,7 +272,8 @@ module _ (n : ℕ) where
   catch_of_fewer w t h = none n
 
   catch_fewer : (t : Toks) → count t ≤ n → Fewer n (catch t)
-  catch_fewer t h = taking (lparen_takes n t h) (λ t h. and_then (catch_of_fewer (word_of (peek 0 t)) (after t) (fewer n t h)) (λ c h. taking (rparen_takes n c.1 h) (λ r h. done n _ r h)))
+  catch_fewer t h = taking (lparen_takes n t h) (λ t h. and_then (catch_of_fewer (word_of (peek 0 t)) (after t) (fewer n t h))
+      (λ c h. taking (rparen_takes n c.1 h) (λ r h. done n _ r h)))
 
   catches_fewer : (t : Toks) → count t ≤ n → Fewer n (catches t)
   catches_fewer t h = many_fewer n is_catch catch catch_fewer (count t) t h

@@ -17,7 +17,12 @@ use Rattle.wat_tokens.specs.declared.tokens.Token.{Token}
 use Rattle.wat_tokens.specs.declared.tokens.Token.TheVariants as token
 use Rattle.wat_syntax.specs.Tokens.{Toks, peek, after, count, word_of, is_lparen, is_end, lparen, rparen, form, is_form}
 use Rattle.wat_syntax.specs.Values.{string, annotation_of}
-use Rattle.wat_syntax.specs.Bodies.{Item, Instr, Hint, Place, Anywhere, Folded, Catches, CatchArms, Rule, Within, ◌>>◌, terminal, writes, choice, is_hint, hint_value, hint, hinted, Part, End, Else, Catch, CatchAll, Delegate, part_of, same_part, part_in, is_arm, arm_word, Next, Ends, Folds, Opens, Stands, Catching, CatchingArm, next_of_word, next_of_token, next_of, catch_tag, delegate_label, arm, ends, else_arm, folded_if, catch_arm, catch_all_arm, handlers, folded_block, operands, folded_by, foldedinstr, is_part, part, to_end, rest_of_block, sequence, sequences, expression_of, at_end, expression, folded_expression}
+use Rattle.wat_syntax.specs.Bodies.{Item, Instr, Hint, Place, Anywhere, Folded, Catches, CatchArms, Rule, Within, ◌>>◌, terminal, writes}
+use Rattle.wat_syntax.specs.Bodies.{choice, is_hint, hint_value, hint, hinted, Part, End, Else, Catch, CatchAll, Delegate, part_of}
+use Rattle.wat_syntax.specs.Bodies.{same_part, part_in, is_arm, arm_word, Next, Ends, Folds, Opens, Stands, Catching, CatchingArm}
+use Rattle.wat_syntax.specs.Bodies.{next_of_word, next_of_token, next_of, catch_tag, delegate_label, arm, ends, else_arm, folded_if}
+use Rattle.wat_syntax.specs.Bodies.{catch_arm, catch_all_arm, handlers, folded_block, operands, folded_by, foldedinstr, is_part, part}
+use Rattle.wat_syntax.specs.Bodies.{to_end, rest_of_block, sequence, sequences, expression_of, at_end, expression, folded_expression}
 use Rattle.wat_ready.proofs.Parses.{Of, the_same, nothing, done, bind, skip, either, Each}
 use Rattle.wat_ready.proofs.Checks.{SiteOk}
 use Rattle.wat_ready.proofs.Nesting.{Move, Up, Flat, move_of, Leads, Everywhere, Good, finish, step, hint_step, append, balanced, hints_are_on, checked}
@@ -80,7 +85,8 @@ of_hint may_hint t = either (is_hint (annotation_of (peek 0 t))) (skip (string (
     given true v r e = done (with_one v e)
     given false v r e = nothing
 
-    by : (r : Toks) (o : Option ℕ) → ((v : ℕ) → o ≡ Some v → nat_lt v 2 ≡ true) → Of HintOk (o >>= λ v. rparen r >>= λ rest. if may_hint then Some (Hint v ∷ [], rest) else None)
+    by : (r : Toks) (o : Option ℕ) → ((v : ℕ) → o ≡ Some v → nat_lt v 2 ≡ true)
+        → Of HintOk (o >>= λ v. rparen r >>= λ rest. if may_hint then Some (Hint v ∷ [], rest) else None)
     by r None ok = nothing
     by r (Some v) ok = skip (rparen r) (λ rest. given may_hint v rest (ok v refl))
 
@@ -188,7 +194,8 @@ module _ (within : Within) (is : (d : ℕ) (place : Place) → Gives d d (within
     of_folded_by (Some v) w = by_part (part_of (Some v)) w
 
   of_foldedinstr : (d : ℕ) (h : List Item) → HintOk h → Gives d d (foldedinstr within h)
-  of_foldedinstr d h ok = record { at = λ toks. skip (lparen toks) (λ t. bind (of_instruction t) (λ i w. (of_folded_by d h ok i.0 (word_of (peek 0 t)) w).at i.1)) }
+  of_foldedinstr d h ok =
+      record { at = λ toks. skip (lparen toks) (λ t. bind (of_instruction t) (λ i w. (of_folded_by d h ok i.0 (word_of (peek 0 t)) w).at i.1)) }
 
 module _ (may_hint : Bool) where
   of_part : (p : Part) {a b : ℕ} → Leads (move_in (Some p)) a b → Gives a b (part may_hint p)
@@ -204,22 +211,26 @@ module _ (may_hint : Bool) where
     of_to_end = is (suc d) Anywhere >>> of_part End refl
 
     of_rest_of_block : (op : BlockOp) → Gives (suc d) d (rest_of_block may_hint op within)
-    of_rest_of_block opens.if_ = is (suc d) Anywhere >>> chooses (is_part may_hint Else) (of_part Else {a = suc d} {b = suc d} refl >>> of_to_end) (of_part End refl)
+    of_rest_of_block opens.if_ =
+        is (suc d) Anywhere >>> chooses (is_part may_hint Else) (of_part Else {a = suc d} {b = suc d} refl >>> of_to_end) (of_part End refl)
     of_rest_of_block opens.try_ = is (suc d) Anywhere >>> chooses (is_part may_hint Delegate) (of_part Delegate refl)
         (is (suc d) Catches >>> chooses (is_part may_hint CatchAll) (of_part CatchAll {a = suc d} {b = suc d} refl >>> of_to_end) (of_part End refl))
     of_rest_of_block op = of_to_end
 
-    of_sequence : (n : Next) (place : Place) (toks : Toks) (h : List Item) → HintOk h → (t : Toks) → Agrees n (move_at (word_of (peek 0 t))) → Of (Good d d) (sequence may_hint within n place toks h t)
+    of_sequence : (n : Next) (place : Place) (toks : Toks) (h : List Item) → HintOk h → (t : Toks)
+        → Agrees n (move_at (word_of (peek 0 t))) → Of (Good d d) (sequence may_hint within n place toks h t)
     of_sequence Ends place toks h ok t e = done (finish refl)
     of_sequence Folds place toks h ok t e = (of_foldedinstr within is d h ok >>> is d place).at t
-    of_sequence (Opens op) place toks h ok t e = at_first {b = suc d} (hinted h) _ t (of_hinted {k = Up} {b = suc d} h ok refl t e) (of_rest_of_block op >>> is d place)
+    of_sequence (Opens op) place toks h ok t e =
+        at_first {b = suc d} (hinted h) _ t (of_hinted {k = Up} {b = suc d} h ok refl t e) (of_rest_of_block op >>> is d place)
     of_sequence Stands place toks h ok t e = at_first {b = d} (hinted h) _ t (of_hinted {k = Flat} {b = d} h ok refl t e) (is d place)
     of_sequence Catching place toks h ok t e = at_first {b = d} (hinted h) _ t (of_hinted {k = Flat} {b = d} h ok refl t e) (is d Anywhere >>> is d place)
     of_sequence CatchingArm place toks h ok t e = (of_catch_arm within is d >>> is d place).at toks
 
   of_sequences : (n : ℕ) (d : ℕ) (place : Place) → Gives d d (sequences may_hint n place)
   of_sequences zero d place = no_rule
-  of_sequences (suc n) d place = record { at = λ toks. bind (of_hint may_hint toks) (λ h ok. of_sequence (sequences may_hint n) (of_sequences n) d (next_of place h.1) place toks h.0 ok h.1 (agrees place h.1)) }
+  of_sequences (suc n) d place = record { at = λ toks. bind (of_hint may_hint toks)
+      (λ h ok. of_sequence (sequences may_hint n) (of_sequences n) d (next_of place h.1) place toks h.0 ok h.1 (agrees place h.1)) }
 
 -- An expression that keeps the rules 2 and 5, with its sites in any surroundings.
 pub record Sound (e : Expression) : Type 0 where
@@ -238,4 +249,5 @@ of_expression may_hint t = bind ((of_sequences may_hint (suc (count t)) 0 Anywhe
 
 pub of_folded : (t : Toks) → Of Sound (folded_expression t)
 of_folded t = skip (lparen t) (λ u. bind (of_instruction u) (λ i w.
-    bind ((of_folded_by (sequences false (suc (count i.1))) (of_sequences false (suc (count i.1))) 0 [] without i.0 (word_of (peek 0 u)) w).at i.1) (λ xs g. done (sound xs.0 g))))
+    bind ((of_folded_by (sequences false (suc (count i.1))) (of_sequences false (suc (count i.1))) 0 [] without i.0 (word_of (peek 0 u)) w).at i.1)
+        (λ xs g. done (sound xs.0 g))))

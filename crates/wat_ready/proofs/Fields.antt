@@ -1,6 +1,7 @@
 -- The fields of a module: no rule reads a generated id, and the rules 1 to 5 of well-formedness hold. Rule by rule, in the order of
 -- wat_syntax.
-use Rattle.std.proofs.Common.{◌≡◌, ℕ, ◌<◌, ◌^◌, nat_lt, count_ones, Bool, true, false, ◌||◌, ◌&&◌, not, is_some, if◌then◌else◌, List, [], ◌∷◌, ◌++◌, flat_map, Option, None, Some, refl, ap, arith}
+use Rattle.std.proofs.Common.{◌≡◌, ℕ, ◌<◌, ◌^◌, nat_lt, count_ones, Bool, true, false, ◌||◌, ◌&&◌, not, is_some}
+use Rattle.std.proofs.Common.{if◌then◌else◌, List, [], ◌∷◌, ◌++◌, flat_map, Option, None, Some, refl, ap, arith}
 use Rattle.std.specs.Borrow.{Bor}
 use Rattle.std.specs.Int.{is_power_of_two, trailing_zeros, w64}
 use Rattle.std.proofs.lemmas.Nat.Bits.{bit_at-trailing_zeros}
@@ -13,13 +14,19 @@ use Rattle.wast_base.specs.Ids.{Name, Mark}
 use Rattle.wast_base.specs.declared.ids.Index.TheVariants as by_number
 use Rattle.wast_tree_nodes.specs.Clauses as clauses
 use Rattle.wast_tree_nodes.specs.Items.{item_of_sig, items_of_import, items_in}
-use Rattle.wast_tree_nodes.specs.Sites.{constant_context, check_sites, if_there, at_index, in_val, in_ref, in_type, in_rec, in_local, param_marks, local_marks, declaration_sites, body_here, in_func_kind, in_func, in_table_type, in_global_type, in_tag_type, in_type_use, in_item_kind, in_sig, in_shared_id, in_import, in_instrs, in_constant, in_payload, in_table_kind, in_memory_kind, in_global_kind, in_global, in_elem_kind, in_elem, in_data_kind, in_subsection, in_custom, in_field}
+use Rattle.wast_tree_nodes.specs.Sites.{constant_context, check_sites, if_there, at_index, in_val, in_ref, in_type, in_rec, in_local}
+use Rattle.wast_tree_nodes.specs.Sites.{param_marks, local_marks, declaration_sites, body_here, in_func_kind, in_func, in_table_type}
+use Rattle.wast_tree_nodes.specs.Sites.{in_global_type, in_tag_type, in_type_use, in_item_kind, in_sig, in_shared_id, in_import}
+use Rattle.wast_tree_nodes.specs.Sites.{in_instrs, in_constant, in_payload, in_table_kind, in_memory_kind, in_global_kind, in_global}
+use Rattle.wast_tree_nodes.specs.Sites.{in_elem_kind, in_elem, in_data_kind, in_subsection, in_custom, in_field}
 use Rattle.wat_tokens.specs.declared.words.Key.{Key}
 use Rattle.wat_tokens.specs.declared.words.Key.TheVariants as key
 use Rattle.wat_tokens.specs.declared.tokens.Token.{Token}
 use Rattle.wat_tokens.specs.declared.tokens.Token.TheVariants as token
 use Rattle.wat_tokens.specs.declared.tokens.Annotation.TheVariants as annotation
-use Rattle.wat_syntax.specs.Tree.{Span, Index, HeapType, RefType, FunctionType, TypeUse, Expression, ItemSig, ImportItems, Imports, InlineImport, ElemKind, ElemPayload, FuncKind, Func, Table, Memory, Global, Elem, Data, Tag, Export, Custom, Dylink0Subsection, ModuleField}
+use Rattle.wat_syntax.specs.Tree.{Span, Index, HeapType, RefType, FunctionType, TypeUse, Expression, ItemSig}
+use Rattle.wat_syntax.specs.Tree.{ImportItems, Imports, InlineImport, ElemKind, ElemPayload, FuncKind, Func, Table}
+use Rattle.wat_syntax.specs.Tree.{Memory, Global, Elem, Data, Tag, Export, Custom, Dylink0Subsection, ModuleField}
 use Rattle.wat_syntax.specs.Tree.space
 use Rattle.wat_syntax.specs.Tree.heap
 use Rattle.wat_syntax.specs.Tree.abstract
@@ -27,17 +34,24 @@ use Rattle.wat_syntax.specs.Tree.elem
 use Rattle.wat_syntax.specs.Tree.payload
 use Rattle.wat_syntax.specs.Tree.custom
 use Rattle.wat_syntax.specs.Tree.dylink
-use Rattle.wat_syntax.specs.Tokens.{Toks, Parse, peek, after, count, is_lparen, is_end, key_of, is_key, lparen, rparen, keyword, form, is_form, is_there, with_parts}
+use Rattle.wat_syntax.specs.Tokens.{Toks, Parse, peek, after, count, is_lparen, is_end, key_of, is_key}
+use Rattle.wat_syntax.specs.Tokens.{lparen, rparen, keyword, form, is_form, is_there, with_parts}
 use Rattle.wat_syntax.specs.Values.{is_number, is_string, name, name_annotation, index, number_text, u64}
 use Rattle.wat_syntax.specs.Types.{is_reftype, goes_on, addrtype, limits, pagesize, memtype}
-use Rattle.wat_syntax.specs.Modules.{Head, inline_exports, inline_import, head, externtype_of, externtype, import_item, import_items_of, import_names, import_group, import_items_from, importfield, tagfield, unnamed_local, local, externidx_keyword, exportfield}
-use Rattle.wat_syntax.specs.Segments.{expression_in, offset_expression, elemexpr, funcref_of, exprs_payload, funcs_payload, funcrefs_payload, elemlist, short_elemlist, optional_number_index, is_func, is_funcref, are_typed, table_or_first, active_elems, is_active, elem_of, elemfield, datastring, memuse, is_data, data_kind_of, datafield}
-use Rattle.wat_syntax.specs.Fields.{func_body, func_of, funcfield, inline_elements, init_expression, table_of, tablefield, has_inline_data, memory_of, memoryfield, global_of, globalfield}
+use Rattle.wat_syntax.specs.Modules.{Head, inline_exports, inline_import, head, externtype_of, externtype}
+use Rattle.wat_syntax.specs.Modules.{import_item, import_items_of, import_names, import_group, import_items_from}
+use Rattle.wat_syntax.specs.Modules.{importfield, tagfield, unnamed_local, local, externidx_keyword, exportfield}
+use Rattle.wat_syntax.specs.Segments.{expression_in, offset_expression, elemexpr, funcref_of, exprs_payload, funcs_payload, funcrefs_payload}
+use Rattle.wat_syntax.specs.Segments.{elemlist, short_elemlist, optional_number_index, is_func, is_funcref, are_typed, table_or_first}
+use Rattle.wat_syntax.specs.Segments.{active_elems, is_active, elem_of, elemfield, datastring, memuse, is_data, data_kind_of, datafield}
+use Rattle.wat_syntax.specs.Fields.{func_body, func_of, funcfield, inline_elements, init_expression, table_of}
+use Rattle.wat_syntax.specs.Fields.{tablefield, has_inline_data, memory_of, memoryfield, global_of, globalfield}
 use Rattle.wat_syntax.specs.Customs.{customfield, producersfield, dylinkfield}
 use Rattle.wat_syntax.specs.ModuleFields.{form_of, field_of, modulefield, modulefields}
 use Rattle.wat_ready.proofs.Parses.{Of, nothing, done, bind, skip, closed, either, read, Each, IfSome, join, through, over, there, of_many, of_lists}
 use Rattle.wat_ready.proofs.Checks.{IsOk, SiteOk, In, At, IndexOk, IfId, ItemOk, asked, id_ok}
-use Rattle.wat_ready.proofs.Types.{of_optional_id, of_index, of_index_if, of_related, of_ref, of_val, of_typedef, of_rectype, of_typeuse, of_table_type, of_global_type}
+use Rattle.wat_ready.proofs.Types.{of_optional_id, of_index, of_index_if, of_related, of_ref, of_val}
+use Rattle.wat_ready.proofs.Types.{of_typedef, of_rectype, of_typeuse, of_table_type, of_global_type}
 use Rattle.wat_ready.proofs.Bodies.{Sound, of_expression, of_folded}
 
 -- rule 3
@@ -83,7 +97,8 @@ allowed (Some x) p span = refl
 allowed None (payload.Indices xs) span = refl
 allowed None (payload.Exprs t es) span = by (is_funcref t) (ap (λ b. t.nullable && b) (same_func t.heap))
   where
-    by : (b : Bool) → clauses.is_funcref t ≡ b → clauses.is_some_or (elim (not b) [ true ↦ Some (by_number.Num 0 span) | false ↦ None ]) (clauses.is_funcref t) ≡ true
+    by : (b : Bool) → clauses.is_funcref t ≡ b
+        → clauses.is_some_or (elim (not b) [ true ↦ Some (by_number.Num 0 span) | false ↦ None ]) (clauses.is_funcref t) ≡ true
     by true e = e
     by false e = refl
 
@@ -93,7 +108,8 @@ of_head t = bind (of_optional_id (after t)) (λ x p. skip (name_annotation x.1) 
 
 -- imports
 of_kind : (k : Option Key) (t : Toks) → Of (At in_item_kind) (externtype_of k t)
-of_kind (Some key.Func) t = read (form key.Exact t) (λ u. bind (of_typeuse true u) (λ x p. skip (rparen x.1) (λ r. done (p, ((tt, tt), tt))))) (bind (of_typeuse true t) (λ x p. done (p, tt)))
+of_kind (Some key.Func) t = read (form key.Exact t) (λ u. bind (of_typeuse true u) (λ x p. skip (rparen x.1) (λ r. done (p, ((tt, tt), tt)))))
+    (bind (of_typeuse true t) (λ x p. done (p, tt)))
 of_kind (Some key.Table) t = bind (of_table_type t) (λ x p. done (asked (in_table_type x.0) p))
 of_kind (Some key.Memory) t = skip (memtype t) (λ x. done tt)
 of_kind (Some key.Global) t = bind (of_global_type t) (λ x p. done (asked (in_global_type x.0) p))
@@ -104,7 +120,8 @@ abbrev SigOk : ItemSig → Type 0
 SigOk x = At in_sig x × IfId x.id
 
 of_sig : (t : Toks) → Of SigOk (externtype t)
-of_sig t = skip (lparen t) (λ u. bind (of_optional_id (after u)) (λ x q. skip (name_annotation x.1) (λ n. bind (of_kind (key_of (peek 0 u)) n.1) (λ k p. skip (rparen k.1) (λ r. done (p, q))))))
+of_sig t = skip (lparen t) (λ u. bind (of_optional_id (after u))
+    (λ x q. skip (name_annotation x.1) (λ n. bind (of_kind (key_of (peek 0 u)) n.1) (λ k p. skip (rparen k.1) (λ r. done (p, q))))))
 
 abbrev PairOk : Bor (List ℕ) × ItemSig → Type 0
 PairOk x = SigOk x.1
@@ -136,7 +153,8 @@ of_group from first t = either (is_end (peek 0 t))
     more x p (Some ys) q = done (p, q.at ys refl)
 
 of_items : (from : Bor (List ℕ)) (t : Toks) → Of ItemsOk (import_items_from from t)
-of_items from t = either (is_string (peek 0 t)) (skip (name t) (λ n. bind (of_sig n.1) (λ x p. done (p.0, (p.1, tt))))) (skip (form key.Item t) (λ u. skip (name u) (λ n. of_group from n.0 n.1)))
+of_items from t = either (is_string (peek 0 t)) (skip (name t) (λ n. bind (of_sig n.1) (λ x p. done (p.0, (p.1, tt)))))
+    (skip (form key.Item t) (λ u. skip (name u) (λ n. of_group from n.0 n.1)))
 
 of_import : (t : Toks) → Of (λ (x : Imports). ItemsOk x.items) (importfield t)
 of_import t = skip (name (after t)) (λ nm. bind (of_items nm.0 nm.1) (λ x p. done p))
@@ -155,10 +173,12 @@ of_body : (u : TypeUse FunctionType) (t : Toks) → Of (At (in_func_kind u)) (fu
 of_body u t = bind (of_lists (is_form key.Local) local of_local (count t) t) (λ ls p. bind (of_expression true ls.1) (λ e q.
     let marks = param_marks u.inline ++ local_marks ls.0 in
     done (join SiteOk (check_sites (flat_map in_local ls.0)) _ (asked (flat_map in_local ls.0) (over IsOk in_local ls.0 p))
-    (join SiteOk (declaration_sites [] marks) _ (declared [] marks) (join SiteOk (in_instrs (body_here u marks) e.0.instrs) _ (q.sites (body_here u marks)) ((q.hints, tt), tt))))))
+    (join SiteOk (declaration_sites [] marks) _ (declared [] marks)
+        (join SiteOk (in_instrs (body_here u marks) e.0.instrs) _ (q.sites (body_here u marks)) ((q.hints, tt), tt))))))
 
 of_func_of : (i : Option InlineImport) (t : Toks) → Of (λ (k : FuncKind × TypeUse FunctionType). In in_type_use k.1 × At (in_func_kind k.1) k.0) (func_of i t)
-of_func_of (Some i) t = read (form key.Exact t) (λ u. bind (of_typeuse true u) (λ x p. skip (rparen x.1) (λ r. done (p, ((tt, tt), tt))))) (bind (of_typeuse true t) (λ x p. done (p, ((tt, tt), tt))))
+of_func_of (Some i) t = read (form key.Exact t) (λ u. bind (of_typeuse true u) (λ x p. skip (rparen x.1) (λ r. done (p, ((tt, tt), tt)))))
+    (bind (of_typeuse true t) (λ x p. done (p, ((tt, tt), tt))))
 of_func_of None t = bind (of_typeuse true t) (λ u p. bind (of_body u.0 u.1) (λ k q. done (p, q)))
 
 of_func : (t : Toks) → Of (λ (f : Func). At in_func f × IfId f.id) (funcfield t)
@@ -176,14 +196,16 @@ of_expression_in k t = read (form k t) (λ u. closed (of_expression false u)) (o
 
 -- elements
 of_exprs : (r : RefType) → In in_ref r → (t : Toks) → Of (At in_payload) (exprs_payload r t)
-of_exprs r q t = bind (of_many goes_on elemexpr (of_expression_in key.Item) (count t) t) (λ es p. done (join SiteOk (flat_map in_constant es.0) _ (constants es.0 p) (asked (in_ref r) q)))
+of_exprs r q t = bind (of_many goes_on elemexpr (of_expression_in key.Item) (count t) t)
+    (λ es p. done (join SiteOk (flat_map in_constant es.0) _ (constants es.0 p) (asked (in_ref r) q)))
 
 of_funcs : (t : Toks) → Of (At in_payload) (funcs_payload t)
 of_funcs t = bind (of_many goes_on index of_index (count t) t) (λ xs p. done (through IndexOk SiteOk (at_index space.Func) (λ i p. (p, tt)) xs.0 p))
 
 of_funcref_elems : (r : RefType) → In in_ref r → (t : Toks) → Of (At in_payload) (funcrefs_payload r t)
 unfolding stays_open
-of_funcref_elems r q t = bind (of_many goes_on funcref_of (λ t. bind (of_index t) (λ x p. done (record { balances = refl; hints = refl; sites = λ h. (p, tt) }))) (count t) t)
+of_funcref_elems r q t = bind (of_many goes_on funcref_of
+    (λ t. bind (of_index t) (λ x p. done (record { balances = refl; hints = refl; sites = λ h. (p, tt) }))) (count t) t)
     (λ es p. done (join SiteOk (flat_map in_constant es.0) _ (constants es.0 p) (asked (in_ref r) q)))
 
 of_elemlist : (t : Toks) → Of (At in_payload) (elemlist t)
@@ -214,10 +236,12 @@ of_active t = bind (of_related key.Table t) (λ x p. by x.0 p x.1)
     by (Some x) o r = bind (of_expression_in key.Offset r) (λ e p. bind (of_elemlist e.1) (λ el q. done ((o, constant e.0 p), (q, refl))))
     by None o r = bind (of_index_if (is_number (peek 0 r)) r) (λ n m. bind (of_expression_in key.Offset n.1) (λ e p. bind (of_short e.1) (λ el q.
         let o = table_or_first n.0 el.0 t.before in
-        done (join SiteOk (if_there (at_index space.Table) o) _ (there IndexOk SiteOk (at_index space.Table) (λ i p. (p, tt)) o (first_ok n.0 el.0 t.before m)) (constant e.0 p), (q, allowed n.0 el.0 t.before)))))
+        done (join SiteOk (if_there (at_index space.Table) o) _ (there IndexOk SiteOk (at_index space.Table)
+            (λ i p. (p, tt)) o (first_ok n.0 el.0 t.before m)) (constant e.0 p), (q, allowed n.0 el.0 t.before)))))
 
 of_elem_of : (t : Toks) → Of ElemOk (elem_of t)
-of_elem_of t = read (keyword key.Declare t) (λ u. bind (of_elemlist u) (λ el q. done (tt, (q, refl)))) (either (is_active t) (of_active t) (bind (of_elemlist t) (λ el q. done (tt, (q, refl)))))
+of_elem_of t = read (keyword key.Declare t) (λ u. bind (of_elemlist u) (λ el q. done (tt, (q, refl))))
+    (either (is_active t) (of_active t) (bind (of_elemlist t) (λ el q. done (tt, (q, refl)))))
 
 of_elem : (t : Toks) → Of (λ (e : Elem). At in_elem e × IfId e.id) (elemfield t)
 of_elem t = bind (of_optional_id (after t)) (λ x i. skip (name_annotation x.1) (λ n. bind (of_elem_of n.1) (λ k p.
@@ -231,7 +255,8 @@ of_data_kind : (t : Toks) → Of (At in_data_kind) (data_kind_of t)
 of_data_kind t = either (is_data t) (done tt) (bind (of_memuse t) (λ x q. bind (of_expression_in key.Offset x.1) (λ e p. done (q, constant e.0 p))))
 
 of_data : (t : Toks) → Of (λ (d : Data). At in_data_kind d.kind × IfId d.id) (datafield t)
-of_data t = bind (of_optional_id (after t)) (λ x i. skip (name_annotation x.1) (λ n. bind (of_data_kind n.1) (λ k p. skip (datastring k.1) (λ bs. done (p, i)))))
+of_data t = bind (of_optional_id (after t))
+    (λ x i. skip (name_annotation x.1) (λ n. bind (of_data_kind n.1) (λ k p. skip (datastring k.1) (λ bs. done (p, i)))))
 
 -- tables, memories and globals
 of_init : (t : Toks) → Of (IfSome Sound) (init_expression t)
@@ -243,7 +268,8 @@ of_inline_elements r q t = either (is_lparen (peek 0 t)) (of_exprs r q t) (eithe
 of_table_of : (i : Option InlineImport) (t : Toks) → Of (At in_table_kind) (table_of i t)
 of_table_of (Some i) t = bind (of_table_type t) (λ x p. done (asked (in_table_type x.0) p))
 of_table_of None t = skip (is_there (keyword key.Shared) t) (λ s. skip (addrtype s.1) (λ a. either (is_number (peek 0 a.1))
-    (skip (limits a.0 a.1) (λ l. bind (of_ref l.1) (λ r p. bind (of_init r.1) (λ e q. done (join SiteOk (check_sites (in_table_type (record { limits = l.0; elem = r.0; shared = s.0 }))) _
+    (skip (limits a.0 a.1) (λ l. bind (of_ref l.1)
+        (λ r p. bind (of_init r.1) (λ e q. done (join SiteOk (check_sites (in_table_type (record { limits = l.0; elem = r.0; shared = s.0 }))) _
     (asked _ (join IsOk (in_ref r.0) _ p (tt, tt))) (there Sound SiteOk in_constant constant e.0 q))))))
     (bind (of_ref a.1) (λ r p. skip (form key.Elem r.1) (λ u. bind (of_inline_elements r.0 p u) (λ el q. skip (rparen el.1) (λ x.
     done (join SiteOk (check_sites (in_ref r.0)) _ (asked (in_ref r.0) p) (join SiteOk (in_payload el.0) _ q ((tt, tt), tt))))))))))
@@ -254,7 +280,8 @@ of_table t = bind (of_head t) (λ h i. skip (inline_import h.1) (λ m. bind (of_
 of_memory_of : (i : Option InlineImport) (t : Toks) → Of (At in_memory_kind) (memory_of i t)
 of_memory_of (Some i) t = skip (memtype t) (λ x. done tt)
 of_memory_of None t = either (has_inline_data t)
-    (skip (addrtype t) (λ a. bind (of_pagesize a.1) (λ p h. skip (form key.Data p.1) (λ u. skip (datastring u) (λ bs. skip (rparen bs.1) (λ r. done ((h, tt), tt)))))))
+    (skip (addrtype t) (λ a. bind (of_pagesize a.1)
+        (λ p h. skip (form key.Data p.1) (λ u. skip (datastring u) (λ bs. skip (rparen bs.1) (λ r. done ((h, tt), tt)))))))
     (skip (memtype t) (λ x. done tt))
 
 of_memory : (t : Toks) → Of (λ (f : Memory). At in_memory_kind f.kind × IfId f.id) (memoryfield t)
@@ -273,7 +300,8 @@ of_tag : (t : Toks) → Of (λ (x : Tag). At in_tag_type x.ty × IfId x.id) (tag
 of_tag t = bind (of_head t) (λ h i. skip (inline_import h.1) (λ m. bind (of_typeuse true m.1) (λ u p. done ((p, tt), i))))
 
 of_export : (t : Toks) → Of (λ (x : Export). IndexOk x.item) (exportfield t)
-of_export t = skip (name (after t)) (λ nm. skip (lparen nm.1) (λ u. skip (externidx_keyword u) (λ k. bind (of_index k.1) (λ x p. skip (rparen x.1) (λ r. done p)))))
+of_export t = skip (name (after t))
+    (λ nm. skip (lparen nm.1) (λ u. skip (externidx_keyword u) (λ k. bind (of_index k.1) (λ x p. skip (rparen x.1) (λ r. done p)))))
 
 custom_ok : (c : Custom) → Each SiteOk (in_custom c)
 custom_ok (custom.Raw s) = tt

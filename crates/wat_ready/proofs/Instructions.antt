@@ -10,7 +10,8 @@ use Rattle.wast_base.specs.Ids.{mark_of_option}
 use Rattle.wast_base.specs.declared.ids.Index.TheVariants as by_number
 use Rattle.wast_base.specs.declared.index_ops.IndexOp.{IndexOp}
 use Rattle.wast_base.specs.declared.index_ops.IndexOp.TheVariants as one
-use Rattle.wast_tree_nodes.specs.Sites.{BodyContext, constant_context, check_sites, in_instr, in_ref, in_heap, in_val, in_type_use, at_label, in_handle, in_handlers, in_catch, in_mem_arg}
+use Rattle.wast_tree_nodes.specs.Sites.{BodyContext, constant_context, check_sites, in_instr, in_ref, in_heap}
+use Rattle.wast_tree_nodes.specs.Sites.{in_val, in_type_use, at_label, in_handle, in_handlers, in_catch, in_mem_arg}
 use Rattle.wat_tokens.specs.Words.{alignment_bytes, op_of}
 use Rattle.wat_tokens.specs.declared.words.Alignment.{Alignment}
 use Rattle.wat_tokens.specs.declared.words.Alignment.TheVariants as alignment
@@ -38,7 +39,10 @@ use Rattle.wat_syntax.specs.Tree.plain
 use Rattle.wat_syntax.specs.Tokens.{Toks, Parse, peek, after, count, word_of, lparen, form, is_form}
 use Rattle.wat_syntax.specs.Values.{name_annotation, index, is_index, u32}
 use Rattle.wat_syntax.specs.Operators.{index_instr, uncovered_instr, pair_instr}
-use Rattle.wat_syntax.specs.Instructions.{own_instr, atomic_of, plaininstr, opener, instruction_of, instruction, callindirect, cast, memory_ordering, resumetable, handle, on, is_switch, struct_access, assignment, offset, align, memarg, is_lane_alone, lane_memarg, laneidx, one_or_two, none_or_two, ordering_or_default, blocktype, catches, catch, catch_of, is_catch, last, before_last}
+use Rattle.wat_syntax.specs.Instructions.{own_instr, atomic_of, plaininstr, opener, instruction_of, instruction, callindirect}
+use Rattle.wat_syntax.specs.Instructions.{cast, memory_ordering, resumetable, handle, on, is_switch, struct_access, assignment}
+use Rattle.wat_syntax.specs.Instructions.{offset, align, memarg, is_lane_alone, lane_memarg, laneidx, one_or_two, none_or_two}
+use Rattle.wat_syntax.specs.Instructions.{ordering_or_default, blocktype, catches, catch, catch_of, is_catch, last, before_last}
 use Rattle.wat_syntax.specs.Bodies.{Part, End, Else, Catch, CatchAll, Delegate, part_of}
 use Rattle.wat_ready.proofs.Parses.{Of, nothing, done, bind, skip, closed, either, Each, IfSome, join, through, over, of_many}
 use Rattle.wat_ready.proofs.Checks.{IsOk, SiteOk, In, At, IndexOk, IfId, asked, mark_ok}
@@ -52,7 +56,8 @@ Two x = IndexOk x.0 × IndexOk x.1
 of_one_or_two : (t : Toks) → Of Two (one_or_two t)
 of_one_or_two t = bind (of_index t) (λ x p. bind (of_index_if (is_index (peek 0 x.1)) x.1) (λ y q. by x.0 p y.0 y.1 q))
   where
-    by : (x : Index) → IndexOk x → (o : Option Index) (r : Toks) → IfSome IndexOk o → Of Two (elim o [ Some second ↦ Some ((x, second), r) | None ↦ Some ((by_number.Num 0 t.before, x), r) ])
+    by : (x : Index) → IndexOk x → (o : Option Index) (r : Toks) → IfSome IndexOk o
+        → Of Two (elim o [ Some second ↦ Some ((x, second), r) | None ↦ Some ((by_number.Num 0 t.before, x), r) ])
     by x p None r q = done ((refl, tt), p)
     by x p (Some y) r q = done (p, q)
 
@@ -101,15 +106,18 @@ of_align N h t = by (assignment (codes "align=") t)
     checked n r true e = done e
     checked n r false e = nothing
 
-    by : (o : Parse (List ℕ)) → Of IsPower (elim o [ Some digits ↦ uN 64 digits.0 >>= λ n. if is_power_of_two n then Some (n, digits.1) else None | None ↦ Some (N, t) ])
+    by : (o : Parse (List ℕ)) → Of IsPower
+        (elim o [ Some digits ↦ uN 64 digits.0 >>= λ n. if is_power_of_two n then Some (n, digits.1) else None | None ↦ Some (N, t) ])
     by None = done h
     by (Some x) = skip (uN 64 x.0) (λ n. checked n x.1 (is_power_of_two n) refl)
 
 of_arg : (N : ℕ) → IsPower N → (t : Toks) → Of (In in_mem_arg) (memarg N t)
-of_arg N h t = skip (memory_ordering t) (λ o. bind (of_index_or_zero o.1) (λ x p. skip (offset x.1) (λ n. bind (of_align N h n.1) (λ a q. done (p.0, (q, (tt, tt)))))))
+of_arg N h t = skip (memory_ordering t)
+    (λ o. bind (of_index_or_zero o.1) (λ x p. skip (offset x.1) (λ n. bind (of_align N h n.1) (λ a q. done (p.0, (q, (tt, tt)))))))
 
 of_lane_arg : (N : ℕ) → IsPower N → (t : Toks) → Of (λ (x : LoadOrStoreLane). In in_mem_arg x.memarg) (lane_memarg N t)
-of_lane_arg N h t = either (is_lane_alone t) (skip (laneidx t) (λ l. done (refl, (h, (tt, tt))))) (bind (of_arg N h t) (λ m p. skip (laneidx m.1) (λ l. done p)))
+of_lane_arg N h t = either (is_lane_alone t) (skip (laneidx t) (λ l. done (refl, (h, (tt, tt)))))
+    (bind (of_arg N h t) (λ m p. skip (laneidx m.1) (λ l. done p)))
 
 abbrev BlockOk : BlockType → Type 0
 BlockOk b = IfId b.label × In in_type_use b.ty
@@ -181,15 +189,18 @@ module _ (h : BodyContext) where
       done (refl, join SiteOk (flat_map (at_label h.blocks) (before_last x.0 y.0)) _ ls (last_ok x.0 y.0 p q, tt))))
   of_own own.call_indirect t = bind (of_call t) (λ c p. done (refl, (p.0, (p.1, tt))))
   of_own own.return_call_indirect t = bind (of_call t) (λ c p. done (refl, (p.0, (p.1, tt))))
-  of_own own.select t = either (is_form key.Result t) (bind (of_all_results t) (λ x p. done (refl, asked (flat_map in_val x.0) (over IsOk in_val x.0 p)))) (done (refl, tt))
+  of_own own.select t = either (is_form key.Result t)
+      (bind (of_all_results t) (λ x p. done (refl, asked (flat_map in_val x.0) (over IsOk in_val x.0 p)))) (done (refl, tt))
   of_own own.ref_null t = bind (of_heap t) (λ x p. done (refl, asked (in_heap x.0) p))
   of_own own.ref_test t = bind (of_ref t) (λ x p. done (refl, asked (in_ref x.0) p))
   of_own own.ref_cast t = bind (of_ref t) (λ x p. done (refl, asked (in_ref x.0) p))
   of_own own.ref_cast_desc_eq t = bind (of_ref t) (λ x p. done (refl, asked _ (join IsOk (in_ref x.0) _ p (tt, tt))))
   of_own own.br_on_cast t = bind (of_cast t) (λ c p. done (refl, (p.0, cast_ok c.0.to_type c.0.from_type p.1)))
   of_own own.br_on_cast_fail t = bind (of_cast t) (λ c p. done (refl, (p.0, cast_ok c.0.to_type c.0.from_type p.1)))
-  of_own own.br_on_cast_desc_eq t = bind (of_cast t) (λ c p. done (refl, (p.0, join SiteOk (check_sites (in_ref c.0.to_type ++ in_ref c.0.from_type)) _ (cast_ok c.0.to_type c.0.from_type p.1) ((tt, tt), tt))))
-  of_own own.br_on_cast_desc_eq_fail t = bind (of_cast t) (λ c p. done (refl, (p.0, join SiteOk (check_sites (in_ref c.0.to_type ++ in_ref c.0.from_type)) _ (cast_ok c.0.to_type c.0.from_type p.1) ((tt, tt), tt))))
+  of_own own.br_on_cast_desc_eq t = bind (of_cast t) (λ c p. done (refl,
+      (p.0, join SiteOk (check_sites (in_ref c.0.to_type ++ in_ref c.0.from_type)) _ (cast_ok c.0.to_type c.0.from_type p.1) ((tt, tt), tt))))
+  of_own own.br_on_cast_desc_eq_fail t = bind (of_cast t) (λ c p. done (refl,
+      (p.0, join SiteOk (check_sites (in_ref c.0.to_type ++ in_ref c.0.from_type)) _ (cast_ok c.0.to_type c.0.from_type p.1) ((tt, tt), tt))))
   of_own own.array_new_fixed t = bind (of_index t) (λ x p. skip (u32 x.1) (λ n. done (refl, (p, tt))))
   of_own own.atomic_fence t = skip (memory_ordering t) (λ o. done (refl, ((tt, tt), tt)))
   of_own own.resume t = bind (of_index t) (λ x p. bind (of_resume x.1) (λ r q. done (refl, (p, q))))
@@ -233,7 +244,8 @@ module _ (h : BodyContext) where
 
   of_opener : (op : BlockOp) (t : Toks) → Of (Is Up) (opener op t)
   of_opener opens.try_table t = bind (of_block t) (λ b p. bind (of_catches b.1) (λ c q.
-      let cs = over SiteOk (in_catch h.blocks) c.0 q in done (refl, (p.1, join SiteOk (flat_map (in_catch h.blocks) c.0) _ cs (mark_ok (mark_of_option b.0.label) p.0, tt)))))
+      let cs = over SiteOk (in_catch h.blocks) c.0 q in
+      done (refl, (p.1, join SiteOk (flat_map (in_catch h.blocks) c.0) _ cs (mark_ok (mark_of_option b.0.label) p.0, tt)))))
   of_opener op t = bind (of_block t) (λ b p. done (refl, (p.1, (mark_ok (mark_of_option b.0.label) p.0, tt))))
 
   of_token : (o : Option Token) (t : Toks) → Of (Is (move_at (word_of o))) (instruction_of o t)
@@ -249,4 +261,5 @@ pub record Whole (k : Move) (i : Instruction) : Type 0 where
   pub sites : Everywhere i
 
 pub of_instruction : (t : Toks) → Of (Whole (move_at (word_of (peek 0 t)))) (instruction t)
-of_instruction t = record { at = λ x e. record { leads = ((of_token constant_context (peek 0 t) (after t)).at x e).0; sites = λ h. ((of_token h (peek 0 t) (after t)).at x e).1 } }
+of_instruction t = record { at = λ x e. record { leads = ((of_token constant_context (peek 0 t) (after t)).at x e).0;
+    sites = λ h. ((of_token h (peek 0 t) (after t)).at x e).1 } }

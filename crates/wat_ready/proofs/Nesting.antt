@@ -38,7 +38,8 @@ Everywhere i = (h : BodyContext) → Each SiteOk (in_instr h i)
 pub data Good : ℕ → ℕ → List Item → Type 0 where
   finish : {a b : ℕ} → a ≡ b → Good a b []
   step : {a b c : ℕ} {i : Instruction} {xs : List Item} → Leads (move_of i) a b → Everywhere i → Good b c xs → Good a c (Instr i ∷ xs)
-  hint_step : {a b c : ℕ} {i : Instruction} {xs : List Item} (v : ℕ) → nat_lt v 2 ≡ true → Leads (move_of i) a b → Everywhere i → Good b c xs → Good a c (Hint v ∷ Instr i ∷ xs)
+  hint_step : {a b c : ℕ} {i : Instruction} {xs : List Item} (v : ℕ) → nat_lt v 2 ≡ true
+      → Leads (move_of i) a b → Everywhere i → Good b c xs → Good a c (Hint v ∷ Instr i ∷ xs)
 
 pub append : {a b c : ℕ} {xs ys : List Item} → Good a b xs → Good b c ys → Good a c (xs ++ ys)
 append {c = c} {ys = ys} (finish e) h = subst (λ n. Good n c ys) (sym e) h
@@ -49,7 +50,8 @@ abbrev pub effects : List Item → List BlockEffect
 effects xs = block_effects (instrs_of xs)
 
 -- as many blocks are opened as closed, and at each place no more are closed than opened
-counted_by : (t : BlockEffect) (ts : List BlockEffect) (a b c : ℕ) → Leads (move_by t) a b → b + openers ts ≡ c + closers ts → a + openers (t ∷ ts) ≡ c + closers (t ∷ ts)
+counted_by : (t : BlockEffect) (ts : List BlockEffect) (a b c : ℕ) → Leads (move_by t) a b
+    → b + openers ts ≡ c + closers ts → a + openers (t ∷ ts) ≡ c + closers (t ∷ ts)
 counted_by (Opens l) ts a b c e p = let q : b ≡ suc a = e in omega arith
 counted_by Stays ts a b c e p = let q : a ≡ b = e in omega arith
 counted_by Closes ts a b c e p = let q : a ≡ suc b = e in omega arith
@@ -59,7 +61,8 @@ counted (finish e) = omega arith
 counted (step {a = a} {b = b} {c = c} {i = i} {xs = xs} l ok g) = counted_by (turn_of i) (effects xs) a b c l (counted g)
 counted (hint_step {a = a} {b = b} {c = c} {i = i} {xs = xs} v e l ok g) = counted_by (turn_of i) (effects xs) a b c l (counted g)
 
-under_by : (n : ℕ) (t : BlockEffect) (ts : List BlockEffect) (a b : ℕ) → Leads (move_by t) a b → closers (take n ts) ≤ b + openers (take n ts) → closers (take (suc n) (t ∷ ts)) ≤ a + openers (take (suc n) (t ∷ ts))
+under_by : (n : ℕ) (t : BlockEffect) (ts : List BlockEffect) (a b : ℕ) → Leads (move_by t) a b
+    → closers (take n ts) ≤ b + openers (take n ts) → closers (take (suc n) (t ∷ ts)) ≤ a + openers (take (suc n) (t ∷ ts))
 under_by n (Opens l) ts a b e p = let q : b ≡ suc a = e in omega arith
 under_by n Stays ts a b e p = let q : a ≡ b = e in omega arith
 under_by n Closes ts a b e p = let q : a ≡ suc b = e in omega arith
@@ -75,7 +78,8 @@ both {b} p q = ap (λ c. c && b) p ∙ q
 
 never : (ts : List BlockEffect) (n : ℕ) → ((m : ℕ) → closers (take m ts) ≤ 0 + openers (take m ts)) → never_closed ts n ≡ true
 never ts zero p = refl
-never ts (suc n) p = both (never ts n p) (le-leb (closers (take (suc n) ts)) (openers (take (suc n) ts)) (let q : closers (take (suc n) ts) ≤ 0 + openers (take (suc n) ts) = p (suc n) in omega arith))
+never ts (suc n) p = both (never ts n p) (le-leb (closers (take (suc n) ts)) (openers (take (suc n) ts))
+    (let q : closers (take (suc n) ts) ≤ 0 + openers (take (suc n) ts) = p (suc n) in omega arith))
 
 pub balanced : {xs : List Item} → Good 0 0 xs → is_balanced (effects xs) ≡ true
 unfolding stays_open
@@ -86,7 +90,8 @@ balanced {xs} g = both (never (effects xs) (length (effects xs)) (λ m. under m 
 hints_on : {a c : ℕ} {xs : List Item} (count m n : ℕ) → m ≤ n → n + length (instrs_of xs) ≤ count → Good a c xs → stand_from count m (hints_of n xs) ≡ true
 hints_on count m n p q (finish e) = refl
 hints_on count m n p q (step l ok g) = hints_on count m (suc n) (omega arith) (omega arith) g
-hints_on count m n p q (hint_step v e l ok g) = both (both (le-leb m n p) (both (lt-ltb n count (omega arith)) e)) (hints_on count (n + 1) (suc n) (omega arith) (omega arith) g)
+hints_on count m n p q (hint_step v e l ok g) =
+    both (both (le-leb m n p) (both (lt-ltb n count (omega arith)) e)) (hints_on count (n + 1) (suc n) (omega arith) (omega arith) g)
 
 pub hints_are_on : {a c : ℕ} {xs : List Item} → Good a c xs → hints_stand (expression_of xs) ≡ true
 hints_are_on {xs = xs} g = hints_on (length (instrs_of xs)) 0 0 (omega arith) (omega arith) g

@@ -6,7 +6,8 @@ use Rattle.std.specs.List.{flat_map}
 use Rattle.std.proofs.Common.{◌≡◌, List, [], ◌∷◌, ◌++◌, map, refl, ap}
 use Rattle.wast_base.specs.Ids.{mark_of_option}
 use Rattle.wast_tree_nodes.specs.Items.{field_ids, fields_of}
-use Rattle.wast_tree_nodes.specs.Sites.{Check, Covered, if_there, in_index, in_val, in_param, in_signature, in_struct_field, in_inner, in_descriptor, in_type, in_rec, in_type_use, in_local, param_marks, local_marks}
+use Rattle.wast_tree_nodes.specs.Sites.{Check, Covered, if_there, in_index, in_val, in_param, in_signature, in_struct_field}
+use Rattle.wast_tree_nodes.specs.Sites.{in_inner, in_descriptor, in_type, in_rec, in_type_use, in_local, param_marks, local_marks}
 use Rattle.wat_syntax.specs.Tree.{FunctionType, TypeUse, StructField, InnerTypeKind, Rec, Local}
 use Rattle.wat_syntax.specs.Tree.form
 use Rattle.wat_syntax.specs.Tree.space

@@ -3,7 +3,8 @@ use Rattle.std.proofs.Common.{Bool, true, false, ◌||◌, ◌&&◌, not, is_som
 use Rattle.wat_grammar.specs.Parts.{◌>>=◌}
 use Rattle.wast_base.specs.declared.ids.Span.{Span}
 use Rattle.wast_tree_nodes.specs.Items.{items_of_type}
-use Rattle.wast_tree_nodes.specs.Sites.{if_there, in_index, in_id, in_heap, in_ref, in_val, in_storage, in_param, in_signature, in_struct_field, in_struct, in_inner, in_descriptor, in_def, in_type, in_rec, in_type_use, in_table_type, in_global_type}
+use Rattle.wast_tree_nodes.specs.Sites.{if_there, in_index, in_id, in_heap, in_ref, in_val, in_storage, in_param, in_signature, in_struct_field}
+use Rattle.wast_tree_nodes.specs.Sites.{in_struct, in_inner, in_descriptor, in_def, in_type, in_rec, in_type_use, in_table_type, in_global_type}
 use Rattle.wat_tokens.specs.declared.words.Key.{Key}
 use Rattle.wat_tokens.specs.declared.words.Key.TheVariants as key
 use Rattle.wat_tokens.specs.declared.tokens.Token.{Token}
@@ -12,9 +13,13 @@ use Rattle.wat_syntax.specs.Tree.{Id, Index, ValType, StorageType, Rec}
 use Rattle.wat_syntax.specs.Tree.ty
 use Rattle.wat_syntax.specs.Tree.space
 use Rattle.wat_syntax.specs.Tree.value
-use Rattle.wat_syntax.specs.Tokens.{Toks, Parse, peek, after, position, count, is_lparen, key_of, lparen, rparen, keyword, keyword_in, form, is_form, is_there, optional}
+use Rattle.wat_syntax.specs.Tokens.{Toks, Parse, peek, after, position, count, is_lparen, key_of, lparen}
+use Rattle.wat_syntax.specs.Tokens.{rparen, keyword, keyword_in, form, is_form, is_there, optional}
 use Rattle.wat_syntax.specs.Values.{id, id_in, name_annotation, index, u32, is_index, index_or_zero}
-use Rattle.wat_syntax.specs.Types.{numtype_or_vectype, absheaptype, refword, heaptype_form, heaptype, reftype, valtype, goes_on, storagetype, fieldtype, unnamed_param, unnamed_params, params, param, result, all_results, functype, unnamed_field, struct_fields, struct_field, structtype, comptype_form, related, described, maybe_shared, is_index_next, indices, subtype, typedef, typedef_form, rectype, addrtype, limits, tabletype, is_shared_ref, globaltype, typeuse}
+use Rattle.wat_syntax.specs.Types.{numtype_or_vectype, absheaptype, refword, heaptype_form, heaptype, reftype, valtype, goes_on, storagetype}
+use Rattle.wat_syntax.specs.Types.{fieldtype, unnamed_param, unnamed_params, params, param, result, all_results, functype, unnamed_field}
+use Rattle.wat_syntax.specs.Types.{struct_fields, struct_field, structtype, comptype_form, related, described, maybe_shared, is_index_next, indices}
+use Rattle.wat_syntax.specs.Types.{subtype, typedef, typedef_form, rectype, addrtype, limits, tabletype, is_shared_ref, globaltype, typeuse}
 use Rattle.wat_ready.proofs.Parses.{Of, nothing, done, bind, skip, closed, either, read, read_of, Each, IfSome, join, through, over, there, of_many, of_lists}
 use Rattle.wat_ready.proofs.Checks.{IsOk, In, IndexOk, IdOk, IfId, ItemOk, id_ok}
 
@@ -112,8 +117,10 @@ of_comptype_form t = read (form key.Func t) (λ u. bind (of_functype true u) (λ
     (read (form key.Array t) (λ u. bind (of_fieldtype u) (λ x p. done p)) (skip (form key.Cont t) (λ u. bind (of_index u) (λ x p. done (p.0, (tt, tt)))))))
 
 -- definitions of types
-of_described : (shared : Bool) (final : Option Bool) (parents : List Index) → Each IndexOk parents → (t : Toks) → Of (In in_def) (described shared final parents t)
-of_described shared final parents h t = bind (of_related key.Describes t) (λ d p. bind (of_related key.Descriptor d.1) (λ e q. bind (closed (of_comptype_form e.1)) (λ c r. done
+of_described : (shared : Bool) (final : Option Bool) (parents : List Index)
+    → Each IndexOk parents → (t : Toks) → Of (In in_def) (described shared final parents t)
+of_described shared final parents h t =
+    bind (of_related key.Describes t) (λ d p. bind (of_related key.Descriptor d.1) (λ e q. bind (closed (of_comptype_form e.1)) (λ c r. done
     (join IsOk (flat_map (in_index space.Ty) parents) _ (over IsOk (in_index space.Ty) parents h)
     (join IsOk (if_there in_descriptor e.0) _ (there IndexOk IsOk in_descriptor (λ i p. (p.0, (tt, tt))) e.0 q)
     (join IsOk (if_there in_descriptor d.0) _ (there IndexOk IsOk in_descriptor (λ i p. (p.0, (tt, tt))) d.0 p) (join IsOk (in_inner c.0) _ r (tt, tt))))))))
@@ -122,7 +129,8 @@ of_maybe_shared : (final : Option Bool) (parents : List Index) → Each IndexOk 
 of_maybe_shared final parents h t = read (form key.Shared t) (λ u. closed (of_described true final parents h u)) (of_described false final parents h t)
 
 of_subtype : (t : Toks) → Of (In in_def) (subtype t)
-of_subtype t = read (form key.Sub t) (λ u. skip (is_there (keyword key.Final) u) (λ f. bind (of_indices f.1) (λ xs p. closed (of_maybe_shared (Some f.0) xs.0 p xs.1))))
+of_subtype t = read (form key.Sub t)
+    (λ u. skip (is_there (keyword key.Final) u) (λ f. bind (of_indices f.1) (λ xs p. closed (of_maybe_shared (Some f.0) xs.0 p xs.1))))
     (of_maybe_shared None [] tt t)
 
 abbrev pub TypeOk : ty.Type → Type 0
@@ -140,14 +148,17 @@ of_rectype t = skip (keyword key.Rec t) (λ u. bind (of_many goes_on typedef_for
 
 pub of_typeuse : (named : Bool) (t : Toks) → Of (In in_type_use) (typeuse named t)
 of_typeuse named t = bind (of_related key.Ty t) (λ x p. either (is_form key.Param x.1 || is_form key.Result x.1)
-    (bind (of_functype named x.1) (λ f q. done (join IsOk (if_there (in_index space.Ty) x.0) (in_signature f.0) (there IndexOk IsOk (in_index space.Ty) (λ i p. p) x.0 p) q)))
+    (bind (of_functype named x.1)
+        (λ f q. done (join IsOk (if_there (in_index space.Ty) x.0) (in_signature f.0) (there IndexOk IsOk (in_index space.Ty) (λ i p. p) x.0 p) q)))
     (done (join IsOk (if_there (in_index space.Ty) x.0) [] (there IndexOk IsOk (in_index space.Ty) (λ i p. p) x.0 p) tt)))
 
 -- types of tables and globals
 pub of_table_type : (t : Toks) → Of (In in_table_type) (tabletype t)
-of_table_type t = skip (is_there (keyword key.Shared) t) (λ s. skip (addrtype s.1) (λ a. skip (limits a.0 a.1) (λ l. bind (of_ref l.1) (λ r p. done (join IsOk (in_ref r.0) _ p (tt, tt))))))
+of_table_type t = skip (is_there (keyword key.Shared) t)
+    (λ s. skip (addrtype s.1) (λ a. skip (limits a.0 a.1) (λ l. bind (of_ref l.1) (λ r p. done (join IsOk (in_ref r.0) _ p (tt, tt))))))
 
 pub of_global_type : (t : Toks) → Of (In in_global_type) (globaltype t)
 of_global_type t = either (is_form key.Shared t && not (is_shared_ref t))
     (skip (is_there (keyword key.Mut) (after (after t))) (λ m. bind (of_val m.1) (λ v p. skip (rparen v.1) (λ r. done (join IsOk (in_val v.0) _ p (tt, tt))))))
-    (read (form key.Mut t) (λ u. bind (of_val u) (λ v p. skip (rparen v.1) (λ r. done (join IsOk (in_val v.0) _ p (tt, tt))))) (bind (of_val t) (λ v p. done (join IsOk (in_val v.0) _ p (tt, tt)))))
+    (read (form key.Mut t) (λ u. bind (of_val u) (λ v p. skip (rparen v.1) (λ r. done (join IsOk (in_val v.0) _ p (tt, tt)))))
+        (bind (of_val t) (λ v p. done (join IsOk (in_val v.0) _ p (tt, tt)))))

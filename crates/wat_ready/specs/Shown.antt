@@ -6,7 +6,10 @@
 --   shown_field of (export "a" (func $f)), at any address      "a" at address 0, and $f as before
 use Rattle.std.specs.Prelude.{ℕ, List, Option, map, option_map}
 use Rattle.std.specs.Borrow.{Bor}
-use Rattle.wat_syntax.specs.Tree.{Id, NameAnnotation, ValType, StructField, StructType, FunctionType, TypeUse, InnerTypeKind, TypeDef, Rec, BlockType, CallIndirect, TryTable, Instruction, Expression, Local, Tag, TagType, ItemKind, ItemSig, ImportItems, Imports, Export, FuncKind, Func, Table, TableKind, Memory, MemoryKind, Global, GlobalKind, Elem, ElemKind, ElemPayload, Data, DataKind, DataVal, Custom, ModuleField}
+use Rattle.wat_syntax.specs.Tree.{Id, NameAnnotation, ValType, StructField, StructType, FunctionType, TypeUse, InnerTypeKind, TypeDef}
+use Rattle.wat_syntax.specs.Tree.{Rec, BlockType, CallIndirect, TryTable, Instruction, Expression, Local, Tag, TagType, ItemKind}
+use Rattle.wat_syntax.specs.Tree.{ItemSig, ImportItems, Imports, Export, FuncKind, Func, Table, TableKind, Memory, MemoryKind, Global}
+use Rattle.wat_syntax.specs.Tree.{GlobalKind, Elem, ElemKind, ElemPayload, Data, DataKind, DataVal, Custom, ModuleField}
 use Rattle.wat_syntax.specs.Tree.inner
 use Rattle.wat_syntax.specs.Tree.ty
 use Rattle.wat_syntax.specs.Tree.tag
@@ -51,7 +54,8 @@ shown_composite (inner.Cont t) = inner.Cont t
 
 -- what a type is defined as
 abbrev pub shown_type_def : TypeDef → TypeDef
-shown_type_def d = record { kind = shown_composite d.kind; shared = d.shared; parents = d.parents; descriptor = d.descriptor; describes = d.describes; final_type = d.final_type }
+shown_type_def d = record { kind = shown_composite d.kind; shared = d.shared; parents = d.parents;
+    descriptor = d.descriptor; describes = d.describes; final_type = d.final_type }
 
 abbrev pub shown_type : ty.Type → ty.Type
 shown_type t = record { span = t.span; id = t.id; name = bare_name_option t.name; def = shown_type_def t.def }
@@ -92,7 +96,8 @@ abbrev pub shown_tag_type : TagType → TagType
 shown_tag_type (tag.Exception t) = tag.Exception (shown_type_use t)
 
 abbrev pub shown_tag : Tag → Tag
-shown_tag t = record { span = t.span; id = t.id; name = bare_name_option t.name; exports = bare_exports t.exports; ty = shown_tag_type t.ty; kind = bare_tag_kind t.kind }
+shown_tag t = record { span = t.span; id = t.id; name = bare_name_option t.name;
+    exports = bare_exports t.exports; ty = shown_tag_type t.ty; kind = bare_tag_kind t.kind }
 
 -- imported items
 abbrev pub shown_item_kind : ItemKind → ItemKind
@@ -127,7 +132,8 @@ shown_func_kind (func.Import i exact) = func.Import (bare_import i) exact
 shown_func_kind (func.Inline locals e) = func.Inline (map shown_local locals) (shown_expression e)
 
 abbrev pub shown_func : Func → Func
-shown_func f = record { span = f.span; id = f.id; name = bare_name_option f.name; exports = bare_exports f.exports; kind = shown_func_kind f.kind; ty = shown_type_use f.ty }
+shown_func f = record { span = f.span; id = f.id; name = bare_name_option f.name;
+    exports = bare_exports f.exports; kind = shown_func_kind f.kind; ty = shown_type_use f.ty }
 
 -- segments
 abbrev pub shown_payload : ElemPayload → ElemPayload
@@ -175,7 +181,8 @@ shown_global_kind (global.Import i) = global.Import (bare_import i)
 shown_global_kind (global.Inline e) = global.Inline (shown_expression e)
 
 abbrev pub shown_global : Global → Global
-shown_global g = record { span = g.span; id = g.id; name = bare_name_option g.name; exports = bare_exports g.exports; ty = g.ty; kind = shown_global_kind g.kind }
+shown_global g = record { span = g.span; id = g.id; name = bare_name_option g.name;
+    exports = bare_exports g.exports; ty = g.ty; kind = shown_global_kind g.kind }
 
 -- custom sections: their names, and the pieces of bytes
 abbrev pub shown_custom : Custom → Custom

@@ -13,7 +13,8 @@ use Rattle.wast_base.specs.declared.ids.Name.TheVariants as id_name
 use Rattle.wat_tokens.specs.declared.tokens.Token.{Token}
 use Rattle.wat_tokens.specs.declared.tokens.Token.TheVariants as token
 use Rattle.wat_tokens.specs.declared.tokens.Placed.{Placed}
-use Rattle.wat_syntax.specs.Tree.{Id, Index, NameAnnotation, ValType, RefType, HeapType, StorageType, StructField, StructType, ArrayType, ContType, FunctionType, TypeUse, InnerTypeKind, TypeDef, Rec, TableType, GlobalType, TagType}
+use Rattle.wat_syntax.specs.Tree.{Id, Index, NameAnnotation, ValType, RefType, HeapType, StorageType, StructField, StructType, ArrayType}
+use Rattle.wat_syntax.specs.Tree.{ContType, FunctionType, TypeUse, InnerTypeKind, TypeDef, Rec, TableType, GlobalType, TagType}
 use Rattle.wat_syntax.specs.Tree.index
 use Rattle.wat_syntax.specs.Tree.value
 use Rattle.wat_syntax.specs.Tree.heap
@@ -128,7 +129,8 @@ bare_composite (inner.Array t) = inner.Array (bare_array_type t)
 bare_composite (inner.Cont t) = inner.Cont (bare_cont_type t)
 
 abbrev pub bare_type_def : TypeDef → TypeDef
-bare_type_def d = record { kind = bare_composite d.kind; shared = d.shared; parents = bare_indices d.parents; descriptor = bare_index_option d.descriptor; describes = bare_index_option d.describes; final_type = d.final_type }
+bare_type_def d = record { kind = bare_composite d.kind; shared = d.shared; parents = bare_indices d.parents;
+    descriptor = bare_index_option d.descriptor; describes = bare_index_option d.describes; final_type = d.final_type }
 
 abbrev pub bare_type : ty.Type → ty.Type
 bare_type t = record { span = t.span; id = bare_id_option t.id; name = bare_name_option t.name; def = bare_type_def t.def }

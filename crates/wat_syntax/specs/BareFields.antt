@@ -1,7 +1,9 @@
 -- The fields of a module without addresses, as Bare has tokens and types.
 use Rattle.std.specs.Prelude.{ℕ, List, map, option_map}
 use Rattle.std.specs.Borrow.{Bor}
-use Rattle.wat_syntax.specs.Tree.{FunctionType, TypeUse, Imports, ImportItems, ItemSig, ItemKind, InlineExport, InlineImport, Elem, ElemKind, ElemPayload, Data, DataKind, DataVal, Local, FuncKind, Func, Table, TableKind, Memory, MemoryKind, Global, GlobalKind, Tag, TagKind, Export, Custom, Dylink0Subsection, ModuleField}
+use Rattle.wat_syntax.specs.Tree.{FunctionType, TypeUse, Imports, ImportItems, ItemSig, ItemKind, InlineExport, InlineImport, Elem}
+use Rattle.wat_syntax.specs.Tree.{ElemKind, ElemPayload, Data, DataKind, DataVal, Local, FuncKind, Func, Table, TableKind, Memory}
+use Rattle.wat_syntax.specs.Tree.{MemoryKind, Global, GlobalKind, Tag, TagKind, Export, Custom, Dylink0Subsection, ModuleField}
 use Rattle.wat_syntax.specs.Tree.import_items
 use Rattle.wat_syntax.specs.Tree.kind
 use Rattle.wat_syntax.specs.Tree.elem
@@ -17,7 +19,8 @@ use Rattle.wat_syntax.specs.Tree.custom
 use Rattle.wat_syntax.specs.Tree.dylink
 use Rattle.wat_syntax.specs.Tree.field
 use Rattle.wat_syntax.specs.Customs.{Version}
-use Rattle.wat_syntax.specs.Bare.{bare_text, bare_name_option, bare_id_option, bare_index, bare_index_option, bare_indices, bare_val, bare_ref, bare_type_use, bare_type, bare_rec, bare_table_type, bare_global_type, bare_tag_type}
+use Rattle.wat_syntax.specs.Bare.{bare_text, bare_name_option, bare_id_option, bare_index, bare_index_option, bare_indices, bare_val}
+use Rattle.wat_syntax.specs.Bare.{bare_ref, bare_type_use, bare_type, bare_rec, bare_table_type, bare_global_type, bare_tag_type}
 use Rattle.wat_syntax.specs.BareInstructions.{bare_expression}
 
 -- exports and imports of a field
@@ -63,7 +66,8 @@ abbrev pub bare_func_of : FuncKind × TypeUse FunctionType → FuncKind × TypeU
 bare_func_of k = (bare_func_kind k.0, bare_type_use k.1)
 
 abbrev pub bare_func : Func → Func
-bare_func f = record { span = f.span; id = bare_id_option f.id; name = bare_name_option f.name; exports = bare_exports f.exports; kind = bare_func_kind f.kind; ty = bare_type_use f.ty }
+bare_func f = record { span = f.span; id = bare_id_option f.id; name = bare_name_option f.name;
+    exports = bare_exports f.exports; kind = bare_func_kind f.kind; ty = bare_type_use f.ty }
 
 -- segments
 abbrev pub bare_elem_kind : ElemKind → ElemKind
@@ -91,7 +95,8 @@ bare_data_val (bytes.String text) = bytes.String (bare_text text)
 bare_data_val (bytes.Integral xs) = bytes.Integral xs
 
 abbrev pub bare_data : Data → Data
-bare_data d = record { span = d.span; id = bare_id_option d.id; name = bare_name_option d.name; kind = bare_data_kind d.kind; bytes = map bare_data_val d.bytes }
+bare_data d = record { span = d.span; id = bare_id_option d.id; name = bare_name_option d.name;
+    kind = bare_data_kind d.kind; bytes = map bare_data_val d.bytes }
 
 -- the other fields
 abbrev pub bare_table_kind : TableKind → TableKind
@@ -100,7 +105,8 @@ bare_table_kind (table.Normal t init) = table.Normal (bare_table_type t) (option
 bare_table_kind (table.Inline t is64 shared p) = table.Inline (bare_ref t) is64 shared (bare_payload p)
 
 abbrev pub bare_table : Table → Table
-bare_table t = record { span = t.span; id = bare_id_option t.id; name = bare_name_option t.name; exports = bare_exports t.exports; kind = bare_table_kind t.kind }
+bare_table t = record { span = t.span; id = bare_id_option t.id; name = bare_name_option t.name;
+    exports = bare_exports t.exports; kind = bare_table_kind t.kind }
 
 abbrev pub bare_memory_kind : MemoryKind → MemoryKind
 bare_memory_kind (memory.Import i t) = memory.Import (bare_import i) t
@@ -108,21 +114,24 @@ bare_memory_kind (memory.Normal t) = memory.Normal t
 bare_memory_kind (memory.Inline is64 xs page) = memory.Inline is64 (map bare_data_val xs) page
 
 abbrev pub bare_memory : Memory → Memory
-bare_memory m = record { span = m.span; id = bare_id_option m.id; name = bare_name_option m.name; exports = bare_exports m.exports; kind = bare_memory_kind m.kind }
+bare_memory m = record { span = m.span; id = bare_id_option m.id; name = bare_name_option m.name;
+    exports = bare_exports m.exports; kind = bare_memory_kind m.kind }
 
 abbrev pub bare_global_kind : GlobalKind → GlobalKind
 bare_global_kind (global.Import i) = global.Import (bare_import i)
 bare_global_kind (global.Inline e) = global.Inline (bare_expression e)
 
 abbrev pub bare_global : Global → Global
-bare_global g = record { span = g.span; id = bare_id_option g.id; name = bare_name_option g.name; exports = bare_exports g.exports; ty = bare_global_type g.ty; kind = bare_global_kind g.kind }
+bare_global g = record { span = g.span; id = bare_id_option g.id; name = bare_name_option g.name;
+    exports = bare_exports g.exports; ty = bare_global_type g.ty; kind = bare_global_kind g.kind }
 
 abbrev pub bare_tag_kind : TagKind → TagKind
 bare_tag_kind (tag_kind.Import i) = tag_kind.Import (bare_import i)
 bare_tag_kind tag_kind.Inline = tag_kind.Inline
 
 abbrev pub bare_tag : Tag → Tag
-bare_tag t = record { span = t.span; id = bare_id_option t.id; name = bare_name_option t.name; exports = bare_exports t.exports; ty = bare_tag_type t.ty; kind = bare_tag_kind t.kind }
+bare_tag t = record { span = t.span; id = bare_id_option t.id; name = bare_name_option t.name;
+    exports = bare_exports t.exports; ty = bare_tag_type t.ty; kind = bare_tag_kind t.kind }
 
 abbrev pub bare_export : Export → Export
 bare_export e = record { span = e.span; name = bare_text e.name; kind = e.kind; item = bare_index e.item }

@@ -1,6 +1,9 @@
 -- Instructions without addresses, as Bare has tokens and types.
 use Rattle.std.specs.Prelude.{map, option_map}
-use Rattle.wat_syntax.specs.Tree.{Index, BlockType, BrTableIndices, TryTable, TryTableCatch, TryTableCatchKind, TableArg, MemoryArg, MemoryInit, MemoryCopy, TableInit, TableCopy, CallIndirect, SelectTypes, MemArg, MemArgTarget, StructAccess, ArrayNewFixed, ArrayNewData, ArrayNewElem, ArrayFill, ArrayCopy, ArrayInit, BrOnCast, LoadOrStoreLane, ContBind, Switch, ResumeTable, Handle, Instruction, Expression}
+use Rattle.wat_syntax.specs.Tree.{Index, BlockType, BrTableIndices, TryTable, TryTableCatch, TryTableCatchKind, TableArg, MemoryArg}
+use Rattle.wat_syntax.specs.Tree.{MemoryInit, MemoryCopy, TableInit, TableCopy, CallIndirect, SelectTypes, MemArg, MemArgTarget}
+use Rattle.wat_syntax.specs.Tree.{StructAccess, ArrayNewFixed, ArrayNewData, ArrayNewElem, ArrayFill, ArrayCopy, ArrayInit}
+use Rattle.wat_syntax.specs.Tree.{BrOnCast, LoadOrStoreLane, ContBind, Switch, ResumeTable, Handle, Instruction, Expression}
 use Rattle.wat_syntax.specs.Tree.caught
 use Rattle.wat_syntax.specs.Tree.target
 use Rattle.wat_syntax.specs.Tree.handle
@@ -179,15 +182,19 @@ bare_instr (instr.ref_test x) = instr.ref_test (record { rt = bare_ref x.rt })
 bare_instr (instr.ref_cast x) = instr.ref_cast (record { rt = bare_ref x.rt })
 bare_instr (instr.ref_cast_desc_eq x) = instr.ref_cast_desc_eq (record { rt = bare_ref x.rt })
 bare_instr (instr.br_on_cast x) = instr.br_on_cast (bare_cast x)
-bare_instr (instr.br_on_cast_fail x) = instr.br_on_cast_fail (record { label = bare_index x.label; from_type = bare_ref x.from_type; to_type = bare_ref x.to_type })
-bare_instr (instr.br_on_cast_desc_eq x) = instr.br_on_cast_desc_eq (record { label = bare_index x.label; from_type = bare_ref x.from_type; to_type = bare_ref x.to_type })
-bare_instr (instr.br_on_cast_desc_eq_fail x) = instr.br_on_cast_desc_eq_fail (record { label = bare_index x.label; from_type = bare_ref x.from_type; to_type = bare_ref x.to_type })
+bare_instr (instr.br_on_cast_fail x) =
+    instr.br_on_cast_fail (record { label = bare_index x.label; from_type = bare_ref x.from_type; to_type = bare_ref x.to_type })
+bare_instr (instr.br_on_cast_desc_eq x) =
+    instr.br_on_cast_desc_eq (record { label = bare_index x.label; from_type = bare_ref x.from_type; to_type = bare_ref x.to_type })
+bare_instr (instr.br_on_cast_desc_eq_fail x) =
+    instr.br_on_cast_desc_eq_fail (record { label = bare_index x.label; from_type = bare_ref x.from_type; to_type = bare_ref x.to_type })
 bare_instr (instr.GlobalAtomic x) = instr.GlobalAtomic (record { ordering = x.ordering; inner = bare_index x.inner })
 bare_instr (instr.TableAtomic x) = instr.TableAtomic (record { ordering = x.ordering; inner = bare_table_arg x.inner })
 bare_instr (instr.StructAtomic x) = instr.StructAtomic (record { ordering = x.ordering; inner = bare_access x.inner })
 bare_instr (instr.ArrayAtomic x) = instr.ArrayAtomic (record { ordering = x.ordering; inner = bare_index x.inner })
 bare_instr (instr.resume x) = instr.resume (record { type_index = bare_index x.type_index; table = bare_resume_table x.table })
-bare_instr (instr.resume_throw x) = instr.resume_throw (record { type_index = bare_index x.type_index; tag_index = bare_index x.tag_index; table = bare_resume_table x.table })
+bare_instr (instr.resume_throw x) =
+    instr.resume_throw (record { type_index = bare_index x.type_index; tag_index = bare_index x.tag_index; table = bare_resume_table x.table })
 bare_instr (instr.resume_throw_ref x) = instr.resume_throw_ref (record { type_index = bare_index x.type_index; table = bare_resume_table x.table })
 bare_instr (instr.Beyond name) = instr.Beyond (bare_text name)
 bare_instr i = i

@@ -15,7 +15,8 @@ use Rattle.wat_syntax.specs.Tree.dylink
 use Rattle.wat_grammar.specs.Parts.{◌>>=◌}
 use Rattle.wat_tokens.specs.declared.words.Key.{Key}
 use Rattle.wat_tokens.specs.declared.words.Key.TheVariants as key
-use Rattle.wat_syntax.specs.Tokens.{Toks, Parse, peek, after, position, count, is_lparen, is_rparen, key_of, is_key, lparen, rparen, keyword, form, keyword_in, many}
+use Rattle.wat_syntax.specs.Tokens.{Toks, Parse, peek, after, position, count, is_lparen, is_rparen}
+use Rattle.wat_syntax.specs.Tokens.{key_of, is_key, lparen, rparen, keyword, form, keyword_in, many}
 use Rattle.wat_syntax.specs.Values.{u32, string, name, text_of}
 use Rattle.wat_syntax.specs.Types.{goes_on}
 

@@ -1,7 +1,8 @@
 -- The fields with expressions (text format: functions, tables, memories, globals). Each rule is from the keyword on. The
 -- abbreviations with an inline import or with inline exports are in `head` and `inline_import` (Modules).
 use Rattle.std.specs.Prelude.{Bool, true, false, Option, None, Some}
-use Rattle.wat_syntax.specs.Tree.{RefType, FunctionType, TypeUse, Expression, InlineImport, ElemPayload, Func, FuncKind, Table, TableKind, Memory, MemoryKind, Global, GlobalKind}
+use Rattle.wat_syntax.specs.Tree.{RefType, FunctionType, TypeUse, Expression, InlineImport, ElemPayload}
+use Rattle.wat_syntax.specs.Tree.{Func, FuncKind, Table, TableKind, Memory, MemoryKind, Global, GlobalKind}
 use Rattle.wat_syntax.specs.Tree.func
 use Rattle.wat_syntax.specs.Tree.table
 use Rattle.wat_syntax.specs.Tree.memory

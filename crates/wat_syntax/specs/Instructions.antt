@@ -3,7 +3,8 @@ use Rattle.std.specs.Prelude.{ℕ, zero, suc, ℤ, ◌&&◌, ◌||◌, not, Bool
 use Rattle.std.specs.Int.{is_power_of_two}
 use Rattle.std.specs.Float.{binary32, binary64}
 use Rattle.std.specs.Borrow.{Bor}
-use Rattle.wat_syntax.specs.Tree.{Index, Ordering, MemArg, MemArgOrdering, LaneArg, LoadOrStoreLane, StructAccess, CallIndirect, BrOnCast, ResumeTable, Handle, TryTableCatch, BlockType, F32, F64, V128Const, Instruction}
+use Rattle.wat_syntax.specs.Tree.{Index, Ordering, MemArg, MemArgOrdering, LaneArg, LoadOrStoreLane, StructAccess, CallIndirect}
+use Rattle.wat_syntax.specs.Tree.{BrOnCast, ResumeTable, Handle, TryTableCatch, BlockType, F32, F64, V128Const, Instruction}
 use Rattle.wat_syntax.specs.Tree.instr
 use Rattle.wat_syntax.specs.Tree.ordering
 use Rattle.wat_syntax.specs.Tree.target
@@ -140,7 +141,8 @@ is_lane_alone toks = (is_number (peek 0 toks) && not (is_number (peek 1 toks))) 
 -- x:memidx m:memarg_N i:laneidx
 abbrev pub lane_memarg : ℕ → Toks → Parse LoadOrStoreLane
 lane_memarg N toks = elim (is_lane_alone toks) [
-  | true ↦ laneidx toks >>= λ l. Some (record { memarg = record { align = N; offset = 0; target = target.Memory (by.Num 0 toks.before); ordering = None }; lane = l.0 }, l.1)
+  | true ↦ laneidx toks >>= λ l. Some
+          (record { memarg = record { align = N; offset = 0; target = target.Memory (by.Num 0 toks.before); ordering = None }; lane = l.0 }, l.1)
   | false ↦ memarg N toks >>= λ m. laneidx m.1 >>= λ l. Some (record { memarg = m.0; lane = l.0 }, l.1)
 ]
 
@@ -234,13 +236,17 @@ own_instr own.ref_test toks = reftype toks >>= λ t. Some (instr.ref_test (recor
 own_instr own.ref_cast toks = reftype toks >>= λ t. Some (instr.ref_cast (record { rt = t.0 }), t.1)
 own_instr own.ref_cast_desc_eq toks = reftype toks >>= λ t. Some (instr.ref_cast_desc_eq (record { rt = t.0 }), t.1)
 own_instr own.br_on_cast toks = cast toks >>= λ c. Some (instr.br_on_cast c.0, c.1)
-own_instr own.br_on_cast_fail toks = cast toks >>= λ c. Some (instr.br_on_cast_fail (record { label = c.0.label; from_type = c.0.from_type; to_type = c.0.to_type }), c.1)
-own_instr own.br_on_cast_desc_eq toks = cast toks >>= λ c. Some (instr.br_on_cast_desc_eq (record { label = c.0.label; from_type = c.0.from_type; to_type = c.0.to_type }), c.1)
-own_instr own.br_on_cast_desc_eq_fail toks = cast toks >>= λ c. Some (instr.br_on_cast_desc_eq_fail (record { label = c.0.label; from_type = c.0.from_type; to_type = c.0.to_type }), c.1)
+own_instr own.br_on_cast_fail toks =
+    cast toks >>= λ c. Some (instr.br_on_cast_fail (record { label = c.0.label; from_type = c.0.from_type; to_type = c.0.to_type }), c.1)
+own_instr own.br_on_cast_desc_eq toks =
+    cast toks >>= λ c. Some (instr.br_on_cast_desc_eq (record { label = c.0.label; from_type = c.0.from_type; to_type = c.0.to_type }), c.1)
+own_instr own.br_on_cast_desc_eq_fail toks = cast toks
+    >>= λ c. Some (instr.br_on_cast_desc_eq_fail (record { label = c.0.label; from_type = c.0.from_type; to_type = c.0.to_type }), c.1)
 own_instr own.array_new_fixed toks = array_new_fixed toks
 own_instr own.atomic_fence toks = memory_ordering toks >>= λ o. Some (instr.atomic_fence o.0, o.1)
 own_instr own.resume toks = index toks >>= λ x. resumetable x.1 >>= λ t. Some (instr.resume (record { type_index = x.0; table = t.0 }), t.1)
-own_instr own.resume_throw toks = index toks >>= λ x. index x.1 >>= λ y. resumetable y.1 >>= λ t. Some (instr.resume_throw (record { type_index = x.0; tag_index = y.0; table = t.0 }), t.1)
+own_instr own.resume_throw toks = index toks >>= λ x. index x.1 >>= λ y. resumetable y.1
+    >>= λ t. Some (instr.resume_throw (record { type_index = x.0; tag_index = y.0; table = t.0 }), t.1)
 own_instr own.resume_throw_ref toks = index toks >>= λ x. resumetable x.1 >>= λ t. Some (instr.resume_throw_ref (record { type_index = x.0; table = t.0 }), t.1)
 
 -- the ordering of an atomic access, `seq_cst` if it is left out

@@ -1,7 +1,8 @@
 -- Modules (text format: modules), in the order of the specification. Here are the fields without expressions.
 use Rattle.std.specs.Prelude.{ℕ, ◌||◌, true, false, List, [], ◌∷◌, Option, None, Some, is_some}
 use Rattle.std.specs.Borrow.{Bor}
-use Rattle.wat_syntax.specs.Tree.{Span, Id, NameAnnotation, InlineExport, InlineImport, Local, Tag, TagKind, ItemKind, ItemSig, ImportItems, Imports, ExportKind, Export, ModuleField}
+use Rattle.wat_syntax.specs.Tree.{Span, Id, NameAnnotation, InlineExport, InlineImport, Local, Tag, TagKind}
+use Rattle.wat_syntax.specs.Tree.{ItemKind, ItemSig, ImportItems, Imports, ExportKind, Export, ModuleField}
 use Rattle.wat_syntax.specs.Tree.tag
 use Rattle.wat_syntax.specs.Tree.tag_kind
 use Rattle.wat_syntax.specs.Tree.kind
@@ -11,7 +12,8 @@ use Rattle.wat_syntax.specs.Tree.field
 use Rattle.wat_grammar.specs.Parts.{◌>>=◌}
 use Rattle.wat_tokens.specs.declared.words.Key.{Key}
 use Rattle.wat_tokens.specs.declared.words.Key.TheVariants as key
-use Rattle.wat_syntax.specs.Tokens.{Toks, Parse, peek, after, position, count, is_end, key_of, lparen, rparen, is_form, form, optional, many, many_lists, with_parts}
+use Rattle.wat_syntax.specs.Tokens.{Toks, Parse, peek, after, position, count, is_end, key_of, lparen}
+use Rattle.wat_syntax.specs.Tokens.{rparen, is_form, form, optional, many, many_lists, with_parts}
 use Rattle.wat_syntax.specs.Values.{id, name, name_annotation, index, is_string}
 use Rattle.wat_syntax.specs.Types.{valtype, goes_on, tabletype, memtype, globaltype, typeuse}
 
@@ -83,7 +85,8 @@ import_names toks = many (is_form key.Item) import_name (count toks) toks
 abbrev pub import_group : Bor (List ℕ) → Bor (List ℕ) → Toks → Parse ImportItems
 import_group from first toks = elim (is_end (peek 0 toks)) [
   | true ↦ rparen toks >>= λ t. with_parts (first ∷ []) (import_names t) >>= λ ns. externtype ns.1 >>= λ xt. Some (import_items.Group2 from xt.0 ns.0, xt.1)
-  | false ↦ externtype toks >>= λ xt. rparen xt.1 >>= λ t. with_parts ((first, xt.0) ∷ []) (import_items_of t) >>= λ xs. Some (import_items.Group1 from xs.0, xs.1)
+  | false ↦ externtype toks >>= λ xt. rparen xt.1 >>= λ t. with_parts ((first, xt.0) ∷ []) (import_items_of t)
+      >>= λ xs. Some (import_items.Group1 from xs.0, xs.1)
 ]
 
 -- import ::= '(' 'import' nm1:name nm2:name xt:externtype ')' ⇒ import nm1 nm2 xt (text format: imports): from the keyword on

@@ -13,7 +13,8 @@ use Rattle.wast_base.specs.declared.ids.Index.TheVariants as by
 use Rattle.wat_grammar.specs.Parts.{◌>>=◌}
 use Rattle.wat_tokens.specs.declared.words.Key.{Key}
 use Rattle.wat_tokens.specs.declared.words.Key.TheVariants as key
-use Rattle.wat_syntax.specs.Tokens.{Toks, Parse, peek, after, position, count, is_lparen, is_end, key_of, is_key, lparen, rparen, keyword, form, optional, many, many_lists}
+use Rattle.wat_syntax.specs.Tokens.{Toks, Parse, peek, after, position, count, is_lparen, is_end, key_of}
+use Rattle.wat_syntax.specs.Tokens.{is_key, lparen, rparen, keyword, form, optional, many, many_lists}
 use Rattle.wat_syntax.specs.Values.{is_number, string, is_string, id, name_annotation, index}
 use Rattle.wat_syntax.specs.Types.{reftype, is_reftype, goes_on, related}
 use Rattle.wat_syntax.specs.Instructions.{signed_number, f32, f64}

@@ -3,7 +3,8 @@
 -- continuations (stack switching), exceptions of the old proposal, and page sizes.
 use Rattle.std.specs.Prelude.{ℕ, ◌||◌, ◌&&◌, not, Bool, true, false, if◌then◌else◌, List, [], ◌∷◌, Option, None, Some, is_some}
 use Rattle.std.specs.Int.{is_power_of_two, trailing_zeros, w64}
-use Rattle.wat_syntax.specs.Tree.{Id, Index, NameAnnotation, ValType, RefType, HeapType, AbstractHeapType, StorageType, StructField, StructType, FunctionType, TypeUse, InnerTypeKind, TypeDef, Rec, Limits, TableType, MemoryType, GlobalType}
+use Rattle.wat_syntax.specs.Tree.{Id, Index, NameAnnotation, ValType, RefType, HeapType, AbstractHeapType, StorageType, StructField}
+use Rattle.wat_syntax.specs.Tree.{StructType, FunctionType, TypeUse, InnerTypeKind, TypeDef, Rec, Limits, TableType, MemoryType, GlobalType}
 use Rattle.wat_syntax.specs.Tree.value
 use Rattle.wat_syntax.specs.Tree.heap
 use Rattle.wat_syntax.specs.Tree.abstract
@@ -13,7 +14,8 @@ use Rattle.wat_syntax.specs.Tree.ty
 use Rattle.wat_grammar.specs.Parts.{◌>>=◌}
 use Rattle.wat_tokens.specs.declared.words.Key.{Key}
 use Rattle.wat_tokens.specs.declared.words.Key.TheVariants as key
-use Rattle.wat_syntax.specs.Tokens.{Toks, Parse, peek, after, position, count, is_lparen, is_end, key_of, lparen, rparen, keyword, is_form, form, keyword_in, optional, is_there, many, many_lists}
+use Rattle.wat_syntax.specs.Tokens.{Toks, Parse, peek, after, position, count, is_lparen, is_end, key_of, lparen}
+use Rattle.wat_syntax.specs.Tokens.{rparen, keyword, is_form, form, keyword_in, optional, is_there, many, many_lists}
 use Rattle.wat_syntax.specs.Values.{u64, is_number, id, name_annotation, index, is_index}
 
 -- numtype ::= 'i32' | 'i64' | 'f32' | 'f64', and vectype ::= 'v128' (text format: number types, vector types)

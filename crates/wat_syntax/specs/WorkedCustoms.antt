@@ -10,7 +10,8 @@ use Rattle.wat_syntax.specs.Tree.anchor
 use Rattle.wat_syntax.specs.Tree.dylink
 use Rattle.wat_syntax.specs.Tree.field
 use Rattle.wat_syntax.specs.Values.{u32, text_of}
-use Rattle.wat_syntax.specs.Customs.{customplace, strings, customfield, Language, Sdk, Version, known_field, versions_of, fields_of, producersfield, flags, entries, dylinkfield}
+use Rattle.wat_syntax.specs.Customs.{customplace, strings, customfield, Language, Sdk, Version, known_field}
+use Rattle.wat_syntax.specs.Customs.{versions_of, fields_of, producersfield, flags, entries, dylinkfield}
 use Rattle.wat_syntax.specs.ModuleFields.{modulefield, modulefields}
 use Rattle.wat_syntax.specs.Worked.{the, num, quoted, toks, made}
 
@@ -41,10 +42,13 @@ Tools = (versions_of Language ((Language, r1) ∷ ((Sdk, r1) ∷ ((Language, r1)
 abbrev pub Linking : Type 0
 Linking = (made (flags (toks (the key.Tls ∷ num (codes "0x80") ∷ token.Close ∷ []))) ≡ Some (0x180, 1))
     × (made (flags (toks (the key.Func ∷ token.Close ∷ []))) ≡ None)
-    × (made (dylinkfield (toks (token.Annotation annotation.Dylink0 ∷ token.Open ∷ the key.MemInfo ∷ token.Open ∷ the key.Memory ∷ num (codes "1") ∷ num (codes "2") ∷ token.Close ∷ token.Close ∷ token.Close ∷ [])))
+    × (made (dylinkfield (toks (token.Annotation annotation.Dylink0 ∷ token.Open ∷ the key.MemInfo ∷ token.Open
+        ∷ the key.Memory ∷ num (codes "1") ∷ num (codes "2") ∷ token.Close ∷ token.Close ∷ token.Close ∷ [])))
     ≡ Some (custom.Dylink0 (record { subsections = dylink.MemInfo 1 2 0 0 ∷ [] }), 1))
-    × (made (entries key.Needed u32 3 (toks (num (codes "1") ∷ token.Close ∷ token.Open ∷ the key.Needed ∷ num (codes "2") ∷ token.Close ∷ []))) ≡ Some (1 ∷ (2 ∷ []), 1))
-    × (made (entries key.Needed u32 3 (toks (num (codes "1") ∷ token.Close ∷ token.Open ∷ the key.Memory ∷ num (codes "2") ∷ token.Close ∷ []))) ≡ Some (1 ∷ [], 5))
+    × (made (entries key.Needed u32 3 (toks (num (codes "1") ∷ token.Close ∷ token.Open ∷ the key.Needed ∷ num (codes "2") ∷ token.Close ∷ [])))
+        ≡ Some (1 ∷ (2 ∷ []), 1))
+    × (made (entries key.Needed u32 3 (toks (num (codes "1") ∷ token.Close ∷ token.Open ∷ the key.Memory ∷ num (codes "2") ∷ token.Close ∷ [])))
+        ≡ Some (1 ∷ [], 5))
 
 -- `(start 0) (@producers)`; `(local)` is no field, and `(start 0` has no end
 abbrev pub Fields : Type 0

@@ -13,7 +13,8 @@ use Rattle.wat_syntax.specs.Customs.{strings}
 use Rattle.wat_syntax.specs.Bare.{bare_text, bare_name_option, bare_id_option}
 use Rattle.wat_syntax.specs.BareFields.{bare_fields}
 use Rattle.wat_text.specs.Readers.{left, IsClean, IsRefusal, IsRefused, Reads, Expects}
-use Rattle.wat_text.specs.Denotes.{AreFields, has_one_start, if_one_start, where_it_holds, rest_of_fields, pieces_of, module_end, module_position, fields_module, binary_module, is_well_formed_module, bare_opening, IsModule}
+use Rattle.wat_text.specs.Denotes.{AreFields, has_one_start, if_one_start, where_it_holds, rest_of_fields, pieces_of, module_end}
+use Rattle.wat_text.specs.Denotes.{module_position, fields_module, binary_module, is_well_formed_module, bare_opening, IsModule}
 use Rattle.wat_text.specs.Finishes.{Finishes, ReadsModuleToEnd}
 use Rattle.wat_text.specs.declared.modules.ModuleHead.{ModuleHead}
 use Rattle.wat_text.specs.declared.modules.TextKind.TheVariants as kind
@@ -165,7 +166,8 @@ module _ (span : Span) (h : ModuleHead) (toks : Toks) where
       (λ e. ap (λ o. o >>= λ fs. Some (module_with span (bare_opening h) fs)) e)
 
 -- a rule after a token that is skipped
-pub skipped : {T : Type 0} (rule : Toks → Parse T) (end : Toks → Option Toks) (r s a b : Reader) (x : T) → left s ≡ after (left r) → s.fault ≡ r.fault → s.make ≡ r.make
+pub skipped : {T : Type 0} (rule : Toks → Parse T) (end : Toks → Option Toks) (r s a b : Reader) (x : T)
+    → left s ≡ after (left r) → s.fault ≡ r.fault → s.make ≡ r.make
     → Reads rule s a x → Expects end a b → ReadsAll (to_end (rule (after (left r))) end) r b x
 skipped rule end r s a b x same fault make reads ends =
     all_after (to_end (rule (after (left r))) end) r s b x fault make
@@ -183,14 +185,17 @@ module _ (h : ModuleHead) (r : Reader) where
       → Reads strings s a (map bare_text pieces) → Expects (module_end true) a b → (e.fault ≢ fault.Memory → (b.make ≡ false) × (b.fault ≡ Some e))
       → ReadsModuleToEnd (binary_module (bare_opening h)) r (Err e)
   binary_err s a b pieces e same fault make reads ends f =
-      fails_all is_well_formed_module (IsModule (binary_module (bare_opening h) (left r))) (binary_module (bare_opening h) (left r) ≡ None) (pieces_of (left r)) r b (map bare_text pieces) e
+      fails_all is_well_formed_module (IsModule (binary_module (bare_opening h) (left r)))
+          (binary_module (bare_opening h) (left r) ≡ None) (pieces_of (left r)) r b (map bare_text pieces) e
       (skipped strings (module_end true) r s a b (map bare_text pieces) same fault make reads ends) f
       (λ n. ap (λ o. o >>= λ ps. Some (with_pieces (module_position h) ps)) n)
 
-  pub binary_ok : (s a b : Reader) (pieces : List (Bor (List ℕ))) (span : Span) → span ≡ module_position h → left s ≡ after (left r) → s.fault ≡ r.fault → s.make ≡ r.make
+  pub binary_ok : (s a b : Reader) (pieces : List (Bor (List ℕ))) (span : Span)
+      → span ≡ module_position h → left s ≡ after (left r) → s.fault ≡ r.fault → s.make ≡ r.make
       → Reads strings s a (map bare_text pieces) → Expects (module_end true) a b → IsClean b
       → ReadsModuleToEnd (binary_module (bare_opening h)) r (Ok (of_pieces span pieces))
   binary_ok s a b pieces span at same fault make reads ends clean =
-      gives_all is_well_formed_module (IsModule (binary_module (bare_opening h) (left r))) (binary_module (bare_opening h) (left r) ≡ None) (pieces_of (left r)) r b (map bare_text pieces) (of_pieces span pieces)
+      gives_all is_well_formed_module (IsModule (binary_module (bare_opening h) (left r)))
+          (binary_module (bare_opening h) (left r) ≡ None) (pieces_of (left r)) r b (map bare_text pieces) (of_pieces span pieces)
       (skipped strings (module_end true) r s a b (map bare_text pieces) same fault make reads ends) clean
       (λ g. ap (λ o. o >>= λ ps. Some (with_pieces (module_position h) ps)) g ∙ ap (λ p. Some (with_pieces p (map bare_text pieces))) (sym at)) refl

@@ -19,7 +19,8 @@ module _ {T : Type 0} (k : Key) (entry : Toks → Parse T) where
   entry_is : (n : ℕ) (toks rest : Toks) (x : T) → entry toks ≡ Some (x, rest) → entries k entry (suc n) toks ≡ then_more n x rest (again k rest)
   entry_is n toks rest x gives = rw (entries, gives) (go (again k rest))
     where
-      go : (o : Option Toks) → elim o as (λ o. Parse (List T)) [ Some t ↦ entries k entry n t >>= λ xs. Some (x ∷ xs.0, xs.1) | None ↦ Some (x ∷ [], rest) ] ≡ then_more n x rest o
+      go : (o : Option Toks) → elim o as (λ o. Parse (List T))
+          [ Some t ↦ entries k entry n t >>= λ xs. Some (x ∷ xs.0, xs.1) | None ↦ Some (x ∷ [], rest) ] ≡ then_more n x rest o
       go None = refl
       go (Some t) = refl
 
@@ -63,7 +64,8 @@ entry_step k entry old a b new counter end x found after next few r p c =
       made = λ h. r.made (p.made (sym c.make ∙ h));
       clean = λ h. r.clean (p.clean (sym c.fault ∙ h));
       goes = λ h. let clean : IsClean b = (sym c.fault ∙ h.0, sym c.make ∙ h.1) in
-          entry_goes k entry (end - counter) n (left old) (left a) x found after b new next one (r.gives (p.clean clean.0, p.made clean.1)) (p.pushed clean) (p.left clean) c;
+          entry_goes k entry (end - counter) n (left old) (left a) x found after b new next one
+              (r.gives (p.clean clean.0, p.made clean.1)) (p.pushed clean) (p.left clean) c;
       keeps = λ h. c.fault ∙ p.keeps (λ e. h (r.clean e)) ∙ r.keeps h;
       refuses = λ h m f. refused h (sym c.make ∙ m) (subst IsRefused c.fault f);
     }
@@ -79,13 +81,15 @@ entry_step k entry old a b new counter end x found after next few r p c =
             ∙ ap (with_parts found) (entry_none k entry (end - (counter + 1)) (left old) (r.refuses h (p.made m) (subst IsRefused (p.keeps (λ n. cc)) f)))
 
 -- one entry more
-pub one_entry : {S T : Type 0} (bare : S → T) (k : Key) (entry : Toks → Parse T) (start : Parse (List T)) (first old a b new : Reader) (counter end : ℕ) (x : S) (found after : List S) (next : Bool)
+pub one_entry : {S T : Type 0} (bare : S → T) (k : Key) (entry : Toks → Parse T) (start : Parse (List T))
+    (first old a b new : Reader) (counter end : ℕ) (x : S) (found after : List S) (next : Bool)
     → counter < end → Reads entry old a (bare x) → Pushes a b x found after → Accepts (again k) b new next → next ≡ true
     → Steps first old start (with_parts (map bare found) (entries k entry (end - counter) (left old)))
     → Steps first new start (with_parts (map bare after) (entries k entry (end - (counter + 1)) (left new)))
 one_entry bare k entry start first old a b new counter end x found after next few r p c yet s =
     both_steps first old new start _ _ s
-    (entry_step k entry old a b new counter end (bare x) (map bare found) (map bare after) true few r (mapped_puts bare a b x found after (by_pushing a b x found after p)) (subst (Accepts (again k) b new) yet c))
+    (entry_step k entry old a b new counter end (bare x) (map bare found) (map bare after) true few r
+        (mapped_puts bare a b x found after (by_pushing a b x found after p)) (subst (Accepts (again k) b new) yet c))
 
 -- what a loop read onto a list
 reads_onto : {T : Type 0} (rule : Toks → Parse (List T)) (first new : Reader) (before after : List T)
@@ -99,13 +103,15 @@ reads_onto rule first new before after s = record {
 }
 
 -- the last entry
-pub entry_end : {S T : Type 0} (bare : S → T) (k : Key) (entry : Toks → Parse T) (rule : Toks → Parse (List T)) (first old a b new : Reader) (counter end : ℕ) (x : S) (before found after : List S) (next : Bool)
+pub entry_end : {S T : Type 0} (bare : S → T) (k : Key) (entry : Toks → Parse T) (rule : Toks → Parse (List T))
+    (first old a b new : Reader) (counter end : ℕ) (x : S) (before found after : List S) (next : Bool)
     → counter < end → Reads entry old a (bare x) → Pushes a b x found after → Accepts (again k) b new next → next ≡ false
     → Steps first old (with_parts (map bare before) (rule (left first))) (with_parts (map bare found) (entries k entry (end - counter) (left old)))
     → ReadsOnto rule first new (map bare before) (map bare after)
 entry_end bare k entry rule first old a b new counter end x before found after next few r p c ends s =
     reads_onto rule first new (map bare before) (map bare after) (both_steps first old new _ _ _ s
-    (entry_step k entry old a b new counter end (bare x) (map bare found) (map bare after) false few r (mapped_puts bare a b x found after (by_pushing a b x found after p)) (subst (Accepts (again k) b new) ends c)))
+    (entry_step k entry old a b new counter end (bare x) (map bare found) (map bare after) false few r
+        (mapped_puts bare a b x found after (by_pushing a b x found after p)) (subst (Accepts (again k) b new) ends c)))
 
 -- no step is left
 pub entry_last : {T : Type 0} (k : Key) (entry : Toks → Parse T) (n : ℕ) (toks : Toks) (found : List T)

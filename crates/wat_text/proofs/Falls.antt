@@ -19,10 +19,14 @@ use Rattle.wat_text.specs.declared.bodies.Level.{Level}
 use Rattle.wat_text.specs.declared.bodies.Level.TheVariants as level
 use Rattle.wat_text.specs.declared.bodies.Hint as code
 use Rattle.wat_text.specs.declared.bodies.Open.{Open}
-use Rattle.wat_text.specs.Machine.{State, with_toks, without, else_word, no_part, taken, read_operator, read_instr, append_hinted_operator, then_arm, else_arm, do_arm, catch_arm, catch_all_arm, delegate_arm, first_by, next_by, folded_block, operator_of, opened_in, closed_by, closed_in, part_at, parted_by, next_level, level_of, word_by, other, takes_plain, at_nothing, hinted_by, step, hint_of_level, is_closed}
+use Rattle.wat_text.specs.Machine.{State, with_toks, without, else_word, no_part, taken, read_operator, read_instr}
+use Rattle.wat_text.specs.Machine.{append_hinted_operator, then_arm, else_arm, do_arm, catch_arm, catch_all_arm, delegate_arm, first_by}
+use Rattle.wat_text.specs.Machine.{next_by, folded_block, operator_of, opened_in, closed_by, closed_in, part_at, parted_by, next_level}
+use Rattle.wat_text.specs.Machine.{level_of, word_by, other, takes_plain, at_nothing, hinted_by, step, hint_of_level, is_closed}
 use Rattle.wat_text.proofs.Levels.{Base, Whole, One}
 use Rattle.wat_text.proofs.Machines.{takes_step, Reading, None_there, One_there, Bad, reading, step_as}
-use Rattle.wat_laws.proofs.Fewer.{one_less, Fewer, Takes, none, done, and_then, taking, some_of, either, cond, no_toks, toks, fewer, rparen_takes, keyword_takes, index_fewer, string_fewer}
+use Rattle.wat_laws.proofs.Fewer.{one_less, Fewer, Takes, none, done, and_then, taking, some_of, either, cond}
+use Rattle.wat_laws.proofs.Fewer.{no_toks, toks, fewer, rparen_takes, keyword_takes, index_fewer, string_fewer}
 use Rattle.wat_text.proofs.MachineSteps.{read_operator_is, read_instr_is}
 
 -- so many tokens at most are left in a state
@@ -70,14 +74,16 @@ module _ (shrinks : (t : Toks) (x : Instruction × Toks) → instruction t ≡ S
     where
       by : (i : Parse Instruction) → instruction s.toks ≡ i → Left n (read_operator s)
       by None read = subst (Left n) (sym (read_operator_is s None read)) (stuck n)
-      by (Some i) read = subst (Left n) (sym (read_operator_is s (Some i) read)) (at_state n _ (let l : suc (count i.1) ≤ count s.toks = shrinks s.toks i read in omega arith))
+      by (Some i) read = subst (Left n) (sym (read_operator_is s (Some i) read))
+          (at_state n _ (let l : suc (count i.1) ≤ count s.toks = shrinks s.toks i read in omega arith))
 
   read_instr_less : (n : ℕ) (s : State) → count s.toks ≤ suc n → Left n (read_instr s)
   read_instr_less n s h = by (instruction s.toks) refl
     where
       by : (i : Parse Instruction) → instruction s.toks ≡ i → Left n (read_instr s)
       by None read = subst (Left n) (sym (read_instr_is s None read)) (stuck n)
-      by (Some i) read = subst (Left n) (sym (read_instr_is s (Some i) read)) (at_state n _ (let l : suc (count i.1) ≤ count s.toks = shrinks s.toks i read in omega arith))
+      by (Some i) read = subst (Left n) (sym (read_instr_is s (Some i) read))
+          (at_state n _ (let l : suc (count i.1) ≤ count s.toks = shrinks s.toks i read in omega arith))
 
   module _ (n : ℕ) where
     more : (s : State) → count s.toks ≤ n → count s.toks ≤ suc n
@@ -108,7 +114,8 @@ module _ (shrinks : (t : Toks) (x : Instruction × Toks) → instruction t ≡ S
     waiting_left h s few = at_state n _ few
 
     then_left : (h : Option code.Hint) (s : State) → count s.toks ≤ n → Left n (then_arm h s)
-    then_left h s few = next (next (next (next (takes (without h) s (without_takes h s.toks few)) (λ t few. at_state n (with_toks (after t.toks) t) (fewer n t.toks few)))
+    then_left h s few = next (next
+        (next (next (takes (without h) s (without_takes h s.toks few)) (λ t few. at_state n (with_toks (after t.toks) t) (fewer n t.toks few)))
         (λ t few. waiting_left (hint_of_level s.levels) t few)) (λ t few. at_state n _ few)) (λ t few. at_state n _ few)
 
     else_left : (h : Option code.Hint) (s : State) → count s.toks ≤ n → Left n (else_arm h s)
@@ -116,7 +123,8 @@ module _ (shrinks : (t : Toks) (x : Instruction × Toks) → instruction t ≡ S
         (λ t few. at_state n _ few)) (λ t few. at_state n _ few)) (λ t few. at_state n _ few)
 
     do_left : (h : Option code.Hint) (s : State) → count s.toks ≤ n → Left n (do_arm h s)
-    do_left h s few = next (next (next (takes (without h) s (without_takes h s.toks few)) (λ t few. takes (keyword key.Do) t (keyword_takes n t.toks few key.Do)))
+    do_left h s few = next
+        (next (next (takes (without h) s (without_takes h s.toks few)) (λ t few. takes (keyword key.Do) t (keyword_takes n t.toks few key.Do)))
         (λ t few. at_state n _ few)) (λ t few. at_state n _ few)
 
     catch_left : (s : State) → count s.toks ≤ n → Left n (catch_arm s)
@@ -126,7 +134,8 @@ module _ (shrinks : (t : Toks) (x : Instruction × Toks) → instruction t ≡ S
     catch_all_left s few = at_state n _ (fewer n s.toks few)
 
     delegate_left : (s : State) → count s.toks ≤ n → Left n (delegate_arm s)
-    delegate_left s few = after_value (index_fewer n (after s.toks) (fewer n s.toks few)) (λ x few. after_toks (rparen_takes n x.1 few) (λ r few. at_state n _ few))
+    delegate_left s few = after_value (index_fewer n (after s.toks) (fewer n s.toks few))
+        (λ x few. after_toks (rparen_takes n x.1 few) (λ r few. at_state n _ few))
 
     first_left : (q : Option Part) (s : State) → count s.toks ≤ n → Left n (first_by q s)
     first_left (Some Catch) s few = catch_left s few
@@ -146,10 +155,12 @@ module _ (shrinks : (t : Toks) (x : Instruction × Toks) → instruction t ≡ S
 
     operator_left : (w : Option Word) (h : Option code.Hint) (s : State) → count s.toks ≤ n → Left n (operator_of w h s)
     operator_left (Some (word.Block op)) h s few = block_left op h s few
-    operator_left w h s few = next (next (takes no_part s (no_part_takes s.toks few)) (λ t few. read_operator_less n t (more t few))) (λ t few. at_state n _ few)
+    operator_left w h s few =
+        next (next (takes no_part s (no_part_takes s.toks few)) (λ t few. read_operator_less n t (more t few))) (λ t few. at_state n _ few)
 
     opened_left : (l : Option Level) (h : Option code.Hint) (s : State) → count s.toks ≤ n → Left n (opened_in l h s)
-    opened_left (Some level.Condition) h s few = one_of n (is_key key.Then (key_of (peek 0 s.toks))) _ _ (then_left h s few) (operator_left (word_of (peek 0 s.toks)) h s few)
+    opened_left (Some level.Condition) h s few =
+        one_of n (is_key key.Then (key_of (peek 0 s.toks))) _ _ (then_left h s few) (operator_left (word_of (peek 0 s.toks)) h s few)
     opened_left (Some level.Then) h s few = else_left h s few
     opened_left (Some level.Try) h s few = do_left h s few
     opened_left (Some level.Do) h s few = next (takes (without h) s (without_takes h s.toks few)) (λ t few. first_left (part_in t.toks) t few)
@@ -188,9 +199,11 @@ module _ (shrinks : (t : Toks) (x : Instruction × Toks) → instruction t ≡ S
     word_less (Some w) s few = next (parted_left (part_in s.toks) s few) (λ t few. read_instr_less n t few)
 
     other_less : (h : Option code.Hint) (s : State) → count s.toks ≤ suc n → Left n (other h s)
-    other_less h s few = one_of n (takes_plain (level_of s.levels)) _ _ (next (at_state (suc n) _ few) (λ t few. word_less (word_of (peek 0 t.toks)) t few)) (stuck n)
+    other_less h s few = one_of n
+        (takes_plain (level_of s.levels)) _ _ (next (at_state (suc n) _ few) (λ t few. word_less (word_of (peek 0 t.toks)) t few)) (stuck n)
 
-    nothing_less : (ls : List Open) (h : Option code.Hint) (s : State) → (h ≡ None → is_closed ls ≡ false) → count s.toks ≤ suc n → Left n (at_nothing (level_of ls) h s)
+    nothing_less : (ls : List Open) (h : Option code.Hint) (s : State) → (h ≡ None → is_closed ls ≡ false)
+        → count s.toks ≤ suc n → Left n (at_nothing (level_of ls) h s)
     nothing_less [] None s yet few = not_so (yet refl)
       where
         not_so : true ≡ false → Left n (at_nothing (level_of []) None s)
@@ -198,13 +211,15 @@ module _ (shrinks : (t : Toks) (x : Instruction × Toks) → instruction t ≡ S
     nothing_less [] (Some x) s yet few = stuck n
     nothing_less (o ∷ os) h s yet few = other_less h s few
 
-    hinted_less : (h : Option code.Hint) (s : State) → (peek 0 s.toks ≡ None → h ≡ None → is_closed s.levels ≡ false) → count s.toks ≤ suc n → (o : Option Token) → peek 0 s.toks ≡ o → Left n (hinted_by o h s)
+    hinted_less : (h : Option code.Hint) (s : State) → (peek 0 s.toks ≡ None → h ≡ None → is_closed s.levels ≡ false)
+        → count s.toks ≤ suc n → (o : Option Token) → peek 0 s.toks ≡ o → Left n (hinted_by o h s)
     hinted_less h s yet few None is = nothing_less s.levels h s (yet is) few
     hinted_less h s yet few (Some token.Open) is = opened_left (level_of s.levels) h (with_toks (after s.toks) s) (less token.Open is)
       where
         less : (k : Token) → peek 0 s.toks ≡ Some k → count (after s.toks) ≤ n
         less k is = let l : suc (count (after s.toks)) ≡ count s.toks = one_less s.toks k is in omega arith
-    hinted_less h s yet few (Some token.Close) is = next (takes (without h) (with_toks (after s.toks) s) (without_takes h (after s.toks) (less token.Close is))) (λ t few. closes_left t.levels t few)
+    hinted_less h s yet few (Some token.Close) is = next (takes (without h) (with_toks (after s.toks) s)
+        (without_takes h (after s.toks) (less token.Close is))) (λ t few. closes_left t.levels t few)
       where
         less : (k : Token) → peek 0 s.toks ≡ Some k → count (after s.toks) ≤ n
         less k is = let l : suc (count (after s.toks)) ≡ count s.toks = one_less s.toks k is in omega arith
@@ -212,7 +227,8 @@ module _ (shrinks : (t : Toks) (x : Instruction × Toks) → instruction t ≡ S
 
     hint_fewer : (may : Bool) (t : Toks) → count t ≤ suc n → Fewer (suc n) (rule.hint may t)
     hint_fewer may t few = either (is_hint (annotation_of (peek 0 t)))
-        (and_then (string_fewer (suc n) (after t) (fewer (suc n) t few)) (λ b few. some_of (hint_value b.0.now) (λ v. taking (rparen_takes (suc n) b.1 few) (λ r few. cond may (done (suc n) _ r few) (none (suc n))))))
+        (and_then (string_fewer (suc n) (after t) (fewer (suc n) t few)) (λ b few. some_of (hint_value b.0.now)
+            (λ v. taking (rparen_takes (suc n) b.1 few) (λ r few. cond may (done (suc n) _ r few) (none (suc n))))))
         (done (suc n) _ t few)
 
     pub falls : (may : Bool) (b : Base) (s : State) → takes_step b s.levels s.toks ≡ true → count s.toks ≤ suc n → Left n (step may s)
@@ -225,7 +241,9 @@ module _ (shrinks : (t : Toks) (x : Instruction × Toks) → instruction t ≡ S
         by (None_there read) = subst (Left n) (sym (step_as may b zero s.levels s.waiting s.read s.toks (Some ([], s.toks)) read))
             (hinted_less None s (λ none e. yet s.levels on none) few (peek 0 s.toks) refl)
         by (One_there v t at read) = subst (Left n) (sym (step_as may b zero s.levels s.waiting s.read s.toks (Some (Hint v ∷ [], t)) read))
-            (hinted_less (Some (record { value = v; place = position s.toks })) (with_toks t s) (λ none e. some_hint (record { value = v; place = position s.toks }) e) ((hint_fewer may s.toks few).at (Hint v ∷ [], t) read) (peek 0 t) refl)
+            (hinted_less (Some (record { value = v; place = position s.toks })) (with_toks t s)
+                (λ none e. some_hint (record { value = v; place = position s.toks }) e)
+                ((hint_fewer may s.toks few).at (Hint v ∷ [], t) read) (peek 0 t) refl)
           where
             some_hint : (x : code.Hint) → Some x ≡ None → is_closed s.levels ≡ false
             some_hint x e = absurd cc

@@ -38,7 +38,8 @@ none_more part n toks found e =
     let none : times (suc n) part toks ≡ None = rw (times, e) refl in
     ap (with_parts found) none
 
-pub more : {T : Type 0} (part : Toks → Parse T) (all m n : ℕ) (old mid new : Reader) (found : List T) (x : T) → Fills part all m old mid found → m ≡ suc n → Decides part mid new x
+pub more : {T : Type 0} (part : Toks → Parse T) (all m n : ℕ) (old mid new : Reader) (found : List T) (x : T)
+    → Fills part all m old mid found → m ≡ suc n → Decides part mid new x
     → Fills part all n old new (found ++ x ∷ [])
 more {T = T} part all m n old mid new found x f one d = record {
   make = d.make ∙ f.make;
@@ -60,7 +61,8 @@ pub record Filled {T : Type 0} (part : Toks → Parse T) (all i : ℕ) (old new 
 pub filled_begun : {T : Type 0} (part : Toks → Parse T) (all : ℕ) (r : Reader) (xs : List T) → length xs ≡ all → Filled part all 0 r r xs
 filled_begun part all r xs size = record { size = size; reads = subst (λ k. Fills part all k r r []) (omega arith) (begun part all r) }
 
-pub filled_more : {T : Type 0} (part : Toks → Parse T) (all i : ℕ) (old mid new : Reader) (xs : List T) (x : T) → Filled part all i old mid xs → i < all → Decides part mid new x
+pub filled_more : {T : Type 0} (part : Toks → Parse T) (all i : ℕ) (old mid new : Reader) (xs : List T) (x : T)
+    → Filled part all i old mid xs → i < all → Decides part mid new x
     → Filled part all (i + 1) old new (set xs i x)
 filled_more part all i old mid new xs x f small d = record {
   size = length-set xs i x ∙ f.size;
@@ -68,7 +70,8 @@ filled_more part all i old mid new xs x f small d = record {
       (more part all (all - i) (all - (i + 1)) old mid new (take i xs) x f.reads (omega arith) d);
 }
 
-pub filled_all : {T : Type 0} (part : Toks → Parse T) (all i : ℕ) (old new : Reader) (xs : List T) → Filled part all i old new xs → all ≤ i → Decides (times all part) old new xs
+pub filled_all : {T : Type 0} (part : Toks → Parse T) (all i : ℕ) (old new : Reader) (xs : List T)
+    → Filled part all i old new xs → all ≤ i → Decides (times all part) old new xs
 filled_all part all i old new xs f large =
     let r = f.reads in
     let none : all - i ≡ 0 = omega arith in
@@ -83,7 +86,8 @@ filled_all part all i old new xs f large =
     }
 
 -- what is made of the parts
-pub made : {S T : Type 0} (rule : Toks → Parse S) (shape : S → T) (old new : Reader) (x : S) → Decides rule old new x → Decides (λ toks. rule toks >>= λ y. Some (shape y.0, y.1)) old new (shape x)
+pub made : {S T : Type 0} (rule : Toks → Parse S) (shape : S → T) (old new : Reader) (x : S)
+    → Decides rule old new x → Decides (λ toks. rule toks >>= λ y. Some (shape y.0, y.1)) old new (shape x)
 made rule shape old new x d = record {
   make = d.make;
   clean = d.clean;

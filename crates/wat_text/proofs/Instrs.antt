@@ -21,7 +21,8 @@ pub built : {S : Type 0} (rule : Toks → Parse S) (shape : S → Instruction) (
 built {S = S} rule shape old mid new x result i r m is same stays = record {
   made = λ h. r.made (back h);
   clean = λ h. r.clean (sym same ∙ h);
-  gives = λ h. ap shaped (r.gives (sym same ∙ h.0, back h.1)) ∙ ap (λ j. Some (j, left mid)) (sym (ap bare_instr (m.1 h.1) ∙ is)) ∙ ap (λ t. Some (bare_instr result, t)) (sym stays);
+  gives = λ h. ap shaped (r.gives (sym same ∙ h.0, back h.1)) ∙ ap (λ j. Some (j, left mid)) (sym (ap bare_instr (m.1 h.1) ∙ is))
+      ∙ ap (λ t. Some (bare_instr result, t)) (sym stays);
   keeps = λ h. same ∙ r.keeps h;
   refuses = λ h k f. ap shaped (r.refuses h (back k) (subst IsRefused same f));
 }
@@ -33,13 +34,15 @@ built {S = S} rule shape old mid new x result i r m is same stays = record {
     back h = none_failed mid.make new.make m.0 h
 
 -- an instruction that is appended to a list
-pub put : (rule : Toks → Parse Instruction) (old mid new : Reader) (i : Instruction) (before behind : List Instruction) → Reads rule old mid (bare_instr i) → Builds mid new i before behind
+pub put : (rule : Toks → Parse Instruction) (old mid new : Reader) (i : Instruction) (before behind : List Instruction)
+    → Reads rule old mid (bare_instr i) → Builds mid new i before behind
     → ReadsOnto (one rule) old new (map bare_instr before) (map bare_instr behind)
 put rule old mid new i before behind r b = record {
   made = λ h. r.made (b.made h);
   clean = λ h. r.clean (sym b.fault ∙ h);
   gives = λ h. ap (λ p. with_parts (map bare_instr before) (listed p)) (r.gives (sym b.fault ∙ h.0, b.made h.1))
-      ∙ ap (λ is. Some (is, left mid)) (sym (ap (map bare_instr) (b.pushed h.1) ∙ mapped bare_instr before i)) ∙ ap (λ t. Some (map bare_instr behind, t)) (sym b.left);
+      ∙ ap (λ is. Some (is, left mid)) (sym (ap (map bare_instr) (b.pushed h.1) ∙ mapped bare_instr before i))
+      ∙ ap (λ t. Some (map bare_instr behind, t)) (sym b.left);
   keeps = λ h. b.fault ∙ r.keeps h;
   refuses = λ h m f. ap listed (r.refuses h (b.made m) (subst IsRefused b.fault f));
 }
@@ -48,8 +51,10 @@ put rule old mid new i before behind r b = record {
     listed p = p >>= λ x. Some (x.0 ∷ [], x.1)
 
 -- a plain instruction, by its word, which is read before it
-pub by_word : (w : Word) (name : Bor (List ℕ)) (old skipped new : Reader) (x : Instruction) → peek 0 (left old) ≡ Some (token.Word w name) → is_plaininstr w ≡ true
-    → left skipped ≡ after (left old) → skipped.fault ≡ old.fault → skipped.make ≡ old.make → Reads (plaininstr w name) skipped new x → Reads instruction old new x
+pub by_word : (w : Word) (name : Bor (List ℕ)) (old skipped new : Reader) (x : Instruction)
+    → peek 0 (left old) ≡ Some (token.Word w name) → is_plaininstr w ≡ true
+    → left skipped ≡ after (left old) → skipped.fault ≡ old.fault → skipped.make ≡ old.make
+    → Reads (plaininstr w name) skipped new x → Reads instruction old new x
 by_word w name old skipped new x next plain stays fault make r = record {
   made = λ h. sym make ∙ r.made h;
   clean = λ h. sym fault ∙ r.clean h;

@@ -13,7 +13,8 @@ use Rattle.wat_text.specs.declared.reader.Reader.{Reader}
 use Rattle.wat_text.specs.declared.bodies.Open.{Open}
 use Rattle.wat_text.specs.declared.bodies.Body.{Body}
 use Rattle.wat_text.specs.Readers.{left, IsClean, IsRefused, Reads, Expects}
-use Rattle.wat_text.specs.Machine.{State, state_of, Does, EndsExpression, step, plain, level_of, takes_plain, word_by, folded_operator, is_closed, is_done, hinted_by}
+use Rattle.wat_text.specs.Machine.{State, state_of, Does, EndsExpression, step, plain, level_of}
+use Rattle.wat_text.specs.Machine.{takes_plain, word_by, folded_operator, is_closed, is_done, hinted_by}
 use Rattle.wat_text.specs.Machine as machine
 use Rattle.wat_text.proofs.Levels.{Base, Whole, One}
 use Rattle.wat_text.proofs.MachineSteps.{state}
@@ -44,8 +45,10 @@ none_refused : (a : Option TextError) → a ≡ None → IsRefused a → ⊥
 none_refused a e r = subst IsRefused e r
 
 -- one step more
-pub held_on : (may : Bool) (b : Base) (given : Parse Expression) (old now next : Reader) (m n k i : ℕ) (before behind : Body) → Does (step may) now next before behind
-    → takes_step b (state_of now before).levels (left now) ≡ true → m ≡ suc k → k ≡ suc i → Held may b given old now m n (state_of now before) → Held may b given old next k n (state_of next behind)
+pub held_on : (may : Bool) (b : Base) (given : Parse Expression) (old now next : Reader) (m n k i : ℕ) (before behind : Body)
+    → Does (step may) now next before behind
+    → takes_step b (state_of now before).levels (left now) ≡ true → m ≡ suc k → k ≡ suc i
+    → Held may b given old now m n (state_of now before) → Held may b given old next k n (state_of next behind)
 held_on may b given old now next m n k i before behind does on one again held = record {
   made = λ h. held.made (does.made h);
   clean = λ h. held.clean (does.clean h);
@@ -74,11 +77,14 @@ nothing_left toks e = by toks.left e
     by (p ∷ ps) e = absurd cc
 
 stuck_at_end : (may : Bool) (s : State) → peek 0 s.toks ≡ None → is_closed s.levels ≡ false → step may s ≡ None
-stuck_at_end may s none open_yet = ap (λ r. (r >>= λ h. let o : Option Rattle.wat_text.specs.declared.bodies.Hint.Hint × Toks = (machine.hint_in (Rattle.wat_syntax.specs.Tokens.position s.toks) h.0, h.1) in Some o) >>= λ h. machine.hinted_step h.0 (machine.with_toks h.1 s)) no_hint
+stuck_at_end may s none open_yet = ap (λ r. (r >>= λ h. let o : Option Rattle.wat_text.specs.declared.bodies.Hint.Hint
+    × Toks = (machine.hint_in (Rattle.wat_syntax.specs.Tokens.position s.toks) h.0, h.1) in Some o)
+    >>= λ h. machine.hinted_step h.0 (machine.with_toks h.1 s)) no_hint
     ∙ ap (λ o. hinted_by o None s) none ∙ by s.levels refl
   where
     value : Parse (List Item)
-    value = Rattle.wat_syntax.specs.Values.string (Rattle.wat_syntax.specs.Tokens.after s.toks) >>= λ b. rule.hint_value b.0.now >>= λ v. Rattle.wat_syntax.specs.Tokens.rparen b.1 >>= λ rest. Rattle.std.specs.Prelude.if◌then◌else◌ may (Some (rule.Hint v ∷ [], rest)) None
+    value = Rattle.wat_syntax.specs.Values.string (Rattle.wat_syntax.specs.Tokens.after s.toks) >>= λ b. rule.hint_value b.0.now >>= λ v.
+        Rattle.wat_syntax.specs.Tokens.rparen b.1 >>= λ rest. Rattle.std.specs.Prelude.if◌then◌else◌ may (Some (rule.Hint v ∷ [], rest)) None
 
     no_hint : rule.hint may s.toks ≡ Some ([], s.toks)
     no_hint = ap (λ o. elim (is_hint (annotation_of o)) as (λ x. Parse (List Item)) [ true ↦ value | false ↦ Some ([], s.toks) ]) none
@@ -92,7 +98,9 @@ stuck_at_end may s none open_yet = ap (λ r. (r >>= λ h. let o : Option Rattle.
       where
         closed_not : true ≡ false → machine.at_nothing (level_of s.levels) None s ≡ None
         closed_not e = absurd cc
-    by (o ∷ os) e = ap (λ ls. machine.at_nothing (level_of ls) None s) e ∙ ap (λ ls. elim (takes_plain (level_of ls)) as (λ x. Option State) [ true ↦ plain None s | false ↦ None ]) e ∙ plain_none o (takes_plain (Some o.level))
+    by (o ∷ os) e = ap (λ ls. machine.at_nothing (level_of ls) None s) e
+        ∙ ap (λ ls. elim (takes_plain (level_of ls)) as (λ x. Option State) [ true ↦ plain None s | false ↦ None ]) e
+        ∙ plain_none o (takes_plain (Some o.level))
 
 going_whole : (ls : List Open) (toks : Toks) → is_done ls toks ≡ false → takes_step Whole ls toks ≡ true
 going_whole [] toks e = ap not e
@@ -116,7 +124,8 @@ not_both e f = not_so (sym e ∙ f)
     not_so e = absurd cc
 
 -- the beginning
-pub held_first : (may : Bool) (old : Reader) (k n : ℕ) (body : Body) → k ≡ n → n ≡ count (left old) → body.levels.items ≡ [] → body.waiting ≡ [] → body.instrs ≡ [] → body.hints ≡ []
+pub held_first : (may : Bool) (old : Reader) (k n : ℕ) (body : Body) → k ≡ n → n ≡ count (left old)
+    → body.levels.items ≡ [] → body.waiting ≡ [] → body.instrs ≡ [] → body.hints ≡ []
     → Held may Whole (expression may (left old)) old old (suc k) n (state_of old body)
 held_first may old k n body same few none waits instrs hints = record {
   made = λ h. h;
@@ -156,20 +165,23 @@ undone (o ∷ os) toks none e = refl
 held_last : (may : Bool) (b : Base) (given : Toks → Parse Expression) (old now new : Reader) (m n : ℕ) (body : Body) (done : Bool) (part : Expression)
     → Held may b (given (left old)) old now m n (state_of now body) → EndsExpression done now new → part ≡ (state_of now body).read
     → (done ≡ true → Going may b (given (left old)) m n (state_of now body) → given (left old) ≡ Some ((state_of now body).read, left now))
-    → (done ≡ false → takes_step b (state_of now body).levels (left now) ≡ true) → (done ≡ false → count (left now) ≡ 0 → is_closed (state_of now body).levels ≡ false)
+    → (done ≡ false → takes_step b (state_of now body).levels (left now) ≡ true)
+    → (done ≡ false → count (left now) ≡ 0 → is_closed (state_of now body).levels ≡ false)
     → (done ≡ false → m ≡ 1) → Reads given old new part
 held_last may b given old now new m n body done part held fin is came goes_yet open_yet last = record {
   made = λ h. held.made (sym fin.make ∙ h);
   clean = λ h. held.clean (fin.clean h);
   gives = λ h. came (fin.done h.0) (held.yet (fin.clean h.0, sym fin.make ∙ h.1))
-      ∙ ap (λ e. let o : Expression × Toks = (e, left now) in Some o) (sym is) ∙ ap (λ t. let o : Expression × Toks = (part, t) in Some o) (sym (fin.stays h.0));
+      ∙ ap (λ e. let o : Expression × Toks = (e, left now) in Some o) (sym is)
+      ∙ ap (λ t. let o : Expression × Toks = (part, t) in Some o) (sym (fin.stays h.0));
   keeps = λ h. fin.keeps (stays (held.keeps h) h) ∙ held.keeps h;
   refuses = λ h made gone. by h made gone now.fault refl;
 }
   where
     -- no token is left, because there were as many steps as tokens
     all_taken : now.fault ≡ None → new.make ≡ false → IsRefused new.fault → count (left now) ≡ 0
-    all_taken e made gone = let few : suc (count (left now)) ≤ m = held.few (e, sym fin.make ∙ made) in let one : m ≡ 1 = last (fin.undone e gone) in omega arith
+    all_taken e made gone = let few : suc (count (left now)) ≤ m = held.few (e, sym fin.make ∙ made) in
+        let one : m ≡ 1 = last (fin.undone e gone) in omega arith
 
     by : old.fault ≡ None → new.make ≡ false → IsRefused new.fault → (f : Option TextError) → now.fault ≡ f → given (left old) ≡ None
     by h made gone None e = refused may b (given (left old)) m n (state_of now body)
@@ -178,10 +190,12 @@ held_last may b given old now new m n body done part held fin is came goes_yet o
     by h made gone (Some f) e = held.lost h (sym fin.make ∙ made) (subst IsRefused (fin.keeps (is_some f now.fault e)) gone)
 
 pub whole_last : (may : Bool) (old now new : Reader) (m k n : ℕ) (body : Body) (done : Bool) (part : Expression)
-    → Held may Whole (expression may (left old)) old now m n (state_of now body) → m ≡ suc k → done ≡ is_done (reverse body.levels.items) (left now) → EndsExpression done now new
+    → Held may Whole (expression may (left old)) old now m n (state_of now body) → m ≡ suc k
+    → done ≡ is_done (reverse body.levels.items) (left now) → EndsExpression done now new
     → part ≡ (state_of now body).read → (done ≡ false → m ≡ 1) → Reads (expression may) old new part
 whole_last may old now new m k n body done part held one at fin is last = held_last may Whole (expression may) old now new m n body done part held fin is
-    (λ e going. came may (expression may (left old)) m k (state_of now body) (closed_if (reverse body.levels.items) (left now) (sym at ∙ e)) (end_if (reverse body.levels.items) (left now) (sym at ∙ e)) one n going)
+    (λ e going. came may (expression may (left old)) m k (state_of now body) (closed_if (reverse body.levels.items) (left now) (sym at ∙ e))
+        (end_if (reverse body.levels.items) (left now) (sym at ∙ e)) one n going)
     (λ e. going_whole (reverse body.levels.items) (left now) (sym at ∙ e))
     (λ e few. undone (reverse body.levels.items) (left now) (nothing_left (left now) few) (sym at ∙ e)) last
 
@@ -194,7 +208,8 @@ folded_last old now new m n body done part held at fin is last = held_last false
     (λ e few. sym at ∙ e) last
 
 -- the beginning of one folded instruction
-pub folded_first : (old opened now : Reader) (k n : ℕ) (before body : Body) → Expects lparen old opened → Does (folded_operator None) opened now before body → k ≡ n → n ≡ count (left now)
+pub folded_first : (old opened now : Reader) (k n : ℕ) (before body : Body) → Expects lparen old opened
+    → Does (folded_operator None) opened now before body → k ≡ n → n ≡ count (left now)
     → before.levels.items ≡ [] → before.waiting ≡ [] → before.instrs ≡ [] → before.hints ≡ []
     → Held false One (folded_expression (left old)) old now (suc k) (suc n) (state_of now body)
 folded_first old opened now k n before body opens does same few none waits instrs hints = record {
@@ -202,7 +217,8 @@ folded_first old opened now k n before body opens does same few none waits instr
   clean = λ h. opens.clean (does.clean h);
   keeps = λ h. does.keeps (stays (opens.keeps h) h) ∙ opens.keeps h;
   yet = λ h. subst (λ i. Going false One (folded_expression (left old)) (suc k) (suc i) (state_of now body)) (sym few)
-      (folded_began (left opened) (left old) (opens.gives (does.clean h.0)) (state_of now body) (sym (ap (folded_operator None) at_first) ∙ does.gives h) k (same ∙ few));
+      (folded_began (left opened) (left old) (opens.gives (does.clean h.0)) (state_of now body)
+          (sym (ap (folded_operator None) at_first) ∙ does.gives h) k (same ∙ few));
   few = λ h. enough;
   lost = λ h made gone. by h made gone opened.fault refl;
 }
@@ -220,7 +236,8 @@ folded_first old opened now k n before body opens does same few none waits instr
     not_opened None e none = ap rest e
       where
         rest : Option Toks → Parse Expression
-        rest o = o >>= λ t. Rattle.wat_syntax.specs.Instructions.instruction t >>= λ i. rule.folded_by (rule.next_of_word (word_of (peek 0 t))) (rule.sequences false (suc (count i.1))) (rule.Instr i.0 ∷ []) i.1 >>= λ xs. Some (rule.expression_of xs.0, xs.1)
+        rest o = o >>= λ t. Rattle.wat_syntax.specs.Instructions.instruction t >>= λ i. rule.folded_by (rule.next_of_word (word_of (peek 0 t)))
+            (rule.sequences false (suc (count i.1))) (rule.Instr i.0 ∷ []) i.1 >>= λ xs. Some (rule.expression_of xs.0, xs.1)
     not_opened (Some t) e none = absurd cc
 
     by : old.fault ≡ None → now.make ≡ false → IsRefused now.fault → (f : Option TextError) → opened.fault ≡ f → folded_expression (left old) ≡ None

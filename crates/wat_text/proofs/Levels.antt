@@ -5,13 +5,15 @@ use Rattle.std.proofs.Common.{ℕ, suc, Bool, List, [], ◌∷◌, ◌++◌, Opt
 use Rattle.wat_tokens.specs.declared.words.Key.TheVariants as key
 use Rattle.wat_syntax.specs.Tree.{Instruction, Expression}
 use Rattle.wat_syntax.specs.Tokens.{Parse, rparen, form}
-use Rattle.wat_syntax.specs.Bodies.{Item, Instr, Hint, Rule, Within, Place, Anywhere, Folded, Catches, CatchArms, terminal, writes, arm, ends, else_arm, catch_all_arm, handlers, part, End, else_to_end, catch_all_to_end, catches_to_end, sequences, at_end}
+use Rattle.wat_syntax.specs.Bodies.{Item, Instr, Hint, Rule, Within, Place, Anywhere, Folded, Catches, CatchArms, terminal, writes, arm, ends}
+use Rattle.wat_syntax.specs.Bodies.{else_arm, catch_all_arm, handlers, part, End, else_to_end, catch_all_to_end, catches_to_end, sequences, at_end}
 use Rattle.wat_text.specs.declared.bodies.Level.{Level}
 use Rattle.wat_text.specs.declared.bodies.Level.TheVariants as level
 use Rattle.wat_text.specs.declared.bodies.Hint as code
 use Rattle.wat_text.specs.declared.bodies.Open.{Open}
 use Rattle.wat_text.specs.Machine.{State, last_of, before_last}
-use Rattle.wat_text.proofs.Running.{run, mix, BelowRules, same_rule, same_rules, before_both, sequences_below, arm_below, else_arm_below, catch_all_arm_below, handlers_below, else_to_end_below, catch_all_to_end_below, catches_to_end_below}
+use Rattle.wat_text.proofs.Running.{run, mix, BelowRules, same_rule, same_rules, before_both, sequences_below, arm_below, else_arm_below}
+use Rattle.wat_text.proofs.Running.{catch_all_arm_below, handlers_below, else_to_end_below, catch_all_to_end_below, catches_to_end_below}
 
 -- what is read: an expression up to the end of its form, or one folded instruction
 pub data Base : Type 0 where
@@ -98,12 +100,16 @@ module _ (may : Bool) where
   abbrev pub mixed : Base → ℕ → ℕ → State → Parse Expression
   mixed b k m s = run (mix k (todo b m s.levels s.waiting) (todo b (suc m) s.levels s.waiting)) s.read s.toks
 
-  own_below : (m : ℕ) (l : Level) (h : Option code.Hint) (ws : List Instruction) → BelowRules (own (sequences may m) l h ws) (own (sequences may (suc m)) l h ws)
+  own_below : (m : ℕ) (l : Level) (h : Option code.Hint) (ws : List Instruction)
+      → BelowRules (own (sequences may m) l h ws) (own (sequences may (suc m)) l h ws)
   own_below m level.Operands h ws = same_rules (own (sequences may m) level.Operands h ws)
-  own_below m level.Condition h ws = (same_rule (terminal (form key.Then)), (same_rule (writes (waits h ws)), (arm_below may (sequences may m) (sequences may (suc m)) (sequences_below may m), (else_arm_below may (sequences may m) (sequences may (suc m)) (sequences_below may m), (same_rule ends, tt)))))
+  own_below m level.Condition h ws =
+      (same_rule (terminal (form key.Then)), (same_rule (writes (waits h ws)), (arm_below may (sequences may m) (sequences may (suc m))
+          (sequences_below may m), (else_arm_below may (sequences may m) (sequences may (suc m)) (sequences_below may m), (same_rule ends, tt)))))
   own_below m level.Block h ws = same_rules (own (sequences may m) level.Block h ws)
   own_below m level.Then h ws = (else_arm_below may (sequences may m) (sequences may (suc m)) (sequences_below may m), (same_rule ends, tt))
-  own_below m level.Try h ws = (same_rule (terminal (form key.Do)), (arm_below may (sequences may m) (sequences may (suc m)) (sequences_below may m), (handlers_below may (sequences may m) (sequences may (suc m)) (sequences_below may m), tt)))
+  own_below m level.Try h ws = (same_rule (terminal (form key.Do)), (arm_below may (sequences may m) (sequences may (suc m))
+      (sequences_below may m), (handlers_below may (sequences may m) (sequences may (suc m)) (sequences_below may m), tt)))
   own_below m level.Do h ws = (handlers_below may (sequences may m) (sequences may (suc m)) (sequences_below may m), tt)
   own_below m level.Catch h ws = (catch_all_arm_below may (sequences may m) (sequences may (suc m)) (sequences_below may m), (same_rule ends, tt))
   own_below m level.Last h ws = same_rules (own (sequences may m) level.Last h ws)
@@ -112,7 +118,8 @@ module _ (may : Bool) where
   own_below m level.Plain h ws = same_rules (own (sequences may m) level.Plain h ws)
   own_below m level.PlainIf h ws = (else_to_end_below may (sequences may m) (sequences may (suc m)) (sequences_below may m), tt)
   own_below m level.PlainTry h ws = (catches_to_end_below may (sequences may m) (sequences may (suc m)) (sequences_below may m), tt)
-  own_below m level.PlainCatch h ws = ((sequences_below may m).at Catches, (catch_all_to_end_below may (sequences may m) (sequences may (suc m)) (sequences_below may m), tt))
+  own_below m level.PlainCatch h ws =
+      ((sequences_below may m).at Catches, (catch_all_to_end_below may (sequences may m) (sequences may (suc m)) (sequences_below may m), tt))
 
   placed_below : (m : ℕ) (p : Option Place) (ps qs : List Rule) → BelowRules ps qs → BelowRules (placed m p ps) (placed (suc m) p qs)
   placed_below m None ps qs below = below
@@ -120,7 +127,8 @@ module _ (may : Bool) where
 
   behind_below : (b : Base) (m : ℕ) (ls : List Open) (ws : List Instruction) → BelowRules (behind b m ls ws) (behind b (suc m) ls ws)
   behind_below b m [] ws = same_rules (base_rules b)
-  behind_below b m (o ∷ os) ws = before_both _ _ _ _ (own_below m o.level o.hint ws) (placed_below m (place_in b os) _ _ (behind_below b m os (others o.level ws)))
+  behind_below b m (o ∷ os) ws =
+      before_both _ _ _ _ (own_below m o.level o.hint ws) (placed_below m (place_in b os) _ _ (behind_below b m os (others o.level ws)))
 
   pub todo_below : (b : Base) (m : ℕ) (ls : List Open) (ws : List Instruction) → BelowRules (todo b m ls ws) (todo b (suc m) ls ws)
   todo_below b m ls ws = placed_below m (place_in b ls) _ _ (behind_below b m ls ws)

@@ -33,9 +33,11 @@ part_more is_next part m n toks rest x found one yet gives =
 -- the rule does not produce the next part
 pub part_none : {T : Type 0} (is_next : Toks → Bool) (part : Toks → Parse T) (m n : ℕ) (toks : Toks) (found : List T)
     → m ≡ suc n → is_next toks ≡ true → part toks ≡ None → with_parts found (many is_next part m toks) ≡ None
-part_none is_next part m n toks found one yet none = ap (λ k. with_parts found (many is_next part k toks)) one ∙ ap (with_parts found) (no_part is_next part n toks yet none)
+part_none is_next part m n toks found one yet none =
+    ap (λ k. with_parts found (many is_next part k toks)) one ∙ ap (with_parts found) (no_part is_next part n toks yet none)
   where
-    no_part : {T : Type 0} (is_next : Toks → Bool) (part : Toks → Parse T) (n : ℕ) (toks : Toks) → is_next toks ≡ true → part toks ≡ None → many is_next part (suc n) toks ≡ None
+    no_part : {T : Type 0} (is_next : Toks → Bool) (part : Toks → Parse T) (n : ℕ) (toks : Toks)
+        → is_next toks ≡ true → part toks ≡ None → many is_next part (suc n) toks ≡ None
     no_part is_next part n toks yet none = rw (many, yet, none) refl
 
 -- with parts before, a rule produces what it produces without
@@ -43,7 +45,8 @@ pub none_after : {T : Type 0} (found : List T) (p : Parse (List T)) → with_par
 none_after found None e = refl
 none_after found (Some x) e = absurd cc
 
-pub stops : {T : Type 0} (is_next : Toks → Bool) (part : Toks → Parse T) (n : ℕ) (toks : Toks) → is_next toks ≡ false → many is_next part n toks ≡ Some ([], toks)
+pub stops : {T : Type 0} (is_next : Toks → Bool) (part : Toks → Parse T) (n : ℕ) (toks : Toks)
+    → is_next toks ≡ false → many is_next part n toks ≡ Some ([], toks)
 stops is_next part zero toks ends = refl
 stops is_next part (suc n) toks ends = rw (many, ends) refl
 
@@ -86,12 +89,15 @@ list_more is_next part m n toks rest found after one yet gives =
 -- the rule does not produce the next list of parts
 pub list_none : {T : Type 0} (is_next : Toks → Bool) (part : Toks → Parse (List T)) (m n : ℕ) (toks : Toks) (found : List T)
     → m ≡ suc n → is_next toks ≡ true → part toks ≡ None → with_parts found (many_lists is_next part m toks) ≡ None
-list_none is_next part m n toks found one yet none = ap (λ k. with_parts found (many_lists is_next part k toks)) one ∙ ap (with_parts found) (no_list is_next part n toks yet none)
+list_none is_next part m n toks found one yet none =
+    ap (λ k. with_parts found (many_lists is_next part k toks)) one ∙ ap (with_parts found) (no_list is_next part n toks yet none)
   where
-    no_list : {T : Type 0} (is_next : Toks → Bool) (part : Toks → Parse (List T)) (n : ℕ) (toks : Toks) → is_next toks ≡ true → part toks ≡ None → many_lists is_next part (suc n) toks ≡ None
+    no_list : {T : Type 0} (is_next : Toks → Bool) (part : Toks → Parse (List T)) (n : ℕ) (toks : Toks)
+        → is_next toks ≡ true → part toks ≡ None → many_lists is_next part (suc n) toks ≡ None
     no_list is_next part n toks yet none = rw (many_lists, yet, none) refl
 
-lists_stop : {T : Type 0} (is_next : Toks → Bool) (part : Toks → Parse (List T)) (n : ℕ) (toks : Toks) → is_next toks ≡ false → many_lists is_next part n toks ≡ Some ([], toks)
+lists_stop : {T : Type 0} (is_next : Toks → Bool) (part : Toks → Parse (List T)) (n : ℕ) (toks : Toks)
+    → is_next toks ≡ false → many_lists is_next part n toks ≡ Some ([], toks)
 lists_stop is_next part zero toks ends = refl
 lists_stop is_next part (suc n) toks ends = rw (many_lists, ends) refl
 

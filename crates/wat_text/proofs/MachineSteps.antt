@@ -11,12 +11,15 @@ use Rattle.wat_tokens.specs.declared.words.BlockOp.TheVariants as opens
 use Rattle.wat_syntax.specs.Tree.{Instruction, Expression}
 use Rattle.wat_syntax.specs.Tokens.{Toks, Parse, peek, position, rparen, form, with_parts, word_of}
 use Rattle.wat_syntax.specs.Instructions.{instruction}
-use Rattle.wat_syntax.specs.Bodies.{Item, Instr, Rule, Place, Anywhere, Folded, Next, Ends, Opens, Stands, Part, part_of, part_in, next_of, next_of_word, terminal, writes, hinted, arm, ends, else_arm, handlers, part, End, else_to_end, catches_to_end, ◌>>◌, folded_by, sequence, sequences}
+use Rattle.wat_syntax.specs.Bodies.{Item, Instr, Rule, Place, Anywhere, Folded, Next, Ends, Opens, Stands, Part, part_of}
+use Rattle.wat_syntax.specs.Bodies.{part_in, next_of, next_of_word, terminal, writes, hinted, arm, ends, else_arm, handlers}
+use Rattle.wat_syntax.specs.Bodies.{part, End, else_to_end, catches_to_end, ◌>>◌, folded_by, sequence, sequences}
 use Rattle.wat_syntax.specs.Bodies as rule
 use Rattle.wat_text.specs.declared.bodies.Level.TheVariants as level
 use Rattle.wat_text.specs.declared.bodies.Hint as code
 use Rattle.wat_text.specs.declared.bodies.Open.{Open}
-use Rattle.wat_text.specs.Machine.{State, with_toks, with_instr, with_hint, read_operator, read_instr, push_level, append_hint, with_operands, folded_operator, operator_of, plain_level}
+use Rattle.wat_text.specs.Machine.{State, with_toks, with_instr, with_hint, read_operator, read_instr, push_level}
+use Rattle.wat_text.specs.Machine.{append_hint, with_operands, folded_operator, operator_of, plain_level}
 use Rattle.wat_text.proofs.Running.{run, add, mix, chain, flat, in_turn, read_by, fails_by}
 use Rattle.wat_text.proofs.Levels.{Base, place_in, hint_items, placed, behind, todo, mixed}
 use Rattle.wat_text.proofs.Waiting.{last_is, before_is}
@@ -34,8 +37,10 @@ with_both (Some h) i e = refl
 
 pub read_operator_is : (s : State) (i : Parse Instruction) → instruction s.toks ≡ i
     → read_operator s ≡ (i >>= λ x. Some (record { levels = s.levels; waiting = s.waiting ++ x.0 ∷ []; read = s.read; toks = x.1 }))
-read_operator_is s None e = ap (λ o. with_parts s.waiting (o >>= λ x. Some (x.0 ∷ [], x.1)) >>= λ w. Some (record { levels = s.levels; waiting = w.0; read = s.read; toks = w.1 })) e
-read_operator_is s (Some i) e = ap (λ o. with_parts s.waiting (o >>= λ x. Some (x.0 ∷ [], x.1)) >>= λ w. Some (record { levels = s.levels; waiting = w.0; read = s.read; toks = w.1 })) e
+read_operator_is s None e = ap (λ o. with_parts s.waiting (o >>= λ x. Some (x.0 ∷ [], x.1))
+    >>= λ w. Some (record { levels = s.levels; waiting = w.0; read = s.read; toks = w.1 })) e
+read_operator_is s (Some i) e = ap (λ o. with_parts s.waiting (o >>= λ x. Some (x.0 ∷ [], x.1))
+    >>= λ w. Some (record { levels = s.levels; waiting = w.0; read = s.read; toks = w.1 })) e
 
 pub read_instr_is : (s : State) (i : Parse Instruction) → instruction s.toks ≡ i
     → read_instr s ≡ (i >>= λ x. Some (record { levels = s.levels; waiting = s.waiting; read = with_instr x.0 s.read; toks = x.1 }))
@@ -65,7 +70,8 @@ module _ (may : Bool) (b : Base) (m : ℕ) where
   by_both x a s = record { k = s.k; is = a ∙ s.is ∙ sym (ap (λ o. o >>= mixed may b s.k m) x) }
 
   -- with what is left to read by name
-  pub mixed_is : (k : ℕ) (s : State) (ps qs : List Rule) → todo may b m s.levels s.waiting ≡ ps → todo may b (suc m) s.levels s.waiting ≡ qs → mixed may b k m s ≡ run (mix k ps qs) s.read s.toks
+  pub mixed_is : (k : ℕ) (s : State) (ps qs : List Rule) → todo may b m s.levels s.waiting ≡ ps
+      → todo may b (suc m) s.levels s.waiting ≡ qs → mixed may b k m s ≡ run (mix k ps qs) s.read s.toks
   mixed_is k s ps qs p q = ap (λ rs. run (mix k rs (todo may b (suc m) s.levels s.waiting)) s.read s.toks) p ∙ ap (λ rs. run (mix k ps rs) s.read s.toks) q
 
   -- the next one, after a hint
@@ -87,7 +93,8 @@ module _ (may : Bool) (b : Base) (m : ℕ) where
     rest_is None ps qs = refl
     rest_is (Some p) ps qs = refl
 
-    mixed_own : (k : ℕ) (s : State) (xs ys : List Rule) → todo may b m s.levels s.waiting ≡ xs ++ todo may b m ls ws → todo may b (suc m) s.levels s.waiting ≡ ys ++ todo may b (suc m) ls ws
+    mixed_own : (k : ℕ) (s : State) (xs ys : List Rule) → todo may b m s.levels s.waiting ≡ xs ++ todo may b m ls ws
+        → todo may b (suc m) s.levels s.waiting ≡ ys ++ todo may b (suc m) ls ws
         → ((ps qs : List Rule) → mix k (xs ++ ps) (ys ++ qs) ≡ xs ++ mix c ps qs) → mixed may b k m s ≡ run (xs ++ rest) s.read s.toks
     mixed_own k s xs ys p q shape = mixed_is k s (xs ++ todo may b m ls ws) (ys ++ todo may b (suc m) ls ws) p q
         ∙ ap (λ rs. run rs s.read s.toks) (shape (todo may b m ls ws) (todo may b (suc m) ls ws))
@@ -114,49 +121,59 @@ module _ (may : Bool) (b : Base) (m : ℕ) where
       -- no instruction is read
       pub no_operator : (w : Option Word) → instruction t ≡ None → operator_of w h s ≡ None
       no_operator (Some (word.Block opens.if_)) none = ap (λ o. o >>= push_level level.Condition (position t) h) (read_operator_is s None none)
-      no_operator (Some (word.Block opens.try_)) none = ap (λ o. o >>= push_level level.Try (position t) None) (read_instr_is (state ls ws (with_hint h e) t) None none)
-      no_operator (Some (word.Block op)) none = ap (λ o. o >>= push_level level.Block (position t) None) (read_instr_is (state ls ws (with_hint h e) t) None none)
+      no_operator (Some (word.Block opens.try_)) none =
+          ap (λ o. o >>= push_level level.Try (position t) None) (read_instr_is (state ls ws (with_hint h e) t) None none)
+      no_operator (Some (word.Block op)) none =
+          ap (λ o. o >>= push_level level.Block (position t) None) (read_instr_is (state ls ws (with_hint h e) t) None none)
       no_operator w none = unless_part (part_in t)
         where
-          unless_part : (q : Option Part) → (((elim q [ Some p ↦ None | None ↦ Some t ]) >>= λ r. Some (with_toks r s)) >>= read_operator >>= push_level level.Operands (position t) h) ≡ None
+          unless_part : (q : Option Part) → (((elim q [ Some p ↦ None | None ↦ Some t ]) >>= λ r. Some (with_toks r s))
+              >>= read_operator >>= push_level level.Operands (position t) h) ≡ None
           unless_part None = ap (λ o. o >>= push_level level.Operands (position t) h) (read_operator_is s None none)
           unless_part (Some p) = refl
 
       -- an instruction with operands
       operands_step : (i : Instruction × Toks) → instruction t ≡ Some i
-          → Same may b m (read_operator s >>= push_level level.Operands (position t) h) (run (rule.operands (sequences may m) (hint_items h ++ Instr i.0 ∷ []) ∷ rest) e i.1)
+          → Same may b m (read_operator s >>= push_level level.Operands (position t) h)
+              (run (rule.operands (sequences may m) (hint_items h ++ Instr i.0 ∷ []) ∷ rest) e i.1)
       operands_step i read = let o = hint_items h ++ Instr i.0 ∷ [] in
           one_step (suc (suc (suc c))) (state (open_of level.Operands (position t) h ∷ ls) (ws ++ i.0 ∷ []) e i.1)
           (ap (λ x. x >>= push_level level.Operands (position t) h) (read_operator_is s (Some i) read))
           (flat (sequences may m Folded) (terminal rparen ∷ writes o ∷ []) rest e i.1
-          ∙ sym (mixed_own (suc (suc (suc c))) (state (open_of level.Operands (position t) h ∷ ls) (ws ++ i.0 ∷ []) e i.1) (operands_of m o) (operands_of (suc m) o)
+          ∙ sym (mixed_own (suc (suc (suc c))) (state (open_of level.Operands (position t) h ∷ ls) (ws ++ i.0 ∷ []) e i.1)
+              (operands_of m o) (operands_of (suc m) o)
           (operands_at m (position t) h i.0) (operands_at (suc m) (position t) h i.0) (λ ps qs. refl)))
 
       -- a block
       block_step : (i : Instruction × Toks) → instruction t ≡ Some i
-          → Same may b m (append_hint h s >>= read_instr >>= push_level level.Block (position t) None) (run (chain (writes (hint_items h ++ Instr i.0 ∷ [])) (sequences may m Anywhere ∷ ends ∷ []) ∷ rest) e i.1)
+          → Same may b m (append_hint h s >>= read_instr >>= push_level level.Block (position t) None)
+              (run (chain (writes (hint_items h ++ Instr i.0 ∷ [])) (sequences may m Anywhere ∷ ends ∷ []) ∷ rest) e i.1)
       block_step i read = let o = hint_items h ++ Instr i.0 ∷ [] in let f = with_instr i.0 (with_hint h e) in
           one_step (suc (suc c)) (state (open_of level.Block (position t) None ∷ ls) ws f i.1)
           (ap (λ x. x >>= push_level level.Block (position t) None) (read_instr_is (state ls ws (with_hint h e) t) (Some i) read))
           (flat (writes o) (sequences may m Anywhere ∷ ends ∷ []) rest e i.1
           ∙ ap (λ g. run (sequences may m Anywhere ∷ ends ∷ rest) g i.1) (with_both h i.0 e)
-          ∙ sym (mixed_own (suc (suc c)) (state (open_of level.Block (position t) None ∷ ls) ws f i.1) (sequences may m Anywhere ∷ ends ∷ []) (sequences may (suc m) Anywhere ∷ ends ∷ [])
+          ∙ sym (mixed_own (suc (suc c)) (state (open_of level.Block (position t) None ∷ ls) ws f i.1)
+              (sequences may m Anywhere ∷ ends ∷ []) (sequences may (suc m) Anywhere ∷ ends ∷ [])
           refl refl (λ ps qs. refl)))
 
       try_step : (i : Instruction × Toks) → instruction t ≡ Some i
           → Same may b m (append_hint h s >>= read_instr >>= push_level level.Try (position t) None)
-          (run (chain (writes (hint_items h ++ Instr i.0 ∷ [])) (terminal (form key.Do) ∷ arm (sequences may m) ∷ handlers (sequences may m) ∷ []) ∷ rest) e i.1)
+          (run (chain (writes (hint_items h ++ Instr i.0 ∷ []))
+              (terminal (form key.Do) ∷ arm (sequences may m) ∷ handlers (sequences may m) ∷ []) ∷ rest) e i.1)
       try_step i read = let o = hint_items h ++ Instr i.0 ∷ [] in let f = with_instr i.0 (with_hint h e) in
           one_step (suc (suc (suc c))) (state (open_of level.Try (position t) None ∷ ls) ws f i.1)
           (ap (λ x. x >>= push_level level.Try (position t) None) (read_instr_is (state ls ws (with_hint h e) t) (Some i) read))
           (flat (writes o) (terminal (form key.Do) ∷ arm (sequences may m) ∷ handlers (sequences may m) ∷ []) rest e i.1
           ∙ ap (λ g. run (terminal (form key.Do) ∷ arm (sequences may m) ∷ handlers (sequences may m) ∷ rest) g i.1) (with_both h i.0 e)
           ∙ sym (mixed_own (suc (suc (suc c))) (state (open_of level.Try (position t) None ∷ ls) ws f i.1)
-          (terminal (form key.Do) ∷ arm (sequences may m) ∷ handlers (sequences may m) ∷ []) (terminal (form key.Do) ∷ arm (sequences may (suc m)) ∷ handlers (sequences may (suc m)) ∷ [])
+          (terminal (form key.Do) ∷ arm (sequences may m) ∷ handlers (sequences may m) ∷ [])
+              (terminal (form key.Do) ∷ arm (sequences may (suc m)) ∷ handlers (sequences may (suc m)) ∷ [])
           refl refl (λ ps qs. refl)))
 
       if_step : (i : Instruction × Toks) → instruction t ≡ Some i
-          → Same may b m (read_operator s >>= push_level level.Condition (position t) h) (run (rule.folded_if (sequences may m) (hint_items h ++ Instr i.0 ∷ []) ∷ rest) e i.1)
+          → Same may b m (read_operator s >>= push_level level.Condition (position t) h)
+              (run (rule.folded_if (sequences may m) (hint_items h ++ Instr i.0 ∷ []) ∷ rest) e i.1)
       if_step i read = let o = hint_items h ++ Instr i.0 ∷ [] in let k = suc (suc (suc (suc (suc (suc c))))) in
           one_step k (state (open_of level.Condition (position t) h ∷ ls) (ws ++ i.0 ∷ []) e i.1)
           (ap (λ x. x >>= push_level level.Condition (position t) h) (read_operator_is s (Some i) read))
@@ -169,21 +186,28 @@ module _ (may : Bool) (b : Base) (m : ℕ) where
       folded_next w = λ t. instruction t >>= λ i. folded_by (next_of_word w) (sequences may m) (hint_items h ++ Instr i.0 ∷ []) i.1
 
       answer_is : (w : Option Word) (i : Parse Instruction) → instruction t ≡ i
-          → run (folded_next w ∷ rest) e t ≡ ((i >>= λ i. folded_by (next_of_word w) (sequences may m) (hint_items h ++ Instr i.0 ∷ []) i.1) >>= λ x. run rest (add e x.0) x.1)
-      answer_is w i read = ap (λ o. (o >>= λ i. folded_by (next_of_word w) (sequences may m) (hint_items h ++ Instr i.0 ∷ []) i.1) >>= λ x. run rest (add e x.0) x.1) read
+          → run (folded_next w ∷ rest) e t
+          ≡ ((i >>= λ i. folded_by (next_of_word w) (sequences may m) (hint_items h ++ Instr i.0 ∷ []) i.1) >>= λ x. run rest (add e x.0) x.1)
+      answer_is w i read = ap (λ o. (o >>= λ i. folded_by (next_of_word w) (sequences may m) (hint_items h ++ Instr i.0 ∷ []) i.1)
+          >>= λ x. run rest (add e x.0) x.1) read
 
       operand_or_part : (w : Option Word) (q : Option Part) → part_in t ≡ q → (i : Instruction × Toks) → instruction t ≡ Some i
-          → Same may b m (with_operands h s) (run (folded_by (elim q [ Some p ↦ Ends | None ↦ Stands ]) (sequences may m) (hint_items h ++ Instr i.0 ∷ []) ∷ rest) e i.1)
-      operand_or_part w None is i read = by_both (ap (λ q. ((elim q [ Some p ↦ None | None ↦ Some t ]) >>= λ r. Some (with_toks r s)) >>= read_operator >>= push_level level.Operands (position t) h) is) refl (operands_step i read)
-      operand_or_part w (Some p) is i read = no_step (ap (λ q. ((elim q [ Some p ↦ None | None ↦ Some t ]) >>= λ r. Some (with_toks r s)) >>= read_operator >>= push_level level.Operands (position t) h) is) refl
+          → Same may b m (with_operands h s)
+              (run (folded_by (elim q [ Some p ↦ Ends | None ↦ Stands ]) (sequences may m) (hint_items h ++ Instr i.0 ∷ []) ∷ rest) e i.1)
+      operand_or_part w None is i read = by_both (ap (λ q. ((elim q [ Some p ↦ None | None ↦ Some t ]) >>= λ r. Some (with_toks r s))
+          >>= read_operator >>= push_level level.Operands (position t) h) is) refl (operands_step i read)
+      operand_or_part w (Some p) is i read = no_step (ap (λ q. ((elim q [ Some p ↦ None | None ↦ Some t ]) >>= λ r. Some (with_toks r s))
+          >>= read_operator >>= push_level level.Operands (position t) h) is) refl
 
-      folds_by : (w : Option Word) → part_of w ≡ part_in t → (i : Parse Instruction) → instruction t ≡ i → Same may b m (operator_of w h s) (run (folded_next w ∷ rest) e t)
+      folds_by : (w : Option Word) → part_of w ≡ part_in t → (i : Parse Instruction)
+          → instruction t ≡ i → Same may b m (operator_of w h s) (run (folded_next w ∷ rest) e t)
       folds_by w is None read = no_step (no_operator w read) (answer_is w None read)
       folds_by (Some (word.Block opens.if_)) is (Some i) read = by_both refl (answer_is (Some (word.Block opens.if_)) (Some i) read) (if_step i read)
       folds_by (Some (word.Block opens.try_)) is (Some i) read = by_both refl (answer_is (Some (word.Block opens.try_)) (Some i) read) (try_step i read)
       folds_by (Some (word.Block opens.block)) is (Some i) read = by_both refl (answer_is (Some (word.Block opens.block)) (Some i) read) (block_step i read)
       folds_by (Some (word.Block opens.loop_)) is (Some i) read = by_both refl (answer_is (Some (word.Block opens.loop_)) (Some i) read) (block_step i read)
-      folds_by (Some (word.Block opens.try_table)) is (Some i) read = by_both refl (answer_is (Some (word.Block opens.try_table)) (Some i) read) (block_step i read)
+      folds_by (Some (word.Block opens.try_table)) is (Some i) read =
+          by_both refl (answer_is (Some (word.Block opens.try_table)) (Some i) read) (block_step i read)
       folds_by None is (Some i) read = by_both refl (answer_is None (Some i) read) (operand_or_part None None (sym is) i read)
       folds_by (Some w) is (Some i) read = by_both refl (answer_is (Some w) (Some i) read) (operand_or_part (Some w) (part_of (Some w)) (sym is) i read)
 
@@ -197,14 +221,17 @@ module _ (may : Bool) (b : Base) (m : ℕ) where
     rest_at : rest ls ws ≡ then_on
     rest_at = ap (λ q. placed may m q (behind may b (suc m) ls ws)) at
 
-    hinted_is : (h : List Item) (t : Toks) (i : Parse Instruction) → instruction t ≡ i → hinted h t ≡ (i >>= λ x. let o : List Item × Toks = (h ++ Instr x.0 ∷ [], x.1) in Some o)
+    hinted_is : (h : List Item) (t : Toks) (i : Parse Instruction) → instruction t ≡ i
+        → hinted h t ≡ (i >>= λ x. let o : List Item × Toks = (h ++ Instr x.0 ∷ [], x.1) in Some o)
     hinted_is h t i read = ap (λ o. o >>= λ x. let o : List Item × Toks = (h ++ Instr x.0 ∷ [], x.1) in Some o) read
 
     -- an instruction without parentheses
     pub stands : (h : Option code.Hint) (e : Expression) (toks t : Toks) (i : Parse Instruction) → instruction t ≡ i
-        → Same may b m (append_hint h (state ls ws e t) >>= read_instr) (run (sequence may (sequences may m) Stands p toks (hint_items h) ∷ behind may b (suc m) ls ws) e t)
+        → Same may b m (append_hint h (state ls ws e t) >>= read_instr)
+            (run (sequence may (sequences may m) Stands p toks (hint_items h) ∷ behind may b (suc m) ls ws) e t)
     stands h e toks t None read = no_step (read_instr_is (state ls ws (with_hint h e) t) None read)
-        (in_turn (hinted (hint_items h)) (sequences may m p) (behind may b (suc m) ls ws) e t ∙ fails_by (hinted (hint_items h)) then_on e t (hinted_is (hint_items h) t None read))
+        (in_turn (hinted (hint_items h)) (sequences may m p) (behind may b (suc m) ls ws) e t
+            ∙ fails_by (hinted (hint_items h)) then_on e t (hinted_is (hint_items h) t None read))
     stands h e toks t (Some i) read = let f = with_instr i.0 (with_hint h e) in
         one_step (c ls ws) (state ls ws f i.1) (read_instr_is (state ls ws (with_hint h e) t) (Some i) read)
         (in_turn (hinted (hint_items h)) (sequences may m p) (behind may b (suc m) ls ws) e t
@@ -219,23 +246,28 @@ module _ (may : Bool) (b : Base) (m : ℕ) where
         → (i : Parse Instruction) → instruction t ≡ i
         → Same may b m (append_hint h (state ls ws e t) >>= read_instr >>= push_level l (position t) None)
         (run (chain (hinted (hint_items h)) ((sequences may m Anywhere >> x m) ∷ sequences may m p ∷ []) ∷ behind may b (suc m) ls ws) e t)
-    opens_level op x l h e toks t todo_is None read = no_step (ap (λ o. o >>= push_level l (position t) None) (read_instr_is (state ls ws (with_hint h e) t) None read))
+    opens_level op x l h e toks t todo_is None read =
+        no_step (ap (λ o. o >>= push_level l (position t) None) (read_instr_is (state ls ws (with_hint h e) t) None read))
         (flat (hinted (hint_items h)) ((sequences may m Anywhere >> x m) ∷ sequences may m p ∷ []) (behind may b (suc m) ls ws) e t
         ∙ fails_by (hinted (hint_items h)) ((sequences may m Anywhere >> x m) ∷ then_on) e t (hinted_is (hint_items h) t None read))
     opens_level op x l h e toks t todo_is (Some i) read = let f = with_instr i.0 (with_hint h e) in let s = state (open_of l (position t) None ∷ ls) ws f i.1 in
         one_step (suc (suc (c ls ws))) s (ap (λ o. o >>= push_level l (position t) None) (read_instr_is (state ls ws (with_hint h e) t) (Some i) read))
         (flat (hinted (hint_items h)) ((sequences may m Anywhere >> x m) ∷ sequences may m p ∷ []) (behind may b (suc m) ls ws) e t
-        ∙ read_by (hinted (hint_items h)) ((sequences may m Anywhere >> x m) ∷ then_on) e t i.1 (hint_items h ++ Instr i.0 ∷ []) (hinted_is (hint_items h) t (Some i) read)
+        ∙ read_by (hinted (hint_items h)) ((sequences may m Anywhere >> x m) ∷ then_on) e t i.1
+            (hint_items h ++ Instr i.0 ∷ []) (hinted_is (hint_items h) t (Some i) read)
         ∙ ap (λ g. run ((sequences may m Anywhere >> x m) ∷ then_on) g i.1) (with_both h i.0 e)
         ∙ in_turn (sequences may m Anywhere) (x m) then_on f i.1
         ∙ sym (ap (λ rs. run (sequences may m Anywhere ∷ x m ∷ rs) f i.1) rest_at)
-        ∙ sym (mixed_own ls ws (suc (suc (c ls ws))) s (sequences may m Anywhere ∷ x m ∷ []) (sequences may (suc m) Anywhere ∷ x (suc m) ∷ []) (todo_is m (position t)) (todo_is (suc m) (position t)) (λ ps qs. refl)))
+        ∙ sym (mixed_own ls ws (suc (suc (c ls ws))) s (sequences may m Anywhere ∷ x m ∷ [])
+            (sequences may (suc m) Anywhere ∷ x (suc m) ∷ []) (todo_is m (position t)) (todo_is (suc m) (position t)) (λ ps qs. refl)))
 
     pub opens_block : (op : BlockOp) (h : Option code.Hint) (e : Expression) (toks t : Toks)
         → Same may b m (append_hint h (state ls ws e t) >>= read_instr >>= push_level (plain_level op) (position t) None)
         (run (sequence may (sequences may m) (Opens op) p toks (hint_items h) ∷ behind may b (suc m) ls ws) e t)
-    opens_block opens.if_ h e toks t = opens_level opens.if_ (λ n. else_to_end may (sequences may n)) level.PlainIf h e toks t (λ n place. refl) (instruction t) refl
-    opens_block opens.try_ h e toks t = opens_level opens.try_ (λ n. catches_to_end may (sequences may n)) level.PlainTry h e toks t (λ n place. refl) (instruction t) refl
+    opens_block opens.if_ h e toks t =
+        opens_level opens.if_ (λ n. else_to_end may (sequences may n)) level.PlainIf h e toks t (λ n place. refl) (instruction t) refl
+    opens_block opens.try_ h e toks t =
+        opens_level opens.try_ (λ n. catches_to_end may (sequences may n)) level.PlainTry h e toks t (λ n place. refl) (instruction t) refl
     opens_block opens.block h e toks t = opens_level opens.block (λ n. part may End) level.Plain h e toks t (λ n place. refl) (instruction t) refl
     opens_block opens.loop_ h e toks t = opens_level opens.loop_ (λ n. part may End) level.Plain h e toks t (λ n place. refl) (instruction t) refl
     opens_block opens.try_table h e toks t = opens_level opens.try_table (λ n. part may End) level.Plain h e toks t (λ n place. refl) (instruction t) refl

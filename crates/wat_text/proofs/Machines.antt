@@ -39,15 +39,18 @@ reading may toks = by (peek 0 toks) refl
     read_as : (o : Option Token) → Parse (List Item)
     read_as o = elim (is_hint (annotation_of o)) [ true ↦ after_it (string (after toks)) | false ↦ Some ([], toks) ]
 
-    allowed : (x : Bool) → may ≡ x → (v : ℕ) (rest : Toks) → peek 0 toks ≡ a_hint → rule.hint may toks ≡ (if may then Some (Hint v ∷ [], rest) else None) → Reading may toks
+    allowed : (x : Bool) → may ≡ x → (v : ℕ) (rest : Toks) → peek 0 toks ≡ a_hint
+        → rule.hint may toks ≡ (if may then Some (Hint v ∷ [], rest) else None) → Reading may toks
     allowed true is v rest at e = One_there v rest at (e ∙ ap (λ x. let o : List Item × Toks = (Hint v ∷ [], rest) in if x then Some o else None) is)
     allowed false is v rest at e = Bad at (e ∙ ap (λ x. let o : List Item × Toks = (Hint v ∷ [], rest) in if x then Some o else None) is)
 
-    at_rparen : (v : ℕ) (r : Option Toks) → peek 0 toks ≡ a_hint → rule.hint may toks ≡ (r >>= λ rest. if may then Some (Hint v ∷ [], rest) else None) → Reading may toks
+    at_rparen : (v : ℕ) (r : Option Toks) → peek 0 toks ≡ a_hint
+        → rule.hint may toks ≡ (r >>= λ rest. if may then Some (Hint v ∷ [], rest) else None) → Reading may toks
     at_rparen v None at e = Bad at e
     at_rparen v (Some rest) at e = allowed may refl v rest at e
 
-    at_value : (v : Option ℕ) (r : Toks) → peek 0 toks ≡ a_hint → rule.hint may toks ≡ (v >>= λ v. rparen r >>= λ rest. if may then Some (Hint v ∷ [], rest) else None) → Reading may toks
+    at_value : (v : Option ℕ) (r : Toks) → peek 0 toks ≡ a_hint
+        → rule.hint may toks ≡ (v >>= λ v. rparen r >>= λ rest. if may then Some (Hint v ∷ [], rest) else None) → Reading may toks
     at_value None r at e = Bad at e
     at_value (Some v) r at e = at_rparen v (rparen r) at e
 
@@ -72,8 +75,10 @@ module _ (may : Bool) (b : Base) (m : ℕ) where
   w = sequences may (suc m)
 
   -- an open level
-  by_level : (l : Level) (os : List Open) (ws : List Instruction) (place : Span) (h0 : Option code.Hint) (e : Expression) (toks t : Toks) (h : Option code.Hint) → First toks t h
-      → rule.hint may toks ≡ Some (hint_items h, t) → Same may b m (hinted_step h (state (open_of l place h0 ∷ os) ws e t)) (run (todo may b (suc m) (open_of l place h0 ∷ os) ws) e toks)
+  by_level : (l : Level) (os : List Open) (ws : List Instruction) (place : Span) (h0 : Option code.Hint)
+      (e : Expression) (toks t : Toks) (h : Option code.Hint) → First toks t h
+      → rule.hint may toks ≡ Some (hint_items h, t)
+      → Same may b m (hinted_step h (state (open_of l place h0 ∷ os) ws e t)) (run (todo may b (suc m) (open_of l place h0 ∷ os) ws) e toks)
   by_level level.Plain os ws place h0 e toks t h first read = at_plain may b m os ws place h0 e toks t h first read
   by_level level.PlainIf os ws place h0 e toks t h first read = at_plain_if may b m os ws place h0 e toks t h first read
   by_level level.PlainTry os ws place h0 e toks t h first read = at_plain_try may b m os ws place h0 e toks t h first read
@@ -109,7 +114,8 @@ module _ (may : Bool) (b : Base) (m : ℕ) where
   end_fails : (e : Expression) (toks : Toks) → is_end (peek 0 toks) ≡ false → run (at_end ∷ []) e toks ≡ None
   end_fails e toks going = ap (λ x. (elim x as (λ x. Parse (List Item)) [ true ↦ Some ([], toks) | false ↦ None ]) >>= λ x. run [] (add e x.0) x.1) going
 
-  whole_at : (ws : List Instruction) (e : Expression) (toks t : Toks) (h : Option code.Hint) → First toks t h → rule.hint may toks ≡ Some (hint_items h, t) → is_end (peek 0 toks) ≡ false
+  whole_at : (ws : List Instruction) (e : Expression) (toks t : Toks) (h : Option code.Hint)
+      → First toks t h → rule.hint may toks ≡ Some (hint_items h, t) → is_end (peek 0 toks) ≡ false
       → Same may Whole m (hinted_step h (state [] ws e t)) (run (w Anywhere ∷ at_end ∷ []) e toks)
   whole_at ws e toks t h first read going = anywhere may Whole m [] ws h e toks t read refl refl
       (λ is. no_step may Whole m (none_closed h) (end_fails e toks going))
@@ -130,8 +136,10 @@ module _ (may : Bool) (b : Base) (m : ℕ) where
 
   -- a step
   pub step_as : (ls : List Open) (ws : List Instruction) (e : Expression) (toks : Toks) (r : Parse (List Item)) → rule.hint may toks ≡ r
-      → step may (state ls ws e toks) ≡ ((r >>= λ h. let o : Option code.Hint × Toks = (hint_in (position toks) h.0, h.1) in Some o) >>= λ h. hinted_step h.0 (state ls ws e h.1))
-  step_as ls ws e toks r read = ap (λ r. (r >>= λ h. let o : Option code.Hint × Toks = (hint_in (position toks) h.0, h.1) in Some o) >>= λ h. hinted_step h.0 (state ls ws e h.1)) read
+      → step may (state ls ws e toks) ≡ ((r >>= λ h. let o : Option code.Hint × Toks = (hint_in (position toks) h.0, h.1) in Some o)
+          >>= λ h. hinted_step h.0 (state ls ws e h.1))
+  step_as ls ws e toks r read = ap (λ r. (r >>= λ h. let o : Option code.Hint × Toks = (hint_in (position toks) h.0, h.1) in Some o)
+      >>= λ h. hinted_step h.0 (state ls ws e h.1)) read
 
 pub unfolds : (may : Bool) (b : Base) (m : ℕ) (ls : List Open) (ws : List Instruction) (e : Expression) (toks : Toks) → takes_step b ls toks ≡ true
     → Same may b m (step may (state ls ws e toks)) (answer may b (suc m) (state ls ws e toks))
@@ -146,7 +154,8 @@ unfolds may Whole m [] ws e toks going = by (reading may toks)
     by (None_there read) = by_both may Whole m (step_as may Whole m [] ws e toks (Some ([], toks)) read) refl
         (whole_at may Whole m ws e toks toks None (Bare refl refl) read (not_end (is_end (peek 0 toks)) refl going))
     by (One_there v t at read) = by_both may Whole m (step_as may Whole m [] ws e toks (Some (Hint v ∷ [], t)) read) refl
-        (whole_at may Whole m ws e toks t (Some (record { value = v; place = position toks })) (Hinted (record { value = v; place = position toks }) refl at) read (not_end (is_end (peek 0 toks)) refl going))
+        (whole_at may Whole m ws e toks t (Some (record { value = v; place = position toks }))
+            (Hinted (record { value = v; place = position toks }) refl at) read (not_end (is_end (peek 0 toks)) refl going))
     by (Bad at none) = no_step may Whole m (step_as may Whole m [] ws e toks None none) (placed_fails may Whole m Anywhere (at_end ∷ []) e toks none)
 unfolds may b m (o ∷ os) ws e toks going = by (reading may toks)
   where
@@ -154,5 +163,6 @@ unfolds may b m (o ∷ os) ws e toks going = by (reading may toks)
     by (None_there read) = by_both may b m (step_as may b m (o ∷ os) ws e toks (Some ([], toks)) read) refl
         (by_level may b m o.level os ws o.place o.hint e toks toks None (Bare refl refl) read)
     by (One_there v t at read) = by_both may b m (step_as may b m (o ∷ os) ws e toks (Some (Hint v ∷ [], t)) read) refl
-        (by_level may b m o.level os ws o.place o.hint e toks t (Some (record { value = v; place = position toks })) (Hinted (record { value = v; place = position toks }) refl at) read)
+        (by_level may b m o.level os ws o.place o.hint e toks t (Some (record { value = v; place = position toks }))
+            (Hinted (record { value = v; place = position toks }) refl at) read)
     by (Bad at none) = no_step may b m (step_as may b m (o ∷ os) ws e toks None none) (bad_at may b m o.level os ws o.place o.hint e toks at none)

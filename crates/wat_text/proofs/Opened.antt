@@ -18,7 +18,10 @@ use Rattle.wat_syntax.specs.Bare.{bare_id, bare_name, bare_placed}
 use Rattle.wat_syntax.specs.AtZero.{all_at_zero}
 use Rattle.wat_syntax.proofs.AtZero.{bare_tokens}
 use Rattle.wat_text.specs.Readers.{left, IsClean, IsRefused, Decides, Reads, Expects}
-use Rattle.wat_text.specs.Denotes.{Contents, Fields, Quotes, contents_of, opening, quotes, quotes_of, text_in, source_of, sources, put_in, all_of, all_bare, module_end, module_position, fields_module, inner_opening, inner_module, tokens_if, tokens_in_quotes, module_in_quotes, module_as, module_after, module_in, module_of, bare_opening, bare_quote, is_well_formed_module, IsModule, Denotes, DenotesNothing}
+use Rattle.wat_text.specs.Denotes.{Contents, Fields, Quotes, contents_of, opening, quotes, quotes_of, text_in, source_of, sources}
+use Rattle.wat_text.specs.Denotes.{put_in, all_of, all_bare, module_end, module_position, fields_module, inner_opening}
+use Rattle.wat_text.specs.Denotes.{inner_module, tokens_if, tokens_in_quotes, module_in_quotes, module_as, module_after, module_in}
+use Rattle.wat_text.specs.Denotes.{module_of, bare_opening, bare_quote, is_well_formed_module, IsModule, Denotes, DenotesNothing}
 use Rattle.wat_text.specs.Finishes.{Finishes}
 use Rattle.wat_text.specs.declared.modules.ModuleHead.{ModuleHead}
 use Rattle.wat_text.specs.declared.modules.TextModule.{TextModule}
@@ -59,7 +62,8 @@ after_opening next a b h (Err e) d f = record {
         ap (λ o. o >>= next) (d.refuses n (subst IsRefused (sym (f.keeps (λ z. some_not (sym s ∙ z)) m)) (refusal e.fault m)))
 
 -- a module after its opening, by what is in it
-pub means_as : (source : List ℕ) (c : Contents) (h : ModuleHead) (b : Reader) (k : Option Key) (result : Result TextModule TextError) → k ≡ key_of (peek 0 (left b))
+pub means_as : (source : List ℕ) (c : Contents) (h : ModuleHead) (b : Reader) (k : Option Key) (result : Result TextModule TextError)
+    → k ≡ key_of (peek 0 (left b))
     → contents_of h.keyword k ≡ c → Ends (module_as source c h (left b)) b result → Ends (module_after source h (left b)) b result
 means_as source c h b k result key same f =
     subst (λ x. Ends (module_as source x h (left b)) b result) (sym same ∙ ap (contents_of h.keyword) key) f
@@ -101,7 +105,8 @@ module _ (source : List ℕ) (h : ModuleHead) where
       (subst (λ s. Ends (fields_module s (bare_opening x) (left b)) b result) at f))
 
   -- of a reader that read the strings
-  module _ (r : Reader) (first : Span) (qs : List Quote) (clean : IsClean r) (read : quotes_of (left r) ≡ Some (map bare_quote qs)) (at : first ≡ position (after (left r))) where
+  module _ (r : Reader) (first : Span) (qs : List Quote) (clean : IsClean r)
+      (read : quotes_of (left r) ≡ Some (map bare_quote qs)) (at : first ≡ position (after (left r))) where
     -- the tokens of the text
     of_tokens : (placed : List Placed) → tokens_in_quotes source first qs ≡ Some (map bare_placed placed)
         → inner_module (bare_opening h) (all_bare placed first) ≡ module_as source Quotes (bare_opening h) (left r)
@@ -116,7 +121,8 @@ module _ (source : List ℕ) (h : ModuleHead) where
     all_in_quotes a placed result new same p f =
         elsewhere result (subst (λ o. Ends o a result) (ap (inner_module (bare_opening h)) same ∙ of_tokens placed p) f)
       where
-        elsewhere : (result : Result TextModule TextError) → Ends (module_as source Quotes (bare_opening h) (left r)) a result → Ends (module_as source Quotes (bare_opening h) (left r)) r result
+        elsewhere : (result : Result TextModule TextError) → Ends (module_as source Quotes (bare_opening h) (left r)) a result
+            → Ends (module_as source Quotes (bare_opening h) (left r)) r result
         elsewhere (Ok m) f = record {
           clean = clean;
           gives = f.gives;
@@ -135,23 +141,29 @@ module _ (source : List ℕ) (h : ModuleHead) where
         }
 
   -- the tokens of the strings, and what is read of them
-  pub quotes_ok : (r s a b i j : Reader) (first span : Span) (ps qs : List Quote) (placed : List Placed) (o x : ModuleHead) (result : Result TextModule TextError)
-      → first ≡ position (left s) → left s ≡ after (left r) → s.fault ≡ r.fault → s.make ≡ r.make → Reads quotes s a (map bare_quote qs) → Expects (module_end true) a b → IsClean b
-      → ps ≡ qs → tokens_in_quotes source first ps ≡ Some (map bare_placed placed) → left i ≡ all_bare placed first → IsClean i → Decides opening i j (bare_opening o)
+  pub quotes_ok : (r s a b i j : Reader) (first span : Span) (ps qs : List Quote)
+      (placed : List Placed) (o x : ModuleHead) (result : Result TextModule TextError)
+      → first ≡ position (left s) → left s ≡ after (left r) → s.fault ≡ r.fault → s.make ≡ r.make
+      → Reads quotes s a (map bare_quote qs) → Expects (module_end true) a b → IsClean b
+      → ps ≡ qs → tokens_in_quotes source first ps ≡ Some (map bare_placed placed)
+      → left i ≡ all_bare placed first → IsClean i → Decides opening i j (bare_opening o)
       → x.keyword ≡ o.keyword → x.id ≡ option_or h.id o.id → x.name ≡ option_or h.name o.name → span ≡ module_position h
       → Ends (fields_module span (bare_opening x) (left j)) j result → Ends (module_as source Quotes (bare_opening h) (left r)) r result
   quotes_ok r s a b i j first span ps qs placed o x result there same fault make reads ends clean lent p inner new opens keyword id name at f =
-      let all : ReadsAll (quotes_of (left r)) r b (map bare_quote qs) = skipped quotes (module_end true) r s a b (map bare_quote qs) same fault make reads ends in
+      let all : ReadsAll (quotes_of (left r)) r b (map bare_quote qs) = skipped quotes
+          (module_end true) r s a b (map bare_quote qs) same fault make reads ends in
       all_in_quotes r first qs (all.clean clean.0, all.made clean.1) (all.gives clean) (there ∙ ap position same) i placed result new inner
       (subst (λ xs. tokens_in_quotes source first xs ≡ Some (map bare_placed placed)) lent p)
       (inner_opened i j o x span result opens (inner_is h o x keyword id name) at f)
 
   -- strings that have no tokens
   pub quotes_err : (r s a b : Reader) (first : Span) (ps qs : List Quote) (e : TextError)
-      → first ≡ position (left s) → left s ≡ after (left r) → s.fault ≡ r.fault → s.make ≡ r.make → Reads quotes s a (map bare_quote qs) → Expects (module_end true) a b → IsClean b
+      → first ≡ position (left s) → left s ≡ after (left r) → s.fault ≡ r.fault → s.make ≡ r.make
+      → Reads quotes s a (map bare_quote qs) → Expects (module_end true) a b → IsClean b
       → ps ≡ qs → (e.fault ≢ fault.Memory → tokens_in_quotes source first ps ≡ None) → Ends (module_as source Quotes (bare_opening h) (left r)) r (Err e)
   quotes_err r s a b first ps qs e there same fault make reads ends clean lent none =
-      let all : ReadsAll (quotes_of (left r)) r b (map bare_quote qs) = skipped quotes (module_end true) r s a b (map bare_quote qs) same fault make reads ends in
+      let all : ReadsAll (quotes_of (left r)) r b (map bare_quote qs) = skipped quotes
+          (module_end true) r s a b (map bare_quote qs) same fault make reads ends in
       let before : IsClean r = (all.clean clean.0, all.made clean.1) in
       let nothing : (tokens_in_quotes source first qs ≡ None) → module_as source Quotes (bare_opening h) (left r) ≡ None =
       λ p. ap (λ o. o >>= λ xs. module_in_quotes source (bare_opening h) (position (after (left r))) xs) (all.gives clean)
@@ -174,11 +186,13 @@ module _ (source : List ℕ) (toks : Toks) (a : Reader) (clean : IsClean a) (sam
   means_err (Err e) f = subst (λ t. e.fault ≢ fault.Memory → module_in source t ≡ None) same (f.refuses clean.0)
 
 -- the module of a text, by that of its tokens
-pub text_first : (text : List ℕ) (e first : TextError) → (e.fault ≢ fault.Memory → tokens bytes_of text ≡ None) → (e.fault ≡ fault.Memory → first.fault ≡ fault.Memory)
+pub text_first : (text : List ℕ) (e first : TextError) → (e.fault ≢ fault.Memory → tokens bytes_of text ≡ None)
+    → (e.fault ≡ fault.Memory → first.fault ≡ fault.Memory)
     → first.fault ≢ fault.Memory → DenotesNothing text
 unfolding module_of
 text_first text e first lexed memory m =
-    ap (λ (o : Option (List grammar.Placed)). (o >>= λ ts. all_at_zero ts) >>= λ found. module_in text (all_of found (record { offset = length text }))) (lexed (λ f. m (memory f)))
+    ap (λ (o : Option (List grammar.Placed)). (o >>= λ ts. all_at_zero ts)
+        >>= λ found. module_in text (all_of found (record { offset = length text }))) (lexed (λ f. m (memory f)))
 
 module _ (text : List ℕ) (found : List Placed) (end : Span) (at : end ≡ record { offset = length text }) (lexed : tokens bytes_of text ≡ Some (seen_all found))
     (named : All (λ p. IsNamed p.token) found) where

@@ -6,7 +6,8 @@ use Rattle.wat_grammar.specs.Parts.{◌>>=◌}
 use Rattle.wat_syntax.specs.Tree.{Instruction, Expression}
 use Rattle.wat_syntax.specs.Tokens.{Toks, Parse}
 use Rattle.wat_syntax.specs.Instructions.{instruction}
-use Rattle.wat_syntax.specs.Bodies.{Item, Instr, Rule, Place, Anywhere, Catches, Ends, Catching, Part, End, Else, Catch, CatchAll, Delegate, part_in, same_part, hinted, part, to_end, else_to_end, catch_all_to_end, catches_to_end, sequences}
+use Rattle.wat_syntax.specs.Bodies.{Item, Instr, Rule, Place, Anywhere, Catches, Ends, Catching, Part, End, Else, Catch, CatchAll, Delegate}
+use Rattle.wat_syntax.specs.Bodies.{part_in, same_part, hinted, part, to_end, else_to_end, catch_all_to_end, catches_to_end, sequences}
 use Rattle.wat_syntax.specs.Bodies as rule
 use Rattle.wat_text.specs.declared.bodies.Level.{Level}
 use Rattle.wat_text.specs.declared.bodies.Level.TheVariants as level
@@ -36,13 +37,15 @@ module _ (may : Bool) (b : Base) (m : ℕ) where
         → Same may b m (read_instr (state ls ws (with_hint h e) t)) (run (hinted items ∷ rs) e t)
     append_part k ls rs same = by (instruction t) refl
       where
-        hinted_is : (i : Parse Instruction) → instruction t ≡ i → hinted items t ≡ (i >>= λ x. let o : List Item × Toks = (items ++ Instr x.0 ∷ [], x.1) in Some o)
+        hinted_is : (i : Parse Instruction) → instruction t ≡ i
+            → hinted items t ≡ (i >>= λ x. let o : List Item × Toks = (items ++ Instr x.0 ∷ [], x.1) in Some o)
         hinted_is i read = ap (λ o. o >>= λ x. let o : List Item × Toks = (items ++ Instr x.0 ∷ [], x.1) in Some o) read
 
         by : (i : Parse Instruction) → instruction t ≡ i → Same may b m (read_instr (state ls ws (with_hint h e) t)) (run (hinted items ∷ rs) e t)
         by None read = no_step may b m (read_instr_is (state ls ws (with_hint h e) t) None read) (fails_by (hinted items) rs e t (hinted_is None read))
         by (Some i) read = one_step may b m k (state ls ws (with_instr i.0 (with_hint h e)) i.1) (read_instr_is (state ls ws (with_hint h e) t) (Some i) read)
-            (read_by (hinted items) rs e t i.1 (items ++ Instr i.0 ∷ []) (hinted_is (Some i) read) ∙ ap (λ g. run rs g i.1) (with_both h i.0 e) ∙ sym (same (with_instr i.0 (with_hint h e)) i.1))
+            (read_by (hinted items) rs e t i.1 (items ++ Instr i.0 ∷ []) (hinted_is (Some i) read)
+                ∙ ap (λ g. run rs g i.1) (with_both h i.0 e) ∙ sym (same (with_instr i.0 (with_hint h e)) i.1))
 
     module _ (os : List Open) (place : Span) (h0 : Option code.Hint) where
       abbrev more : List Rule
@@ -52,7 +55,8 @@ module _ (may : Bool) (b : Base) (m : ℕ) where
       w = sequences may (suc m)
 
       abbrev PartStep : Level → Part → Type 0
-      PartStep l q = Same may b m (part_at (after_part l q) (state (open_of l place h0 ∷ os) ws (with_hint h e) t) >>= read_instr) (run (own may w l h0 ws ++ more) e toks)
+      PartStep l q = Same may b m (part_at (after_part l q) (state (open_of l place h0 ∷ os) ws (with_hint h e) t) >>= read_instr)
+          (run (own may w l h0 ws ++ more) e toks)
 
       closes_block : Same may b m (read_instr (state os ws (with_hint h e) t)) (run (hinted items ∷ more) e t)
       closes_block = append_part zero os more (λ f r. refl)
@@ -63,7 +67,8 @@ module _ (may : Bool) (b : Base) (m : ℕ) where
 
       catches_more : Same may b m (read_instr (state (open_of level.PlainCatch place None ∷ os) ws (with_hint h e) t))
           (run (hinted items ∷ sequences may m Anywhere ∷ sequences may m Catches ∷ catch_all_to_end may w ∷ more) e t)
-      catches_more = append_part (suc (suc zero)) (open_of level.PlainCatch place None ∷ os) (sequences may m Anywhere ∷ sequences may m Catches ∷ catch_all_to_end may w ∷ more) (λ f r. refl)
+      catches_more = append_part (suc (suc zero)) (open_of level.PlainCatch place None ∷ os)
+          (sequences may m Anywhere ∷ sequences may m Catches ∷ catch_all_to_end may w ∷ more) (λ f r. refl)
 
       end_only : (q : Option Part) → part_in t ≡ q → same_part End q ≡ false → run (part may End ∷ more) e toks ≡ None
       end_only q is absent = no_part_there may toks t items read more e End (ap (same_part End) is ∙ absent)
@@ -72,13 +77,16 @@ module _ (may : Bool) (b : Base) (m : ℕ) where
       end_there is = part_there may toks t items read more e End (ap (same_part End) is)
 
       -- after the parts of `catch`
-      no_catches : (q : Option Part) → part_in t ≡ q → same_part Catch q ≡ false → run (w Catches ∷ catch_all_to_end may w ∷ more) e toks ≡ run (catch_all_to_end may w ∷ more) e toks
+      no_catches : (q : Option Part) → part_in t ≡ q → same_part Catch q ≡ false
+          → run (w Catches ∷ catch_all_to_end may w ∷ more) e toks ≡ run (catch_all_to_end may w ∷ more) e toks
       no_catches q is absent = next_is may b m Catches (catch_all_to_end may w ∷ more) e toks t items Ends read
           (ap (λ q. elim (same_part Catch q) [ true ↦ Catching | false ↦ Ends ]) is ∙ ap (λ b. elim b [ true ↦ Catching | false ↦ Ends ]) absent)
 
       one_catch : part_in t ≡ Some Catch
-          → run (w Catches ∷ catch_all_to_end may w ∷ more) e toks ≡ run (hinted items ∷ sequences may m Anywhere ∷ sequences may m Catches ∷ catch_all_to_end may w ∷ more) e t
-      one_catch is = next_is may b m Catches (catch_all_to_end may w ∷ more) e toks t items Catching read (ap (λ q. elim (same_part Catch q) [ true ↦ Catching | false ↦ Ends ]) is)
+          → run (w Catches ∷ catch_all_to_end may w ∷ more) e toks
+          ≡ run (hinted items ∷ sequences may m Anywhere ∷ sequences may m Catches ∷ catch_all_to_end may w ∷ more) e t
+      one_catch is = next_is may b m Catches (catch_all_to_end may w ∷ more) e toks t items Catching read
+          (ap (λ q. elim (same_part Catch q) [ true ↦ Catching | false ↦ Ends ]) is)
           ∙ flat (hinted items) (sequences may m Anywhere ∷ sequences may m Catches ∷ []) (catch_all_to_end may w ∷ more) e t
 
       not_all : (q : Option Part) → part_in t ≡ q → same_part CatchAll q ≡ false → run (catch_all_to_end may w ∷ more) e toks ≡ run (part may End ∷ more) e toks
@@ -87,7 +95,8 @@ module _ (may : Bool) (b : Base) (m : ℕ) where
       all_there : part_in t ≡ Some CatchAll → run (catch_all_to_end may w ∷ more) e toks ≡ run (hinted items ∷ to_end may w ∷ more) e t
       all_there is = catch_all_part may toks t items read more e w (ap (same_part CatchAll) is)
 
-      not_delegated : (q : Option Part) → part_in t ≡ q → same_part Delegate q ≡ false → run (catches_to_end may w ∷ more) e toks ≡ run (w Catches ∷ catch_all_to_end may w ∷ more) e toks
+      not_delegated : (q : Option Part) → part_in t ≡ q → same_part Delegate q ≡ false
+          → run (catches_to_end may w ∷ more) e toks ≡ run (w Catches ∷ catch_all_to_end may w ∷ more) e toks
       not_delegated q is absent = no_delegate_part may toks t items read more e w (ap (same_part Delegate) is ∙ absent)
 
       not_else : (q : Option Part) → part_in t ≡ q → same_part Else q ≡ false → run (else_to_end may w ∷ more) e toks ≡ run (part may End ∷ more) e toks
@@ -99,10 +108,13 @@ module _ (may : Bool) (b : Base) (m : ℕ) where
       parts level.PlainIf End is there = by_both may b m refl (not_else (Some End) is refl ∙ end_there is) closes_block
       parts level.PlainIf Else is there = by_both may b m refl (else_part may toks t items read more e w (ap (same_part Else) is)) goes_to_end
       parts level.PlainIf q is there = no_step may b m refl (not_else (Some q) is refl ∙ end_only (Some q) is refl)
-      parts level.PlainTry End is there = by_both may b m refl (not_delegated (Some End) is refl ∙ no_catches (Some End) is refl ∙ not_all (Some End) is refl ∙ end_there is) closes_block
-      parts level.PlainTry Else is there = no_step may b m refl (not_delegated (Some Else) is refl ∙ no_catches (Some Else) is refl ∙ not_all (Some Else) is refl ∙ end_only (Some Else) is refl)
+      parts level.PlainTry End is there = by_both may b m refl
+          (not_delegated (Some End) is refl ∙ no_catches (Some End) is refl ∙ not_all (Some End) is refl ∙ end_there is) closes_block
+      parts level.PlainTry Else is there = no_step may b m refl
+          (not_delegated (Some Else) is refl ∙ no_catches (Some Else) is refl ∙ not_all (Some Else) is refl ∙ end_only (Some Else) is refl)
       parts level.PlainTry Catch is there = by_both may b m refl (not_delegated (Some Catch) is refl ∙ one_catch is) catches_more
-      parts level.PlainTry CatchAll is there = by_both may b m refl (not_delegated (Some CatchAll) is refl ∙ no_catches (Some CatchAll) is refl ∙ all_there is) goes_to_end
+      parts level.PlainTry CatchAll is there =
+          by_both may b m refl (not_delegated (Some CatchAll) is refl ∙ no_catches (Some CatchAll) is refl ∙ all_there is) goes_to_end
       parts level.PlainTry Delegate is there = by_both may b m refl (delegate_part may toks t items read more e w (ap (same_part Delegate) is)) closes_block
       parts level.PlainCatch End is there = by_both may b m refl (no_catches (Some End) is refl ∙ not_all (Some End) is refl ∙ end_there is) closes_block
       parts level.PlainCatch Catch is there = by_both may b m refl (one_catch is) catches_more

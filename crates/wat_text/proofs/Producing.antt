@@ -1,5 +1,6 @@
 -- Values of the fields of `producers`, as a loop reads them and appends each to the list of its field.
-use Rattle.std.proofs.Common.{◌≡◌, ◌≢◌, ◌∙◌, ℕ, suc, ◌-◌, ◌+◌, ◌<◌, Bool, true, false, List, [], ◌∷◌, ◌++◌, map, Option, None, Some, refl, sym, ap, subst, append_assoc, arith}
+use Rattle.std.proofs.Common.{◌≡◌, ◌≢◌, ◌∙◌, ℕ, suc, ◌-◌, ◌+◌, ◌<◌, Bool, true, false, List, [], ◌∷◌}
+use Rattle.std.proofs.Common.{◌++◌, map, Option, None, Some, refl, sym, ap, subst, append_assoc, arith}
 use Rattle.wat_grammar.specs.Parts.{◌>>=◌}
 use Rattle.wat_tokens.specs.declared.faults.TextError.{TextError}
 use Rattle.wat_syntax.specs.Tokens.{Toks, Parse, many, one, rparen}
@@ -30,7 +31,8 @@ then_versions : (f : ProducersField) (before : List Version) (p : Value) (rest :
     → versions_with before f (rest >>= λ xs. Some (p ∷ xs.0, xs.1)) ≡ versions_with (before ++ versions_of f (p ∷ [])) f rest
 then_versions f before p None = refl
 then_versions f before p (Some xs) =
-    ap {A = List Version} (λ ys. Some (ys, xs.1)) (ap (λ ys. before ++ ys) (versions_more f p xs.0) ∙ sym (append_assoc before (versions_of f (p ∷ [])) (versions_of f xs.0)))
+    ap {A = List Version} (λ ys. Some (ys, xs.1))
+        (ap (λ ys. before ++ ys) (versions_more f p xs.0) ∙ sym (append_assoc before (versions_of f (p ∷ [])) (versions_of f xs.0)))
 
 the_same : {A : Type 0} {x y : A} → Some x ≡ Some y → x ≡ y
 the_same e = cc
@@ -69,9 +71,12 @@ producer_none f m n toks before one yet h = ap (λ k. versions_with before f (ma
 
 -- the values that are gathered, of each field
 pub record Gathers (first old : Reader) (before now : Made) (n : ℕ) : Type 0 where
-  pub languages : Steps first old (versions_with (map bare_version before.languages) Language (all_producers (left first))) (versions_with (map bare_version now.languages) Language (many goes_on producer n (left old)))
-  pub sdks : Steps first old (versions_with (map bare_version before.sdks) Sdk (all_producers (left first))) (versions_with (map bare_version now.sdks) Sdk (many goes_on producer n (left old)))
-  pub processors : Steps first old (versions_with (map bare_version before.processors) ProcessedBy (all_producers (left first))) (versions_with (map bare_version now.processors) ProcessedBy (many goes_on producer n (left old)))
+  pub languages : Steps first old (versions_with (map bare_version before.languages) Language (all_producers (left first)))
+      (versions_with (map bare_version now.languages) Language (many goes_on producer n (left old)))
+  pub sdks : Steps first old (versions_with (map bare_version before.sdks) Sdk (all_producers (left first)))
+      (versions_with (map bare_version now.sdks) Sdk (many goes_on producer n (left old)))
+  pub processors : Steps first old (versions_with (map bare_version before.processors) ProcessedBy (all_producers (left first)))
+      (versions_with (map bare_version now.processors) ProcessedBy (many goes_on producer n (left old)))
 
 -- one value more
 pub gathers_more : (first old new : Reader) (before now after : Made) (counter end : ℕ)
@@ -80,11 +85,13 @@ pub gathers_more : (first old new : Reader) (before now after : Made) (counter e
 gathers_more first old new before now after counter end few yet r s = record {
   languages = both_steps first old new _ _ _ s.languages (step Language (map bare_version now.languages) (map bare_version after.languages) r.languages);
   sdks = both_steps first old new _ _ _ s.sdks (step Sdk (map bare_version now.sdks) (map bare_version after.sdks) r.sdks);
-  processors = both_steps first old new _ _ _ s.processors (step ProcessedBy (map bare_version now.processors) (map bare_version after.processors) r.processors);
+  processors = both_steps first old new _ _ _ s.processors
+      (step ProcessedBy (map bare_version now.processors) (map bare_version after.processors) r.processors);
 }
   where
     step : (f : ProducersField) (before after : List Version) → (IsClean new → versions_with before f (one producer (left old)) ≡ Some (after, left new))
-        → Steps old new (versions_with before f (many goes_on producer (end - counter) (left old))) (versions_with after f (many goes_on producer (end - (counter + 1)) (left new)))
+        → Steps old new (versions_with before f (many goes_on producer (end - counter) (left old)))
+            (versions_with after f (many goes_on producer (end - (counter + 1)) (left new)))
     step f before after gives = record {
       made = r.made;
       clean = r.clean;
@@ -127,15 +134,19 @@ put_value : (v : Tool × Version) (before after : Made) → IsPut v before after
     × (map bare_version after.sdks ≡ map bare_version before.sdks ++ versions_of Sdk (bare_value v ∷ []))
     × (map bare_version after.processors ≡ map bare_version before.processors ++ versions_of ProcessedBy (bare_value v ∷ []))
 put_value (tool.Language, v) before after p =
-    (ap (map bare_version) p.0 ∙ mapped bare_version before.languages v, ap (map bare_version) p.1 ∙ sym (no_more (map bare_version before.sdks)), ap (map bare_version) p.2 ∙ sym (no_more (map bare_version before.processors)))
+    (ap (map bare_version) p.0 ∙ mapped bare_version before.languages v, ap (map bare_version) p.1
+        ∙ sym (no_more (map bare_version before.sdks)), ap (map bare_version) p.2 ∙ sym (no_more (map bare_version before.processors)))
 put_value (tool.Sdk, v) before after p =
-    (ap (map bare_version) p.0 ∙ sym (no_more (map bare_version before.languages)), ap (map bare_version) p.1 ∙ mapped bare_version before.sdks v, ap (map bare_version) p.2 ∙ sym (no_more (map bare_version before.processors)))
+    (ap (map bare_version) p.0 ∙ sym (no_more (map bare_version before.languages)), ap (map bare_version) p.1
+        ∙ mapped bare_version before.sdks v, ap (map bare_version) p.2 ∙ sym (no_more (map bare_version before.processors)))
 put_value (tool.ProcessedBy, v) before after p =
-    (ap (map bare_version) p.0 ∙ sym (no_more (map bare_version before.languages)), ap (map bare_version) p.1 ∙ sym (no_more (map bare_version before.sdks)), ap (map bare_version) p.2 ∙ mapped bare_version before.processors v)
+    (ap (map bare_version) p.0 ∙ sym (no_more (map bare_version before.languages)), ap (map bare_version) p.1
+        ∙ sym (no_more (map bare_version before.sdks)), ap (map bare_version) p.2 ∙ mapped bare_version before.processors v)
 
 -- a part before a ')', with something that takes no tokens between
 closed : {T : Type 0} (rule : Toks → Parse T) (old a b new : Reader) (x : T) → Decides rule old a x
-    → b.make ≡ a.make → (b.fault ≡ None → a.fault ≡ None) → (b.fault ≡ None → left b ≡ left a) → (a.fault ≢ None → b.fault ≡ a.fault) → (a.fault ≡ None → IsRefused b.fault → ⊥)
+    → b.make ≡ a.make → (b.fault ≡ None → a.fault ≡ None) → (b.fault ≡ None → left b ≡ left a)
+    → (a.fault ≢ None → b.fault ≡ a.fault) → (a.fault ≡ None → IsRefused b.fault → ⊥)
     → Expects rparen b new → Decides (λ toks. rule toks >>= λ p. rparen p.1 >>= λ rest. Some (p.0, rest)) old new x
 closed {T = T} rule old a b new x r make clean same keeps memory e = record {
   make = e.make ∙ make ∙ r.make;
@@ -163,9 +174,12 @@ producer_reads old a b new v before after r p e =
     record {
       made = λ h. sym d.make ∙ h;
       clean = d.clean;
-      languages = λ h. with_value Language (map bare_version before.languages) (d.gives h.0) ∙ ap {A = List Version} (λ xs. Some (xs, left new)) (sym (put_value v before after (p.pushed (e.clean h.0))).0);
-      sdks = λ h. with_value Sdk (map bare_version before.sdks) (d.gives h.0) ∙ ap {A = List Version} (λ xs. Some (xs, left new)) (sym (put_value v before after (p.pushed (e.clean h.0))).1);
-      processors = λ h. with_value ProcessedBy (map bare_version before.processors) (d.gives h.0) ∙ ap {A = List Version} (λ xs. Some (xs, left new)) (sym (put_value v before after (p.pushed (e.clean h.0))).2);
+      languages = λ h. with_value Language (map bare_version before.languages) (d.gives h.0)
+          ∙ ap {A = List Version} (λ xs. Some (xs, left new)) (sym (put_value v before after (p.pushed (e.clean h.0))).0);
+      sdks = λ h. with_value Sdk (map bare_version before.sdks) (d.gives h.0)
+          ∙ ap {A = List Version} (λ xs. Some (xs, left new)) (sym (put_value v before after (p.pushed (e.clean h.0))).1);
+      processors = λ h. with_value ProcessedBy (map bare_version before.processors) (d.gives h.0)
+          ∙ ap {A = List Version} (λ xs. Some (xs, left new)) (sym (put_value v before after (p.pushed (e.clean h.0))).2);
       keeps = d.keeps;
       refuses = λ h m f. ap alone (d.refuses h f);
     }

@@ -1,5 +1,6 @@
 -- The places of the bytes of strings in quotes, and a loop that puts each token at the place of its first byte.
-use Rattle.std.proofs.Common.{◌≡◌, ◌≢◌, ◌∙◌, ℕ, zero, suc, ◌+◌, ◌<◌, true, false, List, [], ◌∷◌, ◌++◌, length, take, drop, set, map, replicate, All, Option, None, Some, refl, sym, ap, arith, add-one, eq-eqb, ne_eqb}
+use Rattle.std.proofs.Common.{◌≡◌, ◌≢◌, ◌∙◌, ℕ, zero, suc, ◌+◌, ◌<◌, true, false, List, [], ◌∷◌, ◌++◌, length, take, drop}
+use Rattle.std.proofs.Common.{set, map, replicate, All, Option, None, Some, refl, sym, ap, arith, add-one, eq-eqb, ne_eqb}
 use Rattle.std.specs.Prelude.{slice_get}
 use Rattle.std.specs.Str.{IsUtf8, is_utf8}
 use Rattle.wast_base.specs.declared.ids.Span.{Span}
@@ -78,6 +79,7 @@ module _ (source : List ℕ) (none : Span) (qs : List Quote) (text bytes : List 
   pub cut_none : IsUtf8 bytes → tokens bytes_of text ≡ None → tokens_in_quotes source none qs ≡ None
   cut_none utf8 lexed = of_text utf8 ∙ ap (λ (o : Option (List grammar.Placed)). placed (o >>= λ ts. all_at_zero ts)) lexed
 
-pub cut_not : (source : List ℕ) (none : Span) (qs : List Quote) (bytes : List ℕ) → bytes ≡ text_in qs → (IsUtf8 bytes → ⊥) → tokens_in_quotes source none qs ≡ None
+pub cut_not : (source : List ℕ) (none : Span) (qs : List Quote) (bytes : List ℕ)
+    → bytes ≡ text_in qs → (IsUtf8 bytes → ⊥) → tokens_in_quotes source none qs ≡ None
 cut_not source none qs bytes made not =
     ap (λ b. tokens_if b (text_in qs) >>= λ found. Some (map (put_in none (sources source qs)) found)) (ap is_utf8 (sym made) ∙ utf8_not bytes not)

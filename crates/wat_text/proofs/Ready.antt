@@ -12,7 +12,9 @@ use Rattle.wat_syntax.specs.ModuleFields.{modulefields}
 use Rattle.wat_syntax.specs.Tokens.{Toks, Parse, peek, after, position, key_of}
 use Rattle.wat_syntax.specs.Tree.{Span, Id, ModuleField}
 use Rattle.wat_syntax.specs.Values.{name_annotation}
-use Rattle.wat_text.specs.Denotes.{Contents, Fields, Binary, Quotes, contents_of, module_keyword, opening, module_end, fields_to_end, has_one_start, if_one_start, rest_of_fields, pieces_of, quotes_of, module_position, fields_module, inner_opening, tokens_in_quotes, all_of, module_as, module_in, module_of}
+use Rattle.wat_text.specs.Denotes.{Contents, Fields, Binary, Quotes, contents_of, module_keyword, opening, module_end, fields_to_end}
+use Rattle.wat_text.specs.Denotes.{has_one_start, if_one_start, rest_of_fields, pieces_of, quotes_of, module_position, fields_module}
+use Rattle.wat_text.specs.Denotes.{inner_opening, tokens_in_quotes, all_of, module_as, module_in, module_of}
 use Rattle.wat_text.specs.declared.modules.TextKind.{TextKind}
 use Rattle.wat_text.specs.declared.modules.TextKind.TheVariants as kind
 use Rattle.wat_text.specs.declared.modules.TextModule.{TextModule}
@@ -39,7 +41,8 @@ and_then : {S T : Type 0} {Q : S → Type 0} {P : T → Type 0} {o : Option S} {
 and_then {o = None} h k = nothing
 and_then {o = Some y} h k = k y (h.at y refl)
 
-after_rule : {S T : Type 0} {Q : S → Type 0} {P : T → Type 0} {o : Parse S} {f : S × Toks → Option T} → Of Q o → ((x : S × Toks) → Q x.0 → Made P (f x)) → Made P (o >>= f)
+after_rule : {S T : Type 0} {Q : S → Type 0} {P : T → Type 0} {o : Parse S} {f : S × Toks → Option T}
+    → Of Q o → ((x : S × Toks) → Q x.0 → Made P (f x)) → Made P (o >>= f)
 after_rule {o = None} h k = nothing
 after_rule {o = Some y} h k = k y (h.at y refl)
 

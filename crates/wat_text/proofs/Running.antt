@@ -9,7 +9,12 @@ use Rattle.wat_syntax.specs.Instructions.{instruction}
 use Rattle.wat_tokens.specs.declared.words.Key.TheVariants as key
 use Rattle.wat_tokens.specs.declared.words.BlockOp.{BlockOp}
 use Rattle.wat_tokens.specs.declared.words.BlockOp.TheVariants as opens
-use Rattle.wat_syntax.specs.Bodies.{Item, Instr, Hint, Rule, Within, Place, Anywhere, Folded, Catches, CatchArms, Next, Ends, Folds, Opens, Stands, Catching, CatchingArm, ◌>>◌, terminal, writes, choice, hint, hinted, arm, ends, else_arm, folded_if, catch_arm, catch_all_arm, handlers, folded_try, folded_block, folded_by, foldedinstr, part, End, Else, Catch, CatchAll, Delegate, is_part, is_arm, arm_word, else_item, catch_all_item, catch_tag, delegate_label, to_end, else_to_end, catch_all_to_end, catches_to_end, rest_of_block, sequence, sequences, next_of, next_of_word, instrs_of, hints_of}
+use Rattle.wat_syntax.specs.Bodies.{Item, Instr, Hint, Rule, Within, Place, Anywhere, Folded, Catches, CatchArms, Next, Ends, Folds}
+use Rattle.wat_syntax.specs.Bodies.{Opens, Stands, Catching, CatchingArm, ◌>>◌, terminal, writes, choice, hint, hinted, arm, ends}
+use Rattle.wat_syntax.specs.Bodies.{else_arm, folded_if, catch_arm, catch_all_arm, handlers, folded_try, folded_block, folded_by}
+use Rattle.wat_syntax.specs.Bodies.{foldedinstr, part, End, Else, Catch, CatchAll, Delegate, is_part, is_arm, arm_word, else_item}
+use Rattle.wat_syntax.specs.Bodies.{catch_all_item, catch_tag, delegate_label, to_end, else_to_end, catch_all_to_end}
+use Rattle.wat_syntax.specs.Bodies.{catches_to_end, rest_of_block, sequence, sequences, next_of, next_of_word, instrs_of, hints_of}
 use Rattle.wat_text.specs.Machine.{with_instr}
 use Rattle.wat_text.proofs.Loops.{no_more}
 
@@ -22,7 +27,8 @@ add e (Hint v ∷ xs) = add (record { instrs = e.instrs; branch_hints = e.branch
 pub add_both : (e : Expression) (xs ys : List Item) → add e (xs ++ ys) ≡ add (add e xs) ys
 add_both e [] ys = refl
 add_both e (Instr i ∷ xs) ys = add_both (with_instr i e) xs ys
-add_both e (Hint v ∷ xs) ys = add_both (record { instrs = e.instrs; branch_hints = e.branch_hints ++ record { instr_index = length e.instrs; value = v } ∷ [] }) xs ys
+add_both e (Hint v ∷ xs) ys =
+    add_both (record { instrs = e.instrs; branch_hints = e.branch_hints ++ record { instr_index = length e.instrs; value = v } ∷ [] }) xs ys
 
 -- rules one after another, onto an expression
 abbrev pub run : List Rule → Expression → Toks → Parse Expression
@@ -45,7 +51,8 @@ abbrev pub chain : Rule → List Rule → Rule
 chain p [] = p
 chain p (q ∷ qs) = p >> chain q qs
 
-pub under : (p : Rule) (ps qs : List Rule) (e : Expression) (toks : Toks) → ((f : Expression) (t : Toks) → run ps f t ≡ run qs f t) → run (p ∷ ps) e toks ≡ run (p ∷ qs) e toks
+pub under : (p : Rule) (ps qs : List Rule) (e : Expression) (toks : Toks)
+    → ((f : Expression) (t : Toks) → run ps f t ≡ run qs f t) → run (p ∷ ps) e toks ≡ run (p ∷ qs) e toks
 under p ps qs e toks h = by (p toks)
   where
     by : (a : Parse (List Item)) → (a >>= λ x. run ps (add e x.0) x.1) ≡ (a >>= λ x. run qs (add e x.0) x.1)
@@ -56,10 +63,12 @@ pub flat : (p : Rule) (qs ps : List Rule) (e : Expression) (toks : Toks) → run
 flat p [] ps e toks = refl
 flat p (q ∷ qs) ps e toks = in_turn p (chain q qs) ps e toks ∙ under p (chain q qs ∷ ps) (q ∷ (qs ++ ps)) e toks (flat q qs ps)
 
-pub chosen : (test : Toks → Bool) (p q : Rule) (ps : List Rule) (e : Expression) (toks : Toks) → test toks ≡ true → run (choice test p q ∷ ps) e toks ≡ run (p ∷ ps) e toks
+pub chosen : (test : Toks → Bool) (p q : Rule) (ps : List Rule) (e : Expression) (toks : Toks)
+    → test toks ≡ true → run (choice test p q ∷ ps) e toks ≡ run (p ∷ ps) e toks
 chosen test p q ps e toks h = rw (choice, h) refl
 
-pub not_chosen : (test : Toks → Bool) (p q : Rule) (ps : List Rule) (e : Expression) (toks : Toks) → test toks ≡ false → run (choice test p q ∷ ps) e toks ≡ run (q ∷ ps) e toks
+pub not_chosen : (test : Toks → Bool) (p q : Rule) (ps : List Rule) (e : Expression) (toks : Toks)
+    → test toks ≡ false → run (choice test p q ∷ ps) e toks ≡ run (q ∷ ps) e toks
 not_chosen test p q ps e toks h = rw (choice, h) refl
 
 -- the terminal is there
@@ -67,7 +76,8 @@ pub taken_by : (t : Toks → Option Toks) (ps : List Rule) (e : Expression) (tok
 taken_by t ps e toks rest h = rw h refl
 
 -- a rule in front that reads this
-pub read_by : (p : Rule) (ps : List Rule) (e : Expression) (toks rest : Toks) (xs : List Item) → p toks ≡ Some (xs, rest) → run (p ∷ ps) e toks ≡ run ps (add e xs) rest
+pub read_by : (p : Rule) (ps : List Rule) (e : Expression) (toks rest : Toks) (xs : List Item)
+    → p toks ≡ Some (xs, rest) → run (p ∷ ps) e toks ≡ run ps (add e xs) rest
 read_by p ps e toks rest xs h = rw h refl
 
 pub fails_by : (p : Rule) (ps : List Rule) (e : Expression) (toks : Toks) → p toks ≡ None → run (p ∷ ps) e toks ≡ None
@@ -157,20 +167,23 @@ module _ (may : Bool) (f g : Within) (below : BelowWithin f g) where
   arm_below = both_below (below.at Anywhere) (same_rule (terminal rparen))
 
   pub else_arm_below : BelowRule (else_arm f) (else_arm g)
-  else_arm_below = choice_below (is_arm Else) (both_below (same_rule (terminal (arm_word Else))) (both_below (same_rule (writes else_item)) arm_below)) (same_rule (writes []))
+  else_arm_below = choice_below (is_arm Else)
+      (both_below (same_rule (terminal (arm_word Else))) (both_below (same_rule (writes else_item)) arm_below)) (same_rule (writes []))
 
   pub catch_arm_below : BelowRule (catch_arm f) (catch_arm g)
   catch_arm_below = both_below (same_rule (terminal (arm_word Catch))) (both_below (same_rule catch_tag) arm_below)
 
   pub catch_all_arm_below : BelowRule (catch_all_arm f) (catch_all_arm g)
-  catch_all_arm_below = choice_below (is_arm CatchAll) (both_below (same_rule (terminal (arm_word CatchAll))) (both_below (same_rule (writes catch_all_item)) arm_below)) (same_rule (writes []))
+  catch_all_arm_below = choice_below (is_arm CatchAll)
+      (both_below (same_rule (terminal (arm_word CatchAll))) (both_below (same_rule (writes catch_all_item)) arm_below)) (same_rule (writes []))
 
   pub handlers_below : BelowRule (handlers f) (handlers g)
   handlers_below = choice_below (is_arm Delegate) (same_rule (terminal (arm_word Delegate) >> delegate_label >> terminal rparen >> terminal rparen))
       (both_below (below.at CatchArms) (both_below catch_all_arm_below (same_rule ends)))
 
   folded_if_below : (i : List Item) → BelowRule (folded_if f i) (folded_if g i)
-  folded_if_below i = both_below (below.at Folded) (both_below (same_rule (terminal (form key.Then))) (both_below (same_rule (writes i)) (both_below arm_below (both_below else_arm_below (same_rule ends)))))
+  folded_if_below i = both_below (below.at Folded) (both_below (same_rule (terminal (form key.Then)))
+      (both_below (same_rule (writes i)) (both_below arm_below (both_below else_arm_below (same_rule ends)))))
 
   folded_try_below : (i : List Item) → BelowRule (folded_try f i) (folded_try g i)
   folded_try_below i = both_below (same_rule (writes i)) (both_below (same_rule (terminal (form key.Do))) (both_below arm_below handlers_below))
@@ -186,7 +199,8 @@ module _ (may : Bool) (f g : Within) (below : BelowWithin f g) where
   folded_by_below n i = same_rule (λ toks. None)
 
   foldedinstr_below : (h : List Item) → BelowRule (foldedinstr f h) (foldedinstr g h)
-  foldedinstr_below h = record { at = λ toks. bound (same (lparen toks)) (λ t. bound (same (instruction t)) (λ i. (folded_by_below (next_of_word (word_of (peek 0 t))) (h ++ Instr i.0 ∷ [])).at i.1)) }
+  foldedinstr_below h = record { at = λ toks. bound (same (lparen toks))
+      (λ t. bound (same (instruction t)) (λ i. (folded_by_below (next_of_word (word_of (peek 0 t))) (h ++ Instr i.0 ∷ [])).at i.1)) }
 
   to_end_below : BelowRule (to_end may f) (to_end may g)
   to_end_below = both_below (below.at Anywhere) (same_rule (part may End))
@@ -219,19 +233,24 @@ sequences_below may zero = record { at = λ place. record { at = λ toks. record
 sequences_below may (suc n) = record {
   at = λ place. record {
     at = λ toks.
-        bound (same (hint may toks)) (λ h. (sequence_below may (sequences may n) (sequences may (suc n)) (sequences_below may n) (next_of place h.1) place toks h.0).at h.1);
+        bound (same (hint may toks)) (λ h.
+            (sequence_below may (sequences may n) (sequences may (suc n)) (sequences_below may n) (next_of place h.1) place toks h.0).at h.1);
   };
 }
 
 -- the items of an expression that is read from nothing
-pub made_of : (e : Expression) (xs : List Item) → add e xs ≡ record { instrs = e.instrs ++ instrs_of xs; branch_hints = e.branch_hints ++ hints_of (length e.instrs) xs }
-made_of e [] = ap (λ is. record { instrs = is; branch_hints = e.branch_hints }) (sym (no_more e.instrs)) ∙ ap (λ hs. record { instrs = e.instrs ++ []; branch_hints = hs }) (sym (no_more e.branch_hints))
+pub made_of : (e : Expression) (xs : List Item)
+    → add e xs ≡ record { instrs = e.instrs ++ instrs_of xs; branch_hints = e.branch_hints ++ hints_of (length e.instrs) xs }
+made_of e [] = ap (λ is. record { instrs = is; branch_hints = e.branch_hints }) (sym (no_more e.instrs))
+    ∙ ap (λ hs. record { instrs = e.instrs ++ []; branch_hints = hs }) (sym (no_more e.branch_hints))
 made_of e (Instr i ∷ xs) = made_of (with_instr i e) xs
-    ∙ ap (λ is. record { instrs = is; branch_hints = e.branch_hints ++ hints_of (length (e.instrs ++ i ∷ [])) xs }) (append_assoc e.instrs (i ∷ []) (instrs_of xs))
+    ∙ ap (λ is. record { instrs = is; branch_hints = e.branch_hints ++ hints_of (length (e.instrs ++ i ∷ [])) xs })
+        (append_assoc e.instrs (i ∷ []) (instrs_of xs))
     ∙ ap (λ n. record { instrs = e.instrs ++ i ∷ instrs_of xs; branch_hints = e.branch_hints ++ hints_of n xs }) (one_more e.instrs)
   where
     one_more : (is : List Instruction) → length (is ++ i ∷ []) ≡ suc (length is)
     one_more [] = refl
     one_more (j ∷ js) = ap suc (one_more js)
 made_of e (Hint v ∷ xs) = made_of (record { instrs = e.instrs; branch_hints = e.branch_hints ++ record { instr_index = length e.instrs; value = v } ∷ [] }) xs
-    ∙ ap (λ hs. record { instrs = e.instrs ++ instrs_of xs; branch_hints = hs }) (append_assoc e.branch_hints (record { instr_index = length e.instrs; value = v } ∷ []) (hints_of (length e.instrs) xs))
+    ∙ ap (λ hs. record { instrs = e.instrs ++ instrs_of xs; branch_hints = hs })
+        (append_assoc e.branch_hints (record { instr_index = length e.instrs; value = v } ∷ []) (hints_of (length e.instrs) xs))

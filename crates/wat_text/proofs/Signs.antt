@@ -49,7 +49,8 @@ none_of N s None (Some n) q e f g = absurd cc
 none_of N s None None (Some n) e f g = absurd cc
 
 no_sign : (c : ℕ) (cs : List ℕ) → c == 0x2d ≡ false → c == 0x2b ≡ false → sign (c ∷ cs) ≡ (false, c ∷ cs)
-no_sign c cs e f = ap (λ b. if b then (true, cs) else (if c == 0x2b then (false, cs) else (false, c ∷ cs))) e ∙ ap (λ b. if b then (false, cs) else (false, c ∷ cs)) f
+no_sign c cs e f = ap (λ b. if b then (true, cs) else (if c == 0x2b then (false, cs) else (false, c ∷ cs))) e
+    ∙ ap (λ b. if b then (false, cs) else (false, c ∷ cs)) f
 
 not_after : (c : ℕ) (cs : List ℕ) → c == 0x2b ≡ false → after (codes "+") (c ∷ cs) ≡ None
 not_after c cs f = ap (λ b. elim b as (λ b. Option (List ℕ)) [ true ↦ Some cs | false ↦ None ]) f
@@ -82,22 +83,27 @@ not_signed : (o : Option ℕ) (is_negative : Bool) → (o >>= λ n. Some (with_s
 not_signed None s h = refl
 not_signed (Some n) s h = absurd cc
 
-pub signed_is : (N : ℕ) (text : List ℕ) (x : ℤ) → answer (signed text) (option_map (signed_of N) (integer N text)) ≡ Ok x → option_map (signed_of N) (integer N text) ≡ Some x
+pub signed_is : (N : ℕ) (text : List ℕ) (x : ℤ) → answer (signed text) (option_map (signed_of N) (integer N text)) ≡ Ok x
+    → option_map (signed_of N) (integer N text) ≡ Some x
 signed_is N text x e = ok_is (signed text) _ x e
 
-pub signed_not : (N : ℕ) (text : List ℕ) (e : TextFault) → answer (signed text) (option_map (signed_of N) (integer N text)) ≡ Err e → option_map (signed_of N) (integer N text) ≡ None
-signed_not N text e h = err_is (signed text) _ e (λ none. ap (option_map (signed_of N)) (no_integer N text (not_signed (natural (sign text).1) (sign text).0 none))) h
+pub signed_not : (N : ℕ) (text : List ℕ) (e : TextFault) → answer (signed text) (option_map (signed_of N) (integer N text)) ≡ Err e
+    → option_map (signed_of N) (integer N text) ≡ None
+signed_not N text e h = err_is (signed text) _ e
+    (λ none. ap (option_map (signed_of N)) (no_integer N text (not_signed (natural (sign text).1) (sign text).0 none))) h
 
 no_float : (f : Format) (text : List ℕ) → magnitude (sign text).1 ≡ None → fN f text ≡ None
 no_float f text h = rw (fN, h) refl
 
-pub float_is : (f : Format) (text : List ℕ) (x : ℕ) → UnlessMemory (MayLack (sign text).1) (Ok x) (answer (magnitude (sign text).1) (fN f text)) → fN f text ≡ Some x
+pub float_is : (f : Format) (text : List ℕ) (x : ℕ)
+    → UnlessMemory (MayLack (sign text).1) (Ok x) (answer (magnitude (sign text).1) (fN f text)) → fN f text ≡ Some x
 float_is f text x e = ok_is (magnitude (sign text).1) (fN f text) x (sym e)
 
 no_memory : (e : TextFault) (may_lack : Type 0) → IsRefusal e → ¬ ((e ≡ fault.Memory) × may_lack)
 no_memory e may_lack h = λ k. subst IsRefusal k.0 h
 
-pub float_not : (f : Format) (text : List ℕ) (e : TextFault) → UnlessMemory (MayLack (sign text).1) (Err e) (answer (magnitude (sign text).1) (fN f text)) → IsRefusal e → fN f text ≡ None
+pub float_not : (f : Format) (text : List ℕ) (e : TextFault)
+    → UnlessMemory (MayLack (sign text).1) (Err e) (answer (magnitude (sign text).1) (fN f text)) → IsRefusal e → fN f text ≡ None
 float_not f text e h refusal = err_is (magnitude (sign text).1) (fN f text) e (no_float f text) (sym (h (no_memory e _ refusal)))
 
 -- A reader read the text of a number, and then its value.
@@ -120,9 +126,11 @@ number_read {T = T} meaning old mid new text x d make clean gives stays keeps re
     go (Some y) e h r = ap rest (d.refuses h (subst IsRefused (keeps (λ n. cc)) r))
 
 -- A reader read the text of a number, and stored that it has no value.
-pub fault_read : {T : Type 0} (meaning : List ℕ → Option T) (old mid new : Reader) (text : Bor (List ℕ)) (x : T) (e : TextFault) (span : Span) → Decides number_text old mid (bare_text text) → Fails e span mid new
+pub fault_read : {T : Type 0} (meaning : List ℕ → Option T) (old mid new : Reader) (text : Bor (List ℕ)) (x : T) (e : TextFault) (span : Span)
+    → Decides number_text old mid (bare_text text) → Fails e span mid new
     → (IsRefusal e → meaning text.now ≡ None) → Decides (number meaning) old new x
-fault_read meaning old mid new text x e span d f none = number_read meaning old mid new text x d f.make (λ h. absurd (faulty h)) (λ h. absurd (faulty h)) (λ h. absurd (faulty h)) f.keeps
+fault_read meaning old mid new text x e span d f none =
+    number_read meaning old mid new text x d f.make (λ h. absurd (faulty h)) (λ h. absurd (faulty h)) (λ h. absurd (faulty h)) f.keeps
     (λ h r. none (subst IsRefused (f.first h) r))
   where
     at : (o : Option TextError) → mid.fault ≡ o → new.fault ≢ None

@@ -21,7 +21,8 @@ pub one_at_end : (found : Bool) → one_after found [] ≡ true
 one_at_end true = refl
 one_at_end false = refl
 
-pub one_found : (found start : Bool) (f : ModuleField) (fs : List ModuleField) → is_start f ≡ start → found ≡ false → one_after found (f ∷ fs) ≡ one_after start fs
+pub one_found : (found start : Bool) (f : ModuleField) (fs : List ModuleField)
+    → is_start f ≡ start → found ≡ false → one_after found (f ∷ fs) ≡ one_after start fs
 one_found true true f fs e n = absurd cc
 one_found true false f fs e n = absurd cc
 one_found false true f fs e n = ap (λ b. elim b [ true ↦ has_no_start fs | false ↦ has_one_start fs ]) e
@@ -50,9 +51,11 @@ either_same false w x y z p q = q
 one_bare : (fs : List ModuleField) → has_one_start (bare_fields fs) ≡ has_one_start fs
 one_bare [] = refl
 one_bare (f ∷ fs) = ap (λ b. elim b [ true ↦ has_no_start (bare_fields fs) | false ↦ has_one_start (bare_fields fs) ]) (bare_start f)
-    ∙ either_same (is_start f) (has_no_start (bare_fields fs)) (has_one_start (bare_fields fs)) (has_no_start fs) (has_one_start fs) (no_start_bare fs) (one_bare fs)
+    ∙ either_same (is_start f) (has_no_start (bare_fields fs)) (has_one_start (bare_fields fs))
+        (has_no_start fs) (has_one_start fs) (no_start_bare fs) (one_bare fs)
 
-pub one_holds : (r : Option Span) (fs : List ModuleField) (toks : Toks) → is_none r ≡ has_one_start fs → r ≡ None → where_it_holds (has_one_start (bare_fields fs)) toks ≡ Some toks
+pub one_holds : (r : Option Span) (fs : List ModuleField) (toks : Toks) → is_none r ≡ has_one_start fs
+    → r ≡ None → where_it_holds (has_one_start (bare_fields fs)) toks ≡ Some toks
 one_holds r fs toks e n = ap (λ b. where_it_holds b toks) (one_bare fs ∙ sym e ∙ ap is_none n)
 
 -- a reader that failed because of the second start function

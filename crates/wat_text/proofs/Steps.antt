@@ -1,7 +1,8 @@
 -- Steps of a rule: after a reader has read a part, the rest of the rule has the result that its start had before.
 --
 --   (local i32) (local i64)      after the first form, the rule of locals has `i32` and reads on at the second form
-use Rattle.std.proofs.Common.{◌≡◌, ◌≢◌, ◌∙◌, ℕ, suc, ◌-◌, ◌+◌, ◌<◌, Bool, true, false, List, [], ◌∷◌, ◌++◌, map, Option, None, Some, refl, sym, ap, subst, arith}
+use Rattle.std.proofs.Common.{◌≡◌, ◌≢◌, ◌∙◌, ℕ, suc, ◌-◌, ◌+◌, ◌<◌, Bool, true, false, List, []}
+use Rattle.std.proofs.Common.{◌∷◌, ◌++◌, map, Option, None, Some, refl, sym, ap, subst, arith}
 use Rattle.wat_tokens.specs.declared.faults.TextError.{TextError}
 use Rattle.wat_syntax.specs.Tokens.{Toks, Parse, many, many_lists, with_parts}
 use Rattle.wat_text.specs.Readers.{left, IsClean, IsRefused, Reads, Decides, ReadsOnto, Pushes, Builds}
@@ -70,7 +71,8 @@ by_building old new x before after p = record {
   memory = λ h f. subst IsRefused (p.fault ∙ h) f;
 }
 
-pub mapped_puts : {S T : Type 0} (bare : S → T) (old new : Reader) (x : S) (before after : List S) → Puts old new x before after → Puts old new (bare x) (map bare before) (map bare after)
+pub mapped_puts : {S T : Type 0} (bare : S → T) (old new : Reader) (x : S) (before after : List S)
+    → Puts old new x before after → Puts old new (bare x) (map bare before) (map bare after)
 mapped_puts bare old new x before after p = record {
   made = p.made;
   clean = p.clean;
@@ -87,7 +89,8 @@ pub reads_step : {T : Type 0} (is_next : Toks → Bool) (part : Toks → Parse T
 reads_step is_next part old a new counter end x found after few yet r p =
     let n = end - (counter + 1) in
     let one : end - counter ≡ suc n = omega (arith, few) in
-    both_steps old a new (with_parts found (many is_next part (end - counter) (left old))) (with_parts (found ++ x ∷ []) (many is_next part n (left a))) (with_parts after (many is_next part n (left new)))
+    both_steps old a new (with_parts found (many is_next part (end - counter) (left old)))
+        (with_parts (found ++ x ∷ []) (many is_next part n (left a))) (with_parts after (many is_next part n (left new)))
     (record {
       made = r.made;
       clean = r.clean;
@@ -98,7 +101,8 @@ reads_step is_next part old a new counter end x found after few yet r p =
     (record {
       made = p.made;
       clean = p.clean;
-      goes = λ h. ap (λ xs. with_parts xs (many is_next part n (left a))) (sym (p.pushed h)) ∙ ap (λ t. with_parts after (many is_next part n t)) (sym (p.left h));
+      goes = λ h. ap (λ xs. with_parts xs (many is_next part n (left a))) (sym (p.pushed h))
+          ∙ ap (λ t. with_parts after (many is_next part n t)) (sym (p.left h));
       keeps = p.keeps;
       refuses = λ h m f. absurd (p.memory h f);
     })
@@ -106,7 +110,8 @@ reads_step is_next part old a new counter end x found after few yet r p =
 -- a list of parts more
 pub list_step : {T : Type 0} (is_next : Toks → Bool) (part : Toks → Parse (List T)) (old new : Reader) (counter end : ℕ) (found after : List T)
     → counter < end → is_next (left old) ≡ true → ReadsOnto part old new found after
-    → Steps old new (with_parts found (many_lists is_next part (end - counter) (left old))) (with_parts after (many_lists is_next part (end - (counter + 1)) (left new)))
+    → Steps old new (with_parts found (many_lists is_next part (end - counter) (left old)))
+        (with_parts after (many_lists is_next part (end - (counter + 1)) (left new)))
 list_step is_next part old new counter end found after few yet r =
     let n = end - (counter + 1) in
     let one : end - counter ≡ suc n = omega (arith, few) in
@@ -120,34 +125,41 @@ list_step is_next part old new counter end found after few yet r =
 
 -- The steps of a loop, by how a part is read and how it is appended. The rule has the parts without addresses. First a part that is
 -- decided.
-pub one_bare : {S T : Type 0} (bare : S → T) (is_next : Toks → Bool) (part : Toks → Parse T) (start : Parse (List T)) (first old a new : Reader) (counter end : ℕ) (x : S) (found after : List S)
+pub one_bare : {S T : Type 0} (bare : S → T) (is_next : Toks → Bool) (part : Toks → Parse T)
+    (start : Parse (List T)) (first old a new : Reader) (counter end : ℕ) (x : S) (found after : List S)
     → counter < end → is_next (left old) ≡ true → Decides part old a (bare x) → Pushes a new x found after
     → Steps first old start (with_parts (map bare found) (many is_next part (end - counter) (left old)))
     → Steps first new start (with_parts (map bare after) (many is_next part (end - (counter + 1)) (left new)))
 one_bare bare is_next part start first old a new counter end x found after few yet r p s =
     both_steps first old new start _ _ s
-    (reads_step is_next part old a new counter end (bare x) (map bare found) (map bare after) few yet (decided part old a (bare x) r) (mapped_puts bare a new x found after (by_pushing a new x found after p)))
+    (reads_step is_next part old a new counter end (bare x) (map bare found) (map bare after) few yet
+        (decided part old a (bare x) r) (mapped_puts bare a new x found after (by_pushing a new x found after p)))
 
 -- a part that contains lists of the tree
-pub one_read : {S T : Type 0} (bare : S → T) (is_next : Toks → Bool) (part : Toks → Parse T) (start : Parse (List T)) (first old a new : Reader) (counter end : ℕ) (x : S) (found after : List S)
+pub one_read : {S T : Type 0} (bare : S → T) (is_next : Toks → Bool) (part : Toks → Parse T)
+    (start : Parse (List T)) (first old a new : Reader) (counter end : ℕ) (x : S) (found after : List S)
     → counter < end → is_next (left old) ≡ true → Reads part old a (bare x) → Pushes a new x found after
     → Steps first old start (with_parts (map bare found) (many is_next part (end - counter) (left old)))
     → Steps first new start (with_parts (map bare after) (many is_next part (end - (counter + 1)) (left new)))
 one_read bare is_next part start first old a new counter end x found after few yet r p s =
     both_steps first old new start _ _ s
-    (reads_step is_next part old a new counter end (bare x) (map bare found) (map bare after) few yet r (mapped_puts bare a new x found after (by_pushing a new x found after p)))
+    (reads_step is_next part old a new counter end (bare x) (map bare found) (map bare after) few yet r
+        (mapped_puts bare a new x found after (by_pushing a new x found after p)))
 
 -- a part that is appended to a list of the tree
-pub one_built : {S T : Type 0} (bare : S → T) (is_next : Toks → Bool) (part : Toks → Parse T) (start : Parse (List T)) (first old a new : Reader) (counter end : ℕ) (x : S) (found after : List S)
+pub one_built : {S T : Type 0} (bare : S → T) (is_next : Toks → Bool) (part : Toks → Parse T)
+    (start : Parse (List T)) (first old a new : Reader) (counter end : ℕ) (x : S) (found after : List S)
     → counter < end → is_next (left old) ≡ true → Reads part old a (bare x) → Builds a new x found after
     → Steps first old start (with_parts (map bare found) (many is_next part (end - counter) (left old)))
     → Steps first new start (with_parts (map bare after) (many is_next part (end - (counter + 1)) (left new)))
 one_built bare is_next part start first old a new counter end x found after few yet r p s =
     both_steps first old new start _ _ s
-    (reads_step is_next part old a new counter end (bare x) (map bare found) (map bare after) few yet r (mapped_puts bare a new x found after (by_building a new x found after p)))
+    (reads_step is_next part old a new counter end (bare x) (map bare found) (map bare after) few yet r
+        (mapped_puts bare a new x found after (by_building a new x found after p)))
 
 -- a list of parts
-pub one_list : {T : Type 0} (is_next : Toks → Bool) (part : Toks → Parse (List T)) (start : Parse (List T)) (first old new : Reader) (counter end : ℕ) (found after : List T)
+pub one_list : {T : Type 0} (is_next : Toks → Bool) (part : Toks → Parse (List T))
+    (start : Parse (List T)) (first old new : Reader) (counter end : ℕ) (found after : List T)
     → counter < end → is_next (left old) ≡ true → ReadsOnto part old new found after
     → Steps first old start (with_parts found (many_lists is_next part (end - counter) (left old)))
     → Steps first new start (with_parts after (many_lists is_next part (end - (counter + 1)) (left new)))

@@ -12,7 +12,8 @@
 -- The tokens of a text are without addresses here, and so is its module: each text in them is at address 0 (Bare and AtZero in
 -- wat_syntax). So a text has one module at most, which `module_of` computes. What the code reads has addresses, and is the module if it
 -- is so without them (Denotes).
-use Rattle.std.specs.Prelude.{◌≡◌, ℕ, ◌==◌, ◌&&◌, not, Bool, true, false, List, [], ◌∷◌, length, map, drop, replicate, flat_map, slice_get, Option, None, Some, is_some}
+use Rattle.std.specs.Prelude.{◌≡◌, ℕ, ◌==◌, ◌&&◌, not, Bool, true, false, List, [], ◌∷◌, length, map}
+use Rattle.std.specs.Prelude.{drop, replicate, flat_map, slice_get, Option, None, Some, is_some}
 use Rattle.std.specs.Option.{option_or, unwrap_or}
 use Rattle.std.specs.Str.{is_utf8}
 use Rattle.std.specs.Borrow.{Bor}

@@ -48,6 +48,7 @@ pub record ReadsProducers (rule : Toks → Parse (List (ProducersField × Versio
   pub clean : new.fault ≡ None → old.fault ≡ None
   pub languages : IsClean new → versions_with (map bare_version before.languages) Language (rule (left old)) ≡ Some (map bare_version after.languages, left new)
   pub sdks : IsClean new → versions_with (map bare_version before.sdks) Sdk (rule (left old)) ≡ Some (map bare_version after.sdks, left new)
-  pub processors : IsClean new → versions_with (map bare_version before.processors) ProcessedBy (rule (left old)) ≡ Some (map bare_version after.processors, left new)
+  pub processors : IsClean new
+      → versions_with (map bare_version before.processors) ProcessedBy (rule (left old)) ≡ Some (map bare_version after.processors, left new)
   pub keeps : old.fault ≢ None → new.fault ≡ old.fault
   pub refuses : old.fault ≡ None → new.make ≡ false → IsRefused new.fault → rule (left old) ≡ None

@@ -8,7 +8,8 @@ use Rattle.wat_syntax.specs.Tree.{Span, Id, ModuleField}
 use Rattle.wat_syntax.specs.Tree.field
 use Rattle.wat_syntax.specs.Values.{text_of}
 use Rattle.wat_syntax.specs.Worked.{the, named, quoted, toks, made}
-use Rattle.wat_text.specs.Denotes.{opening, has_no_start, has_one_start, rest_of_fields, quotes, text_in, exact, source_of, sources, place_of, put_in, contents_of, Fields, Binary, Quotes, module_of, Denotes, DenotesNothing}
+use Rattle.wat_text.specs.Denotes.{opening, has_no_start, has_one_start, rest_of_fields, quotes, text_in, exact, source_of, sources}
+use Rattle.wat_text.specs.Denotes.{place_of, put_in, contents_of, Fields, Binary, Quotes, module_of, Denotes, DenotesNothing}
 use Rattle.wat_text.specs.declared.modules.TextKind.TheVariants as kind
 use Rattle.wat_text.specs.declared.modules.TextModule.{TextModule}
 use Rattle.wat_text.specs.declared.quotes.Quote.{Quote}

@@ -2,8 +2,11 @@
 //! annotations; tool conventions).
 
 ghost use Rattle.std.specs.Prelude.{◌≡◌, true, false, None, Some, ◌++◌, map};
-ghost use Rattle.wat_syntax.specs.Customs.{section_of, section, place_of, customplace, customfield, known_field, producer_open, producer, all_producers, named_field, fields_of, producersfield, flag_of, again, exported, imported, exports_info, imports_info, memory_info, subsection_form, subsections, dylinkfield};
-ghost use Rattle.wat_syntax.specs.Customs.{version as version_rule, flag as flag_rule, flags as flags_rule, names as names_rule, size_and_align as size_rule, subsection as subsection_rule};
+ghost use Rattle.wat_syntax.specs.Customs.{section_of, section, place_of, customplace, customfield, known_field, producer_open, producer};
+ghost use Rattle.wat_syntax.specs.Customs.{all_producers, named_field, fields_of, producersfield, flag_of, again, exported, imported};
+ghost use Rattle.wat_syntax.specs.Customs.{exports_info, imports_info, memory_info, subsection_form, subsections, dylinkfield};
+ghost use Rattle.wat_syntax.specs.Customs.{version as version_rule, flag as flag_rule, flags as flags_rule};
+ghost use Rattle.wat_syntax.specs.Customs.{names as names_rule, size_and_align as size_rule, subsection as subsection_rule};
 ghost use Rattle.wat_text.specs.Readers.{left, Reads, Decides, Accepts, Refuses, ReadsOnto, Pushes, Builds};
 ghost use Rattle.wat_text.specs.MadeProducers.{PushesValue, ReadsProducers};
 ghost use Rattle.wat_syntax.specs.Tokens.{one};

@@ -3,12 +3,20 @@
 ghost use Rattle.std.specs.Prelude.{◌≡◌, true, false, None, Some, map, option_map};
 ghost use Rattle.wat_tokens.specs.declared.words.Key.TheVariants as key;
 ghost use Rattle.wat_syntax.specs.Tokens.{is_form, form};
-ghost use Rattle.wat_syntax.specs.Modules.{head, inline_export, export_names, inline_exports, inline_import, unnamed_local, unnamed_locals, locals_of, local, locals as locals_rule, tag_kind_of, tagfield, functype_of, externtype_of, externtype, importfield, import_items_from, import_name, import_names, import_item, import_items_of, import_group, export_kind, externidx_keyword, exportfield};
+ghost use Rattle.wat_syntax.specs.Modules.{head, inline_export, export_names, inline_exports, inline_import, unnamed_local};
+ghost use Rattle.wat_syntax.specs.Modules.{unnamed_locals, locals_of, local, locals as locals_rule, tag_kind_of, tagfield, functype_of};
+ghost use Rattle.wat_syntax.specs.Modules.{externtype_of, externtype, importfield, import_items_from, import_name, import_names};
+ghost use Rattle.wat_syntax.specs.Modules.{import_item, import_items_of, import_group, export_kind, externidx_keyword, exportfield};
 ghost use Rattle.wat_syntax.specs.Segments.{is_funcref};
-ghost use Rattle.wat_syntax.specs.Fields.{imported_func, func_body, func_of, funcfield, inline_elements, init_expression, table_of_type, table_of_elements, defined_table, table_of, tablefield, has_inline_data, inline_data, defined_memory, memory_of, memoryfield, global_of, globalfield};
+ghost use Rattle.wat_syntax.specs.Fields.{imported_func, func_body, func_of, funcfield, inline_elements, init_expression};
+ghost use Rattle.wat_syntax.specs.Fields.{table_of_type, table_of_elements, defined_table, table_of, tablefield, has_inline_data};
+ghost use Rattle.wat_syntax.specs.Fields.{inline_data, defined_memory, memory_of, memoryfield, global_of, globalfield};
 ghost use Rattle.wat_text.specs.Readers.{left, Reads, Decides, Expects, ReadsOnto, Pushes};
 ghost use Rattle.wat_syntax.specs.Bare.{bare_ref, bare_text};
-ghost use Rattle.wat_syntax.specs.BareFields.{bare_export, bare_exports, bare_func, bare_func_kind, bare_func_of, bare_global, bare_global_kind, bare_import, bare_import_item, bare_import_items, bare_imports, bare_item_kind, bare_item_sig, bare_local, bare_memory, bare_memory_kind, bare_payload, bare_table, bare_table_kind, bare_tag, bare_tag_kind};
+ghost use Rattle.wat_syntax.specs.BareFields.{bare_export, bare_exports, bare_func, bare_func_kind, bare_func_of, bare_global};
+ghost use Rattle.wat_syntax.specs.BareFields.{bare_global_kind, bare_import, bare_import_item, bare_import_items, bare_imports};
+ghost use Rattle.wat_syntax.specs.BareFields.{bare_item_kind, bare_item_sig, bare_local, bare_memory, bare_memory_kind};
+ghost use Rattle.wat_syntax.specs.BareFields.{bare_payload, bare_table, bare_table_kind, bare_tag, bare_tag_kind};
 ghost use Rattle.wat_syntax.specs.BareInstructions.{bare_expression};
 ghost use Rattle.wat_text.specs.Heads.{bare_head};
 

@@ -6,12 +6,15 @@ ghost use Rattle.std.specs.Borrow.{Bor};
 ghost use Rattle.wat_tokens.specs.declared.words.Key.TheVariants as key;
 ghost use Rattle.wat_tokens.specs.declared.words.OwnOp.TheVariants as own;
 ghost use Rattle.wat_syntax.specs.Tokens.{peek, is_form};
-ghost use Rattle.wat_syntax.specs.Instructions.{assignment, offset, align, memory_ordering, memarg, memarg_of, is_assigned, is_lane_alone, lane_memarg, struct_access, one_or_two, none_or_two, array_new_fixed, select, atomic_instr, atomic_of, br_table, callindirect, cast, handle, on, resumetable, own_instr};
+ghost use Rattle.wat_syntax.specs.Instructions.{assignment, offset, align, memory_ordering, memarg, memarg_of, is_assigned, is_lane_alone};
+ghost use Rattle.wat_syntax.specs.Instructions.{lane_memarg, struct_access, one_or_two, none_or_two, array_new_fixed, select, atomic_instr};
+ghost use Rattle.wat_syntax.specs.Instructions.{atomic_of, br_table, callindirect, cast, handle, on, resumetable, own_instr};
 ghost use Rattle.wat_syntax.specs.Instructions.{on_clauses as on_clauses_rule};
 ghost use Rattle.wat_syntax.specs.Types.{indices};
 ghost use Rattle.wat_text.specs.Readers.{left, Reads, Decides, Finds, ReadsOnto, Pushes};
 ghost use Rattle.wat_syntax.specs.Bare.{bare_index, bare_indices};
-ghost use Rattle.wat_syntax.specs.BareInstructions.{bare_access, bare_call, bare_cast, bare_handle, bare_instr, bare_mem_arg, bare_mem_lane, bare_resume_table, bare_two};
+ghost use Rattle.wat_syntax.specs.BareInstructions.{bare_access, bare_call, bare_cast, bare_handle, bare_instr};
+ghost use Rattle.wat_syntax.specs.BareInstructions.{bare_mem_arg, bare_mem_lane, bare_resume_table, bare_two};
 
 use crate::reader::Reader;
 use wast_tree::{

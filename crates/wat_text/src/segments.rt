@@ -2,7 +2,10 @@
 
 ghost use Rattle.std.specs.Prelude.{◌≡◌, ◌≢◌, ◌++◌, None, map, OnOk};
 ghost use Rattle.wat_syntax.specs.Types.{reftype};
-ghost use Rattle.wat_syntax.specs.Segments.{expression_in, elemexprs, funcindices, funcref_of, funcrefs, exprs_payload, funcrefs_payload, elemlist, short_elemlist, tableuse, optional_number_index, table_or_first, active_elems, is_active, elem_of, elemfield, data_number, numtype, numtype_keyword, data_numbers, numlist, datavalue, datastring, is_numlist, memuse, is_data, data_kind_of, datafield};
+ghost use Rattle.wat_syntax.specs.Segments.{expression_in, elemexprs, funcindices, funcref_of, funcrefs, exprs_payload, funcrefs_payload};
+ghost use Rattle.wat_syntax.specs.Segments.{elemlist, short_elemlist, tableuse, optional_number_index, table_or_first, active_elems};
+ghost use Rattle.wat_syntax.specs.Segments.{is_active, elem_of, elemfield, data_number, numtype, numtype_keyword, data_numbers, numlist};
+ghost use Rattle.wat_syntax.specs.Segments.{datavalue, datastring, is_numlist, memuse, is_data, data_kind_of, datafield};
 ghost use Rattle.wat_text.specs.Readers.{left, IsRefused, Reads, Decides, ReadsOnto, Builds};
 ghost use Rattle.wat_syntax.specs.Bare.{bare_index, bare_index_option, bare_indices, bare_ref};
 ghost use Rattle.wat_syntax.specs.BareFields.{bare_data, bare_data_kind, bare_data_val, bare_elem, bare_elem_of, bare_payload};

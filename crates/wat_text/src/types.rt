@@ -4,10 +4,16 @@ ghost use Rattle.std.specs.Prelude.{◌≡◌, true, false, None, Some, map, opt
 ghost use Rattle.wat_tokens.specs.declared.words.Key.TheVariants as key;
 ghost use Rattle.wat_syntax.specs.Tokens.{keyword, keyword_in, is_form, is_key, key_of, peek};
 ghost use Rattle.wat_syntax.specs.Values.{u64};
-ghost use Rattle.wat_syntax.specs.Types.{absheaptype, refword, numtype_or_vectype, heaptype_form, heaptype, is_reftype, shared_reftype, reftype, valtype, valtypes, storagetype, fieldtype, unnamed_param, unnamed_params, param, all_params, all_results, functype, unnamed_field, unnamed_fields, struct_fields, struct_field, all_fields, structtype, comptype_form, comptype, related, described, maybe_shared, subtype, typedef, typedef_form, typedefs, rectype, addrtype, limits, tabletype, pagesize, memtype, is_shared_ref, globaltype, type_index, typeuse};
+ghost use Rattle.wat_syntax.specs.Types.{absheaptype, refword, numtype_or_vectype, heaptype_form, heaptype, is_reftype, shared_reftype, reftype};
+ghost use Rattle.wat_syntax.specs.Types.{valtype, valtypes, storagetype, fieldtype, unnamed_param, unnamed_params, param, all_params, all_results};
+ghost use Rattle.wat_syntax.specs.Types.{functype, unnamed_field, unnamed_fields, struct_fields, struct_field, all_fields, structtype};
+ghost use Rattle.wat_syntax.specs.Types.{comptype_form, comptype, related, described, maybe_shared, subtype, typedef, typedef_form, typedefs};
+ghost use Rattle.wat_syntax.specs.Types.{rectype, addrtype, limits, tabletype, pagesize, memtype, is_shared_ref, globaltype, type_index, typeuse};
 ghost use Rattle.wat_syntax.specs.Types.{result as a_result, indices as all_indices, params as params_of};
 ghost use Rattle.wat_text.specs.Readers.{left, Reads, Decides, Expects, Finds, Refuses, ReadsOnto, Pushes, Builds};
-ghost use Rattle.wat_syntax.specs.Bare.{bare_composite, bare_field_type, bare_function_type, bare_global_type, bare_heap, bare_index_option, bare_indices, bare_param, bare_rec, bare_ref, bare_storage, bare_struct_field, bare_struct_type, bare_table_type, bare_type, bare_type_def, bare_type_use, bare_val, bare_vals};
+ghost use Rattle.wat_syntax.specs.Bare.{bare_composite, bare_field_type, bare_function_type, bare_global_type, bare_heap};
+ghost use Rattle.wat_syntax.specs.Bare.{bare_index_option, bare_indices, bare_param, bare_rec, bare_ref, bare_storage, bare_struct_field};
+ghost use Rattle.wat_syntax.specs.Bare.{bare_struct_type, bare_table_type, bare_type, bare_type_def, bare_type_use, bare_val, bare_vals};
 
 use crate::reader::Reader;
 use wast_tree::{

@@ -1,5 +1,6 @@
 -- Closes what is asked of a place: a character begins there, and the text goes on so far.
-use Rattle.std.proofs.Common.{◌≡◌, ◌∙◌, ℕ, suc, ◌+◌, ◌-◌, ◌<◌, ◌≤◌, ◌==◌, Bool, true, false, List, [], ◌∷◌, length, drop, get_or, None, Some, refl, sym, ap, subst, arith, drop-cons, eqb-true, ◌⊎◌, inl, inr}
+use Rattle.std.proofs.Common.{◌≡◌, ◌∙◌, ℕ, suc, ◌+◌, ◌-◌, ◌<◌, ◌≤◌, ◌==◌, Bool, true, false, List, [], ◌∷◌, length}
+use Rattle.std.proofs.Common.{drop, get_or, None, Some, refl, sym, ap, subst, arith, drop-cons, eqb-true, ◌⊎◌, inl, inr}
 use Rattle.std.proofs.lemmas.Bool.{cases_lt}
 use Rattle.std.proofs.lemmas.List.{drop-drop}
 use Rattle.std.proofs.lemmas.Str.{IsCharBoundary-after_ascii, IsCharBoundary-before_ascii}
@@ -47,7 +48,8 @@ pub idchar_boundary : (T : List ℕ) (i c : ℕ) → IsUtf8 T → first_of (drop
 idchar_boundary T i c utf8 h k = at_byte T i c utf8 h (is_ascii c k)
 
 pub some_word : (T : List ℕ) (i c : ℕ) → first_of (drop i T) ≡ Some c → is_idchar c ≡ true → i < i + length (front is_idchar (drop i T))
-some_word T i c h k = let more : length (front is_idchar (drop i T)) ≡ suc (length (front is_idchar (drop (i + 1) T))) = front_more is_idchar i T (below T i c h) (ap is_idchar (byte_is T i c h) ∙ k) in omega (arith, more)
+some_word T i c h k = let more : length (front is_idchar (drop i T)) ≡ suc (length (front is_idchar (drop (i + 1) T))) = front_more is_idchar i T
+    (below T i c h) (ap is_idchar (byte_is T i c h) ∙ k) in omega (arith, more)
 
 -- two semicolons
 pub begins : (T : List ℕ) (i : ℕ) → (is_first 0x3b (drop i T) && is_first 0x3b (drop (i + 1) T)) ≡ begins_of (drop i T)

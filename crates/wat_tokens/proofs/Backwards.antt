@@ -1,5 +1,6 @@
 -- Closes what the loop over the digits of a number leaves: the rule reads a text from its end, and the loop from its start.
-use Rattle.std.proofs.Common.{◌≡◌, ◌∙◌, ℕ, ◌+◌, ◌*◌, ◌<◌, ◌≤◌, ◌==◌, Bool, true, false, List, [], ◌∷◌, ◌++◌, length, take, drop, get_or, eqb-true, Option, None, Some, Result, Ok, Err, refl, sym, ap, subst, arith}
+use Rattle.std.proofs.Common.{◌≡◌, ◌∙◌, ℕ, ◌+◌, ◌*◌, ◌<◌, ◌≤◌, ◌==◌, Bool, true, false, List, [], ◌∷◌, ◌++◌, length, take}
+use Rattle.std.proofs.Common.{drop, get_or, eqb-true, Option, None, Some, Result, Ok, Err, refl, sym, ap, subst, arith}
 use Rattle.std.specs.Prelude.{reverse}
 use Rattle.std.specs.Option.{ok_or}
 use Rattle.std.proofs.lemmas.List.{take_more, take_all, take-append-drop, reverse-append}
@@ -16,7 +17,8 @@ before f radix [] = None
 before f radix (b ∷ bs) = elim (b == 0x5f) [ true ↦ backwards f radix bs | false ↦ backwards f radix (b ∷ bs) ]
 
 -- a digit after something: the second rule
-digit_more : (f : ℕ → Option ℕ) (radix c d n : ℕ) (back : List ℕ) → f c ≡ Some d → before f radix back ≡ Some n → backwards f radix (c ∷ back) ≡ Some (radix * n + d)
+digit_more : (f : ℕ → Option ℕ) (radix c d n : ℕ) (back : List ℕ) → f c ≡ Some d
+    → before f radix back ≡ Some n → backwards f radix (c ∷ back) ≡ Some (radix * n + d)
 unfolding backwards before
 digit_more f radix c d n [] digit is = absurd cc
 digit_more f radix c d n (b ∷ bs) digit is = rw (digit, is) refl
@@ -44,15 +46,19 @@ underscored : (f : ℕ → Option ℕ) (radix n : ℕ) (back : List ℕ) → bac
 unfolding before
 underscored f radix n back is = is
 
-digits_before : (f : ℕ → Option ℕ) (radix n c : ℕ) (back : List ℕ) → c == 0x5f ≡ false → backwards f radix (c ∷ back) ≡ Some n → before f radix (c ∷ back) ≡ Some n
+digits_before : (f : ℕ → Option ℕ) (radix n c : ℕ) (back : List ℕ) → c == 0x5f ≡ false
+    → backwards f radix (c ∷ back) ≡ Some n → before f radix (c ∷ back) ≡ Some n
 unfolding before
 digits_before f radix n c back apart is = rw (apart, before) is
 
 -- one digit more
-pub more_digit : (f : ℕ → Option ℕ) (radix c d : ℕ) {a : Bool} {n : ℕ} {back : List ℕ} → c == 0x5f ≡ false → f c ≡ Some d → Read f radix a n back → Read f radix true (radix * n + d) (c ∷ back)
+pub more_digit : (f : ℕ → Option ℕ) (radix c d : ℕ) {a : Bool} {n : ℕ} {back : List ℕ} → c == 0x5f ≡ false
+    → f c ≡ Some d → Read f radix a n back → Read f radix true (radix * n + d) (c ∷ back)
 more_digit f radix c d other digit nothing = a_digit other (one_digit f radix c d digit)
-more_digit f radix c d other digit (a_digit {n = n} {c = b} {back = bs} apart is) = a_digit other (digit_more f radix c d n (b ∷ bs) digit (digits_before f radix n b bs apart is))
-more_digit f radix c d other digit (an_underscore {n = n} {back = bs} is) = a_digit other (digit_more f radix c d n (0x5f ∷ bs) digit (underscored f radix n bs is))
+more_digit f radix c d other digit (a_digit {n = n} {c = b} {back = bs} apart is) =
+    a_digit other (digit_more f radix c d n (b ∷ bs) digit (digits_before f radix n b bs apart is))
+more_digit f radix c d other digit (an_underscore {n = n} {back = bs} is) =
+    a_digit other (digit_more f radix c d n (0x5f ∷ bs) digit (underscored f radix n bs is))
 
 -- an underscore after a digit
 pub more_underscore : (f : ℕ → Option ℕ) (radix : ℕ) {n : ℕ} {back : List ℕ} → Read f radix true n back → Read f radix false n (0x5f ∷ back)
@@ -71,9 +77,11 @@ whole_more : (f : ℕ → Option ℕ) (radix x c : ℕ) (back : List ℕ) → be
 unfolding backwards before
 whole_more f radix x c back none = rw (none, backwards) (without (f x) radix)
 
-front_of : (f : ℕ → Option ℕ) (radix x : ℕ) (back : List ℕ) → backwards f radix back ≡ None → backwards f radix (x ∷ back) ≡ None → before f radix (x ∷ back) ≡ None
+front_of : (f : ℕ → Option ℕ) (radix x : ℕ) (back : List ℕ) → backwards f radix back ≡ None
+    → backwards f radix (x ∷ back) ≡ None → before f radix (x ∷ back) ≡ None
 unfolding before
-front_of f radix x back short long = elim (x == 0x5f) as (λ b. elim b as (λ b. Option ℕ) [ true ↦ backwards f radix back | false ↦ backwards f radix (x ∷ back) ] ≡ None) [ true ↦ short | false ↦ long ]
+front_of f radix x back short long = elim (x == 0x5f) as (λ b.
+    elim b as (λ b. Option ℕ) [ true ↦ backwards f radix back | false ↦ backwards f radix (x ∷ back) ] ≡ None) [ true ↦ short | false ↦ long ]
 
 -- more characters change nothing
 pub still_dead : (f : ℕ → Option ℕ) (radix c : ℕ) (back xs : List ℕ) → Dead f radix (c ∷ back) → Dead f radix (xs ++ c ∷ back)
@@ -94,10 +102,13 @@ unfolding backwards
 nothing_read f radix = refl
 
 -- a character that is no digit, and no underscore after a digit
-pub stops : (f : ℕ → Option ℕ) (radix c : ℕ) {a : Bool} {n : ℕ} {back : List ℕ} → f 0x5f ≡ None → f c ≡ None → (c == 0x5f ≡ true → a ≡ false) → Read f radix a n back → Dead f radix (c ∷ back)
+pub stops : (f : ℕ → Option ℕ) (radix c : ℕ) {a : Bool} {n : ℕ} {back : List ℕ} → f 0x5f ≡ None
+    → f c ≡ None → (c == 0x5f ≡ true → a ≡ false) → Read f radix a n back → Dead f radix (c ∷ back)
 unfolding before
-stops f radix c under none other nothing = record { whole = no_digit f radix c [] none; front = front_of f radix c [] (nothing_read f radix) (no_digit f radix c [] none) }
-stops f radix c under none other (a_digit {n = n} {c = b} {back = bs} apart is) = record { whole = no_digit f radix c (b ∷ bs) none; front = go (c == 0x5f) refl }
+stops f radix c under none other nothing =
+    record { whole = no_digit f radix c [] none; front = front_of f radix c [] (nothing_read f radix) (no_digit f radix c [] none) }
+stops f radix c under none other (a_digit {n = n} {c = b} {back = bs} apart is) =
+    record { whole = no_digit f radix c (b ∷ bs) none; front = go (c == 0x5f) refl }
   where
     go : (x : Bool) → c == 0x5f ≡ x → before f radix (c ∷ b ∷ bs) ≡ None
     go true e = absurd (cc (other e))
@@ -131,7 +142,8 @@ pub none_first : (f : ℕ → Option ℕ) (radix c : ℕ) (cs : List ℕ) → f 
 none_first f radix c cs under none = ap (backwards f radix) (reverse_onto cs c [])
     ∙ (still_dead f radix c [] (reverse cs) (stops f radix c {a = false} {n = 0} under none (λ e. refl) nothing)).whole
 
-pub underscore_at : (f : ℕ → Option ℕ) (radix i : ℕ) (text : List ℕ) (value next : Option ℕ) (a b : Bool) → i < length text → get_or text i 0 ≡ 0x5f → a ≡ true → next ≡ value → b ≡ false
+pub underscore_at : (f : ℕ → Option ℕ) (radix i : ℕ) (text : List ℕ) (value next : Option ℕ) (a b : Bool)
+    → i < length text → get_or text i 0 ≡ 0x5f → a ≡ true → next ≡ value → b ≡ false
     → Reads f radix value a (take i text) → Reads f radix next b (take (i + 1) text)
 underscore_at f radix i text value next a b h is was same now m = record {
   n = m.n;
@@ -139,7 +151,8 @@ underscore_at f radix i text value next a b h is was same now m = record {
   read = rw (now, turned i text h, is) (more_underscore f radix (subst (λ x. Read f radix x m.n (reverse (take i text))) was m.read));
 }
 
-pub digit_at : (f : ℕ → Option ℕ) (radix i d : ℕ) (text : List ℕ) (value next : Option ℕ) (a b : Bool) → f 0x5f ≡ None → i < length text → f (get_or text i 0) ≡ Some d
+pub digit_at : (f : ℕ → Option ℕ) (radix i d : ℕ) (text : List ℕ) (value next : Option ℕ) (a b : Bool)
+    → f 0x5f ≡ None → i < length text → f (get_or text i 0) ≡ Some d
     → ((n : ℕ) → value ≡ fits n → next ≡ fits (radix * n + d)) → b ≡ true
     → Reads f radix value a (take i text) → Reads f radix next b (take (i + 1) text)
 digit_at f radix i d text value next a b under h digit put now m = record {
@@ -152,7 +165,8 @@ digit_at f radix i d text value next a b under h digit put now m = record {
     differs true e = absurd (cc (ap f (eqb-true (get_or text i 0) 0x5f e)))
     differs false e = e
 
-pub none_at : (f : ℕ → Option ℕ) (radix i : ℕ) (text : List ℕ) (value : Option ℕ) (a : Bool) → f 0x5f ≡ None → i < length text → (get_or text i 0 ≡ 0x5f → a ≡ false) → f (get_or text i 0) ≡ None
+pub none_at : (f : ℕ → Option ℕ) (radix i : ℕ) (text : List ℕ) (value : Option ℕ) (a : Bool) → f 0x5f ≡ None
+    → i < length text → (get_or text i 0 ≡ 0x5f → a ≡ false) → f (get_or text i 0) ≡ None
     → Reads f radix value a (take i text) → backwards f radix (reverse text) ≡ None
 none_at f radix i text value a under h other none m = rw (whole_text i text h)
     (still_dead f radix (get_or text i 0) (reverse (take i text)) (reverse (drop (i + 1) text))
@@ -166,16 +180,19 @@ kept n o is = rw is (go (fits n))
     go None = refl
     go (Some x) = refl
 
-pub ends_at : (f : ℕ → Option ℕ) (radix i : ℕ) (text : List ℕ) (value : Option ℕ) (r : Result ℕ TextFault) (a : Bool) → length text ≤ i → a ≡ true → r ≡ ok_or value fault.Range
+pub ends_at : (f : ℕ → Option ℕ) (radix i : ℕ) (text : List ℕ) (value : Option ℕ) (r : Result ℕ TextFault) (a : Bool)
+    → length text ≤ i → a ≡ true → r ≡ ok_or value fault.Range
     → Reads f radix value a (take i text) → r ≡ sized (backwards f radix (reverse text))
 ends_at f radix i text value r a h was is m =
-    let read : Read f radix true m.n (reverse text) = subst (λ b. Read f radix b m.n (reverse text)) was (subst (λ t. Read f radix a m.n (reverse t)) (take_all i text h) m.read) in
+    let read : Read f radix true m.n (reverse text) = subst (λ b. Read f radix b m.n (reverse text)) was
+        (subst (λ t. Read f radix a m.n (reverse t)) (take_all i text h) m.read) in
     is ∙ ap (λ v. ok_or v fault.Range) m.value_is ∙ kept m.n (backwards f radix (reverse text)) (ended f radix read)
 
 pub stops_at : (f : ℕ → Option ℕ) (radix i : ℕ) (text : List ℕ) (value : Option ℕ) (a : Bool) → f 0x5f ≡ None → length text ≤ i → a ≡ false
     → Reads f radix value a (take i text) → Err fault.Number ≡ sized (backwards f radix (reverse text))
 stops_at f radix i text value a under h was m =
-    let read : Read f radix false m.n (reverse text) = subst (λ b. Read f radix b m.n (reverse text)) was (subst (λ t. Read f radix a m.n (reverse t)) (take_all i text h) m.read) in
+    let read : Read f radix false m.n (reverse text) = subst (λ b. Read f radix b m.n (reverse text)) was
+        (subst (λ t. Read f radix a m.n (reverse t)) (take_all i text h) m.read) in
     rw (unfinished f radix under read) refl
 
 pub is_some_digit : (o : Option ℕ) (r : Result ℕ TextFault) (d : ℕ) → r ≡ ok_or o fault.Number → r ≡ Ok d → o ≡ Some d

@@ -1,5 +1,6 @@
 -- Closes the loop that looks for the '}' after the number of a character.
-use Rattle.std.proofs.Common.{◌≡◌, ◌≢◌, ◌∙◌, ℕ, zero, suc, ◌+◌, ◌<◌, ◌≤◌, ◌==◌, Bool, true, false, List, [], ◌∷◌, ◌++◌, length, drop, take, get_or, Option, None, Some, refl, sym, ap, arith, drop-cons, append_assoc, append-nil, eqb-true}
+use Rattle.std.proofs.Common.{◌≡◌, ◌≢◌, ◌∙◌, ℕ, zero, suc, ◌+◌, ◌<◌, ◌≤◌, ◌==◌, Bool, true, false, List, [], ◌∷◌, ◌++◌, length, drop}
+use Rattle.std.proofs.Common.{take, get_or, Option, None, Some, refl, sym, ap, arith, drop-cons, append_assoc, append-nil, eqb-true}
 use Rattle.std.proofs.lemmas.Bool.{eq-eqb}
 use Rattle.std.proofs.lemmas.List.{take_more}
 use Rattle.wat_grammar.specs.Parts.{◌>>=◌}
@@ -32,7 +33,8 @@ differs a b h = go (a == b) refl
     go true e = absurd (h (eqb-true a b e))
     go false e = e
 
-pub braced_more : (i : ℕ) (cs : List ℕ) → i < length cs → get_or cs i 0 ≢ 0x7d → ahead (take i cs) (braced (drop i cs)) ≡ ahead (take (i + 1) cs) (braced (drop (i + 1) cs))
+pub braced_more : (i : ℕ) (cs : List ℕ) → i < length cs → get_or cs i 0 ≢ 0x7d
+    → ahead (take i cs) (braced (drop i cs)) ≡ ahead (take (i + 1) cs) (braced (drop (i + 1) cs))
 braced_more i cs below other = ap (λ x. ahead (take i cs) (braced x)) (drop-cons cs i 0 below)
     ∙ ap (ahead (take i cs)) (braced_on (get_or cs i 0) (drop (suc i) cs) (differs (get_or cs i 0) 0x7d other))
     ∙ ahead_twice (take i cs) (get_or cs i 0) (braced (drop (suc i) cs))

@@ -1,5 +1,6 @@
 -- Closes the loop over a block comment.
-use Rattle.std.proofs.Common.{◌≡◌, ◌≢◌, ◌∙◌, ℕ, zero, suc, ◌+◌, ◌-◌, ◌<◌, ◌≤◌, ◌==◌, ◌&&◌, ◌||◌, not, Bool, true, false, List, [], ◌∷◌, length, drop, get_or, None, Some, refl, sym, ap, ap₂, arith, add-one}
+use Rattle.std.proofs.Common.{◌≡◌, ◌≢◌, ◌∙◌, ℕ, zero, suc, ◌+◌, ◌-◌, ◌<◌, ◌≤◌, ◌==◌, ◌&&◌, ◌||◌, not, Bool, true, false}
+use Rattle.std.proofs.Common.{List, [], ◌∷◌, length, drop, get_or, None, Some, refl, sym, ap, ap₂, arith, add-one}
 use Rattle.std.proofs.lemmas.List.{drop-drop, length-drop}
 use Rattle.wat_grammar.specs.Parts.{front}
 use Rattle.wat_grammar.specs.Space.{blockcomment}
@@ -15,7 +16,8 @@ starts : (n b c : ℕ) (cs : List ℕ) → (b == 0x28 && c == 0x3b) ≡ true →
 unfolding blockcomment
 starts n b c cs h = rw (h, blockcomment) refl
 
-goes_on : (n b c : ℕ) (cs : List ℕ) → (b == 0x28 && c == 0x3b) ≡ false → (b == 0x3b && c == 0x29) ≡ false → blockcomment n (b ∷ c ∷ cs) ≡ blockcomment n (c ∷ cs)
+goes_on : (n b c : ℕ) (cs : List ℕ) → (b == 0x28 && c == 0x3b) ≡ false
+    → (b == 0x3b && c == 0x29) ≡ false → blockcomment n (b ∷ c ∷ cs) ≡ blockcomment n (c ∷ cs)
 unfolding blockcomment
 goes_on n b c cs h k = rw (h, k, blockcomment) refl
 
@@ -67,7 +69,8 @@ quiet_run n (suc k) (c ∷ cs) h = go (c == 0x28) (c == 0x3b) refl refl (quiet_r
     none : quiet c ≡ false → ⊥
     none e = let l : length (front quiet (c ∷ cs)) ≡ 0 = ap length (stops quiet c cs e) in omega (arith, h, l)
 
-    go : (a b : Bool) → c == 0x28 ≡ a → c == 0x3b ≡ b → (k ≤ length (front quiet cs) → blockcomment n cs ≡ blockcomment n (drop k cs)) → blockcomment n (c ∷ cs) ≡ blockcomment n (drop k cs)
+    go : (a b : Bool) → c == 0x28 ≡ a → c == 0x3b ≡ b → (k ≤ length (front quiet cs) → blockcomment n cs ≡ blockcomment n (drop k cs))
+        → blockcomment n (c ∷ cs) ≡ blockcomment n (drop k cs)
     go true b p q inner = absurd (none (ap (λ x. not (x || c == 0x3b)) p))
     go false true p q inner = absurd (none (ap₂ (λ x y. not (x || y)) p q))
     go false false p q inner =
@@ -93,7 +96,8 @@ pub tails : (k : ℕ) (rest : List ℕ) → tail_at k (tail_at 1 rest) ≡ drop 
 tails k rest = tail_is k (tail_at 1 rest) ∙ ap (drop k) (tail_is 1 rest) ∙ drop-drop k 1 rest
 
 -- what is left of a text, after k characters more
-pub left_after : (k : ℕ) (text rest later : List ℕ) → later ≡ drop k rest → k ≤ length rest → length rest ≤ length text → rest ≡ drop (length text - length rest) text
+pub left_after : (k : ℕ) (text rest later : List ℕ) → later ≡ drop k rest → k ≤ length rest
+    → length rest ≤ length text → rest ≡ drop (length text - length rest) text
     → (length later + k ≡ length rest) × (later ≡ drop (length text - length later) text)
 left_after k text rest later is short inside left =
     let long : length later ≡ length rest - k = ap length is ∙ length-drop k rest in (

@@ -1,5 +1,6 @@
 -- Closes the loops over the elements of a string: each is read after those before it, and has its place.
-use Rattle.std.proofs.Common.{◌≡◌, ◌∙◌, ℕ, zero, suc, ◌+◌, ◌-◌, ◌*◌, ◌≤◌, ◌==◌, Bool, true, false, List, [], ◌∷◌, ◌++◌, length, drop, Option, None, Some, Result, Ok, Err, append_assoc, append-nil, replicate, refl, sym, ap, subst, arith, eqb-true}
+use Rattle.std.proofs.Common.{◌≡◌, ◌∙◌, ℕ, zero, suc, ◌+◌, ◌-◌, ◌*◌, ◌≤◌, ◌==◌, Bool, true, false, List, [], ◌∷◌, ◌++◌, length, drop, Option}
+use Rattle.std.proofs.Common.{None, Some, Result, Ok, Err, append_assoc, append-nil, replicate, refl, sym, ap, subst, arith, eqb-true}
 use Rattle.std.proofs.lemmas.List.{drop-drop, length-drop}
 use Rattle.std.specs.Prelude.{if◌then◌else◌, codes, ◌&&◌, not, nat_le}
 use Rattle.std.specs.Char.{encode_utf8}
@@ -32,7 +33,9 @@ unfolding braced
 braced_suffix [] t h = absurd cc
 braced_suffix (c ∷ cs) t h = go (c == 0x7d) (braced_suffix cs) h
   where
-    go : (b : Bool) → ((t : List ℕ × List ℕ) → braced cs ≡ Some t → Suffix t.1 cs) → elim b as (λ x. Option (List ℕ × List ℕ)) [ true ↦ Some ([], cs) | false ↦ braced cs >>= λ t. Some (c ∷ t.0, t.1) ] ≡ Some t → Suffix t.1 (c ∷ cs)
+    go : (b : Bool) → ((t : List ℕ × List ℕ) → braced cs ≡ Some t → Suffix t.1 cs)
+        → elim b as (λ x. Option (List ℕ × List ℕ)) [ true ↦ Some ([], cs) | false ↦ braced cs >>= λ t. Some (c ∷ t.0, t.1) ] ≡ Some t
+        → Suffix t.1 (c ∷ cs)
     go true inner e = record { n = zero; is = let same : (let p : List ℕ × List ℕ = ([], cs) in p) ≡ t = cc in sym (ap (λ p. p.1) same) }
     go false inner e =
         let b = bound (braced cs) (λ t. let p : List ℕ × List ℕ = (c ∷ t.0, t.1) in Some p) t e in
@@ -69,20 +72,24 @@ after_u (c ∷ []) digits h = go (c == 0x75) h
     go false e = absurd cc
 after_u (c ∷ d ∷ rest) digits h = go (c == 0x75) (d == 0x7b) h
   where
-    go : (a b : Bool) → elim a as (λ x. Option (List ℕ)) [ true ↦ elim b as (λ x. Option (List ℕ)) [ true ↦ Some rest | false ↦ None ] | false ↦ None ] ≡ Some digits → Suffix digits (c ∷ d ∷ rest)
+    go : (a b : Bool)
+        → elim a as (λ x. Option (List ℕ)) [ true ↦ elim b as (λ x. Option (List ℕ)) [ true ↦ Some rest | false ↦ None ] | false ↦ None ]
+        ≡ Some digits → Suffix digits (c ∷ d ∷ rest)
     go true true e = record { n = 1; is = let same : rest ≡ digits = cc in sym same }
     go true false e = absurd cc
     go false b e = absurd cc
 
 inner_suffix : (r digits text : List ℕ) → Suffix r digits → Suffix digits text → Suffix r text
-inner_suffix r digits text a b = record { n = b.n + suc a.n; is = a.is ∙ ap (drop (suc a.n)) b.is ∙ drop-drop (suc a.n) (suc b.n) text ∙ ap (λ k. drop k text) {x = suc b.n + suc a.n} {y = suc (b.n + suc a.n)} (omega arith) }
+inner_suffix r digits text a b = record { n = b.n + suc a.n; is = a.is ∙ ap (drop (suc a.n)) b.is
+    ∙ drop-drop (suc a.n) (suc b.n) text ∙ ap (λ k. drop k text) {x = suc b.n + suc a.n} {y = suc (b.n + suc a.n)} (omega arith) }
 
 escape_suffix : (text : List ℕ) (y : List ℕ × List ℕ) → escape text ≡ Some y → Suffix y.1 text
 escape_suffix [] y h = absurd cc
 escape_suffix (c ∷ cs) y h = go (named c) (after (codes "u{") (c ∷ cs)) refl h
   where
     go : (o : Option ℕ) (p : Option (List ℕ)) → after (codes "u{") (c ∷ cs) ≡ p
-        → elim o as (λ x. Option (List ℕ × List ℕ)) [ Some b ↦ Some (b ∷ [], cs) | None ↦ elim p as (λ x. Option (List ℕ × List ℕ)) [ Some digits ↦ unicode digits | None ↦ byte (c ∷ cs) ] ] ≡ Some y → Suffix y.1 (c ∷ cs)
+        → elim o as (λ x. Option (List ℕ × List ℕ)) [ Some b ↦ Some (b ∷ [], cs) | None ↦
+            elim p as (λ x. Option (List ℕ × List ℕ)) [ Some digits ↦ unicode digits | None ↦ byte (c ∷ cs) ] ] ≡ Some y → Suffix y.1 (c ∷ cs)
     go (Some b) p is e = record { n = 0; is = same_rest cs [] (b ∷ []) y e }
     go None (Some digits) is e = inner_suffix y.1 digits (c ∷ cs) (unicode_suffix digits y e) (after_u (c ∷ cs) digits is)
     go None None is e = byte_suffix (c ∷ cs) y e
@@ -91,7 +98,8 @@ element_suffix : (text : List ℕ) (y : List ℕ × List ℕ) → stringelem tex
 element_suffix [] y h = absurd cc
 element_suffix (c ∷ cs) y h = go (c == 0x5c) (is_raw c) h
   where
-    go : (a b : Bool) → elim a as (λ x. Option (List ℕ × List ℕ)) [ true ↦ escape cs | false ↦ if b then Some (c ∷ [], cs) else None ] ≡ Some y → Suffix y.1 (c ∷ cs)
+    go : (a b : Bool) → elim a as (λ x. Option (List ℕ × List ℕ)) [ true ↦ escape cs | false ↦ if b then Some (c ∷ [], cs) else None ] ≡ Some y
+        → Suffix y.1 (c ∷ cs)
     go true b e = after_one c y.1 cs (escape_suffix cs y e)
     go false true e = record { n = 0; is = same_rest cs [] (c ∷ []) y e }
     go false false e = absurd cc
@@ -148,7 +156,8 @@ taken old now rest text (Some x) e h =
     record { bytes = x.0; reads = e ∙ ap (λ r. Some (x.0, r)) (ap (λ p. p.1) same); out = sym (ap (λ p. p.0) same) }
 
 -- an element is read
-pub past : (text old now rest more : List ℕ) (m n : ℕ) → m ≡ suc n → added old (stringelem rest) ≡ Some (now, more) → Reading text old rest m → Reading text now more n
+pub past : (text old now rest more : List ℕ) (m n : ℕ) → m ≡ suc n
+    → added old (stringelem rest) ≡ Some (now, more) → Reading text old rest m → Reading text now more n
 past text old now [] more m n one gives r = absurd cc
 past text old now (c ∷ cs) more m n one gives r =
     let t = taken old now more (c ∷ cs) (stringelem (c ∷ cs)) refl gives in
@@ -202,16 +211,20 @@ raw_element : (c : ℕ) (cs : List ℕ) → is_raw c ≡ true → stringelem (c 
 raw_element c cs h = go (c == 0x5c) refl
   where
     go : (x : Bool) → c == 0x5c ≡ x → stringelem (c ∷ cs) ≡ Some (c ∷ [], cs)
-    go true e = absurd (last_false (nat_le 0x20 c) (not (c == 0x7f)) (not (c == 0x22)) (subst (λ x. nat_le 0x20 c && (not (c == 0x7f) && (not (c == 0x22) && not x)) ≡ true) e h))
-    go false e = ap (λ b. elim b as (λ x. Option (List ℕ × List ℕ)) [ true ↦ escape cs | false ↦ if is_raw c then Some (c ∷ [], cs) else None ]) e ∙ ap (λ b. if b then (let p : List ℕ × List ℕ = (c ∷ [], cs) in Some p) else None) h
+    go true e = absurd (last_false (nat_le 0x20 c) (not (c == 0x7f)) (not (c == 0x22))
+        (subst (λ x. nat_le 0x20 c && (not (c == 0x7f) && (not (c == 0x22) && not x)) ≡ true) e h))
+    go false e = ap (λ b. elim b as (λ x. Option (List ℕ × List ℕ)) [ true ↦ escape cs | false ↦ if is_raw c then Some (c ∷ [], cs) else None ]) e
+        ∙ ap (λ b. if b then (let p : List ℕ × List ℕ = (c ∷ [], cs) in Some p) else None) h
 
 all_elements : (xs : List ℕ) → length (front is_raw xs) ≡ length xs → elements (length xs) xs ≡ Ok xs
 all_elements [] h = nothing_left 0
 all_elements (c ∷ cs) h = go (is_raw c) refl (all_elements cs)
   where
-    go : (b : Bool) → is_raw c ≡ b → (length (front is_raw cs) ≡ length cs → elements (length cs) cs ≡ Ok cs) → elements (suc (length cs)) (c ∷ cs) ≡ Ok (c ∷ cs)
+    go : (b : Bool) → is_raw c ≡ b → (length (front is_raw cs) ≡ length cs → elements (length cs) cs ≡ Ok cs)
+        → elements (suc (length cs)) (c ∷ cs) ≡ Ok (c ∷ cs)
     go true e inner = one_element (length cs) c cs (c ∷ []) cs (raw_element c cs e)
-        ∙ ap (joined (c ∷ [])) (inner (let same : suc (length (front is_raw cs)) ≡ suc (length cs) = sym (ap length (begins is_raw c cs e)) ∙ h in omega (arith, same)))
+        ∙ ap (joined (c ∷ [])) (inner
+            (let same : suc (length (front is_raw cs)) ≡ suc (length cs) = sym (ap length (begins is_raw c cs e)) ∙ h in omega (arith, same)))
     go false e inner = absurd (let none : 0 ≡ suc (length cs) = sym (ap length (stops is_raw c cs e)) ∙ h in omega (arith, none))
 
 pub all_raw : (xs : List ℕ) → length (front is_raw xs) ≡ length xs → string xs ≡ Ok xs

@@ -1,5 +1,6 @@
 -- Says what the bits of decimal numbers and of payloads are, and their faults.
-use Rattle.std.proofs.Common.{◌≡◌, ◌∙◌, ℕ, ◌+◌, ◌*◌, ◌<◌, ◌≤◌, ◌&&◌, Bool, true, false, List, Option, None, Some, Result, Ok, Err, refl, sym, ap, arith, lt-ltb, le-ltb, ltb-false}
+use Rattle.std.proofs.Common.{◌≡◌, ◌∙◌, ℕ, ◌+◌, ◌*◌, ◌<◌, ◌≤◌, ◌&&◌, Bool, true, false, List, Option, None}
+use Rattle.std.proofs.Common.{Some, Result, Ok, Err, refl, sym, ap, arith, lt-ltb, le-ltb, ltb-false}
 use Rattle.std.specs.Prelude.{nat_lt, ◌^◌, if◌then◌else◌}
 use Rattle.std.specs.Float.{Float, Format, float_is_finite, binary32, binary64}
 use Rattle.std.specs.Float.Ieee.{hid, ones, round, to_bits}
@@ -39,7 +40,8 @@ finite_bits f x = if float_is_finite x then Ok (to_bits f x) else Err fault.Rang
 pub number_bits : (f : Format) (n d : ℕ) → bits_in f (Some (number n d)) ≡ finite_bits f (round f false n d)
 number_bits f n d = go (float_is_finite (round f false n d))
   where
-    go : (b : Bool) → answer (Some (number n d)) (if b then Some (to_bits f (round f false n d)) else None) ≡ (if b then Ok (to_bits f (round f false n d)) else Err fault.Range)
+    go : (b : Bool) → answer (Some (number n d)) (if b then Some (to_bits f (round f false n d)) else None)
+        ≡ (if b then Ok (to_bits f (round f false n d)) else Err fault.Range)
     go true = refl
     go false = refl
 
@@ -54,7 +56,8 @@ decimal_none f text is =
 same_float : (x y : Float) → Some x ≡ Some y → x ≡ y
 same_float x y e = cc e
 
-pub decimal_bits : (f : Format) (text items : List ℕ) (x : Float) → is_number false (form 0x45 0x65 text) ≡ true → items ≡ plain_text (form 0x45 0x65 text) → parse_float f items ≡ Some x
+pub decimal_bits : (f : Format) (text items : List ℕ) (x : Float) → is_number false (form 0x45 0x65 text) ≡ true
+    → items ≡ plain_text (form 0x45 0x65 text) → parse_float f items ≡ Some x
     → bits_in f (float text) ≡ finite_bits f x
 decimal_bits f text items x is so reads =
     let p = form 0x45 0x65 text in
@@ -62,8 +65,10 @@ decimal_bits f text items x is so reads =
     ∙ number_bits f (digits_of false p * up 10 (exponent_of p)) (10 ^ places_of false p * down 10 (exponent_of p))
     ∙ ap (finite_bits f) (same_float (value_in f p) x (sym (parsed f p (is_decimal text is)) ∙ ap (parse_float f) (sym so) ∙ reads))
 
-pub decimal_reads : (f : Format) (text items : List ℕ) → is_number false (form 0x45 0x65 text) ≡ true → items ≡ plain_text (form 0x45 0x65 text) → parse_float f items ≡ None → ⊥
-decimal_reads f text items is so reads = let p = form 0x45 0x65 text in let e = sym (parsed f p (is_decimal text is)) ∙ ap (parse_float f) (sym so) ∙ reads in absurd (cc e)
+pub decimal_reads : (f : Format) (text items : List ℕ) → is_number false (form 0x45 0x65 text) ≡ true
+    → items ≡ plain_text (form 0x45 0x65 text) → parse_float f items ≡ None → ⊥
+decimal_reads f text items is so reads = let p = form 0x45 0x65 text in
+    let e = sym (parsed f p (is_decimal text is)) ∙ ap (parse_float f) (sym so) ∙ reads in absurd (cc e)
 
 -- ---- payloads
 
@@ -86,7 +91,8 @@ sized_ok (Some n) v is = go (nat_lt n (2 ^ 64)) is
     go false is = absurd (cc is)
 
 pub payload_ok : (f : Format) (o : Option ℕ) (v : ℕ) → Ok v ≡ sized o → 0 < v → v < hid f → Ok (ones f * hid f + v) ≡ payload_bits f o
-payload_ok f o v is some fits = sym (ap (payload_bits f) (sized_ok o v is) ∙ within f v ∙ ap (λ b. if b && nat_lt v (hid f) then Ok (ones f * hid f + v) else Err fault.Range) (lt-ltb 0 v some)
+payload_ok f o v is some fits = sym (ap (payload_bits f) (sized_ok o v is) ∙ within f v
+    ∙ ap (λ b. if b && nat_lt v (hid f) then Ok (ones f * hid f + v) else Err fault.Range) (lt-ltb 0 v some)
     ∙ ap (λ b. if true && b then Ok (ones f * hid f + v) else Err fault.Range) (lt-ltb v (hid f) fits))
 
 pub payload_zero : (f : Format) (o : Option ℕ) (v : ℕ) → Ok v ≡ sized o → v ≡ 0 → Err fault.Range ≡ payload_bits f o

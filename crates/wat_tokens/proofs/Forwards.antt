@@ -1,5 +1,6 @@
 -- Says what num, frac and float of wat_grammar give, by a reading from the left: num reads a text from its end.
-use Rattle.std.proofs.Common.{◌≡◌, ◌∙◌, ℕ, suc, ◌+◌, ◌*◌, ◌==◌, ◌&&◌, Bool, true, false, List, [], ◌∷◌, ◌++◌, Option, None, Some, eqb-true, refl, sym, ap, subst, arith}
+use Rattle.std.proofs.Common.{◌≡◌, ◌∙◌, ℕ, suc, ◌+◌, ◌*◌, ◌==◌, ◌&&◌, Bool, true, false, List, []}
+use Rattle.std.proofs.Common.{◌∷◌, ◌++◌, Option, None, Some, eqb-true, refl, sym, ap, subst, arith}
 use Rattle.std.specs.Prelude.{reverse, is_some, ◌^◌, if◌then◌else◌}
 use Rattle.std.proofs.lemmas.List.{reverse-append, append-nil}
 use native.Mathlib.Nat.{pow-suc, pow-zero, mul-one}
@@ -36,12 +37,15 @@ forward f radix under [] false n back read = unfinished f radix under read
 forward f radix under (c ∷ cs) a n back read =
     ap (backwards f radix) (turned c cs back) ∙ go (λ b m back read. forward f radix under cs b m back read) (c == 0x5f) refl (f c) refl a read
   where
-    go : ((b : Bool) (m : ℕ) (back : List ℕ) → Read f radix b m back → backwards f radix (reverse cs ++ back) ≡ when (is_digits_after f b cs) (value_after f radix m cs))
+    go : ((b : Bool) (m : ℕ) (back : List ℕ) → Read f radix b m back
+        → backwards f radix (reverse cs ++ back) ≡ when (is_digits_after f b cs) (value_after f radix m cs))
         → (x : Bool) → c == 0x5f ≡ x → (o : Option ℕ) → f c ≡ o → (a : Bool) → Read f radix a n back → backwards f radix (reverse cs ++ (c ∷ back))
-        ≡ when (elim (x && a) as (λ b. Bool) [ true ↦ is_digits_after f false cs | false ↦ elim (is_some o) as (λ b. Bool) [ true ↦ is_digits_after f true cs | false ↦ false ] ])
+        ≡ when (elim (x && a) as (λ b. Bool) [ true ↦ is_digits_after f false cs
+            | false ↦ elim (is_some o) as (λ b. Bool) [ true ↦ is_digits_after f true cs | false ↦ false ] ])
         (elim o as (λ o. ℕ) [ Some d ↦ value_after f radix (radix * n + d) cs | None ↦ value_after f radix n cs ])
     go more true e (Some d) g a m = absurd (cc (e, no_underscore f c d under g))
-    go more true e None g true m = subst (λ y. backwards f radix (reverse cs ++ (y ∷ back)) ≡ when (is_digits_after f false cs) (value_after f radix n cs)) (sym (eqb-true c 0x5f e))
+    go more true e None g true m = subst (λ y. backwards f radix (reverse cs ++ (y ∷ back))
+        ≡ when (is_digits_after f false cs) (value_after f radix n cs)) (sym (eqb-true c 0x5f e))
         (more false n (0x5f ∷ back) (more_underscore f radix m))
     go more true e None g false m = (still_dead f radix c back (reverse cs) (stops f radix c under g (λ h. refl) m)).whole
     go more false e (Some d) g a m = more true (radix * n + d) (c ∷ back) (more_digit f radix c d e g m)
@@ -49,7 +53,8 @@ forward f radix under (c ∷ cs) a n back read =
 
 -- ---- num and frac
 
-pub number_is : (f : ℕ → Option ℕ) (radix : ℕ) → f 0x5f ≡ None → (text : List ℕ) → backwards f radix (reverse text) ≡ when (is_digits_after f false text) (value_after f radix 0 text)
+pub number_is : (f : ℕ → Option ℕ) (radix : ℕ) → f 0x5f ≡ None → (text : List ℕ)
+    → backwards f radix (reverse text) ≡ when (is_digits_after f false text) (value_after f radix 0 text)
 number_is f radix under text = ap (backwards f radix) (sym (append-nil (reverse text))) ∙ forward f radix under text false 0 [] nothing
 
 parts : (r n d q : ℕ) → (r * n + d) * q ≡ n * (q * r) + (r * 0 + d) * q
@@ -66,16 +71,19 @@ value_from f radix n (c ∷ cs) = go (f c) (λ m. value_from f radix m cs)
   where
     go : (o : Option ℕ) → ((m : ℕ) → value_after f radix m cs ≡ m * radix ^ count f cs + value_after f radix 0 cs)
         → elim o as (λ o. ℕ) [ Some d ↦ value_after f radix (radix * n + d) cs | None ↦ value_after f radix n cs ]
-        ≡ n * radix ^ (elim o as (λ o. ℕ) [ Some d ↦ suc (count f cs) | None ↦ count f cs ]) + elim o as (λ o. ℕ) [ Some d ↦ value_after f radix (radix * 0 + d) cs | None ↦ value_after f radix 0 cs ]
+        ≡ n * radix ^ (elim o as (λ o. ℕ) [ Some d ↦ suc (count f cs) | None ↦ count f cs ])
+        + elim o as (λ o. ℕ) [ Some d ↦ value_after f radix (radix * 0 + d) cs | None ↦ value_after f radix 0 cs ]
     go None more = more n
-    go (Some d) more = more (radix * n + d) ∙ omega (arith, more (radix * 0 + d), parts radix n d (radix ^ count f cs), ap (λ x. n * x) (pow-suc radix (count f cs)))
+    go (Some d) more = more (radix * n + d)
+        ∙ omega (arith, more (radix * 0 + d), parts radix n d (radix ^ count f cs), ap (λ x. n * x) (pow-suc radix (count f cs)))
 
 never : (b : Bool) → (b && false) ≡ false
 never true = refl
 never false = refl
 
 -- a digit before a fraction
-joined : (radix d : ℕ) (b : Bool) (v k w : ℕ) → w ≡ d * radix ^ k + v → (when {T = ℕ × ℕ} b (v, k) >>= λ p. Some (d * radix ^ p.1 + p.0, p.1 + 1)) ≡ when {T = ℕ × ℕ} b (w, suc k)
+joined : (radix d : ℕ) (b : Bool) (v k w : ℕ) → w ≡ d * radix ^ k + v
+    → (when {T = ℕ × ℕ} b (v, k) >>= λ p. Some (d * radix ^ p.1 + p.0, p.1 + 1)) ≡ when {T = ℕ × ℕ} b (w, suc k)
 joined radix d false v k w e = refl
 joined radix d true v k w e = λ i. Some (sym e i, more i)
   where
@@ -85,7 +93,8 @@ joined radix d true v k w e = λ i. Some (sym e i, more i)
 -- the first character, by the digit that it is
 pub first : (f : ℕ → Option ℕ) (c : ℕ) (cs : List ℕ) → is_digits_after f false (c ∷ cs) ≡ (is_some (f c) && is_digits_after f true cs)
 unfolding is_digits_after
-first f c cs = ap (λ b. elim b as (λ b. Bool) [ true ↦ is_digits_after f false cs | false ↦ elim (is_some (f c)) as (λ b. Bool) [ true ↦ is_digits_after f true cs | false ↦ false ] ]) (never (c == 0x5f))
+first f c cs = ap (λ b. elim b as (λ b. Bool) [ true ↦ is_digits_after f false cs
+    | false ↦ elim (is_some (f c)) as (λ b. Bool) [ true ↦ is_digits_after f true cs | false ↦ false ] ]) (never (c == 0x5f))
     ∙ go (is_some (f c))
   where
     go : (b : Bool) → elim b as (λ b. Bool) [ true ↦ is_digits_after f true cs | false ↦ false ] ≡ (b && is_digits_after f true cs)
@@ -93,12 +102,15 @@ first f c cs = ap (λ b. elim b as (λ b. Bool) [ true ↦ is_digits_after f fal
     go false = refl
 
 -- after a digit
-second : (f : ℕ → Option ℕ) (b : ℕ) (cs : List ℕ) → is_digits_after f true (b ∷ cs) ≡ elim (b == 0x5f) as (λ b. Bool) [ true ↦ is_digits_after f false cs | false ↦ is_digits_after f false (b ∷ cs) ]
+second : (f : ℕ → Option ℕ) (b : ℕ) (cs : List ℕ) → is_digits_after f true (b ∷ cs)
+    ≡ elim (b == 0x5f) as (λ b. Bool) [ true ↦ is_digits_after f false cs | false ↦ is_digits_after f false (b ∷ cs) ]
 unfolding is_digits_after
 second f b cs = go (b == 0x5f)
   where
-    go : (x : Bool) → elim (x && true) as (λ b. Bool) [ true ↦ is_digits_after f false cs | false ↦ elim (is_some (f b)) as (λ b. Bool) [ true ↦ is_digits_after f true cs | false ↦ false ] ]
-        ≡ elim x as (λ b. Bool) [ true ↦ is_digits_after f false cs | false ↦ elim (x && false) as (λ b. Bool) [ true ↦ is_digits_after f false cs | false ↦ elim (is_some (f b)) as (λ b. Bool) [ true ↦ is_digits_after f true cs | false ↦ false ] ] ]
+    go : (x : Bool) → elim (x && true) as (λ b. Bool) [ true ↦ is_digits_after f false cs
+        | false ↦ elim (is_some (f b)) as (λ b. Bool) [ true ↦ is_digits_after f true cs | false ↦ false ] ]
+        ≡ elim x as (λ b. Bool) [ true ↦ is_digits_after f false cs | false ↦ elim (x && false) as (λ b. Bool) [ true ↦ is_digits_after f false cs
+            | false ↦ elim (is_some (f b)) as (λ b. Bool) [ true ↦ is_digits_after f true cs | false ↦ false ] ] ]
     go true = refl
     go false = refl
 
@@ -120,37 +132,47 @@ counted f b d cs e = ap (λ o. elim o as (λ o. ℕ) [ Some d ↦ suc (count f c
 
 -- the value of the rest, with a digit before it
 over : (f : ℕ → Option ℕ) (radix d : ℕ) (cs : List ℕ) → value_after f radix (radix * 0 + d) cs ≡ d * radix ^ count f cs + value_after f radix 0 cs
-over f radix d cs = value_from f radix (radix * 0 + d) cs ∙ ap (λ n. n * radix ^ count f cs + value_after f radix 0 cs) {x = radix * 0 + d} {y = d} (omega arith)
+over f radix d cs = value_from f radix (radix * 0 + d) cs
+    ∙ ap (λ n. n * radix ^ count f cs + value_after f radix 0 cs) {x = radix * 0 + d} {y = d} (omega arith)
 
-pub fraction_is : (f : ℕ → Option ℕ) (radix : ℕ) → f 0x5f ≡ None → (text : List ℕ) → fraction f radix text ≡ when {T = ℕ × ℕ} (is_digits_after f false text) (value_after f radix 0 text, count f text)
+pub fraction_is : (f : ℕ → Option ℕ) (radix : ℕ) → f 0x5f ≡ None → (text : List ℕ)
+    → fraction f radix text ≡ when {T = ℕ × ℕ} (is_digits_after f false text) (value_after f radix 0 text, count f text)
 unfolding fraction is_digits_after value_after count
 fraction_is f radix under [] = refl
 fraction_is f radix under (c ∷ []) = go (f c) refl ∙ ap (λ b. when {T = ℕ × ℕ} b (value_after f radix 0 (c ∷ []), count f (c ∷ []))) (sym (first f c []))
   where
     go : (o : Option ℕ) → f c ≡ o → (o >>= λ d. Some (d, 1)) ≡ when {T = ℕ × ℕ} (is_some o && true) (value_after f radix 0 (c ∷ []), count f (c ∷ []))
     go None e = refl
-    go (Some d) e = let v : d ≡ value_after f radix 0 (c ∷ []) = plain d ∙ sym (taken f radix 0 c d [] e) in let k : 1 ≡ count f (c ∷ []) = sym (counted f c d [] e) in λ i. Some (v i, k i)
+    go (Some d) e = let v : d ≡ value_after f radix 0 (c ∷ []) = plain d ∙ sym (taken f radix 0 c d [] e) in
+        let k : 1 ≡ count f (c ∷ []) = sym (counted f c d [] e) in λ i. Some (v i, k i)
       where
         plain : (d : ℕ) → d ≡ radix * 0 + d
         plain d = omega arith
 fraction_is f radix under (c ∷ b ∷ cs) =
     go (fraction_is f radix under cs) (fraction_is f radix under (b ∷ cs)) (f c) refl (b == 0x5f) refl
-    ∙ ap (λ x. when {T = ℕ × ℕ} x (value_after f radix 0 (c ∷ b ∷ cs), count f (c ∷ b ∷ cs))) (sym (first f c (b ∷ cs) ∙ ap (λ x. is_some (f c) && x) (second f b cs)))
+    ∙ ap (λ x. when {T = ℕ × ℕ} x (value_after f radix 0 (c ∷ b ∷ cs), count f (c ∷ b ∷ cs)))
+        (sym (first f c (b ∷ cs) ∙ ap (λ x. is_some (f c) && x) (second f b cs)))
   where
     go : fraction f radix cs ≡ when {T = ℕ × ℕ} (is_digits_after f false cs) (value_after f radix 0 cs, count f cs)
         → fraction f radix (b ∷ cs) ≡ when {T = ℕ × ℕ} (is_digits_after f false (b ∷ cs)) (value_after f radix 0 (b ∷ cs), count f (b ∷ cs))
         → (o : Option ℕ) → f c ≡ o → (x : Bool) → b == 0x5f ≡ x
-        → (o >>= λ d. elim x as (λ x. Option (ℕ × ℕ)) [ true ↦ fraction f radix cs | false ↦ fraction f radix (b ∷ cs) ] >>= λ p. Some (d * radix ^ p.1 + p.0, p.1 + 1))
-        ≡ when {T = ℕ × ℕ} (is_some o && elim x as (λ b. Bool) [ true ↦ is_digits_after f false cs | false ↦ is_digits_after f false (b ∷ cs) ]) (value_after f radix 0 (c ∷ b ∷ cs), count f (c ∷ b ∷ cs))
+        → (o >>= λ d. elim x as (λ x. Option (ℕ × ℕ)) [ true ↦ fraction f radix cs | false ↦ fraction f radix (b ∷ cs) ]
+            >>= λ p. Some (d * radix ^ p.1 + p.0, p.1 + 1))
+        ≡ when {T = ℕ × ℕ} (is_some o && elim x as (λ b. Bool) [ true ↦ is_digits_after f false cs | false ↦ is_digits_after f false (b ∷ cs) ])
+            (value_after f radix 0 (c ∷ b ∷ cs), count f (c ∷ b ∷ cs))
     go short long None e x g = refl
     go short long (Some d) e true g =
         let none : f b ≡ None = ap f (eqb-true b 0x5f g) ∙ under in
-        let v : value_after f radix 0 (c ∷ b ∷ cs) ≡ d * radix ^ count f cs + value_after f radix 0 cs = taken f radix 0 c d (b ∷ cs) e ∙ skipped f radix (radix * 0 + d) b cs none ∙ over f radix d cs in
+        let v : value_after f radix 0 (c ∷ b ∷ cs) ≡ d * radix ^ count f cs + value_after f radix 0 cs = taken f radix 0 c d (b ∷ cs) e
+        ∙ skipped f radix (radix * 0 + d) b cs none ∙ over f radix d cs in
         let k : suc (count f cs) ≡ count f (c ∷ b ∷ cs) = ap suc (sym (uncounted f b cs none)) ∙ sym (counted f c d (b ∷ cs) e) in
-        ap (λ o. o >>= λ p. Some (d * radix ^ p.1 + p.0, p.1 + 1)) short ∙ joined radix d (is_digits_after f false cs) (value_after f radix 0 cs) (count f cs) (value_after f radix 0 (c ∷ b ∷ cs)) v
+        ap (λ o. o >>= λ p. Some (d * radix ^ p.1 + p.0, p.1 + 1)) short
+        ∙ joined radix d (is_digits_after f false cs) (value_after f radix 0 cs) (count f cs) (value_after f radix 0 (c ∷ b ∷ cs)) v
         ∙ λ i. when {T = ℕ × ℕ} (is_digits_after f false cs) (value_after f radix 0 (c ∷ b ∷ cs), k i)
     go short long (Some d) e false g =
-        let v : value_after f radix 0 (c ∷ b ∷ cs) ≡ d * radix ^ count f (b ∷ cs) + value_after f radix 0 (b ∷ cs) = taken f radix 0 c d (b ∷ cs) e ∙ over f radix d (b ∷ cs) in
+        let v : value_after f radix 0 (c ∷ b ∷ cs) ≡ d * radix ^ count f (b ∷ cs) + value_after f radix 0 (b ∷ cs) = taken f radix 0 c d (b ∷ cs) e
+        ∙ over f radix d (b ∷ cs) in
         let k : suc (count f (b ∷ cs)) ≡ count f (c ∷ b ∷ cs) = sym (counted f c d (b ∷ cs) e) in
-        ap (λ o. o >>= λ p. Some (d * radix ^ p.1 + p.0, p.1 + 1)) long ∙ joined radix d (is_digits_after f false (b ∷ cs)) (value_after f radix 0 (b ∷ cs)) (count f (b ∷ cs)) (value_after f radix 0 (c ∷ b ∷ cs)) v
+        ap (λ o. o >>= λ p. Some (d * radix ^ p.1 + p.0, p.1 + 1)) long ∙ joined radix d (is_digits_after f false (b ∷ cs))
+            (value_after f radix 0 (b ∷ cs)) (count f (b ∷ cs)) (value_after f radix 0 (c ∷ b ∷ cs)) v
         ∙ λ i. when {T = ℕ × ℕ} (is_digits_after f false (b ∷ cs)) (value_after f radix 0 (c ∷ b ∷ cs), k i)

@@ -1,5 +1,6 @@
 -- Closes the cut of a word out of a text: a word is ASCII, so that a character begins where it ends.
-use Rattle.std.proofs.Common.{◌≡◌, ◌∙◌, ℕ, zero, suc, ◌+◌, ◌-◌, ◌<◌, ◌≤◌, ◌==◌, Bool, true, false, List, [], ◌∷◌, length, drop, take, get_or, refl, ap, subst, arith, eqb-true, ◌⊎◌, inl, inr}
+use Rattle.std.proofs.Common.{◌≡◌, ◌∙◌, ℕ, zero, suc, ◌+◌, ◌-◌, ◌<◌, ◌≤◌, ◌==◌, Bool, true, false, List, []}
+use Rattle.std.proofs.Common.{◌∷◌, length, drop, take, get_or, refl, ap, subst, arith, eqb-true, ◌⊎◌, inl, inr}
 use Rattle.std.proofs.lemmas.Bool.{leb-true, cases_lt}
 use Rattle.std.proofs.lemmas.Str.{IsCharBoundary-after_ascii}
 use Rattle.std.proofs.lemmas.List.{length-drop}
@@ -58,13 +59,15 @@ word_from T utf8 zero b start over =
 word_from T utf8 (suc n) b start over = step (cases_lt b (length T)) (is_idchar (get_or T b 0)) refl (word_from T utf8 n (b + 1))
   where
     step : (b < length T) ⊎ (length T ≤ b) → (x : Bool) → is_idchar (get_or T b 0) ≡ x
-        → (IsCharBoundary T (b + 1) → length T ≤ b + 1 + n → IsCharBoundary T (b + 1 + length (front is_idchar (drop (b + 1) T)))) → IsCharBoundary T (b + length (front is_idchar (drop b T)))
+        → (IsCharBoundary T (b + 1) → length T ≤ b + 1 + n → IsCharBoundary T (b + 1 + length (front is_idchar (drop (b + 1) T))))
+        → IsCharBoundary T (b + length (front is_idchar (drop b T)))
     step (inr past) x e inner =
         let none : length (front is_idchar (drop b T)) ≡ 0 = front_end is_idchar b T past in
         subst (λ k. IsCharBoundary T k) {x = b} {y = b + length (front is_idchar (drop b T))} (omega (arith, none)) start
     step (inl below) true e inner =
         let more : length (front is_idchar (drop b T)) ≡ suc (length (front is_idchar (drop (b + 1) T))) = front_more is_idchar b T below e in
-        subst (λ k. IsCharBoundary T k) {x = b + 1 + length (front is_idchar (drop (b + 1) T))} {y = b + length (front is_idchar (drop b T))} (omega (arith, more))
+        subst (λ k. IsCharBoundary T k) {x = b + 1 + length (front is_idchar (drop (b + 1) T))} {y = b + length (front is_idchar (drop b T))}
+            (omega (arith, more))
         (inner (IsCharBoundary-after_ascii T b utf8 below (is_ascii (get_or T b 0) e)) (omega (arith, over)))
     step (inl below) false e inner =
         let none : length (front is_idchar (drop b T)) ≡ 0 = front_stop is_idchar b T below e in

@@ -1,5 +1,6 @@
 -- Closes what reading hexadecimal digits leaves: the mantissa, and whether more is left, stand for all digits that were read.
-use Rattle.std.proofs.Common.{◌≡◌, ◌∙◌, ℕ, zero, suc, ◌+◌, ◌*◌, ◌<◌, ◌≤◌, ◌||◌, List, [], ◌∷◌, ◌++◌, length, take, get_or, Option, None, Some, refl, sym, ap, subst, arith, lt-ltb}
+use Rattle.std.proofs.Common.{◌≡◌, ◌∙◌, ℕ, zero, suc, ◌+◌, ◌*◌, ◌<◌, ◌≤◌, ◌||◌, List, [], ◌∷◌, ◌++◌, length}
+use Rattle.std.proofs.Common.{take, get_or, Option, None, Some, refl, sym, ap, subst, arith, lt-ltb}
 use Rattle.std.specs.Prelude.{nat_lt, ◌^◌}
 use Rattle.std.proofs.lemmas.List.{take_more, take_all}
 use native.Mathlib.Nat.{pow-suc, pow-zero}
@@ -9,7 +10,8 @@ use Rattle.wat_tokens.specs.declared.floats.Leading.{Leading}
 use Rattle.wat_tokens.proofs.Forwards.{taken, skipped, counted, uncounted}
 
 -- one more digit, which the mantissa takes
-pub keeps_taken : (n digit : ℕ) (s r : Leading) → digit < 16 → s.mantissa < 2 ^ 59 → r.mantissa ≡ s.mantissa * 16 + digit → r.dropped ≡ s.dropped → r.is_more ≡ s.is_more → Keeps n s → Keeps (16 * n + digit) r
+pub keeps_taken : (n digit : ℕ) (s r : Leading) → digit < 16 → s.mantissa < 2 ^ 59 → r.mantissa ≡ s.mantissa * 16 + digit
+    → r.dropped ≡ s.dropped → r.is_more ≡ s.is_more → Keeps n s → Keeps (16 * n + digit) r
 keeps_taken n digit s r h l m d is k =
     let none : s.dropped ≡ 0 = go s.dropped refl in
     let one : 16 ^ s.dropped ≡ 1 = ap (λ k. 16 ^ k) none ∙ pow-zero 16 in
@@ -29,7 +31,8 @@ keeps_taken n digit s r h l m d is k =
     go (suc j) e = absurd (omega (arith, k.long (omega (arith, e))))
 
 -- one more digit, which is left
-pub keeps_left : (n digit : ℕ) (s r : Leading) → digit < 16 → 2 ^ 59 ≤ s.mantissa → r.mantissa ≡ s.mantissa → r.dropped ≡ s.dropped + 1 → r.is_more ≡ (s.is_more || nat_lt 0 digit)
+pub keeps_left : (n digit : ℕ) (s r : Leading) → digit < 16 → 2 ^ 59 ≤ s.mantissa
+    → r.mantissa ≡ s.mantissa → r.dropped ≡ s.dropped + 1 → r.is_more ≡ (s.is_more || nat_lt 0 digit)
     → Keeps n s → Keeps (16 * n + digit) r
 keeps_left n digit s r h l m d is k =
     let next : 16 ^ r.dropped ≡ 16 ^ s.dropped * 16 = ap (λ j. 16 ^ j) {x = r.dropped} {y = suc s.dropped} (omega (arith, d)) ∙ pow-suc 16 s.dropped in
@@ -65,7 +68,8 @@ count_append f [] ys = omega arith
 count_append f (x ∷ xs) ys = go (f x) (count_append f xs ys)
   where
     go : (o : Option ℕ) → count f (xs ++ ys) ≡ count f xs + count f ys
-        → elim o as (λ o. ℕ) [ Some d ↦ suc (count f (xs ++ ys)) | None ↦ count f (xs ++ ys) ] ≡ elim o as (λ o. ℕ) [ Some d ↦ suc (count f xs) | None ↦ count f xs ] + count f ys
+        → elim o as (λ o. ℕ) [ Some d ↦ suc (count f (xs ++ ys)) | None ↦ count f (xs ++ ys) ]
+        ≡ elim o as (λ o. ℕ) [ Some d ↦ suc (count f xs) | None ↦ count f xs ] + count f ys
     go None more = more
     go (Some d) more = omega (arith, more)
 
@@ -86,7 +90,8 @@ unfolding value_after
 value_on n i text d h is = ap (value_after hexdigit 16 n) (take_more text i 0 h) ∙ value_append hexdigit 16 n (take i text) (get_or text i 0 ∷ [])
     ∙ taken hexdigit 16 (value_after hexdigit 16 n (take i text)) (get_or text i 0) d [] is
 
-value_off : (n i : ℕ) (text : List ℕ) → i < length text → hexdigit (get_or text i 0) ≡ None → value_after hexdigit 16 n (take (i + 1) text) ≡ value_after hexdigit 16 n (take i text)
+value_off : (n i : ℕ) (text : List ℕ) → i < length text → hexdigit (get_or text i 0) ≡ None
+    → value_after hexdigit 16 n (take (i + 1) text) ≡ value_after hexdigit 16 n (take i text)
 unfolding value_after
 value_off n i text h is = ap (value_after hexdigit 16 n) (take_more text i 0 h) ∙ value_append hexdigit 16 n (take i text) (get_or text i 0 ∷ [])
     ∙ skipped hexdigit 16 (value_after hexdigit 16 n (take i text)) (get_or text i 0) [] is
@@ -95,7 +100,8 @@ count_none : count hexdigit [] ≡ 0
 unfolding count
 count_none = refl
 
-count_on : (i : ℕ) (text : List ℕ) (d : ℕ) → i < length text → hexdigit (get_or text i 0) ≡ Some d → count hexdigit (take (i + 1) text) ≡ count hexdigit (take i text) + 1
+count_on : (i : ℕ) (text : List ℕ) (d : ℕ) → i < length text → hexdigit (get_or text i 0) ≡ Some d
+    → count hexdigit (take (i + 1) text) ≡ count hexdigit (take i text) + 1
 count_on i text d h is = ap (count hexdigit) (take_more text i 0 h) ∙ count_append hexdigit (take i text) (get_or text i 0 ∷ [])
     ∙ ap (λ k. count hexdigit (take i text) + k) (counted hexdigit (get_or text i 0) d [] is ∙ ap suc count_none)
 
@@ -104,7 +110,8 @@ count_off i text h is = ap (count hexdigit) (take_more text i 0 h) ∙ count_app
     ∙ omega (arith, uncounted hexdigit (get_or text i 0) [] is ∙ count_none)
 
 pub digit_read : (start leading next : Leading) (i d : ℕ) (text : List ℕ) → i < length text → hexdigit (get_or text i 0) ≡ Some d
-    → ((n : ℕ) → Keeps n leading → Keeps (16 * n + d) next) → next.count ≡ leading.count + 1 → next.dropped ≤ next.count → Reading start leading i text → Reading start next (i + 1) text
+    → ((n : ℕ) → Keeps n leading → Keeps (16 * n + d) next) → next.count ≡ leading.count + 1
+    → next.dropped ≤ next.count → Reading start leading i text → Reading start next (i + 1) text
 digit_read start leading next i d text h is put many dropped m = record {
   keeps = λ n k. subst (λ v. Keeps v next) (sym (value_on n i text d h is)) (put (value_after hexdigit 16 n (take i text)) (m.keeps n k));
   many = omega (arith, many, m.many, count_on i text d h is);
@@ -112,7 +119,8 @@ digit_read start leading next i d text h is put many dropped m = record {
   dropped = dropped;
 }
 
-pub other_read : (start leading : Leading) (i : ℕ) (text : List ℕ) → i < length text → hexdigit (get_or text i 0) ≡ None → Reading start leading i text → Reading start leading (i + 1) text
+pub other_read : (start leading : Leading) (i : ℕ) (text : List ℕ) → i < length text
+    → hexdigit (get_or text i 0) ≡ None → Reading start leading i text → Reading start leading (i + 1) text
 other_read start leading i text h is m = record {
   keeps = λ n k. subst (λ v. Keeps v leading) (sym (value_off n i text h is)) (m.keeps n k);
   many = omega (arith, m.many, count_off i text h is);
@@ -120,8 +128,10 @@ other_read start leading i text h is m = record {
   dropped = m.dropped;
 }
 
-pub all_keeps : (start leading : Leading) (i : ℕ) (text : List ℕ) → length text ≤ i → Reading start leading i text → (n : ℕ) → Keeps n start → Keeps (value_after hexdigit 16 n text) leading
+pub all_keeps : (start leading : Leading) (i : ℕ) (text : List ℕ) → length text ≤ i
+    → Reading start leading i text → (n : ℕ) → Keeps n start → Keeps (value_after hexdigit 16 n text) leading
 all_keeps start leading i text h m n k = subst (λ t. Keeps (value_after hexdigit 16 n t) leading) (take_all i text h) (m.keeps n k)
 
-pub all_many : (start leading : Leading) (i : ℕ) (text : List ℕ) → length text ≤ i → Reading start leading i text → leading.count ≡ start.count + count hexdigit text
+pub all_many : (start leading : Leading) (i : ℕ) (text : List ℕ) → length text ≤ i
+    → Reading start leading i text → leading.count ≡ start.count + count hexdigit text
 all_many start leading i text h m = subst (λ t. leading.count ≡ start.count + count hexdigit t) (take_all i text h) m.many

@@ -1,5 +1,6 @@
 -- Says which float the kit reads of the plain text of a decimal number: the rounded fraction of the rules.
-use Rattle.std.proofs.Common.{◌≡◌, ◌∙◌, ℕ, suc, ◌+◌, ◌*◌, ◌<◌, ◌==◌, ◌&&◌, Bool, true, false, List, [], ◌∷◌, ◌++◌, length, Option, None, Some, eqb-true, refl, sym, ap, subst, arith}
+use Rattle.std.proofs.Common.{◌≡◌, ◌∙◌, ℕ, suc, ◌+◌, ◌*◌, ◌<◌, ◌==◌, ◌&&◌, Bool, true, false, List, [], ◌∷◌}
+use Rattle.std.proofs.Common.{◌++◌, length, Option, None, Some, eqb-true, refl, sym, ap, subst, arith}
 use Rattle.std.specs.Prelude.{is_some, ◌^◌, if◌then◌else◌}
 use Rattle.std.specs.Char.{digit_value}
 use Rattle.std.specs.Str.Parse.{AllDigits, digits_value, digits_value_after}
@@ -12,7 +13,8 @@ use lib.Pow.{pow-add}
 use native.Mathlib.Nat.{pow-zero, mul-one}
 use Rattle.wat_grammar.specs.Characters.{digit}
 use Rattle.wat_grammar.specs.Floats.{up, down}
-use Rattle.wat_tokens.specs.Fractions.{is_digits_after, value_after, count, bare, Form, is_fraction, is_exponent, fraction_text, power_text, plain_text, power_of}
+use Rattle.wat_tokens.specs.Fractions.{is_digits_after, value_after, count, bare, Form, is_fraction}
+use Rattle.wat_tokens.specs.Fractions.{is_exponent, fraction_text, power_text, plain_text, power_of}
 use Rattle.wat_tokens.proofs.Forwards.{first, skipped, uncounted, taken, counted}
 use Rattle.wat_tokens.proofs.Fractional.{digits_of, places_of, exponent_of}
 
@@ -63,7 +65,8 @@ plain [] a n is = record { digits = tt; value = refl; many = refl }
 plain (c ∷ cs) a n is = go (λ b m is. plain cs b m is) (c == 0x5f) refl (digit c) refl a is
   where
     go : ((b : Bool) (m : ℕ) → is_digits_after digit b cs ≡ true → Plain m cs) → (x : Bool) → c == 0x5f ≡ x → (o : Option ℕ) → digit c ≡ o → (a : Bool)
-        → elim (x && a) as (λ b. Bool) [ true ↦ is_digits_after digit false cs | false ↦ elim (is_some o) as (λ b. Bool) [ true ↦ is_digits_after digit true cs | false ↦ false ] ] ≡ true
+        → elim (x && a) as (λ b. Bool) [ true ↦ is_digits_after digit false cs
+            | false ↦ elim (is_some o) as (λ b. Bool) [ true ↦ is_digits_after digit true cs | false ↦ false ] ] ≡ true
         → Plain n (c ∷ cs)
     go more true e (Some d) g a is = absurd (cc (e, (digit_is c d g).2))
     go more true e None g true is = over_underscore c n cs e (more false n is)
@@ -91,7 +94,8 @@ exponent_digits None = []
 exponent_digits (Some text) = bare text
 
 abbrev parts_of : Form → Parts
-parts_of p = record { whole = bare p.whole; point = is_point p.fraction; fraction = bare p.fraction; exponent_negative = p.is_negative; exponent = exponent_digits p.exponent; len = length (plain_text p) }
+parts_of p = record { whole = bare p.whole; point = is_point p.fraction; fraction = bare p.fraction;
+    exponent_negative = p.is_negative; exponent = exponent_digits p.exponent; len = length (plain_text p) }
 
 value_over : (n : ℕ) (xs ys : List ℕ) → digits_value_after 10 n (xs ++ ys) ≡ digits_value_after 10 (digits_value_after 10 n xs) ys
 value_over n [] ys = refl
@@ -171,4 +175,5 @@ parsed f p h =
     let some : 0 < length (bare p.whole) = some_digit p.whole h.whole in
     ap (parse_float f) (sym (text_is p h)) ∙ parse_float-text_of f false (parts_of p) (well_formed p h) some
     ∙ λ i. Some (round f false (numerator_is p h i * up_is p.is_negative (digits_value 10 (exponent_digits p.exponent)) (power_of p.exponent) e.1 i)
-    (down_is p.is_negative (length (bare p.fraction)) (places_of false p) (digits_value 10 (exponent_digits p.exponent)) (power_of p.exponent) (fraction_plain 0 p.fraction h.fraction).many e.1 i))
+    (down_is p.is_negative (length (bare p.fraction)) (places_of false p) (digits_value 10 (exponent_digits p.exponent))
+        (power_of p.exponent) (fraction_plain 0 p.fraction h.fraction).many e.1 i))

@@ -1,5 +1,6 @@
 -- Closes the loop that looks for the quote at the end of a string.
-use Rattle.std.proofs.Common.{◌≡◌, ◌≢◌, ◌∙◌, ℕ, zero, suc, ◌+◌, ◌-◌, ◌<◌, ◌≤◌, ◌==◌, ◌||◌, not, Bool, true, false, List, [], ◌∷◌, length, drop, get_or, Option, None, Some, refl, sym, ap, ap₂, arith}
+use Rattle.std.proofs.Common.{◌≡◌, ◌≢◌, ◌∙◌, ℕ, zero, suc, ◌+◌, ◌-◌, ◌<◌, ◌≤◌, ◌==◌, ◌||◌, not, Bool, true, false}
+use Rattle.std.proofs.Common.{List, [], ◌∷◌, length, drop, get_or, Option, None, Some, refl, sym, ap, ap₂, arith}
 use Rattle.std.proofs.lemmas.List.{length-drop}
 use Rattle.wat_grammar.specs.Parts.{◌>>=◌, front}
 use Rattle.wat_grammar.specs.Tokens.{string_length}
@@ -68,14 +69,16 @@ two_past cs some more p q =
     let l = tail_at 1 m in
     let a : length cs ≡ suc (length m) = ap length (parted cs some) in
     let b : length m ≡ suc (length l) = ap length (parted m more) in
-    ap (string_length true) (parted cs some ∙ ap (λ r. get_or cs 0 0 ∷ r) (parted m more)) ∙ escaped (get_or cs 0 0) (d ∷ l) ∙ one_more (string_length false (d ∷ l))
+    ap (string_length true) (parted cs some ∙ ap (λ r. get_or cs 0 0 ∷ r) (parted m more))
+    ∙ escaped (get_or cs 0 0) (d ∷ l) ∙ one_more (string_length false (d ∷ l))
     ∙ ap (after_these 1) (plain_one d l (differs d 0x22 p) (differs d 0x5c q)) ∙ twice 1 1 (length cs - length l) (string_length false l) (omega (arith, a, b))
 
 pub one_past : (cs : List ℕ) → 1 ≤ length cs → string_length true cs ≡ after_these (length cs - length (tail_at 1 cs)) (string_length false (tail_at 1 cs))
 one_past cs some =
     let m = tail_at 1 cs in
     let a : length cs ≡ suc (length m) = ap length (parted cs some) in
-    ap (string_length true) (parted cs some) ∙ escaped (get_or cs 0 0) m ∙ one_more (string_length false m) ∙ ap (λ n. after_these n (string_length false m)) {x = 1} {y = length cs - length m} (omega (arith, a))
+    ap (string_length true) (parted cs some) ∙ escaped (get_or cs 0 0) m ∙ one_more (string_length false m)
+    ∙ ap (λ n. after_these n (string_length false m)) {x = 1} {y = length cs - length m} (omega (arith, a))
 
 pub none_past : (cs : List ℕ) → length cs < 1 → string_length true cs ≡ after_these (length cs - length cs) (string_length false cs)
 none_past [] none = none_left true ∙ sym (ap (after_these 0) (none_left false))
@@ -90,11 +93,14 @@ escape_past t rest later some is inside short past =
     let a : length rest ≡ suc (length m) = ap length (parted rest some) in
     let n = suc (length m - length later) in
     ap (λ x. after_these (t - length rest) (string_length false x)) (parted rest some ∙ ap (λ b. b ∷ m) is)
-    ∙ ap (after_these (t - length rest)) (goes_on 0x5c m refl ∙ one_more (string_length true m) ∙ ap (after_these 1) past ∙ twice 1 (length m - length later) n (string_length false later) (omega arith))
+    ∙ ap (after_these (t - length rest)) (goes_on 0x5c m refl ∙ one_more (string_length true m)
+        ∙ ap (after_these 1) past ∙ twice 1 (length m - length later) n (string_length false later) (omega arith))
     ∙ twice (t - length rest) n (t - length later) (string_length false later) (omega (arith, a, inside, short))
 
-pub plain_past : (t k : ℕ) (rest : List ℕ) → 1 ≤ length rest → get_or rest 0 0 ≢ 0x22 → get_or rest 0 0 ≢ 0x5c → length rest ≤ t → k ≤ length (front plain (tail_at 1 rest))
-    → after_these (t - length rest) (string_length false rest) ≡ after_these (t - length (tail_at k (tail_at 1 rest))) (string_length false (tail_at k (tail_at 1 rest)))
+pub plain_past : (t k : ℕ) (rest : List ℕ) → 1 ≤ length rest → get_or rest 0 0 ≢ 0x22
+    → get_or rest 0 0 ≢ 0x5c → length rest ≤ t → k ≤ length (front plain (tail_at 1 rest))
+    → after_these (t - length rest) (string_length false rest)
+    ≡ after_these (t - length (tail_at k (tail_at 1 rest))) (string_length false (tail_at k (tail_at 1 rest)))
 plain_past t k rest some p q inside run =
     let m = tail_at 1 rest in
     let d = get_or rest 0 0 in
@@ -103,7 +109,8 @@ plain_past t k rest some p q inside run =
     let b : length l ≡ length m - k = ap length (tail_is k m) ∙ length-drop k m in
     ap (λ x. after_these (t - length rest) (string_length false x)) (parted rest some)
     ∙ ap (after_these (t - length rest)) (plain_one d m (differs d 0x22 p) (differs d 0x5c q)
-    ∙ ap (after_these 1) (plain_run k m run ∙ ap (λ x. after_these k (string_length false x)) (sym (tail_is k m))) ∙ twice 1 k (suc k) (string_length false l) (omega arith))
+    ∙ ap (after_these 1) (plain_run k m run ∙ ap (λ x. after_these k (string_length false x)) (sym (tail_is k m)))
+    ∙ twice 1 k (suc k) (string_length false l) (omega arith))
     ∙ twice (t - length rest) (suc k) (t - length l) (string_length false l) (omega (arith, a, b, inside, run, front_short plain m))
 
 pub ends : (t : ℕ) (rest : List ℕ) → 1 ≤ length rest → get_or rest 0 0 ≡ 0x22 → after_these t (string_length false rest) ≡ Some t

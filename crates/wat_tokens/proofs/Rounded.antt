@@ -3,7 +3,9 @@ use Rattle.std.proofs.Common.{◌≡◌, ◌∙◌, ℕ, zero, suc, ◌+◌, ◌
 use Rattle.std.specs.Prelude.{min, ◌^◌}
 use Rattle.std.specs.Float.{Format}
 use Rattle.std.specs.Float.Ieee.{prec, low, hid, ones}
-use native.Mathlib.Nat.{eq-zero-or-pos, mul-le-mul_right, mul-lt-mul_of_pos_right, le_of_mul-le-mul_right, lt_of_mul-lt-mul_right, lt_of_lt_of_le, div-add-mod', mod-lt, div-lt_iff_lt-mul, le-div_iff_mul-le, mul-pos, not-le_of_lt, le_antisymm, le_of_eq, le_trans, mod-eq_of_lt, div-eq_of_lt, pow-suc, pow-zero, eq-or-lt_of_le}
+use native.Mathlib.Nat.{eq-zero-or-pos, mul-le-mul_right, mul-lt-mul_of_pos_right, le_of_mul-le-mul_right, lt_of_mul-lt-mul_right}
+use native.Mathlib.Nat.{lt_of_lt_of_le, div-add-mod', mod-lt, div-lt_iff_lt-mul, le-div_iff_mul-le, mul-pos, not-le_of_lt}
+use native.Mathlib.Nat.{le_antisymm, le_of_eq, le_trans, mod-eq_of_lt, div-eq_of_lt, pow-suc, pow-zero, eq-or-lt_of_le}
 use Rattle.std.proofs.lemmas.Bool.{cases_lt}
 use Rattle.std.proofs.lemmas.Nat.{mul-le}
 use lib.Pow.{pow_pos, pow_mono, pow-add}
@@ -17,7 +19,8 @@ halved_away n k more small far =
     let unit : 2 ^ 64 ≤ 2 ^ k = pow_mono far in
     let none : n / 2 ^ k ≡ 0 = div-eq_of_lt (omega (arith, unit)) in
     let all : n % 2 ^ k ≡ n = mod-eq_of_lt (omega (arith, unit)) in
-    record { below = λ l. sym none; above = λ l. absurd (omega (arith, all, unit)); more = λ e b. absurd (omega (arith, all, unit)); tie = λ e b. absurd (omega (arith, all, unit)) }
+    record { below = λ l. sym none; above = λ l. absurd (omega (arith, all, unit));
+        more = λ e b. absurd (omega (arith, all, unit)); tie = λ e b. absurd (omega (arith, all, unit)) }
 
 -- the width of a mantissa, and how many steps its last bit is above the least
 pub record IsPlaced (f : Format) (m x w steps : ℕ) : Type 0 where
@@ -28,7 +31,8 @@ pub record IsPlaced (f : Format) (m x w steps : ℕ) : Type 0 where
 
 module _ (f : Format) (m x w steps : ℕ) (p : IsPlaced f m x w steps) where
   fits_left : (u : ℕ) → steps + 4096 + u ≡ x → m * 2 ^ u < 2 ^ prec f
-  fits_left u U = let g = shape f in lt_of_lt_of_le (mul-lt-mul_of_pos_right p.below (pow_pos u)) (le_trans (le_of_eq (sym (pow-add 2 w u))) (pow_mono (omega (arith, p.steps_is, g.digits.0))))
+  fits_left u U = let g = shape f in lt_of_lt_of_le (mul-lt-mul_of_pos_right p.below (pow_pos u))
+      (le_trans (le_of_eq (sym (pow-add 2 w u))) (pow_mono (omega (arith, p.steps_is, g.digits.0))))
 
   fits_right : (t : ℕ) → x + t ≡ steps + 4096 → m / 2 ^ t < 2 ^ prec f
   fits_right t U =
@@ -45,7 +49,8 @@ module _ (f : Format) (m x w steps : ℕ) (p : IsPlaced f m x w steps) where
       let k : steps ≤ 3112 = omega (arith, p.steps_is, g.digits.0) in
       omega (arith, mul-le steps (hid f) 3112 (2 ^ 52) k H)
 
-pub left_fits : (f : Format) (m x w steps u s : ℕ) → IsPlaced f m x w steps → steps + 4096 + u ≡ x → s ≡ m * 2 ^ u % 2 ^ 64 → x ≤ 7168 → w ≤ 64 → hid f ≤ 2 ^ 52 → (s ≡ m * 2 ^ u) × (steps * hid f + s < 2 ^ 64)
+pub left_fits : (f : Format) (m x w steps u s : ℕ) → IsPlaced f m x w steps → steps + 4096 + u ≡ x
+    → s ≡ m * 2 ^ u % 2 ^ 64 → x ≤ 7168 → w ≤ 64 → hid f ≤ 2 ^ 52 → (s ≡ m * 2 ^ u) × (steps * hid f + s < 2 ^ 64)
 left_fits f m x w steps u s p U is X W H =
     let small = fits_left f m x w steps p u U in
     let most = significand_most f m x w steps p in
@@ -62,13 +67,15 @@ halved_most n k more r h = elim (cases_lt (2 * (n % 2 ^ k)) (2 ^ k)) [
     go true is e = omega (arith, h.more e is)
     go false is e = omega (arith, h.tie e is)
 
-pub right_fits : (f : Format) (m x w steps t s : ℕ) (more : Bool) → IsPlaced f m x w steps → x + t ≡ steps + 4096 → IsHalved m t more s → x ≤ 7168 → w ≤ 64 → hid f ≤ 2 ^ 52 → steps * hid f + s < 2 ^ 64
+pub right_fits : (f : Format) (m x w steps t s : ℕ) (more : Bool) → IsPlaced f m x w steps → x + t ≡ steps + 4096
+    → IsHalved m t more s → x ≤ 7168 → w ≤ 64 → hid f ≤ 2 ^ 52 → steps * hid f + s < 2 ^ 64
 right_fits f m x w steps t s more p U is X W H =
     sum_fits f m x w steps p s X W (omega (arith, halved_most m t more s is, fits_right f m x w steps p t U, significand_most f m x w steps p)) H
 
 module _ (f : Format) (num den m x w steps : ℕ) (more : Bool) (p : IsPlaced f m x w steps) (h : IsScaled f num den m more x) where
   wide : more ≡ true → 60 ≤ w
-  wide is = elim (eq-zero-or-pos (60 - w)) [ inl z ↦ omega arith | inr s ↦ (let l : w ≤ 59 = omega arith in absurd (not-le_of_lt (lt_of_lt_of_le p.below (pow_mono l)) (h.long is))) ]
+  wide is = elim (eq-zero-or-pos (60 - w)) [ inl z ↦ omega arith
+      | inr s ↦ (let l : w ≤ 59 = omega arith in absurd (not-le_of_lt (lt_of_lt_of_le p.below (pow_mono l)) (h.long is))) ]
 
   -- where a bit of the mantissa is not dropped, it has all of the number
   whole : steps + 4096 ≤ x → num * 2 ^ low f * 2 ^ 4096 ≡ m * (den * 2 ^ x)
@@ -106,7 +113,8 @@ module _ (f : Format) (num den m x w steps : ℕ) (more : Bool) (p : IsPlaced f 
         record {
           fits = subst (λ y. y < 2 ^ prec f) (sym S) (fits_left f m x w steps p u U);
           normal = λ some. subst (λ y. hid f ≤ y) (sym S)
-              (le_trans (le_trans (pow_mono (omega (arith, p.steps_is, p.some, g.digits.0))) (le_of_eq (pow-add 2 (w - 1) u))) (mul-le-mul_right (2 ^ u) p.from));
+              (le_trans (le_trans (pow_mono (omega (arith, p.steps_is, p.some, g.digits.0))) (le_of_eq (pow-add 2 (w - 1) u)))
+                  (mul-le-mul_right (2 ^ u) p.from));
         }
 
     pub rounded_left : IsNearestBits f num den (min (steps * hid f + s) (ones f * hid f))
@@ -155,7 +163,8 @@ module _ (f : Format) (num den m x w steps : ℕ) (more : Bool) (p : IsPlaced f 
         let g = shape f in
         record {
           fits = fits_right f m x w steps p t U;
-          normal = λ some. (le-div_iff_mul-le (pow_pos t)).1 (le_trans (le_trans (le_of_eq (sym (pow-add 2 (prec f - 1) t))) (pow_mono (omega (arith, p.steps_is, p.some, g.digits.0)))) p.from);
+          normal = λ some. (le-div_iff_mul-le (pow_pos t)).1 (le_trans
+              (le_trans (le_of_eq (sym (pow-add 2 (prec f - 1) t))) (pow_mono (omega (arith, p.steps_is, p.some, g.digits.0)))) p.from);
         }
 
     -- half of a step, or none if no bit is dropped
@@ -201,7 +210,8 @@ module _ (f : Format) (num den m x w steps : ℕ) (more : Bool) (p : IsPlaced f 
     even : 2 * rest ≡ 2 ^ t → more ≡ false → 2 * (num * 2 ^ low f) ≡ (2 * kept + 1) * (den * 2 ^ steps)
     even l is =
         let e : 2 * (kept * 2 ^ t) + 2 ^ t ≡ 2 * m = omega (arith, parts) in
-        let same : 2 * (num * 2 ^ low f) * 2 ^ 4096 ≡ (2 * kept + 1) * (den * 2 ^ steps) * 2 ^ 4096 = omega (arith, halfway, ap (λ y. y * (den * 2 ^ x)) e, h.exact is) in
+        let same : 2 * (num * 2 ^ low f) * 2 ^ 4096
+        ≡ (2 * kept + 1) * (den * 2 ^ steps) * 2 ^ 4096 = omega (arith, halfway, ap (λ y. y * (den * 2 ^ x)) e, h.exact is) in
         le_antisymm (le_of_mul-le-mul_right (le_of_eq same) shift_pos) (le_of_mul-le-mul_right (le_of_eq (sym same)) shift_pos)
 
     nearest_by : {q : ℕ} → s ≡ q → IsNearestBits f num den (scaled_bits f q steps) → IsNearestBits f num den (min (steps * hid f + s) (ones f * hid f))
@@ -210,13 +220,17 @@ module _ (f : Format) (num den m x w steps : ℕ) (more : Bool) (p : IsPlaced f 
     pub rounded_right : IsNearestBits f num den (min (steps * hid f + s) (ones f * hid f))
     unfolding kept rest
     rounded_right = elim (cases_lt (2 * rest) (2 ^ t)) [
-      | inl l ↦ nearest_by (S.below l) (nearest_below f num den kept steps h.positive (record { significand = significand_right; from = from_right; below = below_right }) (lower l))
+      | inl l ↦ nearest_by (S.below l) (nearest_below f num den kept steps h.positive
+              (record { significand = significand_right; from = from_right; below = below_right }) (lower l))
       | inr g ↦ elim (eq-or-lt_of_le g) [
-        | inr l ↦ nearest_by (S.above l) (nearest_above f num den kept steps h.positive (record { significand = significand_right; from = from_right; below = below_right }) (upper l))
+        | inr l ↦ nearest_by (S.above l) (nearest_above f num den kept steps h.positive
+                (record { significand = significand_right; from = from_right; below = below_right }) (upper l))
         | inl e ↦ go more refl (sym e)
       ]
     ]
       where
         go : (b : Bool) → more ≡ b → 2 * rest ≡ 2 ^ t → IsNearestBits f num den (min (steps * hid f + s) (ones f * hid f))
-        go true is e = nearest_by (S.more e is) (nearest_above f num den kept steps h.positive (record { significand = significand_right; from = from_right; below = below_right }) (upper_more e is))
-        go false is e = nearest_by (S.tie e is) (nearest_tie f num den kept steps h.positive (record { significand = significand_right; from = from_right; below = below_right }) (even e is))
+        go true is e = nearest_by (S.more e is) (nearest_above f num den kept steps h.positive
+            (record { significand = significand_right; from = from_right; below = below_right }) (upper_more e is))
+        go false is e = nearest_by (S.tie e is) (nearest_tie f num den kept steps h.positive
+            (record { significand = significand_right; from = from_right; below = below_right }) (even e is))

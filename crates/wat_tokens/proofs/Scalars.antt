@@ -39,11 +39,13 @@ whole (Some t) = braces t.1 (hexnum t.0)
 unicode_is : (text : List ℕ) → unicode text ≡ whole (braced text)
 unicode_is text = go (braced text)
   where
-    inner : (rest : List ℕ) (o : Option ℕ) → (o >>= λ n. if is_scalar n then (let p : List ℕ × List ℕ = (encode_utf8 n, rest) in Some p) else None) ≡ braces rest o
+    inner : (rest : List ℕ) (o : Option ℕ)
+        → (o >>= λ n. if is_scalar n then (let p : List ℕ × List ℕ = (encode_utf8 n, rest) in Some p) else None) ≡ braces rest o
     inner rest None = refl
     inner rest (Some n) = refl
 
-    go : (o : Option (List ℕ × List ℕ)) → (o >>= λ t. hexnum t.0 >>= λ n. if is_scalar n then (let p : List ℕ × List ℕ = (encode_utf8 n, t.1) in Some p) else None) ≡ whole o
+    go : (o : Option (List ℕ × List ℕ))
+        → (o >>= λ t. hexnum t.0 >>= λ n. if is_scalar n then (let p : List ℕ × List ℕ = (encode_utf8 n, t.1) in Some p) else None) ≡ whole o
     go None = refl
     go (Some t) = inner t.1 (hexnum t.0)
 

@@ -1,5 +1,6 @@
 -- Closes the loops that cut a text, look whether it is digits, and copy it: each lemma is one step of a loop, or its end.
-use Rattle.std.proofs.Common.{◌≡◌, ◌∙◌, ℕ, ◌+◌, ◌<◌, ◌≤◌, ◌==◌, ◌&&◌, ◌||◌, Bool, true, false, List, [], ◌∷◌, ◌++◌, length, take, drop, get_or, Option, None, Some, refl, sym, ap, arith}
+use Rattle.std.proofs.Common.{◌≡◌, ◌∙◌, ℕ, ◌+◌, ◌<◌, ◌≤◌, ◌==◌, ◌&&◌, ◌||◌, Bool, true, false, List, [], ◌∷◌}
+use Rattle.std.proofs.Common.{◌++◌, length, take, drop, get_or, Option, None, Some, refl, sym, ap, arith}
 use Rattle.std.specs.Prelude.{is_some}
 use Rattle.std.proofs.lemmas.List.{drop_more, take_more, take_all}
 use Rattle.std.proofs.Math.ListN.{drop_of_length-le}
@@ -23,23 +24,27 @@ cut_from c d front text = (front ++ (cut c d text).0, (cut c d text).1)
 begins : (c d x : ℕ) (front xs : List ℕ) → (x == c || x == d) ≡ true → cut_from c d front (x ∷ xs) ≡ (front, Some xs)
 unfolding cut
 begins c d x front xs is =
-    ap (λ b. let t = elim b as (λ b. List ℕ × Option (List ℕ)) [ true ↦ ([], Some xs) | false ↦ (x ∷ (cut c d xs).0, (cut c d xs).1) ] in (front ++ t.0, t.1)) is ∙ λ i. (no_more front i, Some xs)
+    ap (λ b. let t = elim b as (λ b. List ℕ × Option (List ℕ)) [ true ↦ ([], Some xs) | false ↦ (x ∷ (cut c d xs).0, (cut c d xs).1) ] in
+        (front ++ t.0, t.1)) is ∙ λ i. (no_more front i, Some xs)
 
 passes : (c d x : ℕ) (front xs : List ℕ) → (x == c || x == d) ≡ false → cut_from c d front (x ∷ xs) ≡ cut_from c d (front ++ x ∷ []) xs
 unfolding cut
 passes c d x front xs is =
-    ap (λ b. let t = elim b as (λ b. List ℕ × Option (List ℕ)) [ true ↦ ([], Some xs) | false ↦ (x ∷ (cut c d xs).0, (cut c d xs).1) ] in (front ++ t.0, t.1)) is
+    ap (λ b. let t = elim b as (λ b. List ℕ × Option (List ℕ)) [ true ↦ ([], Some xs) | false ↦ (x ∷ (cut c d xs).0, (cut c d xs).1) ] in
+        (front ++ t.0, t.1)) is
     ∙ λ i. (sym (assoc front (x ∷ []) (cut c d xs).0) i, (cut c d xs).1)
 
 nothing : (c d : ℕ) (front : List ℕ) → cut_from c d front [] ≡ (front, None)
 unfolding cut
 nothing c d front = λ i. (no_more front i, None)
 
-pub cut_here : (c d i : ℕ) (text : List ℕ) → i < length text → (get_or text i 0 == c || get_or text i 0 == d) ≡ true → cut c d text ≡ cut_from c d (take i text) (drop i text)
+pub cut_here : (c d i : ℕ) (text : List ℕ) → i < length text → (get_or text i 0 == c || get_or text i 0 == d) ≡ true
+    → cut c d text ≡ cut_from c d (take i text) (drop i text)
     → cut c d text ≡ (take i text, Some (drop (i + 1) text))
 cut_here c d i text h is so = so ∙ ap (cut_from c d (take i text)) (drop_more text i 0 h) ∙ begins c d (get_or text i 0) (take i text) (drop (i + 1) text) is
 
-pub cut_on : (c d i : ℕ) (text : List ℕ) → i < length text → (get_or text i 0 == c || get_or text i 0 == d) ≡ false → cut c d text ≡ cut_from c d (take i text) (drop i text)
+pub cut_on : (c d i : ℕ) (text : List ℕ) → i < length text → (get_or text i 0 == c || get_or text i 0 == d) ≡ false
+    → cut c d text ≡ cut_from c d (take i text) (drop i text)
     → cut c d text ≡ cut_from c d (take (i + 1) text) (drop (i + 1) text)
 cut_on c d i text h is so = so ∙ ap (cut_from c d (take i text)) (drop_more text i 0 h) ∙ passes c d (get_or text i 0) (take i text) (drop (i + 1) text) is
     ∙ ap (λ t. cut_from c d t (drop (i + 1) text)) (sym (take_more text i 0 h))
@@ -65,16 +70,19 @@ pub underscore_on : (f : ℕ → Option ℕ) (i : ℕ) (text : List ℕ) (a : Bo
     → is_digits_after f a (drop i text) ≡ is_digits_after f false (drop (i + 1) text)
 underscore_on f i text a h is = one_at f i text a h ∙ ap (λ b. after_one f b (f (get_or text i 0)) (drop (i + 1) text)) is
 
-other_on : (f : ℕ → Option ℕ) (i : ℕ) (text : List ℕ) (a b : Bool) → i < length text → (get_or text i 0 == 0x5f && a) ≡ false → is_some (f (get_or text i 0)) ≡ b
+other_on : (f : ℕ → Option ℕ) (i : ℕ) (text : List ℕ) (a b : Bool) → i < length text
+    → (get_or text i 0 == 0x5f && a) ≡ false → is_some (f (get_or text i 0)) ≡ b
     → is_digits_after f a (drop i text) ≡ elim b as (λ b. Bool) [ true ↦ is_digits_after f true (drop (i + 1) text) | false ↦ false ]
 other_on f i text a b h is was = one_at f i text a h ∙ ap (λ b. after_one f b (f (get_or text i 0)) (drop (i + 1) text)) is
     ∙ ap (λ b. elim b as (λ b. Bool) [ true ↦ is_digits_after f true (drop (i + 1) text) | false ↦ false ]) was
 
-pub digit_on : (f : ℕ → Option ℕ) (i : ℕ) (text : List ℕ) (a : Bool) → i < length text → (get_or text i 0 == 0x5f && a) ≡ false → is_some (f (get_or text i 0)) ≡ true
+pub digit_on : (f : ℕ → Option ℕ) (i : ℕ) (text : List ℕ) (a : Bool) → i < length text
+    → (get_or text i 0 == 0x5f && a) ≡ false → is_some (f (get_or text i 0)) ≡ true
     → is_digits_after f a (drop i text) ≡ is_digits_after f true (drop (i + 1) text)
 digit_on f i text a h is was = other_on f i text a true h is was
 
-pub no_digit_on : (f : ℕ → Option ℕ) (i : ℕ) (text : List ℕ) (a : Bool) → i < length text → (get_or text i 0 == 0x5f && a) ≡ false → is_some (f (get_or text i 0)) ≡ false
+pub no_digit_on : (f : ℕ → Option ℕ) (i : ℕ) (text : List ℕ) (a : Bool) → i < length text
+    → (get_or text i 0 == 0x5f && a) ≡ false → is_some (f (get_or text i 0)) ≡ false
     → is_digits_after f a (drop i text) ≡ false
 no_digit_on f i text a h is was = other_on f i text a false h is was
 
@@ -87,7 +95,9 @@ digits_end f i text a h = ap (is_digits_after f a) (drop_of_length-le text h)
 bare_append : (xs ys : List ℕ) → bare (xs ++ ys) ≡ bare xs ++ bare ys
 unfolding bare
 bare_append [] ys = refl
-bare_append (x ∷ xs) ys = let rest = bare_append xs ys in elim (x == 0x5f) as (λ b. elim b as (λ b. List ℕ) [ true ↦ bare (xs ++ ys) | false ↦ x ∷ bare (xs ++ ys) ] ≡ elim b as (λ b. List ℕ) [ true ↦ bare xs | false ↦ x ∷ bare xs ] ++ bare ys)
+bare_append (x ∷ xs) ys = let rest = bare_append xs ys in
+    elim (x == 0x5f) as (λ b. elim b as (λ b. List ℕ) [ true ↦ bare (xs ++ ys) | false ↦ x ∷ bare (xs ++ ys) ]
+        ≡ elim b as (λ b. List ℕ) [ true ↦ bare xs | false ↦ x ∷ bare xs ] ++ bare ys)
     [ true ↦ rest | false ↦ ap (λ t. x ∷ t) rest ]
 
 bare_one : (x : ℕ) → x == 0x5f ≡ false → bare (x ∷ []) ≡ x ∷ []
@@ -102,15 +112,18 @@ pub bare_nothing : (xs : List ℕ) → xs ≡ xs ++ bare []
 unfolding bare
 bare_nothing xs = sym (no_more xs)
 
-pub copy_on : (i : ℕ) (text out before next : List ℕ) → i < length text → get_or text i 0 == 0x5f ≡ false → out ≡ before ++ bare (take i text) → next ≡ out ++ get_or text i 0 ∷ []
+pub copy_on : (i : ℕ) (text out before next : List ℕ) → i < length text → get_or text i 0 == 0x5f ≡ false
+    → out ≡ before ++ bare (take i text) → next ≡ out ++ get_or text i 0 ∷ []
     → next ≡ before ++ bare (take (i + 1) text)
 copy_on i text out before next h is so now = now ∙ ap (λ t. t ++ get_or text i 0 ∷ []) so ∙ assoc before (bare (take i text)) (get_or text i 0 ∷ [])
-    ∙ ap (λ t. before ++ t) (ap (λ t. bare (take i text) ++ t) (sym (bare_one (get_or text i 0) is)) ∙ sym (bare_append (take i text) (get_or text i 0 ∷ [])) ∙ ap bare (sym (take_more text i 0 h)))
+    ∙ ap (λ t. before ++ t) (ap (λ t. bare (take i text) ++ t) (sym (bare_one (get_or text i 0) is))
+        ∙ sym (bare_append (take i text) (get_or text i 0 ∷ [])) ∙ ap bare (sym (take_more text i 0 h)))
 
 pub pass_on : (i : ℕ) (text out before next : List ℕ) → i < length text → get_or text i 0 ≡ 0x5f → out ≡ before ++ bare (take i text) → next ≡ out
     → next ≡ before ++ bare (take (i + 1) text)
 pass_on i text out before next h is so now = now ∙ so
-    ∙ ap (λ t. before ++ t) (sym (no_more (bare (take i text))) ∙ ap (λ t. bare (take i text) ++ t) (sym (bare_none (get_or text i 0) is)) ∙ sym (bare_append (take i text) (get_or text i 0 ∷ [])) ∙ ap bare (sym (take_more text i 0 h)))
+    ∙ ap (λ t. before ++ t) (sym (no_more (bare (take i text))) ∙ ap (λ t. bare (take i text) ++ t) (sym (bare_none (get_or text i 0) is))
+        ∙ sym (bare_append (take i text) (get_or text i 0 ∷ [])) ∙ ap bare (sym (take_more text i 0 h)))
 
 -- ---- lengths
 
@@ -124,7 +137,8 @@ unfolding cut
 cut_short c d [] = record { front = omega arith; rest = omega arith }
 cut_short c d (x ∷ xs) = go (x == c || x == d) (cut_short c d xs)
   where
-    go : (b : Bool) → IsShort xs (cut c d xs) → IsShort (x ∷ xs) (elim b as (λ b. List ℕ × Option (List ℕ)) [ true ↦ ([], Some xs) | false ↦ (x ∷ (cut c d xs).0, (cut c d xs).1) ])
+    go : (b : Bool) → IsShort xs (cut c d xs)
+        → IsShort (x ∷ xs) (elim b as (λ b. List ℕ × Option (List ℕ)) [ true ↦ ([], Some xs) | false ↦ (x ∷ (cut c d xs).0, (cut c d xs).1) ])
     go true h = record { front = omega arith; rest = omega arith }
     go false h = record { front = omega (arith, h.front); rest = omega (arith, h.rest) }
 

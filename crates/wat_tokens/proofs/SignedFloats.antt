@@ -1,5 +1,6 @@
 -- Closes what the sign of a float leaves: the bits of a magnitude are below that of the sign.
-use Rattle.std.proofs.Common.{◌≡◌, ◌∙◌, ℕ, zero, suc, ◌+◌, ◌*◌, ◌/◌, ◌%◌, ◌<◌, ◌&&◌, Bool, true, false, Option, None, Some, Ok, refl, sym, ap, subst, arith, ltb-true, leb-false}
+use Rattle.std.proofs.Common.{◌≡◌, ◌∙◌, ℕ, zero, suc, ◌+◌, ◌*◌, ◌/◌, ◌%◌, ◌<◌, ◌&&◌, Bool, true, false}
+use Rattle.std.proofs.Common.{Option, None, Some, Ok, refl, sym, ap, subst, arith, ltb-true, leb-false}
 use Rattle.std.specs.Prelude.{nat_lt, ◌^◌, if◌then◌else◌}
 use Rattle.std.specs.Float.{Float, Format, float_is_finite}
 use Rattle.std.specs.Float.Ieee.{nan, inf, fin, prec, low, emax, hid, ones, top, odd, units, round, of_bits, of_fields, to_bits}
@@ -40,7 +41,8 @@ unfolding of_fields is_minus float_is_finite
 fields_sign f s zero t is = odd_sign (prec f) s t 0 (low f)
 fields_sign f s (suc x) t is = go (eqb (suc x) (ones f)) (eqb t 0) is
   where
-    go : (a b : Bool) → float_is_finite (cond a (cond b (inf s) nan) (odd (prec f) s (hid f + t) x (low f))) ≡ true → is_minus (cond a (cond b (inf s) nan) (odd (prec f) s (hid f + t) x (low f))) ≡ s
+    go : (a b : Bool) → float_is_finite (cond a (cond b (inf s) nan) (odd (prec f) s (hid f + t) x (low f))) ≡ true
+        → is_minus (cond a (cond b (inf s) nan) (odd (prec f) s (hid f + t) x (low f))) ≡ s
     go true true is = refl
     go true false is = absurd (cc is)
     go false b is = odd_sign (prec f) s (hid f + t) x (low f)

@@ -25,7 +25,8 @@ both false b h = absurd cc
 pub in_table : (is : ℕ → Bool) (n i : ℕ) (xs : List Bool) → tabled is n xs ≡ true → i < length xs → slice_index_or xs i false ≡ is (n + i)
 in_table is n i [] h below = absurd (omega arith)
 in_table is n zero (x ∷ xs) h below = let p = both (same x (is n)) (tabled is (suc n) xs) h in same_is x (is n) p.0 ∙ ap is {x = n} {y = n + 0} (omega arith)
-in_table is n (suc i) (x ∷ xs) h below = let p = both (same x (is n)) (tabled is (suc n) xs) h in in_table is (suc n) i xs p.1 (omega arith) ∙ ap is {x = suc n + i} {y = n + suc i} (omega arith)
+in_table is n (suc i) (x ∷ xs) h below = let p = both (same x (is n)) (tabled is (suc n) xs) h in
+    in_table is (suc n) i xs p.1 (omega arith) ∙ ap is {x = suc n + i} {y = n + suc i} (omega arith)
 
 pub whole_table : (is : ℕ → Bool) (i : ℕ) (xs : List Bool) → tabled is 0 xs ≡ true → length xs ≡ 256 → i < 256 → slice_index_or xs i false ≡ is i
 whole_table is i xs h long below = in_table is 0 i xs h (omega (arith, long, below)) ∙ ap is {x = 0 + i} {y = i} (omega arith)

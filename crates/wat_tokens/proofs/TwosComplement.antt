@@ -1,5 +1,6 @@
 -- Closes what is left of integers with a sign: one number of 64 bits and one comparison are all cases of the rules for iN.
-use Rattle.std.proofs.Common.{◌≡◌, ◌∙◌, ℕ, zero, suc, ◌+◌, ◌-◌, ◌*◌, ◌<◌, ◌==◌, Bool, true, false, List, [], ◌∷◌, Option, None, Some, Ok, Err, eqb-true, refl, sym, ap, subst, arith}
+use Rattle.std.proofs.Common.{◌≡◌, ◌∙◌, ℕ, zero, suc, ◌+◌, ◌-◌, ◌*◌, ◌<◌, ◌==◌, Bool, true, false, List}
+use Rattle.std.proofs.Common.{[], ◌∷◌, Option, None, Some, Ok, Err, eqb-true, refl, sym, ap, subst, arith}
 use Rattle.std.specs.Prelude.{◌^◌, nat_lt, nat_le, if◌then◌else◌, ℤ, pos, negsuc, neg_ℤ, option_map, codes, int_lt, int_le, ◌&&◌}
 use Rattle.std.specs.Int.{Width, w8, w16, w32, w64, cast_signed, cast_unsigned}
 use mir.Val.{bits}
@@ -61,7 +62,8 @@ not_zero m = grind arith
 negative : (N h n : ℕ) → 2 ^ (N - 1) ≡ suc h → 2 ^ N ≡ 2 * suc h → signed_in N true (Some n) ≡ bits_in (suc h) true n
 negative N h zero half all = mapped N (pos 0) (is_within (2 ^ (N - 1)) (pos 0)) ∙ ap (λ k. if is_within k (pos 0) then Some zero else None) half
     ∙ zero_cases (nat_lt 0 (suc h)) (nat_le 0 (suc h)) (grind arith) (grind arith)
-negative N h (suc m) half all = mapped N (negsuc m) (is_within (2 ^ (N - 1)) (negsuc m)) ∙ ap (λ k. if is_within k (negsuc m) then Some (2 ^ N - (m + 1)) else None) half
+negative N h (suc m) half all = mapped N (negsuc m) (is_within (2 ^ (N - 1)) (negsuc m))
+    ∙ ap (λ k. if is_within k (negsuc m) then Some (2 ^ N - (m + 1)) else None) half
     ∙ ap (λ b. if b then Some (2 ^ N - (m + 1)) else None) (and_true (nat_le m h) ∙ le_suc m h)
     ∙ ap (λ k. if nat_le (suc m) (suc h) then Some k else None) less
     ∙ ap (λ b. if nat_le (suc m) (suc h) then Some (if b then zero else 2 * suc h - suc m) else None) (sym (not_zero m))
@@ -69,13 +71,15 @@ negative N h (suc m) half all = mapped N (negsuc m) (is_within (2 ^ (N - 1)) (ne
     less : 2 ^ N - (m + 1) ≡ 2 * suc h - suc m
     less = omega arith
 
-plus_cases : (n : ℕ) (x y : Bool) → (x ≡ true → y ≡ true) → first_some None (if x then Some n else None) (if y then Some n else None) ≡ (if y then Some n else None)
+plus_cases : (n : ℕ) (x y : Bool) → (x ≡ true → y ≡ true)
+    → first_some None (if x then Some n else None) (if y then Some n else None) ≡ (if y then Some n else None)
 plus_cases n true true h = refl
 plus_cases n true false h = absurd (cc (h refl))
 plus_cases n false true h = refl
 plus_cases n false false h = refl
 
-plain_cases : (n : ℕ) (x y : Bool) → (x ≡ true → y ≡ true) → first_some (if y then Some n else None) (if x then Some n else None) None ≡ (if y then Some n else None)
+plain_cases : (n : ℕ) (x y : Bool) → (x ≡ true → y ≡ true)
+    → first_some (if y then Some n else None) (if x then Some n else None) None ≡ (if y then Some n else None)
 plain_cases n true true h = refl
 plain_cases n true false h = absurd (cc (h refl))
 plain_cases n false true h = refl
@@ -84,18 +88,22 @@ plain_cases n false false h = refl
 wider : (n h : ℕ) → nat_lt n (suc h) ≡ true → nat_lt n (2 * suc h) ≡ true
 wider n h is = grind arith
 
-minus_at : (N h : ℕ) → 2 ^ (N - 1) ≡ suc h → 2 ^ N ≡ 2 * suc h → (o p : Option ℕ) → o ≡ None → first_some (unsigned_in N o) (signed_in N true p) None ≡ (p >>= λ n. bits_in (suc h) true n)
+minus_at : (N h : ℕ) → 2 ^ (N - 1) ≡ suc h → 2 ^ N ≡ 2 * suc h → (o p : Option ℕ) → o ≡ None
+    → first_some (unsigned_in N o) (signed_in N true p) None ≡ (p >>= λ n. bits_in (suc h) true n)
 minus_at N h half all o None is = ap (λ o. first_some (unsigned_in N o) None None) is
-minus_at N h half all o (Some n) is = ap (λ o. first_some (unsigned_in N o) (signed_in N true (Some n)) None) is ∙ second_some (signed_in N true (Some n)) ∙ negative N h n half all
+minus_at N h half all o (Some n) is = ap (λ o. first_some (unsigned_in N o) (signed_in N true (Some n)) None) is
+    ∙ second_some (signed_in N true (Some n)) ∙ negative N h n half all
 
-plus_at : (N h : ℕ) → 2 ^ (N - 1) ≡ suc h → 2 ^ N ≡ 2 * suc h → (o p : Option ℕ) → o ≡ None → first_some (unsigned_in N o) (signed_in N false p) (unsigned_in N p) ≡ (p >>= λ n. bits_in (suc h) false n)
+plus_at : (N h : ℕ) → 2 ^ (N - 1) ≡ suc h → 2 ^ N ≡ 2 * suc h → (o p : Option ℕ) → o ≡ None
+    → first_some (unsigned_in N o) (signed_in N false p) (unsigned_in N p) ≡ (p >>= λ n. bits_in (suc h) false n)
 plus_at N h half all o None is = ap (λ o. first_some (unsigned_in N o) None None) is
 plus_at N h half all o (Some n) is = ap (λ o. first_some (unsigned_in N o) (signed_in N false (Some n)) (unsigned_in N (Some n))) is
     ∙ ap (λ x. first_some None x (unsigned_in N (Some n))) (positive N h n half)
     ∙ ap (λ k. first_some None (if nat_lt n (suc h) then Some n else None) (if nat_lt n k then Some n else None)) all
     ∙ plus_cases n (nat_lt n (suc h)) (nat_lt n (2 * suc h)) (wider n h)
 
-plain_at : (N h : ℕ) → 2 ^ (N - 1) ≡ suc h → 2 ^ N ≡ 2 * suc h → (o : Option ℕ) → first_some (unsigned_in N o) (signed_in N false o) None ≡ (o >>= λ n. bits_in (suc h) false n)
+plain_at : (N h : ℕ) → 2 ^ (N - 1) ≡ suc h → 2 ^ N ≡ 2 * suc h → (o : Option ℕ)
+    → first_some (unsigned_in N o) (signed_in N false o) None ≡ (o >>= λ n. bits_in (suc h) false n)
 plain_at N h half all None = refl
 plain_at N h half all (Some n) = ap (λ x. first_some (unsigned_in N (Some n)) x None) (positive N h n half)
     ∙ ap (λ k. first_some (if nat_lt n k then Some n else None) (if nat_lt n (suc h) then Some n else None) None) all
@@ -110,7 +118,8 @@ abbrev from_sign : ℕ → List ℕ → Bool × List ℕ → Option (List ℕ) �
 from_sign N text s a = first_some (unsigned_in N (natural text)) (signed_in N s.0 (natural s.1)) (a >>= λ digits. uN N digits)
 
 pub no_sign : (c : ℕ) (cs : List ℕ) → c == 0x2d ≡ false → c == 0x2b ≡ false → sign (c ∷ cs) ≡ (false, c ∷ cs)
-no_sign c cs e f = ap (λ b. if b then (true, cs) else (if c == 0x2b then (false, cs) else (false, c ∷ cs))) e ∙ ap (λ b. if b then (false, cs) else (false, c ∷ cs)) f
+no_sign c cs e f = ap (λ b. if b then (true, cs) else (if c == 0x2b then (false, cs) else (false, c ∷ cs))) e
+    ∙ ap (λ b. if b then (false, cs) else (false, c ∷ cs)) f
 
 not_after : (c : ℕ) (cs : List ℕ) → c == 0x2b ≡ false → after (codes "+") (c ∷ cs) ≡ None
 not_after c cs f = ap (λ b. elim b as (λ b. Option (List ℕ)) [ true ↦ Some cs | false ↦ None ]) f
@@ -120,9 +129,12 @@ integer_is N h half all [] = plain_at N h half all (natural [])
 integer_is N h half all (c ∷ cs) = go (c == 0x2d) refl (c == 0x2b) refl
   where
     go : (x : Bool) → c == 0x2d ≡ x → (y : Bool) → c == 0x2b ≡ y → integer N (c ∷ cs) ≡ within (suc h) (c ∷ cs)
-    go true e y f = subst (λ a. integer N (a ∷ cs) ≡ within (suc h) (a ∷ cs)) (sym (eqb-true c 0x2d e)) (minus_at N h half all (natural (0x2d ∷ cs)) (natural cs) (no_minus cs))
-    go false e true f = subst (λ a. integer N (a ∷ cs) ≡ within (suc h) (a ∷ cs)) (sym (eqb-true c 0x2b f)) (plus_at N h half all (natural (0x2b ∷ cs)) (natural cs) (no_plus cs))
-    go false e false f = ap (λ s. from_sign N (c ∷ cs) s (after (codes "+") (c ∷ cs))) (no_sign c cs e f) ∙ ap (from_sign N (c ∷ cs) (false, c ∷ cs)) (not_after c cs f)
+    go true e y f = subst (λ a. integer N (a ∷ cs) ≡ within (suc h) (a ∷ cs)) (sym (eqb-true c 0x2d e))
+        (minus_at N h half all (natural (0x2d ∷ cs)) (natural cs) (no_minus cs))
+    go false e true f = subst (λ a. integer N (a ∷ cs) ≡ within (suc h) (a ∷ cs)) (sym (eqb-true c 0x2b f))
+        (plus_at N h half all (natural (0x2b ∷ cs)) (natural cs) (no_plus cs))
+    go false e false f = ap (λ s. from_sign N (c ∷ cs) s (after (codes "+") (c ∷ cs))) (no_sign c cs e f)
+        ∙ ap (from_sign N (c ∷ cs) (false, c ∷ cs)) (not_after c cs f)
         ∙ plain_at N h half all (natural (c ∷ cs)) ∙ sym (ap (λ s. natural s.1 >>= λ n. bits_in (suc h) s.0 n) (no_sign c cs e f))
 
 same_answer : {T : Type 0} (o : Option ℕ) (b : Bool) (v : Option T) → answer (o >>= λ n. Some (with_sign b n)) v ≡ answer o v
@@ -130,8 +142,10 @@ same_answer None b v = refl
 same_answer (Some n) b None = refl
 same_answer (Some n) b (Some x) = refl
 
-as_integer : (N h : ℕ) → 2 ^ (N - 1) ≡ suc h → 2 ^ N ≡ 2 * suc h → (text : List ℕ) → wrapped (suc h) (sign text).0 (natural (sign text).1) ≡ answer (signed text) (integer N text)
-as_integer N h half all text = ap (answer (natural (sign text).1)) (sym (integer_is N h half all text)) ∙ sym (same_answer (natural (sign text).1) (sign text).0 (integer N text))
+as_integer : (N h : ℕ) → 2 ^ (N - 1) ≡ suc h → 2 ^ N ≡ 2 * suc h → (text : List ℕ)
+    → wrapped (suc h) (sign text).0 (natural (sign text).1) ≡ answer (signed text) (integer N text)
+as_integer N h half all text = ap (answer (natural (sign text).1)) (sym (integer_is N h half all text))
+    ∙ sym (same_answer (natural (sign text).1) (sign text).0 (integer N text))
 
 ok_at : (F : Option ℤ) (v : Option ℕ) (g : ℕ → ℤ) (b : ℕ) (z : ℤ) → Ok b ≡ answer F v → z ≡ g b → Ok z ≡ answer F (option_map g v)
 ok_at None v g b z e is = absurd cc
@@ -144,11 +158,13 @@ err_at (Some i) None g e is = cc
 err_at (Some i) (Some n) g e is = absurd cc
 
 -- the number that the code gives of bits, and the fault
-pub ok_integer : (N h : ℕ) → 2 ^ (N - 1) ≡ suc h → 2 ^ N ≡ 2 * suc h → (text : List ℕ) (b : ℕ) (z : ℤ) → Ok b ≡ wrapped (suc h) (sign text).0 (natural (sign text).1) → z ≡ signed_of N b
+pub ok_integer : (N h : ℕ) → 2 ^ (N - 1) ≡ suc h → 2 ^ N ≡ 2 * suc h → (text : List ℕ) (b : ℕ) (z : ℤ)
+    → Ok b ≡ wrapped (suc h) (sign text).0 (natural (sign text).1) → z ≡ signed_of N b
     → Ok z ≡ answer (signed text) (option_map (signed_of N) (integer N text))
 ok_integer N h half all text b z e is = ok_at (signed text) (integer N text) (signed_of N) b z (e ∙ as_integer N h half all text) is
 
-pub err_integer : (N h : ℕ) → 2 ^ (N - 1) ≡ suc h → 2 ^ N ≡ 2 * suc h → (text : List ℕ) (e : TextFault) → Err e ≡ wrapped (suc h) (sign text).0 (natural (sign text).1)
+pub err_integer : (N h : ℕ) → 2 ^ (N - 1) ≡ suc h → 2 ^ N ≡ 2 * suc h → (text : List ℕ) (e : TextFault)
+    → Err e ≡ wrapped (suc h) (sign text).0 (natural (sign text).1)
     → Err e ≡ answer (signed text) (option_map (signed_of N) (integer N text))
 err_integer N h half all text e is = err_at (signed text) (integer N text) (signed_of N) e (is ∙ as_integer N h half all text)
 

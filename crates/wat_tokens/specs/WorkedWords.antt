@@ -13,8 +13,10 @@ use Rattle.wat_tokens.specs.Words.{words, word_named}
 
 -- instructions and keywords
 abbrev pub Words : Type 0
-Words = (word_named (codes "i32.add") ≡ Some (word.Plain (plain.I32 i32.i32_add))) × (word_named (codes "i64.load32_u") ≡ Some (word.Mem mem.i64_load32_u alignment.Four))
-    × (word_named (codes "v128.load16_lane") ≡ Some (word.MemLane mem_lane.v128_load16_lane alignment.Two)) × (word_named (codes "local.get") ≡ Some (word.Index index.LocalGet))
+Words = (word_named (codes "i32.add") ≡ Some (word.Plain (plain.I32 i32.i32_add)))
+    × (word_named (codes "i64.load32_u") ≡ Some (word.Mem mem.i64_load32_u alignment.Four))
+    × (word_named (codes "v128.load16_lane") ≡ Some (word.MemLane mem_lane.v128_load16_lane alignment.Two))
+    × (word_named (codes "local.get") ≡ Some (word.Index index.LocalGet))
     × (word_named (codes "memory.copy") ≡ Some (word.NoneOrTwo pair.memory_copy)) × (word_named (codes "func") ≡ Some (word.Key key.Func))
     × (word_named (codes "absolute") ≡ Some (word.Key key.Absolute))
 

@@ -12,7 +12,9 @@ ghost use Rattle.wat_grammar.specs.Floats.{cut, float, inf, nan, hexfloat, magni
 ghost use Rattle.wat_grammar.specs.Characters.{digit, hexdigit};
 ghost use Rattle.fast_float.specs.Rounding.{IsNearestBits};
 ghost use Rattle.wat_tokens.specs.Numbers.{answer};
-ghost use Rattle.wat_tokens.specs.Fractions.{is_digits, bare, form, is_fraction, is_exponent, is_number, fraction_text, power_text, plain_text, seen, UnlessMemory, MayLack, bits_in, payload_of, ieee, value_after, count, power_of, Keeps, IsHalved, IsScaled};
+ghost use Rattle.wat_tokens.specs.Fractions.{is_digits, bare, form, is_fraction, is_exponent, is_number, fraction_text};
+ghost use Rattle.wat_tokens.specs.Fractions.{power_text, plain_text, seen, UnlessMemory, MayLack, bits_in, payload_of};
+ghost use Rattle.wat_tokens.specs.Fractions.{ieee, value_after, count, power_of, Keeps, IsHalved, IsScaled};
 ghost use Rattle.wat_tokens.specs.declared.faults.TextFault.TheVariants as fault;
 
 use crate::faults::TextFault;

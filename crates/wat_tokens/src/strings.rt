@@ -1,6 +1,7 @@
 //! Strings of a text, without their escapes.
 
-ghost use Rattle.std.specs.Prelude.{◌≡◌, ◌≢◌, ◌<◌, ◌≤◌, ◌+◌, ◌-◌, ◌^◌, ◌++◌, ◌∷◌, [], not, length, take, drop, map, replicate, None, Some, Ok, Err, IfOk, IfSome, IfErr, MatchOption, MatchResult};
+ghost use Rattle.std.specs.Prelude.{◌≡◌, ◌≢◌, ◌<◌, ◌≤◌, ◌+◌, ◌-◌, ◌^◌, ◌++◌, ◌∷◌, [], not, length, take, drop};
+ghost use Rattle.std.specs.Prelude.{map, replicate, None, Some, Ok, Err, IfOk, IfSome, IfErr, MatchOption, MatchResult};
 ghost use Rattle.std.specs.Simd.Lanes.{mask_l};
 ghost use Rattle.wat_grammar.specs.Characters.{hexdigit};
 ghost use Rattle.wat_grammar.specs.Parts.{front};

@@ -7,5 +7,6 @@ returns-in-Some c = binary_err c.args.head c.args.reader c.skip.new.self c.piece
     c.skip.ensures.left c.skip.ensures.fault c.skip.ensures.make c.pieces-pieces.ensures c.module_end.ensures c.in-Some.ensures.refused
 
 pub returns : goal.returns
-returns c = binary_ok c.args.head c.args.reader c.skip.new.self c.pieces-pieces.new.self c.module_end.new.self c.pieces-pieces.result c.module_place-place.result c.module_place-place.ensures
+returns c = binary_ok c.args.head c.args.reader c.skip.new.self c.pieces-pieces.new.self
+    c.module_end.new.self c.pieces-pieces.result c.module_place-place.result c.module_place-place.ensures
     c.skip.ensures.left c.skip.ensures.fault c.skip.ensures.make c.pieces-pieces.ensures c.module_end.ensures (c.finish.ensures.clean c.in-None.is)

@@ -23,4 +23,5 @@ returns-else-payload-step c =
     (subst (λ k. c.in-Ok.payload < k) c.step.ensures.value c.if-payload-step.false)
 
 pub returns-in-Err : goal.returns-in-Err
-returns-in-Err c = payload_err (ieee c.args.format) (hexnum c.args.digits.now) c.in-Err.fault (c.in-Err.ensures ∙ ap (λ t. sized (hexnum t)) c.as_bytes.ensures.value)
+returns-in-Err c = payload_err (ieee c.args.format) (hexnum c.args.digits.now) c.in-Err.fault
+    (c.in-Err.ensures ∙ ap (λ t. sized (hexnum t)) c.as_bytes.ensures.value)

@@ -5,7 +5,8 @@ use Rattle.wat_tokens.proofs.TwosComplement.{ok_integer, err_integer, interprete
 use Rattle.wat_tokens.proofs.integers.integer64.Goals as goal
 
 pub returns-in-Ok : goal.returns-in-Ok
-returns-in-Ok c = ok_integer 64 9223372036854775807 refl refl c.args.text.now c.in-Ok.bits (cast_signed w64 (cast_unsigned w64 c.cast_signed.result)) c.in-Ok.ensures.value
+returns-in-Ok c = ok_integer 64 9223372036854775807 refl refl c.args.text.now c.in-Ok.bits
+    (cast_signed w64 (cast_unsigned w64 c.cast_signed.result)) c.in-Ok.ensures.value
     (interpreted64 c.in-Ok.bits c.cast_signed.result c.in-Ok.ensures.below c.cast_signed.ensures)
 
 pub returns-in-Err : goal.returns-in-Err

@@ -10,9 +10,11 @@ returns-then-is_empty-clause-read c = done c.args.content.now c.loop.out.items c
 pub returns-in-Err-clause-read : goal.returns-in-Err-clause-read
 returns-in-Err-clause-read c = λ known.
     let none = c.in-Err.ensures known in
-    let s = stuck c.args.content.now c.loop.out.items c.loop.rest.now (length c.args.content.now - c.loop.counter) (length c.args.content.now - (c.loop.counter + 1))
+    let s = stuck c.args.content.now c.loop.out.items c.loop.rest.now
+        (length c.args.content.now - c.loop.counter) (length c.args.content.now - (c.loop.counter + 1))
     (omega (arith, c.loop-test.true)) (sym c.is_empty.ensures ∙ c.if-is_empty.false) none.1 c.loop.invariant in
     (s.0, none.0 ∙ s.1)
 
 pub returns-clause-read : goal.returns-clause-read
-returns-clause-read c = run_out c.args.content.now c.loop.out.items c.loop.rest.now (length c.args.content.now - c.loop.counter) (omega (arith, c.loop-test.false)) c.loop.invariant
+returns-clause-read c = run_out c.args.content.now c.loop.out.items c.loop.rest.now
+    (length c.args.content.now - c.loop.counter) (omega (arith, c.loop-test.false)) c.loop.invariant

@@ -7,4 +7,5 @@ use Rattle.wast_script.proofs.Onto.{Adds}
 use Rattle.wast_script.proofs.reader.Reader.all_values.Given as goal
 
 abbrev pub invariant-loop : goal.invariant-loop
-invariant-loop l = Adds l.fn.self l.self (with_parts (read_values l.fn.self.lists) (values l.usage (left l.fn.self))) (with_parts (read_values l.self.lists) (many_lists is_form_next (argument_or_result l.usage) (l.end - l.counter) (left l.self)))
+invariant-loop l = Adds l.fn.self l.self (with_parts (read_values l.fn.self.lists) (values l.usage (left l.fn.self)))
+    (with_parts (read_values l.self.lists) (many_lists is_form_next (argument_or_result l.usage) (l.end - l.counter) (left l.self)))

@@ -6,7 +6,8 @@ use Rattle.wast_script.proofs.Alternatives.{closes_one, opens_one, reads_one}
 use Rattle.wast_script.proofs.reader.Reader.alternative.Goals as goal
 
 pub returns-then-is_close : goal.returns-then-is_close
-returns-then-is_close c = closes_one c.args.depth c.saturating_sub.result c.args.self.now c.skip.new.self (sym c.is_close.ensures ∙ c.if-is_close.true) c.skip.ensures (omega arith)
+returns-then-is_close c = closes_one c.args.depth c.saturating_sub.result c.args.self.now c.skip.new.self
+    (sym c.is_close.ensures ∙ c.if-is_close.true) c.skip.ensures (omega arith)
 
 pub returns-then-accept_form : goal.returns-then-accept_form
 returns-then-accept_form c =

@@ -10,7 +10,8 @@ pub loop-preserved : goal.loop-preserved
 loop-preserved c =
     let first = c.args.self.now in
     let step = c.alternative-depth in (
-      alternative_more (with_parts (read_values first.lists) (all_alternatives (left first))) first c.loop.self step.new.self c.loop.counter c.left-end.result c.loop.depth step.result c.loop-test.true
+      alternative_more (with_parts (read_values first.lists) (all_alternatives (left first))) first c.loop.self
+          step.new.self c.loop.counter c.left-end.result c.loop.depth step.result c.loop-test.true
           c.if-depth-eq0.false step.ensures c.loop.invariant.0,
       omega (arith, step.ensures.few, c.loop.invariant.1),
     )

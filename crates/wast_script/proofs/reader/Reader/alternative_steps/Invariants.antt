@@ -7,4 +7,5 @@ use Rattle.wast_script.proofs.Onto.{Adds}
 use Rattle.wast_script.proofs.reader.Reader.alternative_steps.Given as goal
 
 abbrev pub invariant-loop : goal.invariant-loop
-invariant-loop l = Adds l.fn.self l.self (with_parts (read_values l.fn.self.lists) (all_alternatives (left l.fn.self))) (with_parts (read_values l.self.lists) (alternatives (l.end - l.counter) l.depth (left l.self))) × (l.depth ≤ l.counter + 1)
+invariant-loop l = Adds l.fn.self l.self (with_parts (read_values l.fn.self.lists) (all_alternatives (left l.fn.self)))
+    (with_parts (read_values l.self.lists) (alternatives (l.end - l.counter) l.depth (left l.self))) × (l.depth ≤ l.counter + 1)

@@ -33,7 +33,8 @@ pub returns-in-AssertMalformed : goal.returns-in-AssertMalformed
 returns-in-AssertMalformed c = let e = c.malformed_command.ensures in rw c.in-AssertMalformed.is (plain_decided _ _ _ _ _ e.decides e.plain e.few)
 
 pub returns-in-AssertMalformedCustom : goal.returns-in-AssertMalformedCustom
-returns-in-AssertMalformedCustom c = let e = c.malformed_custom_command.ensures in rw c.in-AssertMalformedCustom.is (plain_decided _ _ _ _ _ e.decides e.plain e.few)
+returns-in-AssertMalformedCustom c = let e = c.malformed_custom_command.ensures in
+    rw c.in-AssertMalformedCustom.is (plain_decided _ _ _ _ _ e.decides e.plain e.few)
 
 pub returns-in-AssertInvalid : goal.returns-in-AssertInvalid
 returns-in-AssertInvalid c = let e = c.invalid_command.ensures in rw c.in-AssertInvalid.is (plain_decided _ _ _ _ _ e.decides e.plain e.few)

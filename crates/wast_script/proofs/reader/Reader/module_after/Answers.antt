@@ -4,4 +4,5 @@ use Rattle.wast_script.proofs.Finding.{module_read}
 use Rattle.wast_script.proofs.reader.Reader.module_after.Goals as goal
 
 pub returns : goal.returns
-returns c = module_read c.args.self.now c.id-id.new.self c.contents-form.new.self _ c.at-start.result c.at-end.result c.at-start.ensures c.id-id.ensures c.contents-form.ensures c.at-end.ensures refl
+returns c = module_read c.args.self.now c.id-id.new.self c.contents-form.new.self _
+    c.at-start.result c.at-end.result c.at-start.ensures c.id-id.ensures c.contents-form.ensures c.at-end.ensures refl

@@ -6,5 +6,6 @@ use Rattle.wast_script.proofs.Acting.{wrapped}
 use Rattle.wast_script.proofs.reader.Reader.trap_command.Goals as goal
 
 pub returns : goal.returns
-returns c = wrapped about_run (λ x. AssertTrap x.0 x.1) c.args.self.now c.about_run.new.self (λ vs. (execution_in (all_bare c.about_run.new.self) vs c.about_run.result.0, c.about_run.result.1.now)) _ _
+returns c = wrapped about_run (λ x. AssertTrap x.0 x.1) c.args.self.now c.about_run.new.self
+    (λ vs. (execution_in (all_bare c.about_run.new.self) vs c.about_run.result.0, c.about_run.result.1.now)) _ _
     c.about_run.ensures (λ n h. h)

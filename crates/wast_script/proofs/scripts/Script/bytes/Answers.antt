@@ -5,7 +5,8 @@ use Rattle.wast_script.proofs.Joining.{joined_next, joined_all}
 use Rattle.wast_script.proofs.scripts.Script.bytes.Goals as goal
 
 pub loop-placed-preserved : goal.loop-placed-preserved
-loop-placed-preserved c = joined_next c.part_of-tokens.result.now c.loop-placed.placed-index _ c.loop-placed.bytes.items c.string_of.result.now c.extend_from_slice.new.self.items
+loop-placed-preserved c = joined_next c.part_of-tokens.result.now c.loop-placed.placed-index _
+    c.loop-placed.bytes.items c.string_of.result.now c.extend_from_slice.new.self.items
     c.loop-placed-test.true c.loop-placed.invariant c.string_of.ensures c.in_ok-extend_from_slice.ensures.items
 
 pub returns : goal.returns

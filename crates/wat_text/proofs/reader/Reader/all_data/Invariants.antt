@@ -9,4 +9,5 @@ use Rattle.wat_text.proofs.Steps.{Steps}
 use Rattle.wat_text.proofs.reader.Reader.all_data.Given as goal
 
 abbrev pub invariant-loop : goal.invariant-loop
-invariant-loop l = Steps l.fn.self l.self (with_parts (map bare_data_val l.fn.pieces) (datastring (left l.fn.self))) (with_parts (map bare_data_val l.pieces) (many goes_on datavalue (l.end - l.counter) (left l.self)))
+invariant-loop l = Steps l.fn.self l.self (with_parts (map bare_data_val l.fn.pieces) (datastring (left l.fn.self)))
+    (with_parts (map bare_data_val l.pieces) (many goes_on datavalue (l.end - l.counter) (left l.self)))

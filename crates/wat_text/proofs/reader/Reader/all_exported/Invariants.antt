@@ -9,4 +9,5 @@ use Rattle.wat_text.proofs.Steps.{Steps}
 use Rattle.wat_text.proofs.reader.Reader.all_exported.Given as goal
 
 abbrev pub invariant-loop : goal.invariant-loop
-invariant-loop l = Steps l.fn.self l.self (with_parts (map bare_exported l.fn.items) (exports_info (left l.fn.self))) (with_parts (map bare_exported l.items) (entries key.ExportInfo exported (l.end - l.counter) (left l.self)))
+invariant-loop l = Steps l.fn.self l.self (with_parts (map bare_exported l.fn.items) (exports_info (left l.fn.self)))
+    (with_parts (map bare_exported l.items) (entries key.ExportInfo exported (l.end - l.counter) (left l.self)))

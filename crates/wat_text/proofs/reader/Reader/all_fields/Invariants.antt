@@ -9,4 +9,5 @@ use Rattle.wat_text.proofs.Steps.{Steps}
 use Rattle.wat_text.proofs.reader.Reader.all_fields.Given as goal
 
 abbrev pub invariant-loop : goal.invariant-loop
-invariant-loop l = Steps l.fn.self l.self (with_parts (map bare_struct_field l.fn.fields) (all_fields (left l.fn.self))) (with_parts (map bare_struct_field l.fields) (many_lists (is_form key.Field) struct_field (l.end - l.counter) (left l.self)))
+invariant-loop l = Steps l.fn.self l.self (with_parts (map bare_struct_field l.fn.fields) (all_fields (left l.fn.self)))
+    (with_parts (map bare_struct_field l.fields) (many_lists (is_form key.Field) struct_field (l.end - l.counter) (left l.self)))

@@ -9,4 +9,5 @@ use Rattle.wat_text.proofs.Steps.{Steps}
 use Rattle.wat_text.proofs.reader.Reader.all_fields_of.Given as goal
 
 abbrev pub invariant-loop : goal.invariant-loop
-invariant-loop l = Steps l.fn.self l.self (with_parts (map bare_field l.fn.fields) (modulefields (left l.fn.self))) (with_parts (map bare_field l.fields) (many goes_on modulefield (l.end - l.counter) (left l.self)))
+invariant-loop l = Steps l.fn.self l.self (with_parts (map bare_field l.fn.fields) (modulefields (left l.fn.self)))
+    (with_parts (map bare_field l.fields) (many goes_on modulefield (l.end - l.counter) (left l.self)))

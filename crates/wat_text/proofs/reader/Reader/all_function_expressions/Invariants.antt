@@ -10,4 +10,5 @@ use Rattle.wat_text.proofs.Steps.{Steps}
 use Rattle.wat_text.proofs.reader.Reader.all_function_expressions.Given as goal
 
 abbrev pub invariant-loop : goal.invariant-loop
-invariant-loop l = Steps l.fn.self l.self (with_parts (map bare_expression l.fn.exprs) (funcrefs (left l.fn.self))) (with_parts (map bare_expression l.exprs) (many goes_on funcref_of (l.end - l.counter) (left l.self)))
+invariant-loop l = Steps l.fn.self l.self (with_parts (map bare_expression l.fn.exprs) (funcrefs (left l.fn.self)))
+    (with_parts (map bare_expression l.exprs) (many goes_on funcref_of (l.end - l.counter) (left l.self)))

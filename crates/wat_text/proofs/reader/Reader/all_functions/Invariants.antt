@@ -10,4 +10,5 @@ use Rattle.wat_text.proofs.Steps.{Steps}
 use Rattle.wat_text.proofs.reader.Reader.all_functions.Given as goal
 
 abbrev pub invariant-loop : goal.invariant-loop
-invariant-loop l = Steps l.fn.self l.self (with_parts (bare_indices l.fn.indices) (funcindices (left l.fn.self))) (with_parts (bare_indices l.indices) (many goes_on index (l.end - l.counter) (left l.self)))
+invariant-loop l = Steps l.fn.self l.self (with_parts (bare_indices l.fn.indices) (funcindices (left l.fn.self)))
+    (with_parts (bare_indices l.indices) (many goes_on index (l.end - l.counter) (left l.self)))

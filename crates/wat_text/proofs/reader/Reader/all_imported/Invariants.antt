@@ -9,4 +9,5 @@ use Rattle.wat_text.proofs.Steps.{Steps}
 use Rattle.wat_text.proofs.reader.Reader.all_imported.Given as goal
 
 abbrev pub invariant-loop : goal.invariant-loop
-invariant-loop l = Steps l.fn.self l.self (with_parts (map bare_imported l.fn.items) (imports_info (left l.fn.self))) (with_parts (map bare_imported l.items) (entries key.ImportInfo imported (l.end - l.counter) (left l.self)))
+invariant-loop l = Steps l.fn.self l.self (with_parts (map bare_imported l.fn.items) (imports_info (left l.fn.self)))
+    (with_parts (map bare_imported l.items) (entries key.ImportInfo imported (l.end - l.counter) (left l.self)))

@@ -9,4 +9,5 @@ use Rattle.wat_text.proofs.Steps.{Steps}
 use Rattle.wat_text.proofs.reader.Reader.all_locals.Given as goal
 
 abbrev pub invariant-loop : goal.invariant-loop
-invariant-loop l = Steps l.fn.self l.self (with_parts (map bare_local l.fn.locals) (locals (left l.fn.self))) (with_parts (map bare_local l.locals) (many_lists (is_form key.Local) local (l.end - l.counter) (left l.self)))
+invariant-loop l = Steps l.fn.self l.self (with_parts (map bare_local l.fn.locals) (locals (left l.fn.self)))
+    (with_parts (map bare_local l.locals) (many_lists (is_form key.Local) local (l.end - l.counter) (left l.self)))

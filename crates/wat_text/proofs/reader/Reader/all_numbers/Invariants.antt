@@ -8,4 +8,5 @@ use Rattle.wat_text.proofs.Steps.{Steps}
 use Rattle.wat_text.proofs.reader.Reader.all_numbers.Given as goal
 
 abbrev pub invariant-loop : goal.invariant-loop
-invariant-loop l = Steps l.fn.self l.self (with_parts l.fn.out.items (data_numbers l.fn.key (left l.fn.self))) (with_parts l.out.items (many_lists goes_on (data_number l.fn.key) (l.end - l.counter) (left l.self)))
+invariant-loop l = Steps l.fn.self l.self (with_parts l.fn.out.items (data_numbers l.fn.key (left l.fn.self)))
+    (with_parts l.out.items (many_lists goes_on (data_number l.fn.key) (l.end - l.counter) (left l.self)))

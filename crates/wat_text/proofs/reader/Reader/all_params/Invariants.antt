@@ -9,4 +9,5 @@ use Rattle.wat_text.proofs.Steps.{Steps}
 use Rattle.wat_text.proofs.reader.Reader.all_params.Given as goal
 
 abbrev pub invariant-loop : goal.invariant-loop
-invariant-loop l = Steps l.fn.self l.self (with_parts (map bare_param l.fn.params) (all_params l.fn.are_named (left l.fn.self))) (with_parts (map bare_param l.params) (many_lists (is_form key.Param) (param l.fn.are_named) (l.end - l.counter) (left l.self)))
+invariant-loop l = Steps l.fn.self l.self (with_parts (map bare_param l.fn.params) (all_params l.fn.are_named (left l.fn.self)))
+    (with_parts (map bare_param l.params) (many_lists (is_form key.Param) (param l.fn.are_named) (l.end - l.counter) (left l.self)))

@@ -10,4 +10,5 @@ use Rattle.wat_text.proofs.Steps.{Steps}
 use Rattle.wat_text.proofs.reader.Reader.all_pieces.Given as goal
 
 abbrev pub invariant-loop : goal.invariant-loop
-invariant-loop l = Steps l.fn.self l.self (with_parts (map bare_text l.fn.pieces) (strings (left l.fn.self))) (with_parts (map bare_text l.pieces) (many goes_on string (l.end - l.counter) (left l.self)))
+invariant-loop l = Steps l.fn.self l.self (with_parts (map bare_text l.fn.pieces) (strings (left l.fn.self)))
+    (with_parts (map bare_text l.pieces) (many goes_on string (l.end - l.counter) (left l.self)))

@@ -8,4 +8,5 @@ use Rattle.wat_text.proofs.Steps.{Steps}
 use Rattle.wat_text.proofs.reader.Reader.all_quotes.Given as goal
 
 abbrev pub invariant-loop : goal.invariant-loop
-invariant-loop l = Steps l.fn.self l.self (with_parts (map bare_quote l.fn.quotes.items) (quotes (left l.fn.self))) (with_parts (map bare_quote l.quotes.items) (many goes_on quote (l.end - l.counter) (left l.self)))
+invariant-loop l = Steps l.fn.self l.self (with_parts (map bare_quote l.fn.quotes.items) (quotes (left l.fn.self)))
+    (with_parts (map bare_quote l.quotes.items) (many goes_on quote (l.end - l.counter) (left l.self)))

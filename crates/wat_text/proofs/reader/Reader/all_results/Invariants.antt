@@ -9,4 +9,5 @@ use Rattle.wat_text.proofs.Steps.{Steps}
 use Rattle.wat_text.proofs.reader.Reader.all_results.Given as goal
 
 abbrev pub invariant-loop : goal.invariant-loop
-invariant-loop l = Steps l.fn.self l.self (with_parts (bare_vals l.fn.results) (all_results (left l.fn.self))) (with_parts (bare_vals l.results) (many_lists (is_form key.Result) result (l.end - l.counter) (left l.self)))
+invariant-loop l = Steps l.fn.self l.self (with_parts (bare_vals l.fn.results) (all_results (left l.fn.self)))
+    (with_parts (bare_vals l.results) (many_lists (is_form key.Result) result (l.end - l.counter) (left l.self)))

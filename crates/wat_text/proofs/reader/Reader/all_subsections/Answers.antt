@@ -8,4 +8,5 @@ use Rattle.wat_text.proofs.reader.Reader.all_subsections.Goals as goal
 
 -- `search` does not find what is bare of the subsection, which computes to a variant
 pub loop-preserved : goal.loop-preserved
-loop-preserved c = one_built bare_subsection goes_on subsection_form _ _ _ _ _ c.loop.counter c.left-end.result c.subsection_form-subsection.result _ _ c.loop-test.true (search rules) c.subsection_form-subsection.ensures c.push_subsection.ensures c.loop.invariant
+loop-preserved c = one_built bare_subsection goes_on subsection_form _ _ _ _ _ c.loop.counter c.left-end.result c.subsection_form-subsection.result
+    _ _ c.loop-test.true (search rules) c.subsection_form-subsection.ensures c.push_subsection.ensures c.loop.invariant

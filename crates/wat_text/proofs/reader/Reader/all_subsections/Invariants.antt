@@ -10,4 +10,5 @@ use Rattle.wat_text.proofs.Steps.{Steps}
 use Rattle.wat_text.proofs.reader.Reader.all_subsections.Given as goal
 
 abbrev pub invariant-loop : goal.invariant-loop
-invariant-loop l = Steps l.fn.self l.self (with_parts (map bare_subsection l.fn.found) (subsections (left l.fn.self))) (with_parts (map bare_subsection l.found) (many goes_on subsection_form (l.end - l.counter) (left l.self)))
+invariant-loop l = Steps l.fn.self l.self (with_parts (map bare_subsection l.fn.found) (subsections (left l.fn.self)))
+    (with_parts (map bare_subsection l.found) (many goes_on subsection_form (l.end - l.counter) (left l.self)))

@@ -8,4 +8,5 @@ use Rattle.wat_text.proofs.Steps.{Steps}
 use Rattle.wat_text.proofs.reader.Reader.catches.Given as goal
 
 abbrev pub invariant-loop : goal.invariant-loop
-invariant-loop l = Steps l.fn.self l.self (with_parts (map bare_catch l.fn.catches) (catches (left l.fn.self))) (with_parts (map bare_catch l.catches) (many is_catch catch (l.end - l.counter) (left l.self)))
+invariant-loop l = Steps l.fn.self l.self (with_parts (map bare_catch l.fn.catches) (catches (left l.fn.self)))
+    (with_parts (map bare_catch l.catches) (many is_catch catch (l.end - l.counter) (left l.self)))

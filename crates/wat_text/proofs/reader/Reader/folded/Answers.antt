@@ -8,14 +8,17 @@ use Rattle.wat_text.proofs.reader.Reader.folded.Goals as goal
 use Rattle.wat_text.proofs.reader.Reader.folded.Goals.{else-loop-test, then-loop-test+then-is_closed}
 
 pub loop-init : goal.loop-init
-loop-init c = folded_first c.args.self.now c.open.new.self c.folded_operator.new.self (c.left-end.result - 0) c.left-end.result c.new-body.result c.folded_operator.new.body
+loop-init c = folded_first c.args.self.now c.open.new.self c.folded_operator.new.self
+    (c.left-end.result - 0) c.left-end.result c.new-body.result c.folded_operator.new.body
     c.open.ensures c.folded_operator.ensures (omega arith) c.left-end.ensures
     c.new-body.ensures.levels c.new-body.ensures.waiting c.new-body.ensures.instrs c.new-body.ensures.hints
 
 pub loop-preserved : goal.loop-preserved
 loop-preserved c = held_on false One (folded_expression (left c.args.self.now)) c.args.self.now c.loop.self c.body_step.new.self
-    (suc (c.left-end.result - c.loop.counter)) (suc c.left-end.result) (suc (c.left-end.result - (c.loop.counter + 1))) (c.left-end.result - (c.loop.counter + 1)) c.loop.body c.body_step.new.body
-    c.body_step.ensures (one_goes (reverse c.loop.body.levels.items) (left c.loop.self) (sym c.is_closed.ensures ∙ c.if-is_closed.false)) (omega (arith, c.loop-test.true)) refl c.loop.invariant
+    (suc (c.left-end.result - c.loop.counter)) (suc c.left-end.result) (suc (c.left-end.result - (c.loop.counter + 1)))
+        (c.left-end.result - (c.loop.counter + 1)) c.loop.body c.body_step.new.body
+    c.body_step.ensures (one_goes (reverse c.loop.body.levels.items) (left c.loop.self) (sym c.is_closed.ensures ∙ c.if-is_closed.false))
+        (omega (arith, c.loop-test.true)) refl c.loop.invariant
 
 pub returns : goal.returns
 returns c = folded_last c.args.self.now c.loop.self c.end_body.new.self

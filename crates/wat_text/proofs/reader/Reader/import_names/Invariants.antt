@@ -9,4 +9,5 @@ use Rattle.wat_text.proofs.Steps.{Steps}
 use Rattle.wat_text.proofs.reader.Reader.import_names.Given as goal
 
 abbrev pub invariant-loop : goal.invariant-loop
-invariant-loop l = Steps l.fn.self l.self (with_parts (map bare_text l.fn.names) (import_names (left l.fn.self))) (with_parts (map bare_text l.names) (many (is_form key.Item) import_name (l.end - l.counter) (left l.self)))
+invariant-loop l = Steps l.fn.self l.self (with_parts (map bare_text l.fn.names) (import_names (left l.fn.self)))
+    (with_parts (map bare_text l.names) (many (is_form key.Item) import_name (l.end - l.counter) (left l.self)))

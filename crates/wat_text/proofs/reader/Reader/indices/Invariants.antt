@@ -9,4 +9,5 @@ use Rattle.wat_text.proofs.Steps.{Steps}
 use Rattle.wat_text.proofs.reader.Reader.indices.Given as goal
 
 abbrev pub invariant-loop : goal.invariant-loop
-invariant-loop l = Steps l.fn.self l.self (with_parts (bare_indices l.fn.indices) (indices (left l.fn.self))) (with_parts (bare_indices l.indices) (many is_index_next index (l.end - l.counter) (left l.self)))
+invariant-loop l = Steps l.fn.self l.self (with_parts (bare_indices l.fn.indices) (indices (left l.fn.self)))
+    (with_parts (bare_indices l.indices) (many is_index_next index (l.end - l.counter) (left l.self)))

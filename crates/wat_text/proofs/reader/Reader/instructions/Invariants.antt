@@ -7,4 +7,5 @@ use Rattle.wat_text.proofs.Kept.{Held}
 use Rattle.wat_text.proofs.reader.Reader.instructions.Given as goal
 
 abbrev pub invariant-loop : goal.invariant-loop
-invariant-loop l = Held (may_hint l.purpose) Whole (expression (may_hint l.purpose) (left l.fn.self)) l.fn.self l.self (suc (l.end - l.counter)) l.end (state_of l.self l.body)
+invariant-loop l = Held (may_hint l.purpose) Whole (expression (may_hint l.purpose) (left l.fn.self)) l.fn.self l.self
+    (suc (l.end - l.counter)) l.end (state_of l.self l.body)

@@ -9,4 +9,5 @@ use Rattle.wat_text.proofs.Steps.{Steps}
 use Rattle.wat_text.proofs.reader.Reader.on_clauses.Given as goal
 
 abbrev pub invariant-loop : goal.invariant-loop
-invariant-loop l = Steps l.fn.self l.self (with_parts (map bare_handle l.fn.handlers) (on_clauses (left l.fn.self))) (with_parts (map bare_handle l.handlers) (many (is_form key.On) on (l.end - l.counter) (left l.self)))
+invariant-loop l = Steps l.fn.self l.self (with_parts (map bare_handle l.fn.handlers) (on_clauses (left l.fn.self)))
+    (with_parts (map bare_handle l.handlers) (many (is_form key.On) on (l.end - l.counter) (left l.self)))

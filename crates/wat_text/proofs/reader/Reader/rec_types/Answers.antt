@@ -7,4 +7,5 @@ use Rattle.wat_text.proofs.reader.Reader.rec_types.Goals as goal
 
 -- `search` does not find what is bare of the type, because that computes to a record
 pub loop-preserved : goal.loop-preserved
-loop-preserved c = one_built bare_type goes_on typedef_form _ _ _ _ _ c.loop.counter c.left-end.result c.rec_type-ty.result _ _ c.loop-test.true (search rules) c.rec_type-ty.ensures c.push_type.ensures c.loop.invariant
+loop-preserved c = one_built bare_type goes_on typedef_form _ _ _ _ _ c.loop.counter c.left-end.result c.rec_type-ty.result _ _ c.loop-test.true
+    (search rules) c.rec_type-ty.ensures c.push_type.ensures c.loop.invariant

@@ -8,4 +8,5 @@ use Rattle.wat_text.proofs.Steps.{Steps}
 use Rattle.wat_text.proofs.reader.Reader.rec_types.Given as goal
 
 abbrev pub invariant-loop : goal.invariant-loop
-invariant-loop l = Steps l.fn.self l.self (with_parts (map bare_type l.fn.types) (typedefs (left l.fn.self))) (with_parts (map bare_type l.types) (many goes_on typedef_form (l.end - l.counter) (left l.self)))
+invariant-loop l = Steps l.fn.self l.self (with_parts (map bare_type l.fn.types) (typedefs (left l.fn.self)))
+    (with_parts (map bare_type l.types) (many goes_on typedef_form (l.end - l.counter) (left l.self)))

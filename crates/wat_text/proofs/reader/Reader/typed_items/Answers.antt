@@ -9,4 +9,5 @@ use Rattle.wat_text.proofs.reader.Reader.typed_items.Goals as goal
 
 -- `search` does not find what is bare of the item, because that computes to a tuple
 pub loop-preserved : goal.loop-preserved
-loop-preserved c = one_read bare_import_item (is_form key.Item) import_item _ _ _ _ _ c.loop.counter c.left-end.result c.import_item-item.result _ _ c.loop-test.true (search rules) c.import_item-item.ensures c.push_item.ensures c.loop.invariant
+loop-preserved c = one_read bare_import_item (is_form key.Item) import_item _ _ _ _ _ c.loop.counter c.left-end.result c.import_item-item.result _
+    _ c.loop-test.true (search rules) c.import_item-item.ensures c.push_item.ensures c.loop.invariant

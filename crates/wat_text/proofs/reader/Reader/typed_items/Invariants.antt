@@ -9,4 +9,5 @@ use Rattle.wat_text.proofs.Steps.{Steps}
 use Rattle.wat_text.proofs.reader.Reader.typed_items.Given as goal
 
 abbrev pub invariant-loop : goal.invariant-loop
-invariant-loop l = Steps l.fn.self l.self (with_parts (map bare_import_item l.fn.items) (import_items_of (left l.fn.self))) (with_parts (map bare_import_item l.items) (many (is_form key.Item) import_item (l.end - l.counter) (left l.self)))
+invariant-loop l = Steps l.fn.self l.self (with_parts (map bare_import_item l.fn.items) (import_items_of (left l.fn.self)))
+    (with_parts (map bare_import_item l.items) (many (is_form key.Item) import_item (l.end - l.counter) (left l.self)))

@@ -10,4 +10,5 @@ use Rattle.wat_text.proofs.Steps.{Steps}
 use Rattle.wat_text.proofs.reader.Reader.unnamed_locals.Given as goal
 
 abbrev pub invariant-loop : goal.invariant-loop
-invariant-loop l = Steps l.fn.self l.self (with_parts (map bare_local l.fn.locals) (unnamed_locals (left l.fn.self))) (with_parts (map bare_local l.locals) (many goes_on unnamed_local (l.end - l.counter) (left l.self)))
+invariant-loop l = Steps l.fn.self l.self (with_parts (map bare_local l.fn.locals) (unnamed_locals (left l.fn.self)))
+    (with_parts (map bare_local l.locals) (many goes_on unnamed_local (l.end - l.counter) (left l.self)))

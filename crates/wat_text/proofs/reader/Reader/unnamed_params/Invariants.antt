@@ -9,4 +9,5 @@ use Rattle.wat_text.proofs.Steps.{Steps}
 use Rattle.wat_text.proofs.reader.Reader.unnamed_params.Given as goal
 
 abbrev pub invariant-loop : goal.invariant-loop
-invariant-loop l = Steps l.fn.self l.self (with_parts (map bare_param l.fn.params) (unnamed_params (left l.fn.self))) (with_parts (map bare_param l.params) (many goes_on unnamed_param (l.end - l.counter) (left l.self)))
+invariant-loop l = Steps l.fn.self l.self (with_parts (map bare_param l.fn.params) (unnamed_params (left l.fn.self)))
+    (with_parts (map bare_param l.params) (many goes_on unnamed_param (l.end - l.counter) (left l.self)))

@@ -8,4 +8,5 @@ use Rattle.wat_text.proofs.Steps.{Steps}
 use Rattle.wat_text.proofs.reader.Reader.values.Given as goal
 
 abbrev pub invariant-loop : goal.invariant-loop
-invariant-loop l = Steps l.fn.self l.self (with_parts (bare_vals l.fn.values) (valtypes (left l.fn.self))) (with_parts (bare_vals l.values) (many goes_on valtype (l.end - l.counter) (left l.self)))
+invariant-loop l = Steps l.fn.self l.self (with_parts (bare_vals l.fn.values) (valtypes (left l.fn.self)))
+    (with_parts (bare_vals l.values) (many goes_on valtype (l.end - l.counter) (left l.self)))
