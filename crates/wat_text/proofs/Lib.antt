@@ -5,6 +5,7 @@ pub mod Falls
 pub mod Fills
 pub mod Flags
 pub mod Goings
+pub mod Groups
 pub mod Instrs
 pub mod Kept
 pub mod Labels

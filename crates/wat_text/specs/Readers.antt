@@ -7,12 +7,16 @@
 -- function succeeds, its result is the value of the rule. If it rejects the tokens, the rule is `None`.
 --
 --   (result i32) drop      the rule of results returns `i32`, and leaves `drop`
-use Rattle.std.specs.Prelude.{◌≡◌, ◌≢◌, ⊤, ℕ, ◌-◌, Bool, true, false, List, [], ◌∷◌, ◌++◌, map, drop, Option, None, Some}
+use Rattle.std.specs.Prelude.{◌≡◌, ◌≢◌, ⊤, ℕ, zero, suc, ◌-◌, Bool, true, false, List, [], ◌∷◌, ◌++◌, length, map, drop, slice_get, Option, None, Some}
+use Rattle.std.specs.Global.{Vec}
 use Rattle.wast_base.specs.declared.ids.Span.{Span}
 use Rattle.wat_tokens.specs.declared.faults.TextFault.{TextFault}
 use Rattle.wat_tokens.specs.declared.faults.TextFault.TheVariants as fault
 use Rattle.wat_tokens.specs.declared.faults.TextError.{TextError}
 use Rattle.wat_tokens.specs.declared.tokens.Placed.{Placed}
+use Rattle.wat_tokens.specs.declared.tokens.Token.TheVariants as token
+use Rattle.wat_tokens.specs.Groups.{all_in}
+use Rattle.wat_tokens.specs.Scans.{placed}
 use Rattle.wat_syntax.specs.Bare.{bare_placed}
 use Rattle.wat_syntax.specs.Tokens.{Toks, Parse, position_in, optional, is_there, with_parts}
 use Rattle.wat_text.specs.declared.reader.Reader.{Reader}
@@ -21,9 +25,24 @@ use Rattle.wat_text.specs.declared.reader.Reader.{Reader}
 abbrev pub left_of : ℕ → List Placed → Span → Toks
 left_of at found end = record { before = position_in (drop (at - 1) found) end; left = drop at found; end = end }
 
+-- So many tokens of a list. If it has fewer, a ')' at the start of the text is in the place of each that it lacks. A reader never
+-- counts more tokens than it has, but no invariant states that, so that a count alone says how many tokens are left.
+unfoldable pub exactly : ℕ → List Placed → List Placed
+exactly zero found = []
+exactly (suc n) [] = placed token.Close 0 ∷ exactly n []
+exactly (suc n) (p ∷ ps) = p ∷ exactly n ps
+
+-- the tokens of a group and of those after it, of which all have so many
+unfoldable pub grouped : List Placed → ℕ → List (Vec Placed) → List Placed
+grouped found count later = found ++ exactly (count - length found) (all_in later)
+
+-- the token after so many others in groups
+unfoldable pub token_in : List (Vec Placed) → ℕ → Option Placed
+token_in groups ahead = slice_get (all_in groups) ahead
+
 -- the tokens that are left, without addresses
 unfoldable pub left : Reader → Toks
-left r = left_of r.at (map bare_placed r.tokens.items) r.end
+left r = left_of r.at (map bare_placed (grouped r.tokens.items r.count r.later.items)) r.end
 
 -- There is no error, and no allocation of the tree failed.
 abbrev pub IsClean : Reader → Type 0

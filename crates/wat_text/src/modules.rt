@@ -18,6 +18,7 @@ ghost use Rattle.wat_text.specs.Denotes.{contents_of as contents_rule, module_af
 ghost use Rattle.wat_text.specs.Contents.{in_rule};
 ghost use Rattle.wat_text.specs.Finishes.{ReadsFieldsToEnd, ReadsModuleToEnd};
 ghost use Rattle.wat_tokens.specs.declared.faults.TextFault.TheVariants as fault;
+ghost use Rattle.wat_tokens.specs.Groups.{all_in, IsCounted};
 ghost use Rattle.wat_syntax.specs.Bare.{bare_text};
 ghost use Rattle.wat_syntax.specs.BareFields.{bare_field, bare_fields};
 
@@ -26,7 +27,9 @@ use crate::quotes::{Quote, quoted_tokens};
 use crate::reader::Reader;
 use std::alloc::Global;
 use wast_tree::{Id, Index, ModuleField, NameAnnotation, Seq, Span, discard_fields};
-use wat_tokens::{Annotation, Key, Placed, Strings, TextError, TextFault, Token, tokens_of};
+use wat_tokens::{
+    Annotation, Key, Placed, Strings, TextError, TextFault, Token, TokenGroups, token_groups_of,
+};
 
 /// What a module contains (text format: modules).
 ///
@@ -539,6 +542,25 @@ pub(crate) fn module_of_tokens<'a>(
     module_after(source, reader, head, strings)
 }
 
+/// Reads a module from the tokens of a text in groups, as [`read`] does. The contract does not bound
+/// the position of an error.
+fn module_of_groups<'a>(
+    alloc: Global,
+    source: &str,
+    groups: TokenGroups<'a>,
+    end: Span,
+    strings: &'a Strings,
+) -> Result<TextModule<'a>, TextError>
+    requires { IsCounted groups }
+    ensures well_formed { IfOk result (λ m. IsTrue (is_well_formed_text m.kind)) }
+    ensures denotes { IfOk result (IsModule (module_in source.now (all_bare (all_in groups.entry.groups.items) end))) }
+    ensures refuses { IfErr result (λ e. e.fault ≢ fault.Memory → module_in source.now (all_bare (all_in groups.entry.groups.items) end) ≡ None) }
+{
+    let mut reader = Reader::of_groups(alloc, groups, end);
+    let head = reader.module_head();
+    module_after(source, reader, head, strings)
+}
+
 /// Reads a module from the tokens of a text up to `end`, as [`read`] does.
 fn module_up_to<'a>(
     alloc: Global,
@@ -553,6 +575,29 @@ fn module_up_to<'a>(
     ensures place { IfErr result (λ e. e.span.offset ≤ end.offset) }
 {
     match module_of_tokens(alloc, source, tokens, end, strings) {
+        Ok(module) => Ok(module),
+        Err(error) => Err(TextError {
+            span: up_to_end(error.span, end),
+            ..error
+        }),
+    }
+}
+
+/// Reads a module from the tokens of a text in groups up to `end`, as [`read`] does.
+fn module_of_groups_up_to<'a>(
+    alloc: Global,
+    source: &str,
+    groups: TokenGroups<'a>,
+    end: Span,
+    strings: &'a Strings,
+) -> Result<TextModule<'a>, TextError>
+    requires { IsCounted groups }
+    ensures well_formed { IfOk result (λ m. IsTrue (is_well_formed_text m.kind)) }
+    ensures denotes { IfOk result (IsModule (module_in source.now (all_bare (all_in groups.entry.groups.items) end))) }
+    ensures refuses { IfErr result (λ e. e.fault ≢ fault.Memory → module_in source.now (all_bare (all_in groups.entry.groups.items) end) ≡ None) }
+    ensures place { IfErr result (λ e. e.span.offset ≤ end.offset) }
+{
+    match module_of_groups(alloc, source, groups, end, strings) {
         Ok(module) => Ok(module),
         Err(error) => Err(TextError {
             span: up_to_end(error.span, end),
@@ -599,7 +644,8 @@ fn module_up_to<'a>(
 ///
 /// # Memory
 ///
-/// Allocates for the tokens, the tree and `strings`.
+/// Allocates for the tokens, the tree and `strings`. All tokens are there before the tree, and are
+/// freed in groups of 512 while it is read.
 #[tactic(auto, using(crate::proofs::Opened::text_ok))]
 pub fn read<'a>(
     alloc: Global,
@@ -612,8 +658,8 @@ pub fn read<'a>(
     ensures place { IfErr result (λ e. e.span.offset ≤ length text.now) }
 {
     let end = Span { offset: text.len() };
-    match tokens_of(alloc, text, strings) {
-        Ok(tokens) => module_up_to(alloc, text, tokens, end, strings),
+    match token_groups_of(alloc, text, strings) {
+        Ok(groups) => module_of_groups_up_to(alloc, text, groups, end, strings),
         Err(error) => Err(first_error(alloc, text, strings, error)),
     }
 }

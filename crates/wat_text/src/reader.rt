@@ -6,18 +6,41 @@
 //!
 //! The next token is the first one that is left. A form is `(`, a keyword, and all up to the
 //! closing `)`, such as `(result i32 i64)`.
+//!
+//! The tokens of a text are in groups. A group is freed as soon as a token after it is read, so the
+//! tree takes its memory.
 
-ghost use Rattle.std.specs.Prelude.{◌≡◌, ◌≢◌, true, false, None, Some, Ok, Err, option_map, IfSome};
-ghost use Rattle.wat_syntax.specs.Tokens.{peek, after, position, count, is_lparen, is_end, word_of, key_of, is_key, is_form, lparen, rparen, keyword, form};
+ghost use Rattle.std.specs.Prelude.{◌≡◌, ◌≢◌, ◌-◌, true, false, None, Some, Ok, Err, drop, length, map, option_map, slice_get, IfSome};
+ghost use Rattle.wat_syntax.specs.Tokens.{peek, after, position, position_in, count, is_lparen, is_end, word_of, key_of, is_key, is_form, lparen, rparen, keyword, form};
 ghost use Rattle.wat_tokens.specs.declared.faults.TextFault.TheVariants as fault;
 ghost use Rattle.wat_syntax.specs.Values.{number_text, u32, is_number, is_string, is_index, string, name, id, name_annotation, index, optional_index, index_or_zero};
-ghost use Rattle.wat_text.specs.Readers.{left, IsClean, IsRefused, Decides, Expects, Accepts, Finds, Fails, Pushes};
+ghost use Rattle.wat_tokens.specs.Groups.{all_in, IsCounted};
+ghost use Rattle.wat_text.specs.Readers.{left, exactly, grouped, token_in, IsClean, IsRefused, Decides, Expects, Accepts, Finds, Fails, Pushes};
 ghost use Rattle.wat_text.specs.Denotes.{all_bare};
-ghost use Rattle.wat_syntax.specs.Bare.{bare_id_option, bare_index, bare_index_option, bare_name_option, bare_text, bare_token};
+ghost use Rattle.wat_syntax.specs.Bare.{bare_id_option, bare_index, bare_index_option, bare_name_option, bare_placed, bare_text, bare_token};
 
 use std::alloc::{AllocError, Global};
+use std::collections::VecDeque;
 use wast_tree::{Id, Index, NameAnnotation, Seq, Span, TreeBuilder};
-use wat_tokens::{Annotation, Key, Placed, TextError, TextFault, Token, Word, unsigned32};
+use wat_tokens::{
+    Annotation, Key, Placed, TextError, TextFault, Token, TokenGroups, Word, unsigned32,
+};
+
+/// Returns the token after `ahead` others in groups of tokens. Returns `None` if they have not so
+/// many.
+#[tactic(auto, using(crate::proofs::Groups::first_in, crate::proofs::Groups::later_in, crate::proofs::Groups::none_in))]
+fn token_in<'a>(groups: &VecDeque<Vec<Placed<'a>>>, ahead: usize) -> Option<Placed<'a>>
+    ensures { result ≡ token_in groups.now.items ahead }
+{
+    let mut rest = ahead;
+    for group in groups {
+        match group.get(rest) {
+            Some(placed) => return Some(*placed),
+            None => rest -= group.len(),
+        }
+    }
+    None
+}
 
 /// The tokens of a text, how many of them are read, and the first error.
 #[derive(Drop)]
@@ -25,8 +48,14 @@ pub(crate) struct Reader<'a> {
     pub alloc: Global,
     /// Appends parts of the tree to lists, and stores whether an allocation failed.
     pub make: TreeBuilder,
+    /// The group of tokens that is read. Tokens before it are freed.
     tokens: Vec<Placed<'a>>,
-    /// How many tokens are read. After an error, no token is left.
+    /// The groups after it.
+    later: VecDeque<Vec<Placed<'a>>>,
+    /// How many tokens this group and those after it have.
+    count: usize,
+    /// How many tokens of this group are read. After an error, it is past all tokens, so that none
+    /// is left.
     at: usize,
     /// The position after the last token.
     end: Span,
@@ -34,16 +63,46 @@ pub(crate) struct Reader<'a> {
 }
 
 impl<'a> Reader<'a> {
-    /// Makes a reader that has read no token. `end` is the position after the last token.
-    #[tactic(auto, unfolding(crate::specs::Readers::left))]
+    /// Makes a reader that has read no token, of tokens in one list. `end` is the position after
+    /// the last token.
+    #[tactic(auto, unfolding(crate::specs::Readers::left), using(crate::proofs::Groups::one_group))]
     pub(crate) fn new(alloc: Global, tokens: Vec<Placed<'a>>, end: Span) -> Reader<'a>
         ensures left { left result ≡ all_bare tokens.entry.items end }
         ensures clean { IsClean result }
     {
+        let count = tokens.len();
+        let later = VecDeque::new(alloc);
         Reader {
             alloc,
             make: TreeBuilder::new(alloc),
             tokens,
+            later,
+            count,
+            at: 0,
+            end,
+            fault: None,
+        }
+    }
+
+    /// Makes a reader that has read no token, of tokens in groups. `end` is the position after the
+    /// last token.
+    #[tactic(auto, unfolding(crate::specs::Readers::left), using(crate::proofs::Groups::all_groups))]
+    pub(crate) fn of_groups(alloc: Global, groups: TokenGroups<'a>, end: Span) -> Reader<'a>
+        requires { IsCounted groups }
+        ensures left { left result ≡ all_bare (all_in groups.entry.groups.items) end }
+        ensures clean { IsClean result }
+    {
+        let tokens = Vec::new(alloc);
+        let TokenGroups {
+            groups: later,
+            count,
+        } = groups;
+        Reader {
+            alloc,
+            make: TreeBuilder::new(alloc),
+            tokens,
+            later,
+            count,
             at: 0,
             end,
             fault: None,
@@ -62,44 +121,150 @@ impl<'a> Reader<'a> {
         self.fault
     }
 
+    /// Returns how many tokens this group and those after it have.
+    #[inline(always)]
+    #[tactic(auto, using(crate::proofs::Groups::group_length))]
+    fn all(&self) -> usize
+        ensures { result ≡ length (grouped self.now.tokens.items self.now.count self.now.later.items) }
+    {
+        let here = self.tokens.len();
+        here + self.count.saturating_sub(here)
+    }
+
     /// Returns how many tokens are left.
     #[tactic(auto, unfolding(crate::specs::Readers::left, wat_syntax::specs::Tokens::count), using(crate::proofs::Lefts::counted))]
     pub(crate) fn left(&self) -> usize
         ensures { result ≡ count (left self.now) }
     {
-        self.tokens.len().saturating_sub(self.at)
+        self.all().saturating_sub(self.at)
     }
 
-    /// Returns the token after `ahead` others. Returns `None` at the end, and after an error.
-    #[tactic(auto, unfolding(crate::specs::Readers::left, wat_syntax::specs::Tokens::peek), using(crate::proofs::Lefts::peeked, crate::proofs::Lefts::none_peeked))]
-    pub(crate) fn look(&self, ahead: usize) -> Option<Token<'a>>
+    /// Returns the token after `ahead` others in the groups after this one. Returns `None` if no
+    /// such token is counted.
+    #[tactic(auto, unfolding(crate::specs::Readers::token_in), using(crate::proofs::Groups::exactly_here, crate::proofs::Groups::exactly_lacks, crate::proofs::Groups::exactly_past))]
+    fn token_after(&self, ahead: usize) -> Option<Placed<'a>>
+        ensures { result ≡ slice_get (exactly (self.now.count - length self.now.tokens.items) (all_in self.now.later.items)) ahead }
+    {
+        if self.count.saturating_sub(self.tokens.len()) <= ahead {
+            return None;
+        }
+        match token_in(&self.later, ahead) {
+            Some(placed) => Some(placed),
+            None => Some(Placed {
+                token: Token::Close,
+                span: Span { offset: 0 },
+            }),
+        }
+    }
+
+    /// Returns the token with this number in this group and those after it, if they have so many.
+    #[tactic(auto, using(crate::proofs::Groups::token_here, crate::proofs::Groups::token_there))]
+    fn token_at(&self, at: usize) -> Option<Placed<'a>>
+        ensures { result ≡ slice_get (grouped self.now.tokens.items self.now.count self.now.later.items) at }
+    {
+        match self.tokens.get(at) {
+            Some(placed) => Some(*placed),
+            None => self.token_after(at - self.tokens.len()),
+        }
+    }
+
+    /// Looks for the token after `ahead` others, as [`Reader::look`] does, in the groups after this
+    /// one too. Few tokens are looked for there, so it is not put into its callers.
+    #[cold]
+    #[inline(never)]
+    #[tactic(auto, unfolding(crate::specs::Readers::left, wat_syntax::specs::Tokens::peek), using(crate::proofs::Lefts::none_peeked, crate::proofs::Groups::peeked_at, crate::proofs::Groups::none_peeked_at))]
+    fn look_further(&self, ahead: usize) -> Option<Token<'a>>
         ensures { option_map bare_token result ≡ peek ahead (left self.now) }
     {
-        match self.tokens.get(self.at.saturating_add(ahead)) {
+        let all = self.all();
+        if all.saturating_sub(self.at) <= ahead {
+            return None;
+        }
+        match self.token_at(self.at + ahead) {
             Some(placed) => Some(placed.token),
             None => None,
         }
     }
 
-    /// Returns the position of the next token, or the end if no token is left.
-    #[tactic(auto, unfolding(crate::specs::Readers::left, wat_syntax::specs::Tokens::position), using(crate::proofs::Lefts::placed, crate::proofs::Lefts::none_placed))]
-    pub(crate) fn place(&self) -> Span
-        ensures { result ≡ position (left self.now) }
+    /// Returns the position of the token with this number in this group and those after it, or the
+    /// end if they have not so many.
+    #[cold]
+    #[inline(never)]
+    #[tactic(auto, using(crate::proofs::Groups::placed_at, crate::proofs::Groups::none_placed_at))]
+    fn place_of(&self, at: usize) -> Span
+        ensures { result ≡ position_in (drop at (map bare_placed (grouped self.now.tokens.items self.now.count self.now.later.items))) self.now.end }
     {
-        match self.tokens.get(self.at) {
+        match self.token_at(at) {
             Some(placed) => placed.span,
             None => self.end,
         }
     }
 
+    /// Returns the token after `ahead` others. Returns `None` at the end, and after an error.
+    #[tactic(auto, unfolding(crate::specs::Readers::left, wat_syntax::specs::Tokens::peek), using(crate::proofs::Groups::peeked_here))]
+    pub(crate) fn look(&self, ahead: usize) -> Option<Token<'a>>
+        ensures { option_map bare_token result ≡ peek ahead (left self.now) }
+    {
+        match self.tokens.get(self.at.saturating_add(ahead)) {
+            Some(placed) => Some(placed.token),
+            None => self.look_further(ahead),
+        }
+    }
+
+    /// Returns the position of the next token, or the end if no token is left.
+    #[tactic(auto, unfolding(crate::specs::Readers::left, wat_syntax::specs::Tokens::position), using(crate::proofs::Groups::placed_here))]
+    pub(crate) fn place(&self) -> Span
+        ensures { result ≡ position (left self.now) }
+    {
+        match self.tokens.get(self.at) {
+            Some(placed) => placed.span,
+            None => self.place_of(self.at),
+        }
+    }
+
     /// Returns the position of the token that was read last.
-    #[tactic(auto, unfolding(crate::specs::Readers::left), using(crate::proofs::Lefts::placed, crate::proofs::Lefts::none_placed))]
+    #[tactic(auto, unfolding(crate::specs::Readers::left), using(crate::proofs::Groups::placed_here))]
     pub(crate) fn place_before(&self) -> Span
         ensures { result ≡ (left self.now).before }
     {
-        match self.tokens.get(self.at.saturating_sub(1)) {
+        let before = self.at.saturating_sub(1);
+        match self.tokens.get(before) {
             Some(placed) => placed.span,
-            None => self.end,
+            None => self.place_of(before),
+        }
+    }
+
+    /// Frees this group and goes on to the next one, if its first token is read.
+    fn next_group(&mut self)
+        ensures left { left self.new ≡ left self.old }
+        ensures fault { self.new.fault ≡ self.old.fault }
+        ensures make { self.new.make ≡ self.old.make }
+    {
+        let read = self.tokens.len();
+        if self.at <= read {
+            return;
+        }
+        if let Some(group) = self.later.pop_front() {
+            let mut tokens = group;
+            let rest = self.count.saturating_sub(read);
+            tokens.truncate(rest);
+            self.tokens = tokens;
+            self.count = rest;
+            self.at -= read;
+        }
+    }
+
+    /// Reads the next token, which is in the groups after this one, if there is one.
+    #[cold]
+    #[inline(never)]
+    fn skip_further(&mut self)
+        ensures left { left self.new ≡ after (left self.old) }
+        ensures fault { self.new.fault ≡ self.old.fault }
+        ensures make { self.new.make ≡ self.old.make }
+    {
+        if self.at < self.all() {
+            self.at += 1;
+            self.next_group();
         }
     }
 
@@ -112,6 +277,8 @@ impl<'a> Reader<'a> {
     {
         if self.at < self.tokens.len() {
             self.at += 1;
+        } else {
+            self.skip_further();
         }
     }
 

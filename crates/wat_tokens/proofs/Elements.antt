@@ -1,6 +1,5 @@
 -- Closes the loops over the elements of a string: each is read after those before it, and has its place.
-use Rattle.std.proofs.Common.{◌≡◌, ◌∙◌, ℕ, zero, suc, ◌+◌, ◌-◌, ◌*◌, ◌≤◌, ◌==◌, Bool, true, false, List, [], ◌∷◌, ◌++◌, length, drop, Option}
-use Rattle.std.proofs.Common.{None, Some, Result, Ok, Err, append_assoc, append-nil, replicate, refl, sym, ap, subst, arith, eqb-true}
+use Rattle.std.proofs.Common.{◌≡◌, ◌∙◌, ℕ, zero, suc, ◌+◌, ◌-◌, ◌*◌, ◌≤◌, ◌==◌, Bool, true, false, List, [], ◌∷◌, ◌++◌, length, drop, take, Option, None, Some, Result, Ok, Err, append_assoc, append-nil, replicate, refl, sym, ap, ap₂, subst, arith, eqb-true}
 use Rattle.std.proofs.lemmas.List.{drop-drop, length-drop}
 use Rattle.std.specs.Prelude.{if◌then◌else◌, codes, ◌&&◌, not, nat_le}
 use Rattle.std.specs.Char.{encode_utf8}
@@ -8,8 +7,8 @@ use Rattle.wat_grammar.specs.Parts.{◌>>=◌, after, front}
 use Rattle.wat_grammar.specs.Characters.{hexdigit}
 use Rattle.wat_grammar.specs.Integers.{hexnum}
 use Rattle.wat_grammar.specs.Strings.{is_raw, is_scalar, named, braced, unicode, byte, escape, stringelem, joined, elements, string}
-use Rattle.wat_tokens.specs.Strings.{added, element_fault, Spells, spelled}
-use Rattle.wat_tokens.proofs.Fronts.{begins, stops}
+use Rattle.wat_tokens.specs.Strings.{added, element_fault, begins_raw, Takes, Spells, spelled}
+use Rattle.wat_tokens.proofs.Fronts.{begins, stops, front_is, tail_is}
 
 -- r is what is left of a text after a character or more
 record Suffix (r text : List ℕ) : Type 0 where
@@ -33,9 +32,7 @@ unfolding braced
 braced_suffix [] t h = absurd cc
 braced_suffix (c ∷ cs) t h = go (c == 0x7d) (braced_suffix cs) h
   where
-    go : (b : Bool) → ((t : List ℕ × List ℕ) → braced cs ≡ Some t → Suffix t.1 cs)
-        → elim b as (λ x. Option (List ℕ × List ℕ)) [ true ↦ Some ([], cs) | false ↦ braced cs >>= λ t. Some (c ∷ t.0, t.1) ] ≡ Some t
-        → Suffix t.1 (c ∷ cs)
+    go : (b : Bool) → ((t : List ℕ × List ℕ) → braced cs ≡ Some t → Suffix t.1 cs) → elim b as (λ x. Option (List ℕ × List ℕ)) [ true ↦ Some ([], cs) | false ↦ braced cs >>= λ t. Some (c ∷ t.0, t.1) ] ≡ Some t → Suffix t.1 (c ∷ cs)
     go true inner e = record { n = zero; is = let same : (let p : List ℕ × List ℕ = ([], cs) in p) ≡ t = cc in sym (ap (λ p. p.1) same) }
     go false inner e =
         let b = bound (braced cs) (λ t. let p : List ℕ × List ℕ = (c ∷ t.0, t.1) in Some p) t e in
@@ -72,24 +69,20 @@ after_u (c ∷ []) digits h = go (c == 0x75) h
     go false e = absurd cc
 after_u (c ∷ d ∷ rest) digits h = go (c == 0x75) (d == 0x7b) h
   where
-    go : (a b : Bool)
-        → elim a as (λ x. Option (List ℕ)) [ true ↦ elim b as (λ x. Option (List ℕ)) [ true ↦ Some rest | false ↦ None ] | false ↦ None ]
-        ≡ Some digits → Suffix digits (c ∷ d ∷ rest)
+    go : (a b : Bool) → elim a as (λ x. Option (List ℕ)) [ true ↦ elim b as (λ x. Option (List ℕ)) [ true ↦ Some rest | false ↦ None ] | false ↦ None ] ≡ Some digits → Suffix digits (c ∷ d ∷ rest)
     go true true e = record { n = 1; is = let same : rest ≡ digits = cc in sym same }
     go true false e = absurd cc
     go false b e = absurd cc
 
 inner_suffix : (r digits text : List ℕ) → Suffix r digits → Suffix digits text → Suffix r text
-inner_suffix r digits text a b = record { n = b.n + suc a.n; is = a.is ∙ ap (drop (suc a.n)) b.is
-    ∙ drop-drop (suc a.n) (suc b.n) text ∙ ap (λ k. drop k text) {x = suc b.n + suc a.n} {y = suc (b.n + suc a.n)} (omega arith) }
+inner_suffix r digits text a b = record { n = b.n + suc a.n; is = a.is ∙ ap (drop (suc a.n)) b.is ∙ drop-drop (suc a.n) (suc b.n) text ∙ ap (λ k. drop k text) {x = suc b.n + suc a.n} {y = suc (b.n + suc a.n)} (omega arith) }
 
 escape_suffix : (text : List ℕ) (y : List ℕ × List ℕ) → escape text ≡ Some y → Suffix y.1 text
 escape_suffix [] y h = absurd cc
 escape_suffix (c ∷ cs) y h = go (named c) (after (codes "u{") (c ∷ cs)) refl h
   where
     go : (o : Option ℕ) (p : Option (List ℕ)) → after (codes "u{") (c ∷ cs) ≡ p
-        → elim o as (λ x. Option (List ℕ × List ℕ)) [ Some b ↦ Some (b ∷ [], cs) | None ↦
-            elim p as (λ x. Option (List ℕ × List ℕ)) [ Some digits ↦ unicode digits | None ↦ byte (c ∷ cs) ] ] ≡ Some y → Suffix y.1 (c ∷ cs)
+        → elim o as (λ x. Option (List ℕ × List ℕ)) [ Some b ↦ Some (b ∷ [], cs) | None ↦ elim p as (λ x. Option (List ℕ × List ℕ)) [ Some digits ↦ unicode digits | None ↦ byte (c ∷ cs) ] ] ≡ Some y → Suffix y.1 (c ∷ cs)
     go (Some b) p is e = record { n = 0; is = same_rest cs [] (b ∷ []) y e }
     go None (Some digits) is e = inner_suffix y.1 digits (c ∷ cs) (unicode_suffix digits y e) (after_u (c ∷ cs) digits is)
     go None None is e = byte_suffix (c ∷ cs) y e
@@ -98,8 +91,7 @@ element_suffix : (text : List ℕ) (y : List ℕ × List ℕ) → stringelem tex
 element_suffix [] y h = absurd cc
 element_suffix (c ∷ cs) y h = go (c == 0x5c) (is_raw c) h
   where
-    go : (a b : Bool) → elim a as (λ x. Option (List ℕ × List ℕ)) [ true ↦ escape cs | false ↦ if b then Some (c ∷ [], cs) else None ] ≡ Some y
-        → Suffix y.1 (c ∷ cs)
+    go : (a b : Bool) → elim a as (λ x. Option (List ℕ × List ℕ)) [ true ↦ escape cs | false ↦ if b then Some (c ∷ [], cs) else None ] ≡ Some y → Suffix y.1 (c ∷ cs)
     go true b e = after_one c y.1 cs (escape_suffix cs y e)
     go false true e = record { n = 0; is = same_rest cs [] (c ∷ []) y e }
     go false false e = absurd cc
@@ -112,20 +104,20 @@ place_of (suc k) (x ∷ xs) =
     let shorter : length (drop k xs) ≡ length xs - k = length-drop k xs in
     place_of k xs ∙ ap (λ n. drop n (x ∷ xs)) {x = suc (length xs - length (drop k xs))} {y = suc (length xs) - length (drop k xs)} (omega (arith, shorter))
 
--- What holds between two elements: what is read, and so many elements at most are left.
+-- What holds between two elements: what is read, and so many characters at most are left.
 pub record Reading (text out rest : List ℕ) (n : ℕ) : Type 0 where
   pub at : ℕ
   pub left : rest ≡ drop at text
-  pub is : elements (length text) text ≡ joined out (elements n rest)
+  pub is : elements (length text) text ≡ joined out (elements (length text) rest)
   pub enough : length rest ≤ n
   pub shorter : length rest ≤ length text
 
+joined_none : (r : Result (List ℕ) (List ℕ)) → r ≡ joined [] r
+joined_none (Ok x) = refl
+joined_none (Err x) = refl
+
 pub started : (text : List ℕ) → Reading text [] text (length text)
-started text = record { at = 0; left = refl; is = go (elements (length text) text); enough = omega arith; shorter = omega arith }
-  where
-    go : (r : Result (List ℕ) (List ℕ)) → r ≡ joined [] r
-    go (Ok x) = refl
-    go (Err x) = refl
+started text = record { at = 0; left = refl; is = joined_none (elements (length text) text); enough = omega arith; shorter = omega arith }
 
 joined_twice : (a b : List ℕ) (r : Result (List ℕ) (List ℕ)) → joined a (joined b r) ≡ joined (a ++ b) r
 joined_twice a b (Ok x) = ap Ok (sym (append_assoc a b x))
@@ -135,14 +127,30 @@ one_element : (m c : ℕ) (cs bytes rest : List ℕ) → stringelem (c ∷ cs) �
 unfolding elements
 one_element m c cs bytes rest is = ap (λ o. elim o as (λ x. Result (List ℕ) (List ℕ)) [ Some e ↦ joined e.0 (elements m e.1) | None ↦ Err (c ∷ cs) ]) is
 
-no_element : (m c : ℕ) (cs : List ℕ) → stringelem (c ∷ cs) ≡ None → elements (suc m) (c ∷ cs) ≡ Err (c ∷ cs)
+no_element : (m c : ℕ) (cs : List ℕ) → stringelem (c ∷ cs) ≡ None → elements m (c ∷ cs) ≡ Err (c ∷ cs)
 unfolding elements
-no_element m c cs is = ap (λ o. elim o as (λ x. Result (List ℕ) (List ℕ)) [ Some e ↦ joined e.0 (elements m e.1) | None ↦ Err (c ∷ cs) ]) is
+no_element zero c cs is = refl
+no_element (suc m) c cs is = ap (λ o. elim o as (λ x. Result (List ℕ) (List ℕ)) [ Some e ↦ joined e.0 (elements m e.1) | None ↦ Err (c ∷ cs) ]) is
 
 nothing_left : (n : ℕ) → elements n [] ≡ Ok []
 unfolding elements
 nothing_left zero = refl
 nothing_left (suc n) = refl
+
+-- the number of elements at most does not matter, if it is that of the characters or more
+no_matter : (m n : ℕ) (xs : List ℕ) → length xs ≤ m → length xs ≤ n → elements m xs ≡ elements n xs
+no_matter m n [] h k = nothing_left m ∙ sym (nothing_left n)
+no_matter zero n (c ∷ cs) h k = absurd (omega (arith, h))
+no_matter (suc m) zero (c ∷ cs) h k = absurd (omega (arith, k))
+no_matter (suc m) (suc n) (c ∷ cs) h k = go (stringelem (c ∷ cs)) refl (λ rest short. no_matter m n rest (omega (arith, short, h)) (omega (arith, short, k)))
+  where
+    go : (o : Option (List ℕ × List ℕ)) → stringelem (c ∷ cs) ≡ o → ((rest : List ℕ) → length rest ≤ length cs → elements m rest ≡ elements n rest) → elements (suc m) (c ∷ cs) ≡ elements (suc n) (c ∷ cs)
+    go None e inner = no_element (suc m) c cs e ∙ sym (no_element (suc n) c cs e)
+    go (Some y) e inner =
+        let s = element_suffix (c ∷ cs) y e in
+        let long : length (drop (suc s.n) (c ∷ cs)) ≡ length (c ∷ cs) - suc s.n = length-drop (suc s.n) (c ∷ cs) in
+        let short : length y.1 ≡ length (drop (suc s.n) (c ∷ cs)) = ap length s.is in
+        one_element m c cs y.0 y.1 e ∙ ap (joined y.0) (inner y.1 (omega (arith, long, short))) ∙ sym (one_element n c cs y.0 y.1 e)
 
 record Taken (old now rest text : List ℕ) : Type 0 where
   bytes : List ℕ
@@ -155,32 +163,43 @@ taken old now rest text (Some x) e h =
     let same : (let p : List ℕ × List ℕ = (old ++ x.0, x.1) in p) ≡ (now, rest) = cc in
     record { bytes = x.0; reads = e ∙ ap (λ r. Some (x.0, r)) (ap (λ p. p.1) same); out = sym (ap (λ p. p.0) same) }
 
+one_taken : (n c : ℕ) (cs bytes rest old new : List ℕ) → suc (length cs) ≤ n → length rest ≤ length cs → stringelem (c ∷ cs) ≡ Some (bytes, rest) → new ≡ old ++ bytes
+    → joined old (elements n (c ∷ cs)) ≡ joined new (elements n rest)
+one_taken zero c cs bytes rest old new enough short reads out = absurd (omega (arith, enough))
+one_taken (suc m) c cs bytes rest old new enough short reads out =
+    ap (joined old) (one_element m c cs bytes rest reads ∙ ap (joined bytes) (no_matter m (suc m) rest (omega (arith, short, enough)) (omega (arith, short, enough))))
+    ∙ joined_twice old bytes (elements (suc m) rest) ∙ ap (λ x. joined x (elements (suc m) rest)) (sym out)
+
 -- an element is read
-pub past : (text old now rest more : List ℕ) (m n : ℕ) → m ≡ suc n
-    → added old (stringelem rest) ≡ Some (now, more) → Reading text old rest m → Reading text now more n
-past text old now [] more m n one gives r = absurd cc
-past text old now (c ∷ cs) more m n one gives r =
-    let t = taken old now more (c ∷ cs) (stringelem (c ∷ cs)) refl gives in
-    let s = element_suffix (c ∷ cs) (t.bytes, more) t.reads in
+pub takes_element : (text rest old new : List ℕ) → added old (stringelem text) ≡ Some (new, rest) → Takes text rest old new
+takes_element [] rest old new gives = absurd cc
+takes_element (c ∷ cs) rest old new gives =
+    let t = taken old new rest (c ∷ cs) (stringelem (c ∷ cs)) refl gives in
+    let s = element_suffix (c ∷ cs) (t.bytes, rest) t.reads in
     let long : length (drop (suc s.n) (c ∷ cs)) ≡ length (c ∷ cs) - suc s.n = length-drop (suc s.n) (c ∷ cs) in
-    let short : length more ≡ length (drop (suc s.n) (c ∷ cs)) = ap length s.is in
-    let fits : suc (length cs) ≤ m = r.enough in
+    let short : length rest ≡ length (drop (suc s.n) (c ∷ cs)) = ap length s.is in
+    record { count = s.n; left = s.is; is = λ n enough. one_taken n c cs t.bytes rest old new enough (omega (arith, long, short)) t.reads t.out }
+
+-- elements are read
+pub past : (text old now rest more : List ℕ) (m n : ℕ) → m ≡ suc n → Takes rest more old now → Reading text old rest m → Reading text now more n
+past text old now rest more m n one t r =
+    let long : length (drop (suc t.count) rest) ≡ length rest - suc t.count = length-drop (suc t.count) rest in
+    let short : length more ≡ length (drop (suc t.count) rest) = ap length t.left in
     record {
-      at = r.at + suc s.n;
-      left = s.is ∙ ap (drop (suc s.n)) r.left ∙ drop-drop (suc s.n) r.at text;
-      is = r.is ∙ ap (λ k. joined old (elements k (c ∷ cs))) one ∙ ap (joined old) (one_element n c cs t.bytes more t.reads)
-          ∙ joined_twice old t.bytes (elements n more) ∙ ap (λ x. joined x (elements n more)) (sym t.out);
-      enough = omega (arith, long, short, fits, one);
-      shorter = let before : suc (length cs) ≤ length text = r.shorter in omega (arith, long, short, before);
+      at = r.at + suc t.count;
+      left = t.left ∙ ap (drop (suc t.count)) r.left ∙ drop-drop (suc t.count) r.at text;
+      is = r.is ∙ t.is (length text) r.shorter;
+      enough = omega (arith, long, short, r.enough, one);
+      shorter = omega (arith, long, short, r.shorter);
     }
 
 -- no element is there
-pub stuck : (text old rest : List ℕ) (m n : ℕ) → m ≡ suc n → (length rest == 0) ≡ false → stringelem rest ≡ None → Reading text old rest m
+pub stuck : (text old rest : List ℕ) (m : ℕ) → (length rest == 0) ≡ false → stringelem rest ≡ None → Reading text old rest m
     → (string text ≡ Err (length text - length rest)) × (element_fault rest ≡ element_fault (drop (length text - length rest) text))
-stuck text old [] m n one some none r = absurd cc
-stuck text old (c ∷ cs) m n one some none r = (
+stuck text old [] m some none r = absurd cc
+stuck text old (c ∷ cs) m some none r = (
   ap (λ r. elim r as (λ x. Result (List ℕ) ℕ) [ Ok bytes ↦ Ok bytes | Err rest ↦ Err (length text - length rest) ])
-      (r.is ∙ ap (λ k. joined old (elements k (c ∷ cs))) one ∙ ap (joined old) (no_element n c cs none)),
+      (r.is ∙ ap (joined old) (no_element (length text) c cs none)),
   ap element_fault (place (c ∷ cs) r.left),
 )
   where
@@ -190,7 +209,7 @@ stuck text old (c ∷ cs) m n one some none r = (
 -- the end of the text
 pub done : (text old rest : List ℕ) (m : ℕ) → rest ≡ [] → Reading text old rest m → string text ≡ Ok old
 done text old rest m none r = ap (λ r. elim r as (λ x. Result (List ℕ) ℕ) [ Ok bytes ↦ Ok bytes | Err rest ↦ Err (length text - length rest) ])
-    (r.is ∙ ap (λ x. joined old (elements m x)) none ∙ ap (joined old) (nothing_left m) ∙ ap Ok (append-nil old))
+    (r.is ∙ ap (λ x. joined old (elements (length text) x)) none ∙ ap (joined old) (nothing_left (length text)) ∙ ap Ok (append-nil old))
 
 pub empty_is : (xs : List ℕ) → (length xs == 0) ≡ true → xs ≡ []
 empty_is [] h = refl
@@ -211,20 +230,46 @@ raw_element : (c : ℕ) (cs : List ℕ) → is_raw c ≡ true → stringelem (c 
 raw_element c cs h = go (c == 0x5c) refl
   where
     go : (x : Bool) → c == 0x5c ≡ x → stringelem (c ∷ cs) ≡ Some (c ∷ [], cs)
-    go true e = absurd (last_false (nat_le 0x20 c) (not (c == 0x7f)) (not (c == 0x22))
-        (subst (λ x. nat_le 0x20 c && (not (c == 0x7f) && (not (c == 0x22) && not x)) ≡ true) e h))
-    go false e = ap (λ b. elim b as (λ x. Option (List ℕ × List ℕ)) [ true ↦ escape cs | false ↦ if is_raw c then Some (c ∷ [], cs) else None ]) e
-        ∙ ap (λ b. if b then (let p : List ℕ × List ℕ = (c ∷ [], cs) in Some p) else None) h
+    go true e = absurd (last_false (nat_le 0x20 c) (not (c == 0x7f)) (not (c == 0x22)) (subst (λ x. nat_le 0x20 c && (not (c == 0x7f) && (not (c == 0x22) && not x)) ≡ true) e h))
+    go false e = ap (λ b. elim b as (λ x. Option (List ℕ × List ℕ)) [ true ↦ escape cs | false ↦ if is_raw c then Some (c ∷ [], cs) else None ]) e ∙ ap (λ b. if b then (let p : List ℕ × List ℕ = (c ∷ [], cs) in Some p) else None) h
+
+raw_elements : (n : ℕ) (xs : List ℕ) → length xs ≤ n → elements n xs ≡ joined (front is_raw xs) (elements n (drop (length (front is_raw xs)) xs))
+raw_elements n [] h = joined_none (elements n [])
+raw_elements zero (c ∷ cs) h = absurd (omega (arith, h))
+raw_elements (suc m) (c ∷ cs) h = go (is_raw c) refl (raw_elements m cs (omega (arith, h)))
+  where
+    few : length (drop (length (front is_raw cs)) cs) ≤ m
+    few = omega (arith, length-drop (length (front is_raw cs)) cs, h)
+
+    go : (b : Bool) → is_raw c ≡ b → elements m cs ≡ joined (front is_raw cs) (elements m (drop (length (front is_raw cs)) cs))
+        → elements (suc m) (c ∷ cs) ≡ joined (front is_raw (c ∷ cs)) (elements (suc m) (drop (length (front is_raw (c ∷ cs))) (c ∷ cs)))
+    go true e inner =
+        one_element m c cs (c ∷ []) cs (raw_element c cs e) ∙ ap (joined (c ∷ [])) inner ∙ joined_twice (c ∷ []) (front is_raw cs) (elements m (drop (length (front is_raw cs)) cs))
+        ∙ ap (joined (c ∷ front is_raw cs)) (no_matter m (suc m) (drop (length (front is_raw cs)) cs) few (omega (arith, few)))
+        ∙ ap (λ run. joined run (elements (suc m) (drop (length run) (c ∷ cs)))) (sym (begins is_raw c cs e))
+    go false e inner = joined_none (elements (suc m) (c ∷ cs)) ∙ ap (λ run. joined run (elements (suc m) (drop (length run) (c ∷ cs)))) (sym (stops is_raw c cs e))
+
+-- characters that stand for themselves are read
+takes_raw : (text rest old new : List ℕ) → begins_raw text ≡ true → new ≡ old ++ front is_raw text → rest ≡ drop (length (front is_raw text)) text → Takes text rest old new
+takes_raw [] rest old new h put left = absurd cc
+takes_raw (c ∷ cs) rest old new h put left = record {
+  count = length (front is_raw cs);
+  left = left ∙ ap (λ run. drop (length run) (c ∷ cs)) (begins is_raw c cs h);
+  is = λ n enough. ap (joined old) (raw_elements n (c ∷ cs) enough) ∙ joined_twice old (front is_raw (c ∷ cs)) (elements n (drop (length (front is_raw (c ∷ cs))) (c ∷ cs)))
+      ∙ ap₂ (λ x r. joined x (elements n r)) (sym put) (sym left);
+}
+
+pub takes_run : (text rest old new : List ℕ) (n : ℕ) → begins_raw text ≡ true → n ≡ length (front is_raw text) → new ≡ old ++ take n text → rest ≡ take (length text - n) (drop n text) → Takes text rest old new
+takes_run text rest old new n h long put left = takes_raw text rest old new h
+    (put ∙ ap (λ k. old ++ take k text) long ∙ ap (λ x. old ++ x) (front_is is_raw text)) (left ∙ tail_is n text ∙ ap (λ k. drop k text) long)
 
 all_elements : (xs : List ℕ) → length (front is_raw xs) ≡ length xs → elements (length xs) xs ≡ Ok xs
 all_elements [] h = nothing_left 0
 all_elements (c ∷ cs) h = go (is_raw c) refl (all_elements cs)
   where
-    go : (b : Bool) → is_raw c ≡ b → (length (front is_raw cs) ≡ length cs → elements (length cs) cs ≡ Ok cs)
-        → elements (suc (length cs)) (c ∷ cs) ≡ Ok (c ∷ cs)
+    go : (b : Bool) → is_raw c ≡ b → (length (front is_raw cs) ≡ length cs → elements (length cs) cs ≡ Ok cs) → elements (suc (length cs)) (c ∷ cs) ≡ Ok (c ∷ cs)
     go true e inner = one_element (length cs) c cs (c ∷ []) cs (raw_element c cs e)
-        ∙ ap (joined (c ∷ [])) (inner
-            (let same : suc (length (front is_raw cs)) ≡ suc (length cs) = sym (ap length (begins is_raw c cs e)) ∙ h in omega (arith, same)))
+        ∙ ap (joined (c ∷ [])) (inner (let same : suc (length (front is_raw cs)) ≡ suc (length cs) = sym (ap length (begins is_raw c cs e)) ∙ h in omega (arith, same)))
     go false e inner = absurd (let none : 0 ≡ suc (length cs) = sym (ap length (stops is_raw c cs e)) ∙ h in omega (arith, none))
 
 pub all_raw : (xs : List ℕ) → length (front is_raw xs) ≡ length xs → string xs ≡ Ok xs

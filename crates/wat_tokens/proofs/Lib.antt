@@ -2,6 +2,7 @@ pub mod Backwards
 pub mod FloatBits
 pub mod Forwards
 pub mod Fractional
+pub mod Grouped
 pub mod Hexadecimal
 pub mod Kept
 pub mod Numerals

@@ -1,5 +1,6 @@
 pub mod Buckets
 pub mod Fractions
+pub mod Groups
 pub mod Numbers
 pub mod Scans
 pub mod Strings

@@ -1,8 +1,8 @@
 -- What reading a part of a string returns (text format: strings). The rules are those of wat_grammar.
-use Rattle.std.specs.Prelude.{◌≡◌, ℕ, zero, suc, ◌+◌, ◌-◌, ◌==◌, if◌then◌else◌, List, [], ◌∷◌, ◌++◌, length, replicate, Option, None, Some, codes}
+use Rattle.std.specs.Prelude.{◌≡◌, ◌≤◌, ℕ, zero, suc, ◌+◌, ◌-◌, ◌==◌, Bool, false, if◌then◌else◌, List, [], ◌∷◌, ◌++◌, length, drop, replicate, Option, None, Some, codes}
 use Rattle.wat_grammar.specs.Parts.{◌>>=◌, after}
 use Rattle.wat_grammar.specs.Integers.{hexnum}
-use Rattle.wat_grammar.specs.Strings.{is_scalar, unicode, stringelem}
+use Rattle.wat_grammar.specs.Strings.{is_raw, is_scalar, unicode, stringelem, joined, elements}
 use Rattle.wat_tokens.specs.declared.faults.TextFault.{TextFault}
 use Rattle.wat_tokens.specs.declared.faults.TextFault.TheVariants as fault
 
@@ -26,6 +26,18 @@ opened text = after (codes "{") text >>= λ digits. unicode digits
 abbrev pub element_fault : List ℕ → TextFault
 element_fault [] = fault.Escape
 element_fault (c ∷ cs) = if c == 0x5c then fault.Escape else fault.StringCharacter
+
+-- whether a text begins with a character that stands for itself
+abbrev pub begins_raw : List ℕ → Bool
+begins_raw [] = false
+begins_raw (c ∷ cs) = is_raw c
+
+-- One element or more are read from the start of a text: their bytes come after those before, and a part of the text is left. The
+-- number of elements at most does not matter, if it is that of the characters or more.
+pub record Takes (text rest old new : List ℕ) : Type 0 where
+  pub count : ℕ
+  pub left : rest ≡ drop (suc count) text
+  pub is : (n : ℕ) → length text ≤ n → joined old (elements n text) ≡ joined new (elements n rest)
 
 -- An element is read from a text, and for each of its bytes the place of the element is appended.
 pub record Spells (text rest : List ℕ) (at : ℕ) (old new : List ℕ) : Type 0 where

@@ -6,6 +6,7 @@
 mod examples;
 mod faults;
 mod floats;
+mod groups;
 mod integers;
 mod scans;
 mod strings;
@@ -14,8 +15,9 @@ mod words;
 
 pub use faults::{TextError, TextFault};
 pub use floats::{float32, float64};
+pub use groups::TokenGroups;
 pub use integers::{integer8, integer16, integer32, integer64, unsigned8, unsigned32, unsigned64};
-pub use scans::{tokens_of, written_tokens_of};
+pub use scans::{token_groups_of, tokens_of, written_tokens_of};
 pub use strings::{StringError, Strings, string_places};
 pub use tokens::{Annotation, Placed, Token};
 pub use words::{

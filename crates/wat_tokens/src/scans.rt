@@ -5,10 +5,12 @@ ghost use Rattle.std.specs.Simd.Lanes.{mask_l};
 ghost use Rattle.wat_grammar.specs.Parts.{front};
 ghost use Rattle.wat_grammar.specs.Space.{is_blank, is_linechar, blockcomment};
 ghost use Rattle.wat_grammar.specs.Tokens.{is_idchar, is_reserved, id_chars, string_length, has_meaning, a_string, a_name, an_id, ends, one_token, skipped_open, skipped_part, skipped, annotation, opened, string_token, id_token, word, part, tokens, bytes_of, as_written};
+ghost use Rattle.wat_tokens.specs.Groups.{all_in, tokens_in, IsCounted};
 ghost use Rattle.wat_tokens.specs.Scans.{after_these, id_of, seen, seen_all, placed, contents_of, token_of, first_of, is_first, begins_of, kind_of, IsNamed, IsNamedPart, IsRead, IsName, IsFault, IsInside, Reads, Skips};
 ghost use Rattle.wat_tokens.specs.declared.faults.TextFault.TheVariants as fault;
 
 use crate::faults::{TextError, TextFault};
+use crate::groups::{Grouping, TokenGroups};
 use crate::strings::Strings;
 use crate::tokens::{Annotation, Placed, Token};
 use crate::words::look_up;
@@ -817,6 +819,40 @@ fn scanned<'a>(
     Ok(found)
 }
 
+/// Cuts a text into tokens in groups, with its strings as `strings` gives them.
+fn scanned_in_groups<'a>(
+    alloc: Global,
+    text: &'a str,
+    strings: Option<&'a Strings>,
+) -> Result<Grouping<'a>, TextError>
+    ensures place { IfErr result (λ e. e.span.offset ≤ length text.now) }
+    ensures read { MatchResult result (λ found. tokens (contents_of strings.entry) text.now ≡ Some (seen_all (tokens_in found))) (λ e. e.fault ≢ fault.Memory → tokens (contents_of strings.entry) text.now ≡ None) }
+    ensures words { IfOk result (λ found. All (λ p. IsNamed p.token) (tokens_in found)) }
+    ensures count { IfOk result (λ found. IsCounted found.full) }
+{
+    let source = Source {
+        alloc,
+        strings,
+        text,
+    };
+    let mut found = Grouping::new(alloc);
+    let mut place = 0;
+    for _ in 0..text.len() {
+        if place == text.len() {
+            break;
+        }
+        let part = match source.part_at(place) {
+            Ok(part) => part,
+            Err(error) => return Err(error),
+        };
+        match found.put(part.token) {
+            Ok(()) => place = part.end,
+            Err(_) => return Err(fault_at(place, TextFault::Memory)),
+        }
+    }
+    Ok(found)
+}
+
 /// Returns the tokens of a text, without white space, comments and annotations that mean nothing (text format, tokens). Strings
 /// with escapes are kept in `strings`. It allocates memory for the tokens.
 ///
@@ -835,6 +871,32 @@ pub fn tokens_of<'a>(
     ensures place { IfErr result (λ e. e.span.offset ≤ length text.now) }
 {
     scanned(alloc, text, Some(strings))
+}
+
+/// Returns the tokens of a text as [`tokens_of`] does, in groups of 512. A reader can free each group when it is read. It allocates
+/// memory for the tokens.
+///
+/// For example, a text of 600 tokens has two groups, and the second one has 88 tokens.
+///
+/// # Errors
+/// A [`TextFault`] with its position, as [`tokens_of`] returns it.
+pub fn token_groups_of<'a>(
+    alloc: Global,
+    text: &'a str,
+    strings: &'a Strings,
+) -> Result<TokenGroups<'a>, TextError>
+    ensures read { MatchResult result (λ found. tokens bytes_of text.now ≡ Some (seen_all (all_in found.groups.items))) (λ e. e.fault ≢ fault.Memory → tokens bytes_of text.now ≡ None) }
+    ensures words { IfOk result (λ found. All (λ p. IsNamed p.token) (all_in found.groups.items)) }
+    ensures count { IfOk result IsCounted }
+    ensures place { IfErr result (λ e. e.span.offset ≤ length text.now) }
+{
+    match scanned_in_groups(alloc, text, Some(strings)) {
+        Ok(found) => match found.finish() {
+            Ok(groups) => Ok(groups),
+            Err(_) => Err(fault_at(text.len(), TextFault::Memory)),
+        },
+        Err(error) => Err(error),
+    }
 }
 
 /// Returns the tokens of a text as [`tokens_of`] does, but with each string as it is written between its quotes, escapes

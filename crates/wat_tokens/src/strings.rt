@@ -1,12 +1,12 @@
 //! Strings of a text, without their escapes.
 
 ghost use Rattle.std.specs.Prelude.{◌≡◌, ◌≢◌, ◌<◌, ◌≤◌, ◌+◌, ◌-◌, ◌^◌, ◌++◌, ◌∷◌, [], not, length, take, drop};
-ghost use Rattle.std.specs.Prelude.{map, replicate, None, Some, Ok, Err, IfOk, IfSome, IfErr, MatchOption, MatchResult};
+ghost use Rattle.std.specs.Prelude.{true, map, replicate, None, Some, Ok, Err, IfOk, IfSome, IfErr, MatchOption, MatchResult};
 ghost use Rattle.std.specs.Simd.Lanes.{mask_l};
 ghost use Rattle.wat_grammar.specs.Characters.{hexdigit};
 ghost use Rattle.wat_grammar.specs.Parts.{front};
 ghost use Rattle.wat_grammar.specs.Strings.{is_raw, braced, unicode, byte, escape, stringelem, string};
-ghost use Rattle.wat_tokens.specs.Strings.{added, character, scalar_in, opened, element_fault, Spells, spelled, string_places};
+ghost use Rattle.wat_tokens.specs.Strings.{added, character, scalar_in, opened, element_fault, begins_raw, Takes, Spells, spelled, string_places};
 ghost use Rattle.wat_tokens.specs.declared.faults.TextFault.TheVariants as fault;
 
 use crate::faults::TextFault;
@@ -278,6 +278,40 @@ fn element<'a>(out: &mut Vec<u8>, text: &'a [u8]) -> Result<&'a [u8], TextFault>
     }
 }
 
+/// Returns whether a text begins with a byte that is itself in a string.
+fn begins_raw(text: &[u8]) -> bool
+    ensures { result ≡ begins_raw text.now }
+{
+    match text {
+        [first, ..] => is_raw(*first),
+        [] => false,
+    }
+}
+
+/// Appends the bytes at the start of a text that are themselves in a string, and returns the text after them.
+#[tactic(auto, using(crate::proofs::Fronts::front_short, crate::proofs::Elements::takes_run))]
+fn put_raw<'a>(out: &mut Vec<u8>, text: &'a [u8]) -> Result<&'a [u8], TextFault>
+    requires raw { begins_raw text.now ≡ true }
+    ensures { MatchResult result (λ rest. Takes text.now rest.now out.old.items out.new.items) (λ f. f ≡ fault.Memory) }
+{
+    let count = raw_length(text);
+    match out.extend_from_slice(&text[..count]) {
+        Ok(()) => Ok(&text[count..]),
+        Err(_) => Err(TextFault::Memory),
+    }
+}
+
+/// Appends the bytes of elements that a text begins with, and returns the text after them: of all up to an escape, or of an escape.
+#[tactic(auto, using(crate::proofs::Elements::takes_element))]
+fn some_elements<'a>(out: &mut Vec<u8>, text: &'a [u8]) -> Result<&'a [u8], TextFault>
+    ensures { MatchResult result (λ rest. Takes text.now rest.now out.old.items out.new.items) (λ f. f ≢ fault.Memory → (f ≡ element_fault text.now) × (stringelem text.now ≡ None)) }
+{
+    match begins_raw(text) {
+        true => put_raw(out, text),
+        false => element(out, text),
+    }
+}
+
 /// Returns the bytes of a string that has escapes.
 #[tactic(auto, using(crate::proofs::Elements::started, crate::proofs::Elements::past, crate::proofs::Elements::stuck, crate::proofs::Elements::done, crate::proofs::Elements::run_out, crate::proofs::Elements::empty_is))]
 fn unescaped(alloc: Global, content: &[u8]) -> Result<Vec<u8>, StringError>
@@ -295,7 +329,7 @@ fn unescaped(alloc: Global, content: &[u8]) -> Result<Vec<u8>, StringError>
         if rest.is_empty() {
             return Ok(out);
         }
-        match element(&mut out, rest) {
+        match some_elements(&mut out, rest) {
             Ok(more) => rest = more,
             Err(fault) => return Err(StringError {
                 fault,

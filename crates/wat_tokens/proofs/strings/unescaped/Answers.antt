@@ -1,5 +1,5 @@
 -- Closes the three ways out of the loop by the lemma on each: the definition of a string hides the text that the lemmas name.
-use Rattle.std.proofs.Common.{◌∙◌, ◌-◌, ◌+◌, sym, arith, length}
+use Rattle.std.proofs.Common.{◌∙◌, ◌-◌, sym, arith, length}
 use Rattle.wat_tokens.proofs.Elements.{done, stuck, run_out, empty_is}
 use Rattle.wat_tokens.proofs.strings.unescaped.Goals as goal
 
@@ -10,11 +10,9 @@ returns-then-is_empty-clause-read c = done c.args.content.now c.loop.out.items c
 pub returns-in-Err-clause-read : goal.returns-in-Err-clause-read
 returns-in-Err-clause-read c = λ known.
     let none = c.in-Err.ensures known in
-    let s = stuck c.args.content.now c.loop.out.items c.loop.rest.now
-        (length c.args.content.now - c.loop.counter) (length c.args.content.now - (c.loop.counter + 1))
-    (omega (arith, c.loop-test.true)) (sym c.is_empty.ensures ∙ c.if-is_empty.false) none.1 c.loop.invariant in
+    let s = stuck c.args.content.now c.loop.out.items c.loop.rest.now (length c.args.content.now - c.loop.counter)
+    (sym c.is_empty.ensures ∙ c.if-is_empty.false) none.1 c.loop.invariant in
     (s.0, none.0 ∙ s.1)
 
 pub returns-clause-read : goal.returns-clause-read
-returns-clause-read c = run_out c.args.content.now c.loop.out.items c.loop.rest.now
-    (length c.args.content.now - c.loop.counter) (omega (arith, c.loop-test.false)) c.loop.invariant
+returns-clause-read c = run_out c.args.content.now c.loop.out.items c.loop.rest.now (length c.args.content.now - c.loop.counter) (omega (arith, c.loop-test.false)) c.loop.invariant
