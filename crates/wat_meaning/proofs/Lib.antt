@@ -1,7 +1,7 @@
+pub mod BareNames
+pub mod BareParts
 pub mod Erased
 pub mod ErasedAnswers
-pub mod ErasedNames
-pub mod ErasedParts
 pub mod ErasedRules
 pub mod OneMeaning
 pub mod SameNumbers
@@ -14,8 +14,6 @@ pub mod ShownForms
 pub mod ShownInline
 pub mod ShownInlineLists
 pub mod ShownItems
-pub mod ShownNames
-pub mod ShownParts
 pub mod ShownResolved
 pub mod ShownSizes
 pub mod ShownTypes

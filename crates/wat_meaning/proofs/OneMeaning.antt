@@ -11,36 +11,34 @@ use Rattle.wast_resolve_laws.specs.Renaming.{renamed_fields, RenamedAnswer, Rena
 use Rattle.wast_core_sections.specs.Sections.{parts}
 use Rattle.wast_core_sections.specs.Writable.{IsWritable}
 use Rattle.wast_core.specs.Laws.{TooLargeIsUnbounded}
-use Rattle.wast_core.specs.Meaning.{meaning}
 use Rattle.wast_core.specs.OtherForms.{RenamedForms}
 use Rattle.wast_core.specs.Tree.{ModuleField}
 use Rattle.wat_syntax.specs.BareFields.{bare_fields}
 use Rattle.wat_ready.specs.Shown.{shown_fields}
 use Rattle.wat_meaning.specs.Erasing.{erasing}
 use Rattle.wat_meaning.specs.Laws.{SameAnswer, SameMeaning, SameForms, SameCount, SameRules, SameGeneration, SameTooLarge, SameBounds}
-use Rattle.wat_meaning.proofs.Erased.{is_renaming, bare_is_shown}
+use Rattle.wat_meaning.proofs.BareParts.{bare_parts, bare_writable}
+use Rattle.wat_meaning.proofs.Erased.{is_renaming, bare_is_shown, of_bare}
 use Rattle.wat_meaning.proofs.ErasedAnswers.{erased_answer, erased_count, erased_forms}
-use Rattle.wat_meaning.proofs.ErasedParts.{erased_meaning, erased_writable}
 use Rattle.wat_meaning.proofs.ErasedRules.{generation_erased, well_formed_erased}
 use Rattle.wat_meaning.proofs.ShownAnswers.{shown_answer, shown_forms}
 use Rattle.wat_meaning.proofs.ShownForms.{generation_shown, well_formed_shown}
-use Rattle.wat_meaning.proofs.ShownParts.{shown_parts, shown_writable}
 use Rattle.wat_meaning.proofs.ShownSizes.{large_then, large_before}
 use Rattle.wat_meaning.proofs.ShownResolved.{shown_count, shown_resolved_positions}
-
--- What does not depend on the addresses of ids, nor on those of names and strings, is the same for the bare tree.
-module _ {A : Type 0} (f : List ModuleField → A) (shown : (xs : List ModuleField) → f (shown_fields xs) ≡ f xs) where
-  pub of_bare : (xs : List ModuleField) → f (renamed_fields erasing xs) ≡ f xs → f (bare_fields xs) ≡ f xs
-  of_bare xs erased = ap f (bare_is_shown xs) ∙ (shown (renamed_fields erasing xs) ∙ erased)
 
 pub same_answer : RenamedAnswer → SameAnswer
 same_answer answer xs = of_bare (λ zs. first_unmet (demands (explicit_fields zs))) shown_answer xs (erased_answer answer xs)
 
+-- The resolved fields of a bare tree are those of the tree, without addresses.
+bare_resolved : RenamedPositions → (xs : List ModuleField)
+    → resolved_fields (by_positions (bare_fields xs)) ≡ bare_fields (resolved_fields (by_positions xs))
+bare_resolved positions xs =
+    ap (λ zs. resolved_fields (by_positions zs)) (bare_is_shown xs)
+    ∙ (shown_resolved_positions (renamed_fields erasing xs)
+    ∙ (ap shown_fields (positions erasing is_renaming xs) ∙ sym (bare_is_shown (resolved_fields (by_positions xs)))))
+
 pub same_meaning : RenamedPositions → SameMeaning
-same_meaning positions name xs = of_bare (meaning name) shown_meaning xs (erased_meaning positions name xs)
-  where
-    shown_meaning : (zs : List ModuleField) → meaning name (shown_fields zs) ≡ meaning name zs
-    shown_meaning zs = ap (parts name) (shown_resolved_positions zs) ∙ shown_parts name (resolved_fields (by_positions zs))
+same_meaning positions name xs = ap (parts name) (bare_resolved positions xs) ∙ bare_parts name (resolved_fields (by_positions xs))
 
 pub same_count : RenamedFilled → SameCount
 same_count filled xs = of_bare generated_id_count shown_count xs (erased_count filled xs)
@@ -67,11 +65,5 @@ pub same_bounds : TooLargeIsUnbounded → RenamedTooLarge → RenamedFilled → 
 same_bounds unbounded large filled positions n name xs bounded = record {
   spaces = λ h. unbounded n name (bare_fields xs) ((same_too_large large n xs).0 (inl h)) bounded;
   counter = subst (λ (k : ℕ). n + k < 2 ^ 64) (same_count filled xs) bounded.counter;
-  writable = erased_writable name (resolved_fields (by_positions xs))
-      (shown_writable name (renamed_fields erasing (resolved_fields (by_positions xs))) (subst (IsWritable name) resolved bounded.writable));
+  writable = bare_writable name (resolved_fields (by_positions xs)) (subst (IsWritable name) (bare_resolved positions xs) bounded.writable);
 }
-  where
-    resolved : resolved_fields (by_positions (bare_fields xs)) ≡ shown_fields (renamed_fields erasing (resolved_fields (by_positions xs)))
-    resolved =
-        ap (λ zs. resolved_fields (by_positions zs)) (bare_is_shown xs)
-        ∙ (shown_resolved_positions (renamed_fields erasing xs) ∙ ap shown_fields (positions erasing is_renaming xs))

@@ -19,9 +19,9 @@ use Rattle.wat_syntax.specs.BareFields.{bare_fields}
 use Rattle.wat_meaning.specs.Erasing.{erasing}
 use Rattle.wat_meaning.specs.Laws.{SameNumbers}
 use Rattle.wat_ready.specs.Shown.{shown_fields}
-use Rattle.wat_meaning.proofs.Erased.{is_renaming}
+use Rattle.wat_meaning.proofs.Erased.{is_renaming, of_bare}
 use Rattle.wat_meaning.proofs.ErasedRules.{items_erased}
-use Rattle.wat_meaning.proofs.OneMeaning.{of_bare, same_generation}
+use Rattle.wat_meaning.proofs.OneMeaning.{same_generation}
 use Rattle.wat_meaning.proofs.ShownItems.{items_shown}
 use Rattle.wat_meaning.proofs.ShownResolved.{shown_explicit}
 
@@ -40,7 +40,7 @@ shown_before xs = ap items (shown_explicit xs) ∙ items_shown (explicit_fields 
 erased_before : (xs : List ModuleField) → items (explicit_fields (renamed_fields erasing xs)) ≡ items (explicit_fields xs)
 erased_before xs = ap items (same_explicit erasing is_renaming xs) ∙ items_erased (explicit_fields xs)
 
-same_items : (xs : List ModuleField) → items (explicit_fields (bare_fields xs)) ≡ items (explicit_fields xs)
+pub same_items : (xs : List ModuleField) → items (explicit_fields (bare_fields xs)) ≡ items (explicit_fields xs)
 same_items xs = of_bare (λ zs. items (explicit_fields zs)) shown_before xs (erased_before xs)
 
 pub same_numbers : SameNumbers

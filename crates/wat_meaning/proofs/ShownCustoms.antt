@@ -21,9 +21,9 @@ use Rattle.wat_syntax.specs.Tree.custom
 use Rattle.wat_syntax.specs.Tree.dylink
 use Rattle.wat_syntax.specs.Tree.field
 use Rattle.wat_syntax.specs.Bare.{bare_text}
-use Rattle.wat_syntax.specs.BareFields.{bare_exported, bare_imported, bare_producers_field, bare_subsection, bare_version}
+use Rattle.wat_syntax.specs.BareFields.{bare_custom, bare_exported, bare_imported, bare_producers_field, bare_subsection, bare_version}
 use Rattle.wat_ready.proofs.ShownLists.{map_same, flat_changed}
-use Rattle.wat_ready.specs.Shown.{shown_custom, shown_field, shown_fields}
+use Rattle.wat_ready.specs.Shown.{shown_field, shown_fields}
 
 -- The bytes of a list, if each item has the same bytes after a change.
 list_same : {A : Type 0} (f : A → A) (item : A → Encoding) → ((x : A) → (item (f x)).bytes ≡ (item x).bytes) → (xs : List A)
@@ -51,36 +51,36 @@ producer_same : (f : Bor (List ℕ) × List Version) → as_producer_field (bare
 producer_same f = λ i. (f.0.now, each_alike bare_version as_producer_value (λ v. refl) f.1 i)
 
 -- a custom section as a part of a module
-name_same : (c : Custom) → custom_name (shown_custom c) ≡ custom_name c
+name_same : (c : Custom) → custom_name (bare_custom c) ≡ custom_name c
 name_same (custom.Raw s) = refl
 name_same x = refl
 
-bytes_same : (c : Custom) → (custom_bytes (shown_custom c)).bytes ≡ (custom_bytes c).bytes
+bytes_same : (c : Custom) → (custom_bytes (bare_custom c)).bytes ≡ (custom_bytes c).bytes
 bytes_same (custom.Raw s) = each_like bare_text (λ (t : Bor (List ℕ)). t.now) (λ (t : Bor (List ℕ)). t.now) (λ t. refl) s.bytes
 bytes_same (custom.Producers p) = λ i. (producers (each_alike bare_producers_field as_producer_field producer_same p.fields i)).bytes
 bytes_same (custom.Dylink0 d) =
     each_like bare_subsection (λ s. (subsection s).bytes) (λ s. (subsection s).bytes) subsection_same d.subsections
 
-custom_same : (c : Custom) → custom_part (shown_custom c) ≡ custom_part c
+custom_same : (c : Custom) → custom_part (bare_custom c) ≡ custom_part c
 custom_same c = λ i. record { kind = parts.Custom; items = record { name = name_same c i; bytes = bytes_same c i } }
 
 -- the custom sections with a position
-test_same : (b : Bool) (c : Custom) → (if b then shown_custom c ∷ [] else []) ≡ map shown_custom (if b then c ∷ [] else [])
+test_same : (b : Bool) (c : Custom) → (if b then bare_custom c ∷ [] else []) ≡ map bare_custom (if b then c ∷ [] else [])
 test_same true c = refl
 test_same false c = refl
 
-field_same : (place : CustomPlace) (x : ModuleField) → customs_in place (shown_field x) ≡ map shown_custom (customs_in place x)
+field_same : (place : CustomPlace) (x : ModuleField) → customs_in place (shown_field x) ≡ map bare_custom (customs_in place x)
 field_same place (field.Custom (custom.Raw s)) = test_same (stands_at place (custom.Raw s)) (custom.Raw s)
 field_same place (field.Custom (custom.Producers p)) = test_same (stands_at place (custom.Producers p)) (custom.Producers p)
 field_same place (field.Custom (custom.Dylink0 d)) = test_same (stands_at place (custom.Dylink0 d)) (custom.Dylink0 d)
 field_same place x = refl
 
-shown_at : (place : CustomPlace) (xs : List ModuleField) → customs_at place (shown_fields xs) ≡ map shown_custom (customs_at place xs)
-shown_at place xs = flat_changed shown_field (customs_in place) shown_custom (field_same place) xs
+shown_at : (place : CustomPlace) (xs : List ModuleField) → customs_at place (shown_fields xs) ≡ map bare_custom (customs_at place xs)
+shown_at place xs = flat_changed shown_field (customs_in place) bare_custom (field_same place) xs
 
 pub customs_same : (place : CustomPlace) (xs : List ModuleField)
     → map custom_part (customs_at place (shown_fields xs)) ≡ map custom_part (customs_at place xs)
-customs_same place xs = ap (map custom_part) (shown_at place xs) ∙ map_same shown_custom custom_part custom_same (customs_at place xs)
+customs_same place xs = ap (map custom_part) (shown_at place xs) ∙ map_same bare_custom custom_part custom_same (customs_at place xs)
 
 -- their numbers are in range if they are so in the changed sections
 all_before : {A : Type 0} (f : A → A) (P : A → Type 0) → ((x : A) → P (f x) → P x) → (xs : List A) → All P (map f xs) → All P xs
@@ -101,7 +101,7 @@ content_range (dylink.TargetArch name) h = h
 subsection_range : (s : Dylink0Subsection) → (subsection (bare_subsection s)).in_range → (subsection s).in_range
 subsection_range s h = (subst (λ (bytes : List ℕ). InRangeU32 (length bytes)) (content_same s) h.0, content_range s h.1)
 
-custom_range : (c : Custom) → (custom_bytes (shown_custom c)).in_range → (custom_bytes c).in_range
+custom_range : (c : Custom) → (custom_bytes (bare_custom c)).in_range → (custom_bytes c).in_range
 custom_range (custom.Raw s) h = h
 custom_range (custom.Producers p) h = subst (λ fs. (producers fs).in_range) (each_alike bare_producers_field as_producer_field producer_same p.fields) h
 custom_range (custom.Dylink0 d) h = all_before bare_subsection (λ s. (subsection s).in_range) subsection_range d.subsections h
@@ -109,7 +109,7 @@ custom_range (custom.Dylink0 d) h = all_before bare_subsection (λ s. (subsectio
 pub ranges_same : (place : CustomPlace) (xs : List ModuleField)
     → All (λ c. (custom_bytes c).in_range) (customs_at place (shown_fields xs)) → All (λ c. (custom_bytes c).in_range) (customs_at place xs)
 ranges_same place xs h =
-    all_before shown_custom (λ c. (custom_bytes c).in_range) custom_range (customs_at place xs) (subst (All (λ c. (custom_bytes c).in_range)) (shown_at place xs) h)
+    all_before bare_custom (λ c. (custom_bytes c).in_range) custom_range (customs_at place xs) (subst (All (λ c. (custom_bytes c).in_range)) (shown_at place xs) h)
 
 -- whether a custom section is called "name"
 called_same : (x : ModuleField) → is_custom_called (codes "name") (shown_field x) ≡ is_custom_called (codes "name") x

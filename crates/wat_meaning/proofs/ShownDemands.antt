@@ -4,7 +4,8 @@
 use Rattle.std.specs.Prelude.{codes, Option, Some, None, option_map}
 use Rattle.std.specs.List.{flat_map}
 use Rattle.std.specs.Option.{option_or}
-use Rattle.std.proofs.Common.{◌≡◌, ℕ, ◌+◌, List, [], ◌∷◌, ◌++◌, length, map, refl, sym, ap, ◌∙◌}
+use Rattle.std.proofs.Common.{◌≡◌, ℕ, ◌+◌, List, [], ◌∷◌, ◌++◌, length, map, refl, sym, ap, ◌∙◌, arith}
+use Rattle.std.proofs.lemmas.Grind.{common_steps}
 use Rattle.std.proofs.lemmas.List.{map-append}
 use Rattle.wast_base.specs.Ids.{Name, span_of_index}
 use Rattle.wast_base.specs.Spaces.{position_of}
@@ -13,7 +14,7 @@ use Rattle.wast_tree_nodes.specs.Sites.{Locals, Site, Asked, Used, LocalAt, in_f
 use Rattle.wast_expand_keys.specs.Signatures.{Signature, same_signature_by}
 use Rattle.wast_resolve_rules.specs.Scopes.{Scope, module_scope, denoted, type_at, local_number}
 use Rattle.wast_resolve_rules.specs.Matches.{same_type}
-use Rattle.wast_resolve_rules.specs.ImportOrder.{imported_at, import_place, unless_import, last_defined, nothing_defined, order_demand}
+use Rattle.wast_resolve_rules.specs.ImportOrder.{import_place, unless_import, last_defined, nothing_defined, order_demand}
 use Rattle.wast_resolve_rules.specs.Demands.{first_unmet, known_index, each_after, item_demands, ask_demands, match_with, match_demands, match_if, use_demand, site_demand, site_demands, name_demands, order_demands, demands, item_counts, kind_marks, declared_ids, local_counts_in, open_counts_at, open_counts, body_counts_in, body_counts}
 use Rattle.wat_syntax.specs.Tree.{Index, FunctionType, TypeUse, FuncKind, ModuleField}
 use Rattle.wat_syntax.specs.Tree.space
@@ -68,12 +69,7 @@ name_demands_shown xs = λ i. item_demands_shown xs i ++ site_demands_shown xs i
 
 -- The order of imports.
 pub import_shown : (x : ModuleField) → import_place (shown_field x) ≡ import_place x
-import_shown (field.Func f) = ap (λ b. imported_at f.span (Some b)) (func_imported f.kind)
-import_shown (field.Table t) = ap (λ b. imported_at t.span (Some b)) (table_imported t.kind)
-import_shown (field.Memory m) = ap (λ b. imported_at m.span (Some b)) (memory_imported m.kind)
-import_shown (field.Global g) = ap (λ b. imported_at g.span (Some b)) (global_imported g.kind)
-import_shown (field.Tag t) = ap (λ b. imported_at t.span (Some b)) (tag_imported t.kind)
-import_shown x = refl
+import_shown x = grind (arith, common_steps, func_imported, table_imported, memory_imported, global_imported, tag_imported)
 
 pub last_shown : (xs : List ModuleField) → last_defined (shown_fields xs) ≡ last_defined xs
 last_shown [] = refl

@@ -31,10 +31,10 @@ use Rattle.wat_syntax.specs.Tree.global
 use Rattle.wat_syntax.specs.Tree.elem
 use Rattle.wat_syntax.specs.Tree.data_kind
 use Rattle.wat_syntax.specs.Tree.field
-use Rattle.wat_ready.specs.Shown.{shown_block, shown_composite, shown_data, shown_data_kind, shown_elem_kind, shown_expression, shown_field, shown_fields, shown_func_kind, shown_function_type, shown_global_kind, shown_instr, shown_item_kind, shown_item_sig, shown_items, shown_local, shown_memory_kind, shown_param, shown_payload, shown_struct_field, shown_table_kind, shown_tag_type, shown_type, shown_type_def}
+use Rattle.wat_syntax.specs.BareFields.{bare_memory_kind}
+use Rattle.wat_ready.specs.Shown.{shown_block, shown_composite, shown_data, shown_data_kind, shown_elem_kind, shown_expression, shown_field, shown_fields, shown_func_kind, shown_function_type, shown_global_kind, shown_instr, shown_item_kind, shown_item_sig, shown_items, shown_local, shown_param, shown_payload, shown_struct_field, shown_table_kind, shown_tag_type, shown_type, shown_type_def}
 use Rattle.wat_meaning.proofs.ShownInline.{bytes_shown}
-use Rattle.wat_meaning.proofs.ShownItems.{kind_space}
-use Rattle.wat_meaning.proofs.ShownNames.{sigs_shown}
+use Rattle.wat_meaning.proofs.ShownItems.{kind_space, sigs_shown}
 
 -- types
 abbrev Param : Type 0
@@ -102,7 +102,7 @@ init_same o = option_alike shown_expression as_expression expression_same o
 table_same : (k : TableKind) → table_of (shown_table_kind k) ≡ table_of k
 table_same k = grind (arith, common_steps, init_same)
 
-memory_same : (k : MemoryKind) → memory_of (shown_memory_kind k) ≡ memory_of k
+memory_same : (k : MemoryKind) → memory_of (bare_memory_kind k) ≡ memory_of k
 memory_same (memory.Import source t) = refl
 memory_same x = refl
 

@@ -5,8 +5,9 @@
 --   (func (export "a")), at any address      (export "a" (func 0)) (func), with "a" at address 0
 use Rattle.std.specs.Int.{div_ceil}
 use Rattle.std.specs.List.{flat_map}
-use Rattle.std.specs.Prelude.{is_none, not, ◌&&◌, ◌||◌, ◌==◌}
-use Rattle.std.proofs.Common.{◌≡◌, ℕ, ◌+◌, Bool, true, false, length, List, [], ◌∷◌, ◌++◌, map, Option, None, refl, ap, ◌∙◌}
+use Rattle.std.specs.Prelude.{not, ◌==◌}
+use Rattle.std.proofs.Common.{◌≡◌, ℕ, ◌+◌, Bool, true, false, length, List, [], ◌∷◌, ◌++◌, map, Option, None, refl, ap, ◌∙◌, arith}
+use Rattle.std.proofs.lemmas.Grind.{common_steps}
 use Rattle.std.proofs.lemmas.List.{length-map}
 use Rattle.wast_base.specs.Filling.{one_if, given_if, with_ids_from, missing_id_count}
 use Rattle.wast_tree_nodes.specs.DataBytes.{data_bytes, all_bytes}
@@ -27,8 +28,8 @@ use Rattle.wat_syntax.specs.Tree.tag_kind
 use Rattle.wat_syntax.specs.Tree.export
 use Rattle.wat_syntax.specs.Tree.field
 use Rattle.wat_syntax.specs.Bare.{bare_text}
-use Rattle.wat_syntax.specs.BareFields.{bare_exports, bare_tag_kind}
-use Rattle.wat_ready.specs.Shown.{shown_data_val, shown_expression, shown_field, shown_fields, shown_func, shown_func_kind, shown_global, shown_global_kind, shown_memory, shown_memory_kind, shown_payload, shown_table, shown_table_kind, shown_tag}
+use Rattle.wat_syntax.specs.BareFields.{bare_data_val, bare_exports, bare_memory_kind, bare_tag_kind}
+use Rattle.wat_ready.specs.Shown.{shown_expression, shown_field, shown_fields, shown_func, shown_func_kind, shown_global, shown_global_kind, shown_memory, shown_payload, shown_table, shown_table_kind, shown_tag}
 use Rattle.wat_meaning.proofs.ShownInlineLists.{map_changed}
 use Rattle.wat_meaning.proofs.ShownItems.{items_of_shown}
 use Rattle.wat_ready.proofs.ShownLists.{flat_same, flat_changed, both_changed}
@@ -38,7 +39,7 @@ exports_shown : (span : Span) (kind : ExportKind) (item : Index) (exports : Inli
     → exports_of span kind item (bare_exports exports) ≡ shown_fields (exports_of span kind item exports)
 exports_shown span kind item exports = map_changed bare_text shown_field (export_of span kind item) (λ text. refl) exports.names
 
-data_shown : (k : MemoryKind) (span : Span) (item : Index) → data_in (shown_memory_kind k) span item ≡ shown_fields (data_in k span item)
+data_shown : (k : MemoryKind) (span : Span) (item : Index) → data_in (bare_memory_kind k) span item ≡ shown_fields (data_in k span item)
 data_shown (memory.Inline false pieces exponent) span item = refl
 data_shown (memory.Inline true pieces exponent) span item = refl
 data_shown x span item = refl
@@ -66,17 +67,17 @@ table_shown t (table.Inline ty is64 shared p) =
       kind = table.Normal (record { limits = exact_limits is64 (count_shown p i); elem = ty; shared = shared }) None;
     })
 
-piece_shown : (v : DataVal) → data_bytes (shown_data_val v) ≡ data_bytes v
+piece_shown : (v : DataVal) → data_bytes (bare_data_val v) ≡ data_bytes v
 piece_shown (bytes.String text) = refl
 piece_shown (bytes.Integral xs) = refl
 
-pub bytes_shown : (pieces : List DataVal) → all_bytes (map shown_data_val pieces) ≡ all_bytes pieces
-bytes_shown pieces = flat_same shown_data_val data_bytes piece_shown pieces
+pub bytes_shown : (pieces : List DataVal) → all_bytes (map bare_data_val pieces) ≡ all_bytes pieces
+bytes_shown pieces = flat_same bare_data_val data_bytes piece_shown pieces
 
-pages_shown : (pieces : List DataVal) (o : Option ℕ) → page_count (map shown_data_val pieces) o ≡ page_count pieces o
+pages_shown : (pieces : List DataVal) (o : Option ℕ) → page_count (map bare_data_val pieces) o ≡ page_count pieces o
 pages_shown pieces o = ap (λ (bs : List ℕ). div_ceil (length bs) (page_size o)) (bytes_shown pieces)
 
-memory_shown : (m : Memory) (k : MemoryKind) → memory_alone (shown_memory m) (shown_memory_kind k) ≡ shown_field (memory_alone m k)
+memory_shown : (m : Memory) (k : MemoryKind) → memory_alone (shown_memory m) (bare_memory_kind k) ≡ shown_field (memory_alone m k)
 memory_shown m (memory.Import source ty) = refl
 memory_shown m (memory.Normal ty) = refl
 memory_shown m (memory.Inline is64 pieces exponent) =
@@ -137,7 +138,7 @@ shown_desugared xs = after_shown [] xs
 some_exported : (e : InlineExport) → exports_some (bare_exports e) ≡ exports_some e
 some_exported e = ap (λ (n : ℕ). not (n == 0)) (length-map e.names bare_text)
 
-with_bytes : (k : MemoryKind) → has_bytes (shown_memory_kind k) ≡ has_bytes k
+with_bytes : (k : MemoryKind) → has_bytes (bare_memory_kind k) ≡ has_bytes k
 with_bytes (memory.Import source ty) = refl
 with_bytes x = refl
 
@@ -146,12 +147,7 @@ with_elements (table.Import source ty) = refl
 with_elements x = refl
 
 wants_shown : (x : ModuleField) → wants_id (shown_field x) ≡ wants_id x
-wants_shown (field.Func x) = ap (λ b. b && is_none x.id) (some_exported x.exports)
-wants_shown (field.Table x) = λ i. (some_exported x.exports i || with_elements x.kind i) && is_none x.id
-wants_shown (field.Memory x) = λ i. (some_exported x.exports i || with_bytes x.kind i) && is_none x.id
-wants_shown (field.Global x) = ap (λ b. b && is_none x.id) (some_exported x.exports)
-wants_shown (field.Tag x) = ap (λ b. b && is_none x.id) (some_exported x.exports)
-wants_shown x = refl
+wants_shown x = grind (arith, common_steps, some_exported, with_bytes, with_elements)
 
 id_shown : (n : ℕ) (x : ModuleField) → with_item_id n (shown_field x) ≡ shown_field (with_item_id n x)
 id_shown n (field.Func x) = refl

@@ -3,9 +3,9 @@
 --   (func $f (export "a"))      one item, the function $f, wherever "a" is
 use Rattle.std.specs.Borrow.{Bor}
 use Rattle.std.specs.List.{flat_map}
-use Rattle.std.proofs.Common.{◌≡◌, ℕ, List, [], ◌∷◌, ◌++◌, map, refl}
+use Rattle.std.proofs.Common.{◌≡◌, ℕ, List, [], ◌∷◌, ◌++◌, map, refl, ap}
 use Rattle.wast_base.specs.Ids.{mark_of_option}
-use Rattle.wast_tree_nodes.specs.Imports.{defined_space}
+use Rattle.wast_tree_nodes.specs.Imports.{item_sigs, defined_space}
 use Rattle.wast_tree_nodes.specs.Items.{space_of_kind, item_of_sig, items_of_type, items_of_import, items_in, items}
 use Rattle.wast_tree_nodes.specs.Profiles.{is_imported_func, is_imported_table, is_imported_memory, is_imported_global, is_imported_tag}
 use Rattle.wat_syntax.specs.Tree.{FuncKind, TableKind, MemoryKind, GlobalKind, TagKind, ItemKind, ItemSig, ImportItems, ModuleField}
@@ -20,8 +20,8 @@ use Rattle.wat_syntax.specs.Tree.kind
 use Rattle.wat_syntax.specs.Tree.import_items
 use Rattle.wat_syntax.specs.Tree.field
 use Rattle.wat_syntax.specs.Bare.{bare_text}
-use Rattle.wat_syntax.specs.BareFields.{bare_tag_kind}
-use Rattle.wat_ready.specs.Shown.{shown_field, shown_fields, shown_func_kind, shown_global_kind, shown_item, shown_item_kind, shown_item_sig, shown_items, shown_memory_kind, shown_table_kind, shown_type}
+use Rattle.wat_syntax.specs.BareFields.{bare_import_items, bare_item_sig, bare_memory_kind, bare_tag_kind}
+use Rattle.wat_ready.specs.Shown.{shown_field, shown_fields, shown_func_kind, shown_global_kind, shown_item, shown_item_kind, shown_item_sig, shown_items, shown_table_kind, shown_type}
 use Rattle.wat_ready.proofs.ShownLists.{flat_same}
 use Rattle.wat_ready.proofs.ShownTypeParts.{fields_shown}
 
@@ -36,6 +36,31 @@ kind_space x = refl
 
 sig_item : (s : ItemSig) → item_of_sig (shown_item_sig s) ≡ item_of_sig s
 sig_item s = λ i. record { space = kind_space s.kind i; id = mark_of_option s.id; fields = [] }
+
+-- The signatures of an import, each changed: those of a group, and one that names share.
+abbrev Named : Type 0
+Named = Bor (List ℕ) × ItemSig
+
+module _ (change : ItemSig → ItemSig) where
+  grouped : (ps : List Named)
+      → map (λ (p : Named). p.1) (map (λ (p : Named). (bare_text p.0, change p.1)) ps) ≡ map change (map (λ (p : Named). p.1) ps)
+  grouped [] = refl
+  grouped (p ∷ ps) = ap (λ (sigs : List ItemSig). change p.1 ∷ sigs) (grouped ps)
+
+  shared : (s : ItemSig) (names : List (Bor (List ℕ)))
+      → map (λ (name : Bor (List ℕ)). change s) (map bare_text names) ≡ map change (map (λ (name : Bor (List ℕ)). s) names)
+  shared s [] = refl
+  shared s (name ∷ names) = ap (λ (sigs : List ItemSig). change s ∷ sigs) (shared s names)
+
+pub sigs_shown : (x : ImportItems) → item_sigs (shown_items x) ≡ map shown_item_sig (item_sigs x)
+sigs_shown (import_items.Single source name sig) = refl
+sigs_shown (import_items.Group1 source items) = grouped shown_item_sig items
+sigs_shown (import_items.Group2 source sig names) = shared shown_item_sig sig names
+
+pub sigs_bare : (x : ImportItems) → item_sigs (bare_import_items x) ≡ map bare_item_sig (item_sigs x)
+sigs_bare (import_items.Single source name sig) = refl
+sigs_bare (import_items.Group1 source items) = grouped bare_item_sig items
+sigs_bare (import_items.Group2 source sig names) = shared bare_item_sig sig names
 
 -- a signature that names share
 shared_items : (s : ItemSig) (names : List (Bor (List ℕ)))
@@ -77,7 +102,7 @@ pub table_imported : (k : TableKind) → is_imported_table (shown_table_kind k) 
 table_imported (table.Import source ty) = refl
 table_imported x = refl
 
-pub memory_imported : (k : MemoryKind) → is_imported_memory (shown_memory_kind k) ≡ is_imported_memory k
+pub memory_imported : (k : MemoryKind) → is_imported_memory (bare_memory_kind k) ≡ is_imported_memory k
 memory_imported (memory.Import source ty) = refl
 memory_imported x = refl
 

@@ -13,14 +13,15 @@ use Rattle.wast_resolve_rules.specs.Explicit.{explicit_fields, generated_id_coun
 use Rattle.wat_syntax.specs.Tree.{MemoryKind, ModuleField}
 use Rattle.wat_syntax.specs.Tree.memory
 use Rattle.wat_syntax.specs.Tree.field
-use Rattle.wat_ready.specs.Shown.{shown_memory_kind, shown_field, shown_fields}
+use Rattle.wat_syntax.specs.BareFields.{bare_memory_kind}
+use Rattle.wat_ready.specs.Shown.{shown_field, shown_fields}
 use Rattle.wat_meaning.proofs.ShownAnswers.{shown_item_counts, shown_body_counts}
 use Rattle.wat_meaning.proofs.ShownDemands.{item_demands_shown}
 use Rattle.wat_meaning.proofs.ShownInline.{bytes_shown}
 use Rattle.wat_meaning.proofs.ShownResolved.{shown_explicit, shown_count}
 
 -- Inline data of 2^32 bytes or more.
-oversized_kind : (k : MemoryKind) → overflows_kind (shown_memory_kind k) ≡ overflows_kind k
+oversized_kind : (k : MemoryKind) → overflows_kind (bare_memory_kind k) ≡ overflows_kind k
 oversized_kind (memory.Import source t) = refl
 oversized_kind (memory.Normal t) = refl
 oversized_kind (memory.Inline is64 pieces page) = ap (λ (bytes : List ℕ). not (nat_lt (length bytes) (2 ^ 32))) (bytes_shown pieces)

@@ -32,8 +32,8 @@ use Rattle.wat_syntax.specs.Tree.custom
 use Rattle.wat_syntax.specs.Tree.dylink
 use Rattle.wat_syntax.specs.Tree.field
 use Rattle.wat_syntax.specs.Bare.{bare_text}
-use Rattle.wat_syntax.specs.BareFields.{bare_subsection}
-use Rattle.wat_ready.specs.Shown.{shown_custom, shown_data_kind, shown_elem, shown_elem_kind, shown_expression, shown_field, shown_fields, shown_func, shown_func_kind, shown_global, shown_global_kind, shown_instr, shown_item, shown_item_kind, shown_items, shown_local, shown_memory_kind, shown_payload, shown_rec, shown_table_kind, shown_tag_type, shown_try_table, shown_type, shown_type_use}
+use Rattle.wat_syntax.specs.BareFields.{bare_custom, bare_memory_kind, bare_subsection}
+use Rattle.wat_ready.specs.Shown.{shown_data_kind, shown_elem, shown_elem_kind, shown_expression, shown_field, shown_fields, shown_func, shown_func_kind, shown_global, shown_global_kind, shown_instr, shown_item, shown_item_kind, shown_items, shown_local, shown_payload, shown_rec, shown_table_kind, shown_tag_type, shown_try_table, shown_type, shown_type_use}
 use Rattle.wat_ready.specs.ShownSites.{shown_context, shown_site}
 use Rattle.wat_ready.proofs.ShownLists.{map_same, flat_same, flat_changed, option_changed, both_changed}
 use Rattle.wat_ready.proofs.ShownTypeParts.{use_asks, params_shown, type_asks, rec_asks, locals_asks, locals_shown}
@@ -236,7 +236,7 @@ table_shown (table.Inline ty is64 shared p) =
     both_changed shown_site (check_sites (in_ref ty)) (in_payload p ++ own) _ _
     (asked_shown (in_ref ty)) (both_changed shown_site (in_payload p) own _ _ (payload_shown p) refl)
 
-memory_shown : (k : MemoryKind) → in_memory_kind (shown_memory_kind k) ≡ map shown_site (in_memory_kind k)
+memory_shown : (k : MemoryKind) → in_memory_kind (bare_memory_kind k) ≡ map shown_site (in_memory_kind k)
 memory_shown (memory.Import source ty) = refl
 memory_shown x = refl
 
@@ -277,7 +277,7 @@ subsection_shown : (s : Dylink0Subsection) → in_subsection (bare_subsection s)
 subsection_shown (dylink.MemInfo memory_size memory_align table_size table_align) = refl
 subsection_shown x = refl
 
-custom_shown : (c : Custom) → in_custom (shown_custom c) ≡ map shown_site (in_custom c)
+custom_shown : (c : Custom) → in_custom (bare_custom c) ≡ map shown_site (in_custom c)
 custom_shown (custom.Raw section) = refl
 custom_shown (custom.Producers producers) = refl
 custom_shown (custom.Dylink0 info) =
@@ -293,12 +293,11 @@ field_shown (field.Func f) = func_shown f
 field_shown (field.Table t) = table_shown t.kind
 field_shown (field.Memory m) = memory_shown m.kind
 field_shown (field.Global g) = global_shown g
-field_shown (field.Export e) = refl
-field_shown (field.Start i) = refl
 field_shown (field.Elem e) = elem_shown e
 field_shown (field.Data d) = data_kind_shown d.kind
 field_shown (field.Tag t) = tag_shown t.ty
 field_shown (field.Custom c) = custom_shown c
+field_shown x = refl
 
 pub sites_shown : (xs : List ModuleField) → in_module (shown_fields xs) ≡ map shown_site (in_module xs)
 sites_shown xs = flat_changed shown_field in_field shown_site field_shown xs

@@ -2,14 +2,12 @@
 --
 -- A tree has texts of two kinds: ids, which resolving compares, and names and strings, which it hands on. `shown` sets each text of the
 -- second kind to address 0. With the ids at address 0 as well it is a bare tree (Bare in wat_syntax).
+-- A part without ids, such as a custom section, is its bare part then.
 --
 --   shown_field of (export "a" (func $f)), at any address      "a" at address 0, and $f as before
 use Rattle.std.specs.Prelude.{ℕ, List, Option, map, option_map}
 use Rattle.std.specs.Borrow.{Bor}
-use Rattle.wat_syntax.specs.Tree.{Id, NameAnnotation, ValType, StructField, StructType, FunctionType, TypeUse, InnerTypeKind, TypeDef}
-use Rattle.wat_syntax.specs.Tree.{Rec, BlockType, CallIndirect, TryTable, Instruction, Expression, Local, Tag, TagType, ItemKind}
-use Rattle.wat_syntax.specs.Tree.{ItemSig, ImportItems, Imports, Export, FuncKind, Func, Table, TableKind, Memory, MemoryKind, Global}
-use Rattle.wat_syntax.specs.Tree.{GlobalKind, Elem, ElemKind, ElemPayload, Data, DataKind, DataVal, Custom, ModuleField}
+use Rattle.wat_syntax.specs.Tree.{Id, NameAnnotation, ValType, StructField, StructType, FunctionType, TypeUse, InnerTypeKind, TypeDef, Rec, BlockType, CallIndirect, TryTable, Instruction, Expression, Local, Tag, TagType, ItemKind, ItemSig, ImportItems, Imports, Export, FuncKind, Func, Table, TableKind, Memory, Global, GlobalKind, Elem, ElemKind, ElemPayload, Data, DataKind, ModuleField}
 use Rattle.wat_syntax.specs.Tree.inner
 use Rattle.wat_syntax.specs.Tree.ty
 use Rattle.wat_syntax.specs.Tree.tag
@@ -19,15 +17,12 @@ use Rattle.wat_syntax.specs.Tree.instr
 use Rattle.wat_syntax.specs.Tree.elem
 use Rattle.wat_syntax.specs.Tree.payload
 use Rattle.wat_syntax.specs.Tree.data_kind
-use Rattle.wat_syntax.specs.Tree.bytes
 use Rattle.wat_syntax.specs.Tree.func
 use Rattle.wat_syntax.specs.Tree.table
-use Rattle.wat_syntax.specs.Tree.memory
 use Rattle.wat_syntax.specs.Tree.global
-use Rattle.wat_syntax.specs.Tree.custom
 use Rattle.wat_syntax.specs.Tree.field
 use Rattle.wat_syntax.specs.Bare.{bare_text, bare_name_option}
-use Rattle.wat_syntax.specs.BareFields.{bare_exports, bare_import, bare_tag_kind, bare_producers_field, bare_subsection}
+use Rattle.wat_syntax.specs.BareFields.{bare_custom, bare_data_val, bare_exports, bare_import, bare_memory_kind, bare_tag_kind}
 
 -- a parameter: its id, its name annotation and its type
 abbrev pub shown_param : Option Id × Option NameAnnotation × ValType → Option Id × Option NameAnnotation × ValType
@@ -54,8 +49,7 @@ shown_composite (inner.Cont t) = inner.Cont t
 
 -- what a type is defined as
 abbrev pub shown_type_def : TypeDef → TypeDef
-shown_type_def d = record { kind = shown_composite d.kind; shared = d.shared; parents = d.parents;
-    descriptor = d.descriptor; describes = d.describes; final_type = d.final_type }
+shown_type_def d = record { kind = shown_composite d.kind; shared = d.shared; parents = d.parents; descriptor = d.descriptor; describes = d.describes; final_type = d.final_type }
 
 abbrev pub shown_type : ty.Type → ty.Type
 shown_type t = record { span = t.span; id = t.id; name = bare_name_option t.name; def = shown_type_def t.def }
@@ -96,8 +90,7 @@ abbrev pub shown_tag_type : TagType → TagType
 shown_tag_type (tag.Exception t) = tag.Exception (shown_type_use t)
 
 abbrev pub shown_tag : Tag → Tag
-shown_tag t = record { span = t.span; id = t.id; name = bare_name_option t.name;
-    exports = bare_exports t.exports; ty = shown_tag_type t.ty; kind = bare_tag_kind t.kind }
+shown_tag t = record { span = t.span; id = t.id; name = bare_name_option t.name; exports = bare_exports t.exports; ty = shown_tag_type t.ty; kind = bare_tag_kind t.kind }
 
 -- imported items
 abbrev pub shown_item_kind : ItemKind → ItemKind
@@ -132,8 +125,7 @@ shown_func_kind (func.Import i exact) = func.Import (bare_import i) exact
 shown_func_kind (func.Inline locals e) = func.Inline (map shown_local locals) (shown_expression e)
 
 abbrev pub shown_func : Func → Func
-shown_func f = record { span = f.span; id = f.id; name = bare_name_option f.name;
-    exports = bare_exports f.exports; kind = shown_func_kind f.kind; ty = shown_type_use f.ty }
+shown_func f = record { span = f.span; id = f.id; name = bare_name_option f.name; exports = bare_exports f.exports; kind = shown_func_kind f.kind; ty = shown_type_use f.ty }
 
 -- segments
 abbrev pub shown_payload : ElemPayload → ElemPayload
@@ -152,12 +144,8 @@ abbrev pub shown_data_kind : DataKind → DataKind
 shown_data_kind data_kind.Passive = data_kind.Passive
 shown_data_kind (data_kind.Active x e) = data_kind.Active x (shown_expression e)
 
-abbrev pub shown_data_val : DataVal → DataVal
-shown_data_val (bytes.String text) = bytes.String (bare_text text)
-shown_data_val (bytes.Integral xs) = bytes.Integral xs
-
 abbrev pub shown_data : Data → Data
-shown_data d = record { span = d.span; id = d.id; name = bare_name_option d.name; kind = shown_data_kind d.kind; bytes = map shown_data_val d.bytes }
+shown_data d = record { span = d.span; id = d.id; name = bare_name_option d.name; kind = shown_data_kind d.kind; bytes = map bare_data_val d.bytes }
 
 -- tables, memories and globals
 abbrev pub shown_table_kind : TableKind → TableKind
@@ -168,27 +156,15 @@ shown_table_kind (table.Inline t is64 shared p) = table.Inline t is64 shared (sh
 abbrev pub shown_table : Table → Table
 shown_table t = record { span = t.span; id = t.id; name = bare_name_option t.name; exports = bare_exports t.exports; kind = shown_table_kind t.kind }
 
-abbrev pub shown_memory_kind : MemoryKind → MemoryKind
-shown_memory_kind (memory.Import i t) = memory.Import (bare_import i) t
-shown_memory_kind (memory.Normal t) = memory.Normal t
-shown_memory_kind (memory.Inline is64 xs page) = memory.Inline is64 (map shown_data_val xs) page
-
 abbrev pub shown_memory : Memory → Memory
-shown_memory m = record { span = m.span; id = m.id; name = bare_name_option m.name; exports = bare_exports m.exports; kind = shown_memory_kind m.kind }
+shown_memory m = record { span = m.span; id = m.id; name = bare_name_option m.name; exports = bare_exports m.exports; kind = bare_memory_kind m.kind }
 
 abbrev pub shown_global_kind : GlobalKind → GlobalKind
 shown_global_kind (global.Import i) = global.Import (bare_import i)
 shown_global_kind (global.Inline e) = global.Inline (shown_expression e)
 
 abbrev pub shown_global : Global → Global
-shown_global g = record { span = g.span; id = g.id; name = bare_name_option g.name;
-    exports = bare_exports g.exports; ty = g.ty; kind = shown_global_kind g.kind }
-
--- custom sections: their names, and the pieces of bytes
-abbrev pub shown_custom : Custom → Custom
-shown_custom (custom.Raw s) = custom.Raw (record { span = s.span; place = s.place; name = bare_text s.name; bytes = map bare_text s.bytes })
-shown_custom (custom.Producers p) = custom.Producers (record { fields = map bare_producers_field p.fields })
-shown_custom (custom.Dylink0 d) = custom.Dylink0 (record { subsections = map bare_subsection d.subsections })
+shown_global g = record { span = g.span; id = g.id; name = bare_name_option g.name; exports = bare_exports g.exports; ty = g.ty; kind = shown_global_kind g.kind }
 
 -- fields
 abbrev pub shown_field : ModuleField → ModuleField
@@ -204,7 +180,7 @@ shown_field (field.Start x) = field.Start x
 shown_field (field.Elem e) = field.Elem (shown_elem e)
 shown_field (field.Data d) = field.Data (shown_data d)
 shown_field (field.Tag t) = field.Tag (shown_tag t)
-shown_field (field.Custom c) = field.Custom (shown_custom c)
+shown_field (field.Custom c) = field.Custom (bare_custom c)
 
 abbrev pub shown_fields : List ModuleField → List ModuleField
 shown_fields xs = map shown_field xs

@@ -11,6 +11,7 @@
 //! - `namespaces` and `labels`: many names. `ranges`: ranges of fields. `generated`: many generated ids.
 //! - `conversions`, `filled`, `items`: parts of the tree as values of the binary format.
 //! - `expand`: keys of signatures. `tree`: builders and accessors.
+//! - `sizes`: how many bytes nodes, ids and tokens take.
 //! - `texts`: bytes, names and errors of texts.
 
 #[cfg(test)]
@@ -35,6 +36,8 @@ mod namespaces;
 mod ops;
 #[cfg(test)]
 mod ranges;
+#[cfg(test)]
+mod sizes;
 #[cfg(test)]
 mod texts;
 #[cfg(test)]

@@ -1,7 +1,6 @@
 //! Builders and accessors of the AST.
 
 use std::alloc::Global;
-use std::mem::size_of;
 use std::process::Abort;
 use wast_tree::{
     BlockKind, BlockType, BrOnCast, BrOnCastDescEq, BrOnCastDescEqFail, BrOnCastFail, CallIndirect,
@@ -136,9 +135,4 @@ fn builder_lists_have_pushed_elements(rt: HostRuntime) {
     }
     assert!(rt; bytes.as_slice() == b"ab".as_slice());
     discard_data(pieces);
-}
-
-#[test]
-fn instruction_size_is_96_bytes(rt: HostRuntime) {
-    assert!(rt; size_of::<Instruction<'static>>() == 96);
 }
