@@ -63,16 +63,26 @@ action_read k a b c d e span m nm args at finds named takes close =
     all_read (action k) a e (action_in_of span k m nm args) (λ n. args.end ≤ n)
     (turned a e _ _ _
     (both a b e _ _ _ (by_finds id a b (bare_id_option m)
-        (λ m. name m.1 >>= λ nm. arguments k nm.1 >>= λ args. rparen args.1 >>= λ rest. at_end m.0 nm.0.now args.0 rest) finds)
+    (λ m. name m.1 >>= λ nm. arguments k nm.1 >>= λ args. rparen args.1 >>= λ rest. at_end m.0 nm.0.now args.0 rest) finds)
     (both b c e _ _ _ (by_decides name b c (bare_text nm)
-        (λ nm. arguments k nm.1 >>= λ args. rparen args.1 >>= λ rest. at_end (bare_id_option m) nm.0.now args.0 rest) named)
+    (λ nm. arguments k nm.1 >>= λ args. rparen args.1 >>= λ rest. at_end (bare_id_option m) nm.0.now args.0 rest) named)
     (both c d e _ _ _ (by_reads (arguments k) c d (part args) (λ n. args.end ≤ n)
-        (λ args. rparen args.1 >>= λ rest. at_end (bare_id_option m) nm.now args.0 rest) takes)
+    (λ args. rparen args.1 >>= λ rest. at_end (bare_id_option m) nm.now args.0 rest) takes)
     (by_expects rparen d e (at_end (bare_id_option m) nm.now (part args (read_values d.lists))) close))))
-    (λ h l. ap (λ s. let o : Action × Toks = (record { span = s; kind = k; «module» = bare_id_option m;
-        name = nm.now; arguments = part args (read_values d.lists) }, left e) in Some o) (sym at)
-    ∙ ap (λ vs. let o : Action × Toks = (record { span = span; kind = k; «module» = bare_id_option m; name = nm.now; arguments = part args vs },
-        left e) in Some o) (same_values rparen d e close)))
+    (λ h l. ap (λ s. let o : Action × Toks = (
+      record {
+        span = s;
+        kind = k;
+        «module» = bare_id_option m;
+        name = nm.now;
+        arguments = part args (read_values d.lists);
+      },
+      left e,
+    ) in Some o) (sym at)
+    ∙ ap (λ vs. let o : Action × Toks = (
+      record { span = span; kind = k; «module» = bare_id_option m; name = nm.now; arguments = part args vs },
+      left e,
+    ) in Some o) (same_values rparen d e close)))
     (λ h l. subst (λ (k : Lists). args.end ≤ length k.values.items) (sym close.lists)
     (takes.within (close.clean h) (subst HaveLanes (sym (named.lists ∙ finds.lists)) l)))
   where
@@ -84,7 +94,7 @@ pub execution_on : (tokens : List Placed) (e : code_execution.Execution) (xs zs 
     → execution_in tokens zs e ≡ execution_in tokens xs e
 execution_on tokens (run.Action a) xs zs n h e f =
     ap (λ vs. Runs (record { span = a.span; kind = a.kind; «module» = bare_id_option a.«module»; name = a.name.now; arguments = vs }))
-        (part_on a.arguments xs zs n h e f)
+    (part_on a.arguments xs zs n h e f)
 execution_on tokens (run.Module m) xs zs n h e f = refl
 
 pub has_on : (e : code_execution.Execution) (m n : ℕ) → m ≤ n → HasExecuted m e → HasExecuted n e
@@ -117,7 +127,7 @@ return_read a b c d e results runs takes close =
         (both b c d _ _ _ (by_reads (values usage.Result) b c (part results) (λ n. results.end ≤ n)
         (λ rs. rparen rs.1 >>= λ rest. Some (AssertReturn (execution_in (all_bare b) (read_values b.lists) e) rs.0, rest)) takes)
         (by_expects rparen c d
-            (λ rest. Some (AssertReturn (execution_in (all_bare b) (read_values b.lists) e) (part results (read_values c.lists)), rest)) close))
+        (λ rest. Some (AssertReturn (execution_in (all_bare b) (read_values b.lists) e) (part results (read_values c.lists)), rest)) close))
 
     mid : d.fault ≡ None → HaveLanes a.lists → HaveLanes b.lists
     mid h l = runs.lanes (takes.clean (close.clean h)) l
@@ -131,9 +141,9 @@ return_read a b c d e results runs takes close =
     in_other_words h l =
         ap (λ x. let o : Kind × Toks = (AssertReturn x (part results (read_values c.lists)), left d) in Some o)
         (sym (execution_on (all_bare b) e (read_values b.lists) (read_values c.lists) (length b.lists.values.items)
-            (runs.within (takes.clean (close.clean h)) l) (sym (value_count b.lists)) (takes.values (close.clean h) (mid h l))))
+        (runs.within (takes.clean (close.clean h)) l) (sym (value_count b.lists)) (takes.values (close.clean h) (mid h l))))
         ∙ ap (λ ts. let o : Kind × Toks = (AssertReturn (execution_in ts (read_values c.lists) e) (part results (read_values c.lists)), left d) in
-            Some o) (sym (bare_same b d (close.tokens ∙ takes.tokens)))
+        Some o) (sym (bare_same b d (close.tokens ∙ takes.tokens)))
         ∙ ap (λ vs. let o : Kind × Toks = (AssertReturn (execution_in (all_bare d) vs e) (part results vs), left d) in Some o) (same_values rparen c d close)
 
 -- a reader that has taken tokens, by another rule for those that are left
@@ -143,7 +153,7 @@ pub moved : {T : Type 0} (rule rule_too : Toks → Parse T) (a b c : Reader) (pa
 moved rule rule_too a b c part has lists tokens fault same r =
     all_read rule a c part has
     (both a b c _ _ _ (by_goes a b (rule (left a)) (rule_too (left b)) lists tokens (same_fault a b (rule (left a)) (rule_too (left b)) fault same))
-        (as_steps rule_too b c part has r))
+    (as_steps rule_too b c part has r))
     (λ h l. r.within h (subst HaveLanes (sym lists) l))
 
 -- the arguments of `get`, which has none
@@ -152,7 +162,7 @@ no_arguments a p none last =
     all_read (arguments action_kind.Get) a a (part p) (λ n. p.end ≤ n)
     (by_goes a a (arguments action_kind.Get (left a)) (Some (part p (read_values a.lists), left a)) refl refl
     (same_fault a a (arguments action_kind.Get (left a)) (Some (part p (read_values a.lists), left a)) refl
-        (ap (λ vs. let o : List Value × Toks = (vs, left a) in Some o) (sym (none (read_values a.lists))))))
+    (ap (λ vs. let o : List Value × Toks = (vs, left a) in Some o) (sym (none (read_values a.lists))))))
     (λ h l. omega (arith, last))
 
 -- `(invoke`, and an action
@@ -169,9 +179,11 @@ pub get_read : (a b c : Reader) (ts : List Placed) (x : code_action.Action) → 
     → Reads run_action a c (λ vs. execution_in ts vs (run.Action x)) (λ n. HasArguments n x)
 get_read a b c ts x m r =
     moved run_action (λ toks. action action_kind.Get toks >>= λ y. Some (Runs y.0, y.1)) a b c
-        (λ vs. execution_in ts vs (run.Action x)) (λ n. HasArguments n x) m.lists m.tokens m.fault
-    (ap (λ (o : Option Toks). elim o as (λ o. Parse Execution) [ Some t ↦ action action_kind.Get t >>= λ y. Some (Runs y.0, y.1)
-        | None ↦ invocation (left a) >>= λ y. Some (Runs y.0, y.1) ]) (m.there refl))
+    (λ vs. execution_in ts vs (run.Action x)) (λ n. HasArguments n x) m.lists m.tokens m.fault
+    (ap (λ (o : Option Toks). elim o as (λ o. Parse Execution) [
+      | Some t ↦ action action_kind.Get t >>= λ y. Some (Runs y.0, y.1)
+      | None ↦ invocation (left a) >>= λ y. Some (Runs y.0, y.1)
+    ]) (m.there refl))
     (wrapped (action action_kind.Get) Runs b c (λ vs. action_in vs x) (λ n. HasArguments n x) (λ n. HasArguments n x) r (λ n h. h))
 
 pub other_read : (a b c : Reader) (ts : List Placed) (x : code_action.Action)
@@ -179,9 +191,11 @@ pub other_read : (a b c : Reader) (ts : List Placed) (x : code_action.Action)
     → Reads run_action a c (λ vs. execution_in ts vs (run.Action x)) (λ n. HasArguments n x)
 other_read a b c ts x m r =
     moved run_action (λ toks. invocation toks >>= λ y. Some (Runs y.0, y.1)) a b c
-        (λ vs. execution_in ts vs (run.Action x)) (λ n. HasArguments n x) m.lists m.tokens m.fault
-    (ap (λ (o : Option Toks). elim o as (λ o. Parse Execution) [ Some t ↦ action action_kind.Get t >>= λ y. Some (Runs y.0, y.1)
-        | None ↦ invocation (left a) >>= λ y. Some (Runs y.0, y.1) ]) (m.absent refl)
+    (λ vs. execution_in ts vs (run.Action x)) (λ n. HasArguments n x) m.lists m.tokens m.fault
+    (ap (λ (o : Option Toks). elim o as (λ o. Parse Execution) [
+      | Some t ↦ action action_kind.Get t >>= λ y. Some (Runs y.0, y.1)
+      | None ↦ invocation (left a) >>= λ y. Some (Runs y.0, y.1)
+    ]) (m.absent refl)
     ∙ ap (λ t. invocation t >>= λ y. Some (Runs y.0, y.1)) (sym (m.stays refl)))
     (wrapped invocation Runs b c (λ vs. action_in vs x) (λ n. HasArguments n x) (λ n. HasArguments n x) r (λ n h. h))
 
@@ -193,7 +207,7 @@ pub module_run : (a b : Reader) (m : ScriptModule) → is_form (codes "module") 
     → Reads execution a b (λ vs. execution_in (all_bare b) vs (run.Module m)) (λ n. HasExecuted n (run.Module m))
 module_run a b m is d =
     moved execution (λ toks. in_parentheses toks >>= λ m. Some (Instantiates m.0, m.1)) a a b
-        (λ vs. execution_in (all_bare b) vs (run.Module m)) (λ n. HasExecuted n (run.Module m)) refl refl refl
+    (λ vs. execution_in (all_bare b) vs (run.Module m)) (λ n. HasExecuted n (run.Module m)) refl refl refl
     (ap (λ x. by_module x (left a)) is)
     (wrapped in_parentheses Instantiates a b (λ vs. module_in (all_bare b) m) (λ n. HasExecuted n (run.Module m)) (λ n. HasExecuted n (run.Module m))
     (decided in_parentheses a b (module_in (all_bare b) m) (λ n. HasExecuted n (run.Module m)) d (λ n. tt)) (λ n h. h))
@@ -241,4 +255,4 @@ pub about_run_read : (a b c : Reader) (e : code_execution.Execution) (text : Bor
 about_run_read a b c e text r d =
     subst (λ ts. Reads about_run a c (λ vs. (execution_in ts vs e, text.now)) (λ n. HasExecuted n e)) (sym (bare_same b c d.tokens))
     (then_decides execution message (λ x t. let o : Execution × List ℕ = (x, t) in o) a b c
-        (λ vs. execution_in (all_bare b) vs e) (λ n. HasExecuted n e) text.now r d)
+    (λ vs. execution_in (all_bare b) vs e) (λ n. HasExecuted n e) text.now r d)

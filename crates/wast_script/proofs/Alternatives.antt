@@ -56,7 +56,7 @@ pub closes_one : (depth behind : ℕ) (a b : Reader) → is_rparen (peek 0 (left
 closes_one depth behind a b is m less = without_value depth behind a b m.lists m.tokens m.fault (omega (arith, less))
     (λ n d e. let one : d ≡ behind = omega (arith, less, e) in
     step_is n depth d (left a) true (form (codes "either") (left a)) e is refl
-        ∙ ap (λ k. alternatives n k (after (left a))) one ∙ ap (alternatives n behind) (sym m.left))
+    ∙ ap (λ k. alternatives n k (after (left a))) one ∙ ap (alternatives n behind) (sym m.left))
 
 pub opens_one : (depth behind : ℕ) (a b : Reader) → is_rparen (peek 0 (left a)) ≡ false
     → Accepts (form (codes "either")) a b true → behind ≡ depth + 1 → TakesAlternative depth behind a b
@@ -69,8 +69,13 @@ single o = o >>= λ v. Some (v.0 ∷ [], v.1)
 
 one_is : (p : Parse Value) (ms : List Value) (rest : Toks) → single p ≡ Some (ms, rest) → (v : Value) × ((p ≡ Some (v, rest)) × (ms ≡ v ∷ []))
 one_is None ms rest e = absurd cc
-one_is (Some r) ms rest e = (r.0, (ap (λ t. let o : Value × Toks = (r.0, t) in Some o) (ap (λ (o : List Value × Toks). o.1) (the_same e)),
-    sym (ap (λ (o : List Value × Toks). o.0) (the_same e))))
+one_is (Some r) ms rest e = (
+  r.0,
+  (
+    ap (λ t. let o : Value × Toks = (r.0, t) in Some o) (ap (λ (o : List Value × Toks). o.1) (the_same e)),
+    sym (ap (λ (o : List Value × Toks). o.0) (the_same e)),
+  ),
+)
   where
     the_same : {A : Type 0} {x y : A} → Some x ≡ Some y → x ≡ y
     the_same e = cc
@@ -102,7 +107,7 @@ reads_one depth a m b is not r = record {
   refuses = λ h l f n d e. step_is n depth d (left a) false None e is (not.absent refl)
       ∙ ap (λ t. value usage.Result t >>= λ v. alternatives n (suc d) v.1 >>= λ vs. Some (v.0 ∷ vs.0, vs.1)) (sym (not.stays refl))
       ∙ ap (λ o. o >>= λ v. alternatives n (suc d) v.1 >>= λ vs. Some (v.0 ∷ vs.0, vs.1))
-          (none_is (value usage.Result (left m)) (r.refuses (not.fault ∙ h) (at_mid l) f));
+      (none_is (value usage.Result (left m)) (r.refuses (not.fault ∙ h) (at_mid l) f));
 }
   where
     at_mid : HaveLanes a.lists → HaveLanes m.lists
@@ -135,7 +140,7 @@ either_read a b c d at count first p r few s = record {
     pushed_at : b.fault ≡ None → HaveLanes a.lists → HaveLanes b.lists
     pushed_at g l = subst (λ (n : Vec Number). All (HasLanes (length n.items)) b.lists.values.items) (sym p.lanes)
         (subst (All (HasLanes (length a.lists.lanes.items))) (sym (p.pushed g))
-            (All-push (HasLanes (length a.lists.lanes.items)) a.lists.values.items (val.Either 0) l tt))
+        (All-push (HasLanes (length a.lists.lanes.items)) a.lists.values.items (val.Either 0) l tt))
 
     pushed : d.fault ≡ None → HaveLanes a.lists → HaveLanes b.lists
     pushed h l = pushed_at (r.clean (sym s.fault ∙ h)) l

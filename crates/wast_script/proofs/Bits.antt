@@ -99,19 +99,19 @@ pub bits16 : (text : List ℕ) (z : ℤ) → answer (signed text) (option_map (s
     → option_map num.Bits (integer 16 text) ≡ Some (num.Bits (cast_unsigned w16 z))
 bits16 text z e = bits_at w16 16 (integer 16 text) z
     (λ n is. let small : n < 0x1_0000 = few 16 0x7fff refl refl text n is in
-        ap (cast_unsigned w16) (sym (back16 n small)) ∙ of_z-to_z w16 n small) (signed_is 16 text z e)
+    ap (cast_unsigned w16) (sym (back16 n small)) ∙ of_z-to_z w16 n small) (signed_is 16 text z e)
 
 pub bits32 : (text : List ℕ) (z : ℤ) → answer (signed text) (option_map (signed_of 32) (integer 32 text)) ≡ Ok z
     → option_map num.Bits (integer 32 text) ≡ Some (num.Bits (cast_unsigned w32 z))
 bits32 text z e = bits_at w32 32 (integer 32 text) z
     (λ n is. let small : n < 0x1_0000_0000 = few 32 0x7fff_ffff refl refl text n is in
-        ap (cast_unsigned w32) (sym (back32 n small)) ∙ of_z-to_z w32 n small) (signed_is 32 text z e)
+    ap (cast_unsigned w32) (sym (back32 n small)) ∙ of_z-to_z w32 n small) (signed_is 32 text z e)
 
 pub bits64 : (text : List ℕ) (z : ℤ) → answer (signed text) (option_map (signed_of 64) (integer 64 text)) ≡ Ok z
     → option_map num.Bits (integer 64 text) ≡ Some (num.Bits (cast_unsigned w64 z))
 bits64 text z e = bits_at w64 64 (integer 64 text) z
     (λ n is. let small : n < 0x1_0000_0000_0000_0000 = few 64 0x7fff_ffff_ffff_ffff refl refl text n is in
-        ap (cast_unsigned w64) (sym (back64 n small)) ∙ of_z-to_z w64 n small) (signed_is 64 text z e)
+    ap (cast_unsigned w64) (sym (back64 n small)) ∙ of_z-to_z w64 n small) (signed_is 64 text z e)
 
 unmapped : {S T : Type 0} (f : S → T) (o : Option S) → option_map f o ≡ None → o ≡ None
 unmapped f None e = refl

@@ -33,7 +33,7 @@ use Rattle.wast_script.proofs.Acting.{execution_on, has_on, value_count, grown}
 action_on : (a : code_action.Action) (xs zs : List Value) (n : ℕ) → a.arguments.end ≤ n → n ≡ length xs → IsFirst xs zs → action_in zs a ≡ action_in xs a
 action_on a xs zs n h e f =
     ap (λ vs. let o : Action = record { span = a.span; kind = a.kind; «module» = (action_in xs a).«module»; name = a.name.now; arguments = vs } in
-        o) (part_on a.arguments xs zs n h e f)
+    o) (part_on a.arguments xs zs n h e f)
 
 -- a command, if other values were added later
 kind_on : (tokens : List Placed) (k : CommandKind) (xs zs : List Value) (n : ℕ) → HasValues n k
@@ -94,7 +94,7 @@ command_taken threads behind a b c x r p after_it few = record {
   few = few;
   gives = λ h l v n k e.
       ap (with_commands (read_commands a)) (one_command n k threads (left a) e
-          ∙ ap (λ o. o >>= λ c. commands_in n (threads_after c.0.kind threads) c.1 >>= λ cs. Some (c.0 ∷ cs)) (r.gives (p.clean h) l))
+      ∙ ap (λ o. o >>= λ c. commands_in n (threads_after c.0.kind threads) c.1 >>= λ cs. Some (c.0 ∷ cs)) (r.gives (p.clean h) l))
       ∙ with_one (read_commands a) (seen b) (commands_in n (threads_after (seen b).kind threads) (left b))
       ∙ ap (λ m. with_commands (read_commands a ++ seen b ∷ []) (commands_in n m (left b))) (sym (after_it (all_bare b) (read_values b.lists)))
       ∙ ap (λ t. with_commands (read_commands a ++ seen b ∷ []) (commands_in n behind t)) (sym (p.left h))
@@ -102,7 +102,7 @@ command_taken threads behind a b c x r p after_it few = record {
   keeps = λ h. p.keeps (λ e. h (r.clean e)) ∙ r.keeps h;
   refuses = λ h l f n k e. by_fault b c p.keeps f (λ g. absurd (p.memory g f))
       (λ g. one_command n k threads (left a) e
-          ∙ ap (λ o. o >>= λ c. commands_in n (threads_after c.0.kind threads) c.1 >>= λ cs. Some (c.0 ∷ cs)) (r.refuses h l g));
+      ∙ ap (λ o. o >>= λ c. commands_in n (threads_after c.0.kind threads) c.1 >>= λ cs. Some (c.0 ∷ cs)) (r.refuses h l g));
 }
   where
     seen : Reader → Command
@@ -120,9 +120,9 @@ command_taken threads behind a b c x r p after_it few = record {
         (λ i. map (command_in (bare_same b c p.tokens i) (same_values i)) (added h i))
         ∙ map_push (command_in (all_bare b) (read_values b.lists)) a.lists.commands.items x
         ∙ ap (λ cs. cs ++ seen b ∷ [])
-            (ap (λ (t : Vec Placed). map (command_in (map bare_placed t.items) (read_values b.lists)) a.lists.commands.items) r.tokens
+        (ap (λ (t : Vec Placed). map (command_in (map bare_placed t.items) (read_values b.lists)) a.lists.commands.items) r.tokens
         ∙ commands_on (all_bare a) a.lists.commands.items (read_values a.lists) (read_values b.lists)
-            (length a.lists.values.items) v (sym (value_count a.lists)) (r.values (p.clean h) l))
+        (length a.lists.values.items) v (sym (value_count a.lists)) (r.values (p.clean h) l))
 
 -- All commands are those that are read, and those of the tokens that are left.
 pub record Running (old now : Reader) (n threads : ℕ) : Type 0 where

@@ -28,7 +28,7 @@ strings_read a b c s e first m last d = record {
   gives = λ h. ap (λ t. rparen t >>= λ rest. Some (between (left a) t, rest)) (sym m.left)
       ∙ ap (λ o. o >>= λ rest. Some (between (left a) (left b), rest)) (d.gives h)
       ∙ ap (λ ts. let o : List Placed × Toks = (ts, left c) in Some o)
-          (sym (ap (part (record { start = s; end = e })) (bare_same b c d.tokens) ∙ between_is a b s e m.tokens first last));
+      (sym (ap (part (record { start = s; end = e })) (bare_same b c d.tokens) ∙ between_is a b s e m.tokens first last));
   keeps = λ h. d.keeps (λ g. h (sym m.fault ∙ g)) ∙ m.fault;
   refuses = λ h f. ap (λ t. rparen t >>= λ rest. Some (between (left a) t, rest)) (sym m.left)
       ∙ ap (λ o. o >>= λ rest. Some (between (left a) (left b), rest)) (d.refuses (m.fault ∙ h) f);
@@ -42,7 +42,7 @@ pub module_read : (a b c : Reader) (m : ScriptModule) (s e : ℕ) → s ≡ leng
 module_read a b c m s e first f d last rest =
     decided_by (module_after m.span (part m.head (all_bare a))) a c (module_in (all_bare c) m) (d.lists ∙ f.lists) (d.tokens ∙ f.tokens)
     (subst (Goes a c (module_after m.span (part m.head (all_bare a)) (left a)))
-        (ap (λ ts. at_end (bare_id_option m.id) (contents_in (m.form, m.strings) (all_bare c)) ts (left c)) same) g)
+    (ap (λ ts. at_end (bare_id_option m.id) (contents_in (m.form, m.strings) (all_bare c)) ts (left c)) same) g)
   where
     at_end : Option Id → Contents → List Placed → Toks → Parse Module
     at_end x c ts t = Some (record { span = m.span; id = x; form = c.form; tokens = ts; strings = c.strings }, t)
@@ -52,7 +52,7 @@ module_read a b c m s e first f d last rest =
     g = chain a b c _ _ _ (finds id a b (bare_id_option m.id)
         (λ x. contents x.1 >>= λ k. at_end x.0 k.0 (part m.head (all_bare a) ++ between (left a) k.1) k.1) f)
         (decides contents b c (contents_in (m.form, m.strings) (all_bare c))
-            (λ k. at_end (bare_id_option m.id) k.0 (part m.head (all_bare a) ++ between (left a) k.1) k.1) d)
+        (λ k. at_end (bare_id_option m.id) k.0 (part m.head (all_bare a) ++ between (left a) k.1) k.1) d)
 
     all_same : all_bare c ≡ all_bare a
     all_same = bare_same a c (d.tokens ∙ f.tokens)
@@ -76,15 +76,21 @@ parentheses_read a b c d span s e x first opens at word last r =
     g : Goes a d (in_parentheses (left a)) (Some (x, left d))
     g = chain a b d _ _ _ (expects lparen a b (λ t. the_word (codes "module") t >>= λ k. module_after (position t) (between (left a) k) k) opens)
         (chain b c d _ _ _ (expects (the_word (codes "module")) b c (λ k. module_after (position (left b)) (between (left a) k) k) word)
-            (as_goes (module_after (position (left b)) (between (left a) (left c))) c d x placed))
+        (as_goes (module_after (position (left b)) (between (left a) (left c))) c d x placed))
 
 -- a script that is one module without its parentheses: it has all tokens
 whole : (r : Reader) (n : ℕ) → n ≡ length r.tokens.items → part (record { start = 0; end = n }) (all_bare r) ≡ all_bare r
 whole r n size = part_last [] (all_bare r) 0 n refl (size ∙ sym (length-map r.tokens.items bare_placed))
 
 pub lone_is : (r : Reader) (n : ℕ) (span : Span) → span ≡ position (left r) → n ≡ length r.tokens.items → (left r).left ≡ all_bare r
-    → module_in (all_bare r) (record { span = span; id = None; form = module_form.Fields;
-        head = record { start = 0; end = 0 }; rest = record { start = 0; end = n }; strings = record { start = 0; end = 0 } })
+    → module_in (all_bare r) (record {
+      span = span;
+      id = None;
+      form = module_form.Fields;
+      head = record { start = 0; end = 0 };
+      rest = record { start = 0; end = n };
+      strings = record { start = 0; end = 0 };
+    })
     ≡ lone_module (left r)
 lone_is r n span at size begins = λ i. record {
   span = at i;

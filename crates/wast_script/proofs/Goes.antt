@@ -48,13 +48,21 @@ decided_by rule old new x lists tokens g = record { lists = lists; tokens = toke
 
 pub decides : {S T : Type 0} (rule : Toks → Parse S) (old new : Reader) (x : S) (next : S × Toks → Option T) → Decides rule old new x
     → Goes old new (rule (left old) >>= next) (next (x, left new))
-decides rule old new x next d = record { clean = d.clean; goes = λ h. ap (λ o. o >>= next) (d.gives h);
-    keeps = d.keeps; refuses = λ h f. ap (λ o. o >>= next) (d.refuses h f) }
+decides rule old new x next d = record {
+  clean = d.clean;
+  goes = λ h. ap (λ o. o >>= next) (d.gives h);
+  keeps = d.keeps;
+  refuses = λ h f. ap (λ o. o >>= next) (d.refuses h f);
+}
 
 pub expects : {T : Type 0} (rule : Toks → Option Toks) (old new : Reader) (next : Toks → Option T)
     → Expects rule old new → Goes old new (rule (left old) >>= next) (next (left new))
-expects rule old new next d = record { clean = d.clean; goes = λ h. ap (λ o. o >>= next) (d.gives h);
-    keeps = d.keeps; refuses = λ h f. ap (λ o. o >>= next) (d.refuses h f) }
+expects rule old new next d = record {
+  clean = d.clean;
+  goes = λ h. ap (λ o. o >>= next) (d.gives h);
+  keeps = d.keeps;
+  refuses = λ h f. ap (λ o. o >>= next) (d.refuses h f);
+}
 
 pub finds : {S T : Type 0} (rule : Toks → Parse S) (old new : Reader) (x : Option S) (next : Option S × Toks → Option T) → Finds rule old new x
     → Goes old new (optional rule (left old) >>= next) (next (x, left new))
@@ -62,8 +70,12 @@ finds rule old new x next d = same_fault old new (optional rule (left old) >>= n
 
 a_value : {T : Type 0} (rule : Toks → Parse Value) (old new : Reader) (v : code_value.Value) (next : Value × Toks → Option T) → ReadsValue rule old new v
     → Goes old new (rule (left old) >>= next) (next (value_in new.lists.lanes.items v, left new))
-a_value rule old new v next d = record { clean = d.clean; goes = λ h. ap (λ o. o >>= next) (d.gives h);
-    keeps = d.keeps; refuses = λ h f. ap (λ o. o >>= next) (d.refuses h f) }
+a_value rule old new v next d = record {
+  clean = d.clean;
+  goes = λ h. ap (λ o. o >>= next) (d.gives h);
+  keeps = d.keeps;
+  refuses = λ h f. ap (λ o. o >>= next) (d.refuses h f);
+}
 
 pub first_same : {T : Type 0} (xs ys : List T) → ys ≡ xs → IsFirst xs ys
 first_same xs ys e = record { more = []; is = e ∙ sym (append-nil xs) }
@@ -114,8 +126,13 @@ plain_read rule old new v d plain few = record {
 pub more_is : {T : Type 0} (xs ys : List T) (p : Parse (List T)) (rest : Toks)
     → with_parts xs p ≡ Some (ys, rest) → (more : List T) × ((p ≡ Some (more, rest)) × (ys ≡ xs ++ more))
 more_is xs ys None rest e = absurd cc
-more_is xs ys (Some r) rest e = (r.0, (ap (λ t. let o : List _ × Toks = (r.0, t) in Some o) (ap (λ (o : List _ × Toks). o.1) (the_same e)),
-    sym (ap (λ (o : List _ × Toks). o.0) (the_same e))))
+more_is xs ys (Some r) rest e = (
+  r.0,
+  (
+    ap (λ t. let o : List _ × Toks = (r.0, t) in Some o) (ap (λ (o : List _ × Toks). o.1) (the_same e)),
+    sym (ap (λ (o : List _ × Toks). o.0) (the_same e)),
+  ),
+)
   where
     the_same : {A : Type 0} {x y : A} → Some x ≡ Some y → x ≡ y
     the_same e = cc

@@ -40,8 +40,13 @@ skipping_more old now new counter end depth after_it few some s m is =
 
 -- no parenthesis is open, or no step is left
 pub skips_end : (old now : Reader) (n depth : ℕ) → depth ≡ 0 → Skipping old now n depth → Skips depth old now
-skips_end old now n depth e s = record { lists = s.lists; tokens = s.tokens; fault = s.fault; goes = s.goes
-    ∙ ap (λ k. form_end n k (left now)) e ∙ sym (ap (λ k. form_end 0 k (left now)) e) }
+skips_end old now n depth e s = record {
+  lists = s.lists;
+  tokens = s.tokens;
+  fault = s.fault;
+  goes = s.goes
+      ∙ ap (λ k. form_end n k (left now)) e ∙ sym (ap (λ k. form_end 0 k (left now)) e);
+}
 
 pub skips_last : (old now : Reader) (n depth : ℕ) → n ≡ 0 → Skipping old now n depth → Skips depth old now
 skips_last old now n depth e s = record { lists = s.lists; tokens = s.tokens; fault = s.fault; goes = s.goes ∙ ap (λ k. form_end k depth (left now)) e }

@@ -97,7 +97,7 @@ value_pushed u a b c v r p = record {
   lanes = λ h l. subst (λ (n : Vec Number). All (HasLanes (length n.items)) c.lists.values.items) (sym p.lanes)
       (subst (All (HasLanes (length b.lists.lanes.items))) (sym (added h))
       (All-push (HasLanes (length b.lists.lanes.items)) a.lists.values.items v
-          (have_more a.lists.values.items _ _ (r.lanes (p.clean h)) l) (r.within (p.clean h))));
+      (have_more a.lists.values.items _ _ (r.lanes (p.clean h)) l) (r.within (p.clean h))));
   gives = λ h l. ap alone (r.gives (p.clean h)) ∙ ap (λ vs. let o : List Value × Toks = (vs, left b) in Some o) (sym (seen h l))
       ∙ ap (λ t. let o : List Value × Toks = (read_values c.lists, t) in Some o) (sym (p.left h));
   keeps = λ h. p.keeps (λ e. h (r.clean e)) ∙ r.keeps h;
@@ -174,13 +174,13 @@ taken old now depth rest e s = record {
 
 pub takes_end : (old now : Reader) (n depth : ℕ) → depth ≡ 0
     → Adds old now (with_parts (read_values old.lists) (all_alternatives (left old)))
-        (with_parts (read_values now.lists) (alternatives n depth (left now))) → TakesAlternatives depth old now
+    (with_parts (read_values now.lists) (alternatives n depth (left now))) → TakesAlternatives depth old now
 takes_end old now n depth e s = taken old now depth (alternatives n depth (left now))
     (ap (λ k. alternatives n k (left now)) e ∙ sym (ap (λ k. alternatives 0 k (left now)) e)) s
 
 pub takes_last : (old now : Reader) (n depth : ℕ) → n ≡ 0
     → Adds old now (with_parts (read_values old.lists) (all_alternatives (left old)))
-        (with_parts (read_values now.lists) (alternatives n depth (left now))) → TakesAlternatives depth old now
+    (with_parts (read_values now.lists) (alternatives n depth (left now))) → TakesAlternatives depth old now
 takes_last old now n depth e s = taken old now depth (alternatives n depth (left now)) (ap (λ k. alternatives k depth (left now)) e) s
 
 pub all_taken : (old new : Reader) (depth : ℕ) → depth ≤ 0 → TakesAlternatives depth old new → ReadsOnto all_alternatives old new
@@ -211,6 +211,6 @@ none_taken old mid new depth fault span some s f = record {
   keeps = λ h. f.keeps (λ g. h (s.clean g)) ∙ s.keeps h;
   refuses = λ h l g. by_fault mid new f.keeps g
       (λ is. none_after (read_values old.lists) (all_alternatives (left old))
-          (s.goes is l ∙ ap (with_parts (read_values mid.lists)) (none_left depth (left mid) some)))
+      (s.goes is l ∙ ap (with_parts (read_values mid.lists)) (none_left depth (left mid) some)))
       (s.refuses h l);
 }

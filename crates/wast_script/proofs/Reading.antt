@@ -103,7 +103,7 @@ pub placed_more : (n k : ℕ) (cs found more : List code_command.Command) (c : c
     → more ≡ map (placed_up_to n) (take (k + 1) cs)
 placed_more n k cs found more c span few here so_far at is =
     is ∙ (λ i. so_far i ++ record { span = at i; kind = c.kind } ∷ [])
-        ∙ ap (λ (d : code_command.Command). map (placed_up_to n) (take k cs) ++ placed_up_to n d ∷ []) here
+    ∙ ap (λ (d : code_command.Command). map (placed_up_to n) (take k cs) ++ placed_up_to n d ∷ []) here
     ∙ sym (ap (map (placed_up_to n)) (take_more cs k c few) ∙ map_push (placed_up_to n) (take k cs) (get_or cs k c))
 
 -- positions that were moved are in the text

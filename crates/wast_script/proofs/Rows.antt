@@ -51,7 +51,7 @@ rows_more rule all counter end first old mid new x few r d p = record {
   refuses = λ h f. by_fault mid new p.keeps f (λ e. absurd (p.memory e f))
       (λ g. by_fault old mid d.keeps g
       (λ e. none_after first.lists.lanes.items (times all rule (left first))
-          (r.goes e ∙ ap (λ k. with_parts old.lists.lanes.items (times k rule (left old))) one
+      (r.goes e ∙ ap (λ k. with_parts old.lists.lanes.items (times k rule (left old))) one
       ∙ ap (λ o. with_parts old.lists.lanes.items (o >>= λ y. times n rule y.1 >>= λ ys. Some (y.0 ∷ ys.0, ys.1))) (d.refuses e g)))
       (r.refuses h));
 }

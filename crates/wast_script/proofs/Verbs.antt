@@ -24,7 +24,7 @@ pub command_read : (a b c d : Reader) (verb : Verb) (span : Span) (head : List P
 command_read a b c d verb span head k opens at named from r =
     all_read command a d (λ vs. command_in (all_bare d) vs (record { span = span; kind = k })) (λ n. HasValues n k)
     (turned a d _ _ _ s (λ h l. ap
-        (λ x. let o : Command × Toks = (record { span = x; kind = kind_in (all_bare d) (read_values d.lists) k }, left d) in Some o) (sym at)))
+    (λ x. let o : Command × Toks = (record { span = x; kind = kind_in (all_bare d) (read_values d.lists) k }, left d) in Some o) (sym at)))
     (λ h l. r.within h (subst HaveLanes (sym (named.lists ∙ opens.lists)) l))
   where
     with_span : Kind × Toks → Parse Command
@@ -39,7 +39,7 @@ command_read a b c d verb span head k opens at named from r =
         >>= λ k. Some (record { span = position t; kind = k.0 }, k.1)) opens)
         (both b c d _ _ _ (by_decides (word_that verb_named) b c verb (λ v. command_of v.0 (position (left b)) (between (left a) v.1) v.1 >>= with_span) named)
         (by_reads (command_of verb (position (left b)) (between (left a) (left c))) c d
-            (λ vs. kind_in (all_bare d) vs k) (λ n. HasValues n k) with_span placed))
+        (λ vs. kind_in (all_bare d) vs k) (λ n. HasValues n k) with_span placed))
 
 -- the rule of a command, or that of the end of a thread
 abbrev by_end : Bool → Toks → Parse Command
@@ -52,7 +52,7 @@ end_read threads a b is m =
     all_read (command_or_end threads) a b (λ vs. ended) (λ n. HasValues n kind.ThreadEnd)
     (by_goes a b (command_or_end threads (left a)) (Some (ended, left b)) m.lists m.tokens
     (same_fault a b (command_or_end threads (left a)) (Some (ended, left b)) m.fault
-        (ap (λ x. by_end x (left a)) is ∙ ap (λ t. let o : Command × Toks = (ended, t) in Some o) (sym m.left))))
+    (ap (λ x. by_end x (left a)) is ∙ ap (λ t. let o : Command × Toks = (ended, t) in Some o) (sym m.left))))
     (λ h l. tt)
 
 pub not_end : (threads : ℕ) (a b : Reader) (part : List Value → Command) (has : ℕ → Type 0)

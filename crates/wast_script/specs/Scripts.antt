@@ -48,8 +48,13 @@ contents_in c tokens = record { form = c.0; strings = part c.1 tokens }
 
 -- a module, by the tokens of the script
 abbrev pub module_in : List Placed → ScriptModule → Module
-module_in tokens m = record { span = m.span; id = bare_id_option m.id; form = m.form;
-    tokens = part m.head tokens ++ part m.rest tokens; strings = part m.strings tokens }
+module_in tokens m = record {
+  span = m.span;
+  id = bare_id_option m.id;
+  form = m.form;
+  tokens = part m.head tokens ++ part m.rest tokens;
+  strings = part m.strings tokens;
+}
 
 -- an action, by the values of all commands
 abbrev pub action_in : List Value → code_action.Action → Action

@@ -37,7 +37,7 @@ kinds_of text = script_of text >>= λ cs. Some (map (λ c. c.kind) cs)
 abbrev pub Values : Type 0
 Values = (made (values usage.Argument (toks (token.Open ∷ num (codes "i32.const") ∷ num (codes "-1") ∷ token.Close ∷ []))) ≡ Some (I32 (negsuc 0) ∷ [], 0))
     × (made (values usage.Result (toks (token.Open ∷ num (codes "f32.const") ∷ num (codes "nan:canonical") ∷ token.Close ∷ [])))
-        ≡ Some (F32 number.Canonical ∷ [], 0))
+    ≡ Some (F32 number.Canonical ∷ [], 0))
     × (made (values usage.Argument (toks (token.Open ∷ num (codes "f32.const") ∷ num (codes "nan:canonical") ∷ token.Close ∷ []))) ≡ None)
     × (made (values usage.Argument (toks (token.Open ∷ num (codes "v128.const") ∷ num (codes "i64x2") ∷ num (codes "1") ∷ num (codes "-1") ∷ token.Close ∷ [])))
     ≡ Some (V128 shape.I64x2 (number.Bits 1 ∷ number.Bits 18446744073709551615 ∷ []) ∷ [], 0))
@@ -70,5 +70,10 @@ Scripts = (script_of (codes "(wait $t)") ≡ Some (command_at 1 (Wait (id_at 6 (
     × (kinds_of (codes "(thread $t (wait $u))") ≡ Some (Thread (id_at 8 (codes "t")) None ∷ Wait (id_at 17 (codes "u")) ∷ ThreadEnd ∷ []))
     × (kinds_of (codes "(invoke \"f\" (i32.const 7))")
     ≡ Some (Acts (record { span = at 1; kind = action_kind.Invoke; «module» = None; name = codes "f"; arguments = I32 (pos 7) ∷ [] }) ∷ []))
-    × (kinds_of (codes "()") ≡ Some (Module_ (record { span = at 0; id = None; form = module_form.Fields;
-        tokens = token_at 0 token.Open ∷ token_at 1 token.Close ∷ []; strings = [] }) ∷ []))
+    × (kinds_of (codes "()") ≡ Some (Module_ (record {
+      span = at 0;
+      id = None;
+      form = module_form.Fields;
+      tokens = token_at 0 token.Open ∷ token_at 1 token.Close ∷ [];
+      strings = [];
+    }) ∷ []))

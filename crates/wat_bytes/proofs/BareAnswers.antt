@@ -144,7 +144,7 @@ module _ (laws : Laws) where
       laws.answer xs ∙ x.0,
       subst (λ o. IsUnwritten o (IsBounded 1 name (bare_fields xs)) e) (sym (ap head_of (laws.forms 1 xs above x.0)))
           (unwritten_map (head_of (uncovered_forms (resolved_fields_from 1 xs))) (IsBounded 1 name xs)
-              (IsBounded 1 name (bare_fields xs)) e (laws.bounds 1 name xs) x.1),
+          (IsBounded 1 name (bare_fields xs)) e (laws.bounds 1 name xs) x.1),
       refl,
     );
   }

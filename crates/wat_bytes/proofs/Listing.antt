@@ -49,7 +49,7 @@ adds_entry a b id d some own number space stopped next listed =
           ap (map content_of) listed
           ∙ (map-append content_of a.listed.items (d ∷ [])
           ∙ (ap (λ e. map content_of a.listed.items ++ e ∷ []) entry
-              ∙ ap (λ o. map content_of a.listed.items ++ map (λ e. (a.space, e)) (named_from a.next (o ∷ []))) (sym some)));
+          ∙ ap (λ o. map content_of a.listed.items ++ map (λ e. (a.space, e)) (named_from a.next (o ∷ []))) (sym some)));
     }
 
 -- After a failure nothing is said.
@@ -73,7 +73,7 @@ after : (s : Space) (n : ℕ) (all : List Entry) (xs ys : List (Option Mark))
 after s n all xs ys =
     append_assoc all (map (λ e. (s, e)) (named_from n xs)) (map (λ e. (s, e)) (named_from (n + length xs) ys))
     ∙ ap (λ l. all ++ l)
-        (sym (map-append (λ e. (s, e)) (named_from n xs) (named_from (n + length xs) ys)) ∙ ap (map (λ e. (s, e))) (sym (named_append n xs ys)))
+    (sym (map-append (λ e. (s, e)) (named_from n xs) (named_from (n + length xs) ys)) ∙ ap (map (λ e. (s, e))) (sym (named_append n xs ys)))
 
 -- Items after others.
 pub lists_both : (a b c : Lister) (xs ys : List (Option Mark)) → ListsOn a xs b → ListsOn b ys c → ListsOn a (xs ++ ys) c

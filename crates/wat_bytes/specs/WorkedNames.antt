@@ -14,18 +14,34 @@ use Rattle.wat_bytes.specs.Names.{entries_of, items_of}
 
 -- `(memory $m (data "a"))` at 41
 abbrev filled_memory : (a b : Address) → ModuleField
-filled_memory a b = field.Memory (record { span = place 42; id = Some (id_at a (codes "m") 49); name = None;
-    exports = record { names = [] }; kind = memory.Inline false (bytes.«String» (text b (codes "a")) ∷ []) None })
+filled_memory a b = field.Memory (record {
+  span = place 42;
+  id = Some (id_at a (codes "m") 49);
+  name = None;
+  exports = record { names = [] };
+  kind = memory.Inline false (bytes.«String» (text b (codes "a")) ∷ []) None;
+})
 
 -- `(data $d "b")` at 64
 abbrev named_data : (a b : Address) → ModuleField
-named_data a b = field.Data (record { span = place 65; id = Some (id_at a (codes "d") 70);
-    name = None; kind = data_kind.Passive; bytes = bytes.«String» (text b (codes "b")) ∷ [] })
+named_data a b = field.Data (record {
+  span = place 65;
+  id = Some (id_at a (codes "d") 70);
+  name = None;
+  kind = data_kind.Passive;
+  bytes = bytes.«String» (text b (codes "b")) ∷ [];
+})
 
 -- `(func (export "a"))` at 115
 abbrev exported_func : Address → ModuleField
-exported_func a = field.Func (record { span = place 116; id = None; name = None; exports = record { names = text a (codes "a") ∷ [] };
-    kind = func.Inline [] (record { instrs = []; branch_hints = [] }); ty = record { index = None; inline = None } })
+exported_func a = field.Func (record {
+  span = place 116;
+  id = None;
+  name = None;
+  exports = record { names = text a (codes "a") ∷ [] };
+  kind = func.Inline [] (record { instrs = []; branch_hints = [] });
+  ty = record { index = None; inline = None };
+})
 
 -- `(module (import "e" "g" (global $g i32)) (memory $m (data "a")) (data $d "b") (rec (type (func)) (type $t (func)))
 -- (func (export "a")) (func $f (type $t)))`

@@ -16,7 +16,7 @@ abbrev pub Contents : Type 0
 Contents = (a b : Address) →
     (content_of (record { space = space.Func; id = id_at a (codes "f") 14; number = 0 }) ≡ (space.Func, (0, (Written (codes "f"), place 14))))
     × (diagnostic_in (answer.Module (record { fault = fault.Unknown (text a (codes "func")) (text b (codes "f")); span = Some (place 15) }))
-        ≡ Some (At (Unknown (codes "func") (codes "f")) (place 15)))
+    ≡ Some (At (Unknown (codes "func") (codes "f")) (place 15)))
     × (diagnostic_in (answer.Uncovered (record { form = form.Shared; span = place 20; word = Some (text b (codes "shared")) }))
-        ≡ Some (Nowhere (Uncovered form.Shared)))
+    ≡ Some (Nowhere (Uncovered form.Shared)))
     × (diagnostic_in (answer.Text (record { fault = text_fault.Memory; span = place 20 })) ≡ None)

@@ -180,7 +180,7 @@ module _ (n : ℕ) where
     where
       by : (o : Option Index) (r : Toks) → count r ≤ n
           → Fewer {T = Index × Index} n
-              (elim o [ Some first ↦ index r >>= λ y. Some ((first, y.0), y.1) | None ↦ Some ((by_id.Num 0 t.before, by_id.Num 0 t.before), r) ])
+          (elim o [ Some first ↦ index r >>= λ y. Some ((first, y.0), y.1) | None ↦ Some ((by_id.Num 0 t.before, by_id.Num 0 t.before), r) ])
       by None r h = done n _ r h
       by (Some x) r h = and_then (index_fewer n r h) (λ y h. done n _ y.1 h)
 

@@ -229,8 +229,10 @@ module _ (may_hint : Bool) where
 
   of_sequences : (n : ℕ) (d : ℕ) (place : Place) → Gives d d (sequences may_hint n place)
   of_sequences zero d place = no_rule
-  of_sequences (suc n) d place = record { at = λ toks. bind (of_hint may_hint toks)
-      (λ h ok. of_sequence (sequences may_hint n) (of_sequences n) d (next_of place h.1) place toks h.0 ok h.1 (agrees place h.1)) }
+  of_sequences (suc n) d place = record {
+    at = λ toks. bind (of_hint may_hint toks)
+        (λ h ok. of_sequence (sequences may_hint n) (of_sequences n) d (next_of place h.1) place toks h.0 ok h.1 (agrees place h.1));
+  }
 
 -- An expression that keeps the rules 2 and 5, with its sites in any surroundings.
 pub record Sound (e : Expression) : Type 0 where
@@ -250,4 +252,4 @@ of_expression may_hint t = bind ((of_sequences may_hint (suc (count t)) 0 Anywhe
 pub of_folded : (t : Toks) → Of Sound (folded_expression t)
 of_folded t = skip (lparen t) (λ u. bind (of_instruction u) (λ i w.
     bind ((of_folded_by (sequences false (suc (count i.1))) (of_sequences false (suc (count i.1))) 0 [] without i.0 (word_of (peek 0 u)) w).at i.1)
-        (λ xs g. done (sound xs.0 g))))
+    (λ xs g. done (sound xs.0 g))))

@@ -174,7 +174,7 @@ of_body u t = bind (of_lists (is_form key.Local) local of_local (count t) t) (λ
     let marks = param_marks u.inline ++ local_marks ls.0 in
     done (join SiteOk (check_sites (flat_map in_local ls.0)) _ (asked (flat_map in_local ls.0) (over IsOk in_local ls.0 p))
     (join SiteOk (declaration_sites [] marks) _ (declared [] marks)
-        (join SiteOk (in_instrs (body_here u marks) e.0.instrs) _ (q.sites (body_here u marks)) ((q.hints, tt), tt))))))
+    (join SiteOk (in_instrs (body_here u marks) e.0.instrs) _ (q.sites (body_here u marks)) ((q.hints, tt), tt))))))
 
 of_func_of : (i : Option InlineImport) (t : Toks) → Of (λ (k : FuncKind × TypeUse FunctionType). In in_type_use k.1 × At (in_func_kind k.1) k.0) (func_of i t)
 of_func_of (Some i) t = read (form key.Exact t) (λ u. bind (of_typeuse true u) (λ x p. skip (rparen x.1) (λ r. done (p, ((tt, tt), tt)))))
@@ -236,8 +236,11 @@ of_active t = bind (of_related key.Table t) (λ x p. by x.0 p x.1)
     by (Some x) o r = bind (of_expression_in key.Offset r) (λ e p. bind (of_elemlist e.1) (λ el q. done ((o, constant e.0 p), (q, refl))))
     by None o r = bind (of_index_if (is_number (peek 0 r)) r) (λ n m. bind (of_expression_in key.Offset n.1) (λ e p. bind (of_short e.1) (λ el q.
         let o = table_or_first n.0 el.0 t.before in
-        done (join SiteOk (if_there (at_index space.Table) o) _ (there IndexOk SiteOk (at_index space.Table)
-            (λ i p. (p, tt)) o (first_ok n.0 el.0 t.before m)) (constant e.0 p), (q, allowed n.0 el.0 t.before)))))
+        done (
+          join SiteOk (if_there (at_index space.Table) o) _ (there IndexOk SiteOk (at_index space.Table)
+              (λ i p. (p, tt)) o (first_ok n.0 el.0 t.before m)) (constant e.0 p),
+          (q, allowed n.0 el.0 t.before),
+        ))))
 
 of_elem_of : (t : Toks) → Of ElemOk (elem_of t)
 of_elem_of t = read (keyword key.Declare t) (λ u. bind (of_elemlist u) (λ el q. done (tt, (q, refl))))
@@ -269,7 +272,7 @@ of_table_of : (i : Option InlineImport) (t : Toks) → Of (At in_table_kind) (ta
 of_table_of (Some i) t = bind (of_table_type t) (λ x p. done (asked (in_table_type x.0) p))
 of_table_of None t = skip (is_there (keyword key.Shared) t) (λ s. skip (addrtype s.1) (λ a. either (is_number (peek 0 a.1))
     (skip (limits a.0 a.1) (λ l. bind (of_ref l.1)
-        (λ r p. bind (of_init r.1) (λ e q. done (join SiteOk (check_sites (in_table_type (record { limits = l.0; elem = r.0; shared = s.0 }))) _
+    (λ r p. bind (of_init r.1) (λ e q. done (join SiteOk (check_sites (in_table_type (record { limits = l.0; elem = r.0; shared = s.0 }))) _
     (asked _ (join IsOk (in_ref r.0) _ p (tt, tt))) (there Sound SiteOk in_constant constant e.0 q))))))
     (bind (of_ref a.1) (λ r p. skip (form key.Elem r.1) (λ u. bind (of_inline_elements r.0 p u) (λ el q. skip (rparen el.1) (λ x.
     done (join SiteOk (check_sites (in_ref r.0)) _ (asked (in_ref r.0) p) (join SiteOk (in_payload el.0) _ q ((tt, tt), tt))))))))))
@@ -281,7 +284,7 @@ of_memory_of : (i : Option InlineImport) (t : Toks) → Of (At in_memory_kind) (
 of_memory_of (Some i) t = skip (memtype t) (λ x. done tt)
 of_memory_of None t = either (has_inline_data t)
     (skip (addrtype t) (λ a. bind (of_pagesize a.1)
-        (λ p h. skip (form key.Data p.1) (λ u. skip (datastring u) (λ bs. skip (rparen bs.1) (λ r. done ((h, tt), tt)))))))
+    (λ p h. skip (form key.Data p.1) (λ u. skip (datastring u) (λ bs. skip (rparen bs.1) (λ r. done ((h, tt), tt)))))))
     (skip (memtype t) (λ x. done tt))
 
 of_memory : (t : Toks) → Of (λ (f : Memory). At in_memory_kind f.kind × IfId f.id) (memoryfield t)

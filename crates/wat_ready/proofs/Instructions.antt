@@ -197,10 +197,14 @@ module _ (h : BodyContext) where
   of_own own.ref_cast_desc_eq t = bind (of_ref t) (λ x p. done (refl, asked _ (join IsOk (in_ref x.0) _ p (tt, tt))))
   of_own own.br_on_cast t = bind (of_cast t) (λ c p. done (refl, (p.0, cast_ok c.0.to_type c.0.from_type p.1)))
   of_own own.br_on_cast_fail t = bind (of_cast t) (λ c p. done (refl, (p.0, cast_ok c.0.to_type c.0.from_type p.1)))
-  of_own own.br_on_cast_desc_eq t = bind (of_cast t) (λ c p. done (refl,
-      (p.0, join SiteOk (check_sites (in_ref c.0.to_type ++ in_ref c.0.from_type)) _ (cast_ok c.0.to_type c.0.from_type p.1) ((tt, tt), tt))))
-  of_own own.br_on_cast_desc_eq_fail t = bind (of_cast t) (λ c p. done (refl,
-      (p.0, join SiteOk (check_sites (in_ref c.0.to_type ++ in_ref c.0.from_type)) _ (cast_ok c.0.to_type c.0.from_type p.1) ((tt, tt), tt))))
+  of_own own.br_on_cast_desc_eq t = bind (of_cast t) (λ c p. done (
+    refl,
+    (p.0, join SiteOk (check_sites (in_ref c.0.to_type ++ in_ref c.0.from_type)) _ (cast_ok c.0.to_type c.0.from_type p.1) ((tt, tt), tt)),
+  ))
+  of_own own.br_on_cast_desc_eq_fail t = bind (of_cast t) (λ c p. done (
+    refl,
+    (p.0, join SiteOk (check_sites (in_ref c.0.to_type ++ in_ref c.0.from_type)) _ (cast_ok c.0.to_type c.0.from_type p.1) ((tt, tt), tt)),
+  ))
   of_own own.array_new_fixed t = bind (of_index t) (λ x p. skip (u32 x.1) (λ n. done (refl, (p, tt))))
   of_own own.atomic_fence t = skip (memory_ordering t) (λ o. done (refl, ((tt, tt), tt)))
   of_own own.resume t = bind (of_index t) (λ x p. bind (of_resume x.1) (λ r q. done (refl, (p, q))))
@@ -261,5 +265,9 @@ pub record Whole (k : Move) (i : Instruction) : Type 0 where
   pub sites : Everywhere i
 
 pub of_instruction : (t : Toks) → Of (Whole (move_at (word_of (peek 0 t)))) (instruction t)
-of_instruction t = record { at = λ x e. record { leads = ((of_token constant_context (peek 0 t) (after t)).at x e).0;
-    sites = λ h. ((of_token h (peek 0 t) (after t)).at x e).1 } }
+of_instruction t = record {
+  at = λ x e. record {
+    leads = ((of_token constant_context (peek 0 t) (after t)).at x e).0;
+    sites = λ h. ((of_token h (peek 0 t) (after t)).at x e).1;
+  };
+}

@@ -149,7 +149,7 @@ of_rectype t = skip (keyword key.Rec t) (λ u. bind (of_many goes_on typedef_for
 pub of_typeuse : (named : Bool) (t : Toks) → Of (In in_type_use) (typeuse named t)
 of_typeuse named t = bind (of_related key.Ty t) (λ x p. either (is_form key.Param x.1 || is_form key.Result x.1)
     (bind (of_functype named x.1)
-        (λ f q. done (join IsOk (if_there (in_index space.Ty) x.0) (in_signature f.0) (there IndexOk IsOk (in_index space.Ty) (λ i p. p) x.0 p) q)))
+    (λ f q. done (join IsOk (if_there (in_index space.Ty) x.0) (in_signature f.0) (there IndexOk IsOk (in_index space.Ty) (λ i p. p) x.0 p) q)))
     (done (join IsOk (if_there (in_index space.Ty) x.0) [] (there IndexOk IsOk (in_index space.Ty) (λ i p. p) x.0 p) tt)))
 
 -- types of tables and globals
@@ -161,4 +161,4 @@ pub of_global_type : (t : Toks) → Of (In in_global_type) (globaltype t)
 of_global_type t = either (is_form key.Shared t && not (is_shared_ref t))
     (skip (is_there (keyword key.Mut) (after (after t))) (λ m. bind (of_val m.1) (λ v p. skip (rparen v.1) (λ r. done (join IsOk (in_val v.0) _ p (tt, tt))))))
     (read (form key.Mut t) (λ u. bind (of_val u) (λ v p. skip (rparen v.1) (λ r. done (join IsOk (in_val v.0) _ p (tt, tt)))))
-        (bind (of_val t) (λ v p. done (join IsOk (in_val v.0) _ p (tt, tt)))))
+    (bind (of_val t) (λ v p. done (join IsOk (in_val v.0) _ p (tt, tt)))))

@@ -45,7 +45,7 @@ not_natural [] h = refl
 not_natural (c ∷ cs) h =
     let no = both_false (is_in_range 0x30 0x39 c) _ h in
     ap (λ b. elim (elim b as (λ b. Option (List ℕ)) [ true ↦ after (0x78 ∷ []) cs | false ↦ None ]) as (λ o. Option ℕ)
-        [ Some digits ↦ Rattle.wat_grammar.specs.Integers.hexnum digits | None ↦ num (c ∷ cs) ]) (not_zero c no)
+    [ Some digits ↦ Rattle.wat_grammar.specs.Integers.hexnum digits | None ↦ num (c ∷ cs) ]) (not_zero c no)
     ∙ ap (backwards digit 10) (reverse-append (c ∷ []) cs) ∙ first_digit digit 10 c (no_digit c no) (reverse cs)
 
 pub not_unsigned : (N : ℕ) (text : List ℕ) → begins_number text ≡ false → uN N text ≡ None

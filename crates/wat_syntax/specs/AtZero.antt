@@ -24,7 +24,7 @@ abbrev pub annotation_named : List ℕ → Option Annotation
 annotation_named id =
     if bytes_eq id (id_of annotation.Name) then Some annotation.Name else (if bytes_eq id (id_of annotation.Custom) then Some annotation.Custom else
     (if bytes_eq id (id_of annotation.Producers) then Some annotation.Producers else
-        (if bytes_eq id (id_of annotation.Dylink0) then Some annotation.Dylink0 else
+    (if bytes_eq id (id_of annotation.Dylink0) then Some annotation.Dylink0 else
     (if bytes_eq id (id_of annotation.BranchHint) then Some annotation.BranchHint else None))))
 
 -- a word with a meaning, or another one

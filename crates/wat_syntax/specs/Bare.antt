@@ -129,8 +129,14 @@ bare_composite (inner.Array t) = inner.Array (bare_array_type t)
 bare_composite (inner.Cont t) = inner.Cont (bare_cont_type t)
 
 abbrev pub bare_type_def : TypeDef → TypeDef
-bare_type_def d = record { kind = bare_composite d.kind; shared = d.shared; parents = bare_indices d.parents;
-    descriptor = bare_index_option d.descriptor; describes = bare_index_option d.describes; final_type = d.final_type }
+bare_type_def d = record {
+  kind = bare_composite d.kind;
+  shared = d.shared;
+  parents = bare_indices d.parents;
+  descriptor = bare_index_option d.descriptor;
+  describes = bare_index_option d.describes;
+  final_type = d.final_type;
+}
 
 abbrev pub bare_type : ty.Type → ty.Type
 bare_type t = record { span = t.span; id = bare_id_option t.id; name = bare_name_option t.name; def = bare_type_def t.def }

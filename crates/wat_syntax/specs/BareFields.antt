@@ -66,8 +66,14 @@ abbrev pub bare_func_of : FuncKind × TypeUse FunctionType → FuncKind × TypeU
 bare_func_of k = (bare_func_kind k.0, bare_type_use k.1)
 
 abbrev pub bare_func : Func → Func
-bare_func f = record { span = f.span; id = bare_id_option f.id; name = bare_name_option f.name;
-    exports = bare_exports f.exports; kind = bare_func_kind f.kind; ty = bare_type_use f.ty }
+bare_func f = record {
+  span = f.span;
+  id = bare_id_option f.id;
+  name = bare_name_option f.name;
+  exports = bare_exports f.exports;
+  kind = bare_func_kind f.kind;
+  ty = bare_type_use f.ty;
+}
 
 -- segments
 abbrev pub bare_elem_kind : ElemKind → ElemKind
@@ -95,8 +101,13 @@ bare_data_val (bytes.String text) = bytes.String (bare_text text)
 bare_data_val (bytes.Integral xs) = bytes.Integral xs
 
 abbrev pub bare_data : Data → Data
-bare_data d = record { span = d.span; id = bare_id_option d.id; name = bare_name_option d.name;
-    kind = bare_data_kind d.kind; bytes = map bare_data_val d.bytes }
+bare_data d = record {
+  span = d.span;
+  id = bare_id_option d.id;
+  name = bare_name_option d.name;
+  kind = bare_data_kind d.kind;
+  bytes = map bare_data_val d.bytes;
+}
 
 -- the other fields
 abbrev pub bare_table_kind : TableKind → TableKind
@@ -105,8 +116,13 @@ bare_table_kind (table.Normal t init) = table.Normal (bare_table_type t) (option
 bare_table_kind (table.Inline t is64 shared p) = table.Inline (bare_ref t) is64 shared (bare_payload p)
 
 abbrev pub bare_table : Table → Table
-bare_table t = record { span = t.span; id = bare_id_option t.id; name = bare_name_option t.name;
-    exports = bare_exports t.exports; kind = bare_table_kind t.kind }
+bare_table t = record {
+  span = t.span;
+  id = bare_id_option t.id;
+  name = bare_name_option t.name;
+  exports = bare_exports t.exports;
+  kind = bare_table_kind t.kind;
+}
 
 abbrev pub bare_memory_kind : MemoryKind → MemoryKind
 bare_memory_kind (memory.Import i t) = memory.Import (bare_import i) t
@@ -114,24 +130,41 @@ bare_memory_kind (memory.Normal t) = memory.Normal t
 bare_memory_kind (memory.Inline is64 xs page) = memory.Inline is64 (map bare_data_val xs) page
 
 abbrev pub bare_memory : Memory → Memory
-bare_memory m = record { span = m.span; id = bare_id_option m.id; name = bare_name_option m.name;
-    exports = bare_exports m.exports; kind = bare_memory_kind m.kind }
+bare_memory m = record {
+  span = m.span;
+  id = bare_id_option m.id;
+  name = bare_name_option m.name;
+  exports = bare_exports m.exports;
+  kind = bare_memory_kind m.kind;
+}
 
 abbrev pub bare_global_kind : GlobalKind → GlobalKind
 bare_global_kind (global.Import i) = global.Import (bare_import i)
 bare_global_kind (global.Inline e) = global.Inline (bare_expression e)
 
 abbrev pub bare_global : Global → Global
-bare_global g = record { span = g.span; id = bare_id_option g.id; name = bare_name_option g.name;
-    exports = bare_exports g.exports; ty = bare_global_type g.ty; kind = bare_global_kind g.kind }
+bare_global g = record {
+  span = g.span;
+  id = bare_id_option g.id;
+  name = bare_name_option g.name;
+  exports = bare_exports g.exports;
+  ty = bare_global_type g.ty;
+  kind = bare_global_kind g.kind;
+}
 
 abbrev pub bare_tag_kind : TagKind → TagKind
 bare_tag_kind (tag_kind.Import i) = tag_kind.Import (bare_import i)
 bare_tag_kind tag_kind.Inline = tag_kind.Inline
 
 abbrev pub bare_tag : Tag → Tag
-bare_tag t = record { span = t.span; id = bare_id_option t.id; name = bare_name_option t.name;
-    exports = bare_exports t.exports; ty = bare_tag_type t.ty; kind = bare_tag_kind t.kind }
+bare_tag t = record {
+  span = t.span;
+  id = bare_id_option t.id;
+  name = bare_name_option t.name;
+  exports = bare_exports t.exports;
+  ty = bare_tag_type t.ty;
+  kind = bare_tag_kind t.kind;
+}
 
 abbrev pub bare_export : Export → Export
 bare_export e = record { span = e.span; name = bare_text e.name; kind = e.kind; item = bare_index e.item }

@@ -142,7 +142,7 @@ is_lane_alone toks = (is_number (peek 0 toks) && not (is_number (peek 1 toks))) 
 abbrev pub lane_memarg : ℕ → Toks → Parse LoadOrStoreLane
 lane_memarg N toks = elim (is_lane_alone toks) [
   | true ↦ laneidx toks >>= λ l. Some
-          (record { memarg = record { align = N; offset = 0; target = target.Memory (by.Num 0 toks.before); ordering = None }; lane = l.0 }, l.1)
+      (record { memarg = record { align = N; offset = 0; target = target.Memory (by.Num 0 toks.before); ordering = None }; lane = l.0 }, l.1)
   | false ↦ memarg N toks >>= λ m. laneidx m.1 >>= λ l. Some (record { memarg = m.0; lane = l.0 }, l.1)
 ]
 

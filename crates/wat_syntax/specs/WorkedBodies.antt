@@ -44,7 +44,7 @@ Folds = (made (expression false (toks (token.Open ∷ dropping ∷ token.Open �
     × (made (expression false (toks (token.Open ∷ dropping ∷ constant ∷ num (codes "1") ∷ token.Close ∷ []))) ≡ None)
     × (made (expression false (toks (constant ∷ []))) ≡ None)
     × (made (folded_expression (toks (token.Open ∷ constant ∷ num (codes "1") ∷ token.Close ∷ nop ∷ [])))
-        ≡ Some (record { instrs = instr.i32_const (pos 1) ∷ []; branch_hints = [] }, 1))
+    ≡ Some (record { instrs = instr.i32_const (pos 1) ∷ []; branch_hints = [] }, 1))
 
 -- `block nop end`; `block nop` has no end, and `(block nop end)` one too many; `(@metadata.code.branch_hint "\01") (if (nop) (then nop))`
 -- has its hint on the second instruction
@@ -54,10 +54,15 @@ Blocks = (made (expression false (toks (says (word.Block opens.block) ∷ nop �
     × (made (expression false (toks (says (word.Block opens.block) ∷ nop ∷ []))) ≡ None)
     × (made (expression false (toks (token.Open ∷ says (word.Block opens.block) ∷ nop ∷ says (word.Own own.end_) ∷ token.Close ∷ []))) ≡ None)
     × (made (expression true (toks (token.Annotation annotation.BranchHint ∷ quoted (1 ∷ [])
-        ∷ token.Close ∷ token.Open ∷ says (word.Block opens.if_) ∷ token.Open ∷ nop ∷ token.Close
+    ∷ token.Close ∷ token.Open ∷ says (word.Block opens.if_) ∷ token.Open ∷ nop ∷ token.Close
     ∷ token.Open ∷ the key.Then ∷ nop ∷ token.Close ∷ token.Close ∷ [])))
-    ≡ Some (record { instrs = instr.Plain (plain.Bare bare.nop) ∷ instr.if_ plain_block ∷ instr.Plain (plain.Bare bare.nop) ∷ instr.end_ None ∷ [];
-        branch_hints = record { instr_index = 1; value = 1 } ∷ [] }, 0))
+    ≡ Some (
+      record {
+        instrs = instr.Plain (plain.Bare bare.nop) ∷ instr.if_ plain_block ∷ instr.Plain (plain.Bare bare.nop) ∷ instr.end_ None ∷ [];
+        branch_hints = record { instr_index = 1; value = 1 } ∷ [];
+      },
+      0,
+    ))
     × (made (expression false (toks (token.Annotation annotation.BranchHint ∷ quoted (1 ∷ []) ∷ token.Close ∷ nop ∷ []))) ≡ None)
 
 -- `block (@metadata.code.branch_hint "\01") end`: a hint may be that of a part. A hint that comes before `)` is refused, and so are a
@@ -68,7 +73,7 @@ Hints = (made (expression true (toks
     ≡ Some (record { instrs = instr.block plain_block ∷ instr.end_ None ∷ []; branch_hints = record { instr_index = 1; value = 1 } ∷ [] }, 0))
     × (made (expression true (toks (nop ∷ token.Annotation annotation.BranchHint ∷ quoted (1 ∷ []) ∷ token.Close ∷ token.Close ∷ []))) ≡ None)
     × (made (expression true (toks (token.Annotation annotation.BranchHint ∷ quoted (1 ∷ []) ∷ token.Close
-        ∷ token.Annotation annotation.BranchHint ∷ quoted (0 ∷ []) ∷ token.Close ∷ nop ∷ []))) ≡ None)
+    ∷ token.Annotation annotation.BranchHint ∷ quoted (0 ∷ []) ∷ token.Close ∷ nop ∷ []))) ≡ None)
     × (made (expression true (toks (nop ∷ says (word.Own own.end_) ∷ []))) ≡ None)
 
 -- `try nop catch 0 catch_all nop end` and `(try (do nop) (catch 0) (catch_all nop))`, which are the same instructions;
@@ -85,7 +90,7 @@ Tries = (made (expression false (toks (says (word.Block opens.try_) ∷ nop ∷ 
       0,
     ))
     × (made (expression false (toks (token.Open ∷ says (word.Block opens.try_) ∷ token.Open ∷ the key.Do
-        ∷ nop ∷ token.Close ∷ token.Open ∷ says (word.Index one.Catch) ∷ num (codes "0") ∷ token.Close
+    ∷ nop ∷ token.Close ∷ token.Open ∷ says (word.Index one.Catch) ∷ num (codes "0") ∷ token.Close
     ∷ token.Open ∷ says (word.Plain (plain.Bare bare.catch_all)) ∷ nop ∷ token.Close ∷ token.Close ∷ [])))
     ≡ Some (
       record {
@@ -96,7 +101,7 @@ Tries = (made (expression false (toks (says (word.Block opens.try_) ∷ nop ∷ 
       0,
     ))
     × (made (expression false (toks (token.Open ∷ says (word.Block opens.try_) ∷ token.Open ∷ the key.Do ∷ token.Close
-        ∷ token.Open ∷ says (word.Index one.Delegate) ∷ num (codes "0") ∷ token.Close ∷ token.Close ∷ [])))
+    ∷ token.Open ∷ says (word.Index one.Delegate) ∷ num (codes "0") ∷ token.Close ∷ token.Close ∷ [])))
     ≡ Some (record { instrs = instr.try_ plain_block ∷ instr.delegate (by.Num 0 (record { offset = 7 })) ∷ []; branch_hints = [] }, 0))
 
 -- `(local $x i32) (local i64)` would be types; here a `(local)` alone, and a `(local` without its end

@@ -43,12 +43,12 @@ abbrev pub Linking : Type 0
 Linking = (made (flags (toks (the key.Tls ∷ num (codes "0x80") ∷ token.Close ∷ []))) ≡ Some (0x180, 1))
     × (made (flags (toks (the key.Func ∷ token.Close ∷ []))) ≡ None)
     × (made (dylinkfield (toks (token.Annotation annotation.Dylink0 ∷ token.Open ∷ the key.MemInfo ∷ token.Open
-        ∷ the key.Memory ∷ num (codes "1") ∷ num (codes "2") ∷ token.Close ∷ token.Close ∷ token.Close ∷ [])))
+    ∷ the key.Memory ∷ num (codes "1") ∷ num (codes "2") ∷ token.Close ∷ token.Close ∷ token.Close ∷ [])))
     ≡ Some (custom.Dylink0 (record { subsections = dylink.MemInfo 1 2 0 0 ∷ [] }), 1))
     × (made (entries key.Needed u32 3 (toks (num (codes "1") ∷ token.Close ∷ token.Open ∷ the key.Needed ∷ num (codes "2") ∷ token.Close ∷ [])))
-        ≡ Some (1 ∷ (2 ∷ []), 1))
+    ≡ Some (1 ∷ (2 ∷ []), 1))
     × (made (entries key.Needed u32 3 (toks (num (codes "1") ∷ token.Close ∷ token.Open ∷ the key.Memory ∷ num (codes "2") ∷ token.Close ∷ [])))
-        ≡ Some (1 ∷ [], 5))
+    ≡ Some (1 ∷ [], 5))
 
 -- `(start 0) (@producers)`; `(local)` is no field, and `(start 0` has no end
 abbrev pub Fields : Type 0

@@ -73,9 +73,18 @@ Functions = (made (funcfield (toks (the key.Func ∷ named (codes "f") ∷ token
       1,
     ))
     × (made (funcfield (toks (the key.Func ∷ token.Open ∷ the key.Import ∷ quoted [] ∷ quoted []
-        ∷ token.Close ∷ token.Open ∷ the key.Exact ∷ token.Close ∷ token.Close ∷ [])))
-    ≡ Some (record { span = at 0; id = None; name = None; exports = no_exports;
-        kind = func.Import (record { «module» = text_of []; field = text_of [] }) true; ty = no_type }, 1))
+    ∷ token.Close ∷ token.Open ∷ the key.Exact ∷ token.Close ∷ token.Close ∷ [])))
+    ≡ Some (
+      record {
+        span = at 0;
+        id = None;
+        name = None;
+        exports = no_exports;
+        kind = func.Import (record { «module» = text_of []; field = text_of [] }) true;
+        ty = no_type;
+      },
+      1,
+    ))
     × (made (funcfield (toks (the key.Func ∷ token.Open ∷ the key.Exact ∷ token.Close ∷ token.Close ∷ []))) ≡ None)
 
 -- `table 1 funcref`; `table funcref (elem 0)` has the function, and `table externref (elem 0)` an expression; `table 1` is none
@@ -92,18 +101,42 @@ Tables = (made (tablefield (toks (the key.Table ∷ num (codes "1") ∷ the key.
       1,
     ))
     × (made (tablefield (toks (the key.Table ∷ the key.Funcref ∷ token.Open ∷ the key.Elem ∷ num (codes "0") ∷ token.Close ∷ [])))
-    ≡ Some (record { span = at 0; id = None; name = None; exports = no_exports;
-        kind = table.Inline funcref false false (payload.Indices (by.Num 0 (at 4) ∷ [])) }, 0))
+    ≡ Some (
+      record {
+        span = at 0;
+        id = None;
+        name = None;
+        exports = no_exports;
+        kind = table.Inline funcref false false (payload.Indices (by.Num 0 (at 4) ∷ []));
+      },
+      0,
+    ))
     × (made (tablefield (toks (the key.Table ∷ the key.Externref ∷ token.Open ∷ the key.Elem ∷ num (codes "0") ∷ token.Close ∷ [])))
-    ≡ Some (record { span = at 0; id = None; name = None; exports = no_exports;
-        kind = table.Inline externref false false (payload.Exprs externref (of_function ∷ [])) }, 0))
+    ≡ Some (
+      record {
+        span = at 0;
+        id = None;
+        name = None;
+        exports = no_exports;
+        kind = table.Inline externref false false (payload.Exprs externref (of_function ∷ []));
+      },
+      0,
+    ))
     × (made (tablefield (toks (the key.Table ∷ num (codes "1") ∷ token.Close ∷ []))) ≡ None)
 
 -- `memory i64 1`; `memory i64 (data "ab")`; `memory (i32.const 7)` is none
 abbrev pub Memories : Type 0
 Memories = (made (memoryfield (toks (the key.Memory ∷ the key.I64 ∷ num (codes "1") ∷ token.Close ∷ [])))
-    ≡ Some (record { span = at 0; id = None; name = None; exports = no_exports;
-        kind = memory.Normal (record { limits = record { is64 = true; min = 1; max = None }; shared = false; page_size_log2 = None }) }, 1))
+    ≡ Some (
+      record {
+        span = at 0;
+        id = None;
+        name = None;
+        exports = no_exports;
+        kind = memory.Normal (record { limits = record { is64 = true; min = 1; max = None }; shared = false; page_size_log2 = None });
+      },
+      1,
+    ))
     × (made (memoryfield (toks (the key.Memory ∷ the key.I64 ∷ token.Open ∷ the key.Data ∷ quoted (codes "ab") ∷ token.Close ∷ [])))
     ≡ Some (record { span = at 0; id = None; name = None; exports = no_exports; kind = memory.Inline true (bytes.String (text_of (codes "ab")) ∷ []) None }, 0))
     × (made (memoryfield (toks (the key.Memory ∷ with_seven []))) ≡ None)
@@ -111,11 +144,29 @@ Memories = (made (memoryfield (toks (the key.Memory ∷ the key.I64 ∷ num (cod
 -- `global i32 (i32.const 7)`; an imported one has no value
 abbrev pub Globals : Type 0
 Globals = (made (globalfield (toks (the key.Global ∷ the key.I32 ∷ with_seven [])))
-    ≡ Some (record { span = at 0; id = None; name = None; exports = no_exports;
-        ty = record { ty = value.I32; mutable = false; shared = false }; kind = global.Inline of_seven }, 0))
+    ≡ Some (
+      record {
+        span = at 0;
+        id = None;
+        name = None;
+        exports = no_exports;
+        ty = record { ty = value.I32; mutable = false; shared = false };
+        kind = global.Inline of_seven;
+      },
+      0,
+    ))
     × (made (globalfield (toks (the key.Global ∷ token.Open ∷ the key.Import ∷ quoted [] ∷ quoted [] ∷ token.Close ∷ the key.I32 ∷ token.Close ∷ [])))
-    ≡ Some (record { span = at 0; id = None; name = None; exports = no_exports; ty = record { ty = value.I32; mutable = false; shared = false };
-        kind = global.Import (record { «module» = text_of []; field = text_of [] }) }, 1))
+    ≡ Some (
+      record {
+        span = at 0;
+        id = None;
+        name = None;
+        exports = no_exports;
+        ty = record { ty = value.I32; mutable = false; shared = false };
+        kind = global.Import (record { «module» = text_of []; field = text_of [] });
+      },
+      1,
+    ))
 
 -- `elem func 0` is passive; `elem declare func 0`; `elem (i32.const 7) 0` is active, with no table and without 'func', and
 -- `elem (i32.const 7) externref` is that of table 0; `elem 0` is none, because an active one has an offset
@@ -127,17 +178,41 @@ Elements = (made (elemfield (toks (the key.Elem ∷ the key.Func ∷ num (codes 
     × (made (elemfield (toks (the key.Elem ∷ with_seven (num (codes "0") ∷ token.Close ∷ []))))
     ≡ Some (record { span = at 0; id = None; name = None; kind = elem.Active None of_seven; payload = payload.Indices (by.Num 0 (at 5) ∷ []) }, 1))
     × (made (elemfield (toks (the key.Elem ∷ with_seven (the key.Externref ∷ with_seven (token.Close ∷ [])))))
-    ≡ Some (record { span = at 0; id = None; name = None; kind = elem.Active (Some (by.Num 0 (at 0))) of_seven;
-        payload = payload.Exprs externref (of_seven ∷ []) }, 1))
+    ≡ Some (
+      record {
+        span = at 0;
+        id = None;
+        name = None;
+        kind = elem.Active (Some (by.Num 0 (at 0))) of_seven;
+        payload = payload.Exprs externref (of_seven ∷ []);
+      },
+      1,
+    ))
     × (made (elemfield (toks (the key.Elem ∷ num (codes "0") ∷ token.Close ∷ []))) ≡ None)
 
 -- `data "a" (i16 1 -2)` is passive; `data (memory 1) (i32.const 7) "a"` is active; `data (v128)` is none
 abbrev pub Bytes : Type 0
 Bytes = (made (datafield
     (toks (the key.Data ∷ quoted (codes "a") ∷ token.Open ∷ the key.I16 ∷ num (codes "1") ∷ num (codes "-2") ∷ token.Close ∷ token.Close ∷ [])))
-    ≡ Some (record { span = at 0; id = None; name = None; kind = data_kind.Passive;
-        bytes = bytes.String (text_of (codes "a")) ∷ bytes.Integral (1 ∷ 0 ∷ 0xfe ∷ 0xff ∷ []) ∷ [] }, 1))
+    ≡ Some (
+      record {
+        span = at 0;
+        id = None;
+        name = None;
+        kind = data_kind.Passive;
+        bytes = bytes.String (text_of (codes "a")) ∷ bytes.Integral (1 ∷ 0 ∷ 0xfe ∷ 0xff ∷ []) ∷ [];
+      },
+      1,
+    ))
     × (made (datafield (toks (the key.Data ∷ token.Open ∷ the key.Memory ∷ num (codes "1") ∷ token.Close ∷ with_seven (quoted (codes "a") ∷ token.Close ∷ []))))
-    ≡ Some (record { span = at 0; id = None; name = None; kind = data_kind.Active (by.Num 1 (at 3)) of_seven;
-        bytes = bytes.String (text_of (codes "a")) ∷ [] }, 1))
+    ≡ Some (
+      record {
+        span = at 0;
+        id = None;
+        name = None;
+        kind = data_kind.Active (by.Num 1 (at 3)) of_seven;
+        bytes = bytes.String (text_of (codes "a")) ∷ [];
+      },
+      1,
+    ))
     × (made (datafield (toks (the key.Data ∷ token.Open ∷ the key.V128 ∷ token.Close ∷ token.Close ∷ []))) ≡ None)

@@ -36,7 +36,7 @@ References = (made (heaptype (toks (the key.Func ∷ []))) ≡ Some (heap.Abstra
     × (made (heaptype (toks (num (codes "1") ∷ []))) ≡ Some (heap.Concrete (by.Num 1 text_start), 0))
     × (made (heaptype (toks (token.Open ∷ the key.Exact ∷ num (codes "1") ∷ token.Close ∷ []))) ≡ Some (heap.Exact (by.Num 1 (at 2)), 0))
     × (made (reftype (toks (token.Open ∷ the key.Ref ∷ the key.Null ∷ the key.Any ∷ token.Close ∷ [])))
-        ≡ Some (record { nullable = true; heap = heap.Abstract false abstract.Any }, 0))
+    ≡ Some (record { nullable = true; heap = heap.Abstract false abstract.Any }, 0))
     × (made (reftype (toks (the key.Anyref ∷ []))) ≡ Some (record { nullable = true; heap = heap.Abstract false abstract.Any }, 0))
     × (made (reftype (toks (token.Open ∷ the key.Ref ∷ token.Close ∷ []))) ≡ None)
     × (made (reftype (toks (token.Open ∷ the key.Func ∷ token.Close ∷ []))) ≡ None) × (made (reftype (toks (the key.I32 ∷ []))) ≡ None)
@@ -48,33 +48,54 @@ abbrev pub Composites : Type 0
 Composites = (made (fieldtype (toks (token.Open ∷ the key.Mut ∷ the key.I8 ∷ token.Close ∷ []))) ≡ Some ((true, storage.I8), 0))
     × (made (fieldtype (toks (token.Open ∷ the key.Mut ∷ token.Close ∷ []))) ≡ None)
     × (made (functype true (toks (token.Open ∷ the key.Param ∷ named (codes "x") ∷ the key.I32
-        ∷ token.Close ∷ token.Open ∷ the key.Param ∷ the key.I64 ∷ the key.I64 ∷ token.Close
+    ∷ token.Close ∷ token.Open ∷ the key.Param ∷ the key.I64 ∷ the key.I64 ∷ token.Close
     ∷ token.Open ∷ the key.Result ∷ the key.F32 ∷ token.Close ∷ [])))
-    ≡ Some (record { params = (Some (source_id (text_of (codes "x")) (at 2)), None, value.I32)
-        ∷ (None, None, value.I64) ∷ (None, None, value.I64) ∷ []; results = value.F32 ∷ [] }, 0))
+    ≡ Some (
+      record {
+        params = (Some (source_id (text_of (codes "x")) (at 2)), None, value.I32)
+            ∷ (None, None, value.I64) ∷ (None, None, value.I64) ∷ [];
+        results = value.F32 ∷ [];
+      },
+      0,
+    ))
     × (made (functype true (toks (token.Open ∷ the key.Param ∷ named (codes "x") ∷ the key.I32 ∷ the key.I64 ∷ token.Close ∷ []))) ≡ None)
     × (made (functype false (toks (token.Open ∷ the key.Param ∷ named (codes "x") ∷ the key.I32 ∷ token.Close ∷ []))) ≡ None)
     × (made (functype true
-        (toks (token.Open ∷ the key.Result ∷ the key.I32 ∷ token.Close ∷ token.Open ∷ the key.Param ∷ the key.I32 ∷ token.Close ∷ []))) ≡ None)
+    (toks (token.Open ∷ the key.Result ∷ the key.I32 ∷ token.Close ∷ token.Open ∷ the key.Param ∷ the key.I32 ∷ token.Close ∷ []))) ≡ None)
     × (made (comptype (toks (token.Open ∷ the key.Array ∷ the key.I8 ∷ token.Close ∷ [])))
-        ≡ Some (inner.Array (record { mutable = false; ty = storage.I8 }), 0))
+    ≡ Some (inner.Array (record { mutable = false; ty = storage.I8 }), 0))
     × (made (subtype (toks (token.Open ∷ the key.Sub ∷ num (codes "0") ∷ token.Open ∷ the key.Struct ∷ token.Close ∷ token.Close ∷ [])))
-    ≡ Some (record { kind = inner.Struct (record { fields = [] }); shared = false;
-        parents = by.Num 0 (at 2) ∷ []; descriptor = None; describes = None; final_type = Some false }, 0))
+    ≡ Some (
+      record {
+        kind = inner.Struct (record { fields = [] });
+        shared = false;
+        parents = by.Num 0 (at 2) ∷ [];
+        descriptor = None;
+        describes = None;
+        final_type = Some false;
+      },
+      0,
+    ))
     × (made (subtype (toks (token.Open ∷ the key.Sub ∷ token.Close ∷ []))) ≡ None)
 
 -- `1 2`, `i64 1`; `2 funcref` has no maximum; `(pagesize 2)` is 2^1, and 3 is no page size; `(mut i32)`; `(type 0) (result i32)`
 abbrev pub Externals : Type 0
 Externals = (made (limits false (toks (num (codes "1") ∷ num (codes "2") ∷ []))) ≡ Some (record { is64 = false; min = 1; max = Some 2 }, 0))
     × (made (addrtype (toks (the key.I32 ∷ the key.I64 ∷ []))) ≡ Some (false, 1))
-    × (made (tabletype (toks (num (codes "2") ∷ the key.Funcref ∷ []))) ≡ Some (record { limits = record { is64 = false; min = 2; max = None };
-        elem = record { nullable = true; heap = heap.Abstract false abstract.Func }; shared = false }, 0))
+    × (made (tabletype (toks (num (codes "2") ∷ the key.Funcref ∷ []))) ≡ Some (
+      record {
+        limits = record { is64 = false; min = 2; max = None };
+        elem = record { nullable = true; heap = heap.Abstract false abstract.Func };
+        shared = false;
+      },
+      0,
+    ))
     × (made (tabletype (toks (the key.Funcref ∷ []))) ≡ None)
     × (made (memtype (toks (the key.I64 ∷ num (codes "1") ∷ token.Open ∷ the key.Pagesize ∷ num (codes "2") ∷ token.Close ∷ [])))
-        ≡ Some (record { limits = record { is64 = true; min = 1; max = None }; shared = false; page_size_log2 = Some 1 }, 0))
+    ≡ Some (record { limits = record { is64 = true; min = 1; max = None }; shared = false; page_size_log2 = Some 1 }, 0))
     × (made (memtype (toks (num (codes "1") ∷ token.Open ∷ the key.Pagesize ∷ num (codes "3") ∷ token.Close ∷ []))) ≡ None)
     × (made (globaltype (toks (token.Open ∷ the key.Mut ∷ the key.I32 ∷ token.Close ∷ [])))
-        ≡ Some (record { ty = value.I32; mutable = true; shared = false }, 0))
+    ≡ Some (record { ty = value.I32; mutable = true; shared = false }, 0))
     × (made (typeuse false (toks (token.Open ∷ the key.Ty ∷ num (codes "0") ∷ token.Close ∷ token.Open ∷ the key.Result ∷ the key.I32 ∷ token.Close ∷ [])))
     ≡ Some (record { index = Some (by.Num 0 (at 2)); inline = Some (record { params = []; results = value.I32 ∷ [] }) }, 0))
     × (made (typeuse false (toks (token.Close ∷ []))) ≡ Some (record { index = None; inline = None }, 1))

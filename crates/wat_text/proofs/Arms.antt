@@ -96,7 +96,7 @@ module _ (may : Bool) (b : Base) (m : ℕ) (os : List Open) (ws : List Instructi
               ∙ catch_at (sequences may m) t arms_after e (is_this Catch (Some Catch) part) None x)
           by (Some x) read_x = one_step may b m (suc (suc (suc zero))) (state (armed level.Catch x.1) ws (with_instr (instr.catch x.0) e) x.1) (ap goes read_x)
               (one_arm t t [] read (is_this Catch (Some Catch) part)
-                  ∙ catch_at (sequences may m) t arms_after e (is_this Catch (Some Catch) part) (Some x) read_x)
+              ∙ catch_at (sequences may m) t arms_after e (is_this Catch (Some Catch) part) (Some x) read_x)
 
       catch_rest : part_in (after t) ≡ Some CatchAll → Same may b m (machine.catch_all_arm inside) (run catching e t)
       catch_rest part = one_step may b m zero
@@ -128,12 +128,12 @@ module _ (may : Bool) (b : Base) (m : ℕ) (os : List Open) (ws : List Instructi
           after_label x read_x None r = no_step may b m
               (ap goes read_x ∙ ap (λ o. o >>= λ rest. append (instr.delegate x.0) (with_toks rest inside) >>= replace_level level.Delegated) r)
               (at_label (Some x) read_x ∙ ap (λ o. (o >>= λ rest. let y : List Item × Toks = ([], rest) in Some y)
-                  >>= λ y. run (terminal rparen ∷ more) (add (with_instr (instr.delegate x.0) e) y.0) y.1) r)
+              >>= λ y. run (terminal rparen ∷ more) (add (with_instr (instr.delegate x.0) e) y.0) y.1) r)
           after_label x read_x (Some rest) r =
               one_step may b m zero (state (open_of level.Delegated place None ∷ os) ws (with_instr (instr.delegate x.0) e) rest)
               (ap goes read_x ∙ ap (λ o. o >>= λ rest. append (instr.delegate x.0) (with_toks rest inside) >>= replace_level level.Delegated) r)
               (at_label (Some x) read_x ∙ ap (λ o. (o >>= λ rest. let y : List Item × Toks = ([], rest) in Some y)
-                  >>= λ y. run (terminal rparen ∷ more) (add (with_instr (instr.delegate x.0) e) y.0) y.1) r)
+              >>= λ y. run (terminal rparen ∷ more) (add (with_instr (instr.delegate x.0) e) y.0) y.1) r)
 
           by : (x : Parse Index) → index (after (after t)) ≡ x → Same may b m (machine.delegate_arm inside) (run (handlers w ∷ more) e t)
           by None x = no_step may b m (ap goes x) (at_label None x)
@@ -167,7 +167,7 @@ module _ (may : Bool) (b : Base) (m : ℕ) (os : List Open) (ws : List Instructi
         → Same may b m (machine.do_arm None opened_it) (run (terminal (form key.Do) ∷ arm w ∷ handlers w ∷ more) e t)
     do_one true there = one_step may b m zero (state (armed level.Do (after (after t))) ws e (after (after t))) (ap do_goes there)
         (form_at t (arm w ∷ handlers w ∷ more) e key.Do (form_by t key.Do is ∙ there)
-            ∙ in_turn (w Anywhere) (terminal rparen) (handlers w ∷ more) e (after (after t)))
+        ∙ in_turn (w Anywhere) (terminal rparen) (handlers w ∷ more) e (after (after t)))
     do_one false absent = no_step may b m (ap do_goes absent) (no_form t (arm w ∷ handlers w ∷ more) e key.Do (form_by t key.Do is ∙ absent))
 
   -- no parenthesis is next: each of these fails
@@ -184,7 +184,7 @@ module _ (may : Bool) (b : Base) (m : ℕ) (os : List Open) (ws : List Instructi
     pub do_fails_at : rule.hint may toks ≡ None → run (handlers w ∷ more) e toks ≡ None
     do_fails_at none = no_delegate w toks more e (arm_not toks Delegate p)
         ∙ ap (λ o. (o >>= λ x. sequence may (sequences may m) (next_of CatchArms x.1) CatchArms toks x.0 x.1)
-            >>= λ x. run (catch_all_arm w ∷ ends ∷ more) (add e x.0) x.1) none
+        >>= λ x. run (catch_all_arm w ∷ ends ∷ more) (add e x.0) x.1) none
 
   module _ (toks t : Toks) (h : Option code.Hint) (first : First toks t h) where
     abbrev at_level : Level → State
@@ -202,7 +202,7 @@ module _ (may : Bool) (b : Base) (m : ℕ) (os : List Open) (ws : List Instructi
         at_open : peek 0 t ≡ Some token.Open → First toks t h → Same may b m (hinted_step h (at_level l)) (run rs e toks)
         at_open is (Bare none same) = by_both may b m
             (step_is may b m os ws place h0 e toks t h first l (Some token.Open) is ∙ ap (λ h. opened h (state (levels l) ws e (after t))) none)
-                (ap (run rs e) same) (open_bare is none same)
+            (ap (run rs e) same) (open_bare is none same)
         at_open is (Hinted x some at) = no_step may b m
             (step_is may b m os ws place h0 e toks t h first l (Some token.Open) is ∙ ap (λ h. opened h (state (levels l) ws e (after t))) some ∙ open_hinted x)
             (fails (ap is_lparen at) (ap is_rparen at))
@@ -221,7 +221,7 @@ module _ (may : Bool) (b : Base) (m : ℕ) (os : List Open) (ws : List Instructi
         (λ is none same. else_one t level.Then is (same_part Else (part_in (after t))) refl) (λ x. refl)
         (λ is. at_close may b m os ws place h0 e toks t h first level.Then ended (else_arm w ∷ ends ∷ more) is refl (λ q p. then_fails toks p q)
         (λ same at. no_else w toks (ends ∷ more) e (arm_not toks Else (ap is_lparen at))
-            ∙ ends_at toks more e (ap is_rparen at) ∙ ap (λ t. run more (with_instr (instr.end_ None) e) (after t)) same))
+        ∙ ends_at toks more e (ap is_rparen at) ∙ ap (λ t. run more (with_instr (instr.end_ None) e) (after t)) same))
 
     pub at_try : Same may b m (hinted_step h (at_level level.Try)) (run (terminal (form key.Do) ∷ arm w ∷ handlers w ∷ more) e toks)
     at_try = by_token level.Try (terminal (form key.Do) ∷ arm w ∷ handlers w ∷ more) refl (λ p q. try_fails toks p q)
@@ -243,7 +243,7 @@ module _ (may : Bool) (b : Base) (m : ℕ) (os : List Open) (ws : List Instructi
     at_delegated = by_token level.Delegated (terminal rparen ∷ more) refl (λ p q. no_close toks more e q)
         (λ is none same. no_step may b m refl (no_close t more e (ap is_rparen is))) (λ x. refl)
         (λ is. at_close may b m os ws place h0 e toks t h first level.Delegated
-            (state os ws e (after t)) (terminal rparen ∷ more) is refl (λ q p. no_close toks more e q)
+        (state os ws e (after t)) (terminal rparen ∷ more) is refl (λ q p. no_close toks more e q)
         (λ same at. closes toks more e (ap is_rparen at) ∙ ap (λ t. run more e (after t)) same))
 
     module _ (read : rule.hint may toks ≡ Some (hint_items h, t)) where
@@ -269,4 +269,4 @@ module _ (may : Bool) (b : Base) (m : ℕ) (os : List Open) (ws : List Instructi
           (λ is none same. first_one t (bare_hint none same) level.Do is (part_in (after t)) refl) (λ x. refl)
           (λ is. at_close may b m os ws place h0 e toks t h first level.Do ended (handlers w ∷ more) is refl (λ q p. do_fails toks p q t (hint_items h) read)
           (λ same at. no_delegate w toks more e (arm_not toks Delegate (ap is_lparen at))
-              ∙ arms_close toks (bare_at same at) at ∙ ap (λ t. run more (with_instr (instr.end_ None) e) (after t)) same))
+          ∙ arms_close toks (bare_at same at) at ∙ ap (λ t. run more (with_instr (instr.end_ None) e) (after t)) same))

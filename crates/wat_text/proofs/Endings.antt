@@ -186,7 +186,7 @@ module _ (h : ModuleHead) (r : Reader) where
       → ReadsModuleToEnd (binary_module (bare_opening h)) r (Err e)
   binary_err s a b pieces e same fault make reads ends f =
       fails_all is_well_formed_module (IsModule (binary_module (bare_opening h) (left r)))
-          (binary_module (bare_opening h) (left r) ≡ None) (pieces_of (left r)) r b (map bare_text pieces) e
+      (binary_module (bare_opening h) (left r) ≡ None) (pieces_of (left r)) r b (map bare_text pieces) e
       (skipped strings (module_end true) r s a b (map bare_text pieces) same fault make reads ends) f
       (λ n. ap (λ o. o >>= λ ps. Some (with_pieces (module_position h) ps)) n)
 
@@ -196,6 +196,6 @@ module _ (h : ModuleHead) (r : Reader) where
       → ReadsModuleToEnd (binary_module (bare_opening h)) r (Ok (of_pieces span pieces))
   binary_ok s a b pieces span at same fault make reads ends clean =
       gives_all is_well_formed_module (IsModule (binary_module (bare_opening h) (left r)))
-          (binary_module (bare_opening h) (left r) ≡ None) (pieces_of (left r)) r b (map bare_text pieces) (of_pieces span pieces)
+      (binary_module (bare_opening h) (left r) ≡ None) (pieces_of (left r)) r b (map bare_text pieces) (of_pieces span pieces)
       (skipped strings (module_end true) r s a b (map bare_text pieces) same fault make reads ends) clean
       (λ g. ap (λ o. o >>= λ ps. Some (with_pieces (module_position h) ps)) g ∙ ap (λ p. Some (with_pieces p (map bare_text pieces))) (sym at)) refl

@@ -65,7 +65,7 @@ entry_step k entry old a b new counter end x found after next few r p c =
       clean = λ h. r.clean (p.clean (sym c.fault ∙ h));
       goes = λ h. let clean : IsClean b = (sym c.fault ∙ h.0, sym c.make ∙ h.1) in
           entry_goes k entry (end - counter) n (left old) (left a) x found after b new next one
-              (r.gives (p.clean clean.0, p.made clean.1)) (p.pushed clean) (p.left clean) c;
+          (r.gives (p.clean clean.0, p.made clean.1)) (p.pushed clean) (p.left clean) c;
       keeps = λ h. c.fault ∙ p.keeps (λ e. h (r.clean e)) ∙ r.keeps h;
       refuses = λ h m f. refused h (sym c.make ∙ m) (subst IsRefused c.fault f);
     }
@@ -89,7 +89,7 @@ pub one_entry : {S T : Type 0} (bare : S → T) (k : Key) (entry : Toks → Pars
 one_entry bare k entry start first old a b new counter end x found after next few r p c yet s =
     both_steps first old new start _ _ s
     (entry_step k entry old a b new counter end (bare x) (map bare found) (map bare after) true few r
-        (mapped_puts bare a b x found after (by_pushing a b x found after p)) (subst (Accepts (again k) b new) yet c))
+    (mapped_puts bare a b x found after (by_pushing a b x found after p)) (subst (Accepts (again k) b new) yet c))
 
 -- what a loop read onto a list
 reads_onto : {T : Type 0} (rule : Toks → Parse (List T)) (first new : Reader) (before after : List T)
@@ -111,7 +111,7 @@ pub entry_end : {S T : Type 0} (bare : S → T) (k : Key) (entry : Toks → Pars
 entry_end bare k entry rule first old a b new counter end x before found after next few r p c ends s =
     reads_onto rule first new (map bare before) (map bare after) (both_steps first old new _ _ _ s
     (entry_step k entry old a b new counter end (bare x) (map bare found) (map bare after) false few r
-        (mapped_puts bare a b x found after (by_pushing a b x found after p)) (subst (Accepts (again k) b new) ends c)))
+    (mapped_puts bare a b x found after (by_pushing a b x found after p)) (subst (Accepts (again k) b new) ends c)))
 
 -- no step is left
 pub entry_last : {T : Type 0} (k : Key) (entry : Toks → Parse T) (n : ℕ) (toks : Toks) (found : List T)

@@ -228,7 +228,7 @@ module _ (shrinks : (t : Toks) (x : Instruction × Toks) → instruction t ≡ S
     hint_fewer : (may : Bool) (t : Toks) → count t ≤ suc n → Fewer (suc n) (rule.hint may t)
     hint_fewer may t few = either (is_hint (annotation_of (peek 0 t)))
         (and_then (string_fewer (suc n) (after t) (fewer (suc n) t few)) (λ b few. some_of (hint_value b.0.now)
-            (λ v. taking (rparen_takes (suc n) b.1 few) (λ r few. cond may (done (suc n) _ r few) (none (suc n))))))
+        (λ v. taking (rparen_takes (suc n) b.1 few) (λ r few. cond may (done (suc n) _ r few) (none (suc n))))))
         (done (suc n) _ t few)
 
     pub falls : (may : Bool) (b : Base) (s : State) → takes_step b s.levels s.toks ≡ true → count s.toks ≤ suc n → Left n (step may s)
@@ -242,8 +242,8 @@ module _ (shrinks : (t : Toks) (x : Instruction × Toks) → instruction t ≡ S
             (hinted_less None s (λ none e. yet s.levels on none) few (peek 0 s.toks) refl)
         by (One_there v t at read) = subst (Left n) (sym (step_as may b zero s.levels s.waiting s.read s.toks (Some (Hint v ∷ [], t)) read))
             (hinted_less (Some (record { value = v; place = position s.toks })) (with_toks t s)
-                (λ none e. some_hint (record { value = v; place = position s.toks }) e)
-                ((hint_fewer may s.toks few).at (Hint v ∷ [], t) read) (peek 0 t) refl)
+            (λ none e. some_hint (record { value = v; place = position s.toks }) e)
+            ((hint_fewer may s.toks few).at (Hint v ∷ [], t) read) (peek 0 t) refl)
           where
             some_hint : (x : code.Hint) → Some x ≡ None → is_closed s.levels ≡ false
             some_hint x e = absurd cc

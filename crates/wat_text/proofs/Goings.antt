@@ -158,7 +158,7 @@ module _ (t : Toks) where
       ap (λ o. o >>= rest) open_it ∙ ap (λ o. o >>= inner) read
       ∙ ended_by (folded_by (next_of_word (word_of (peek 0 t))) (sequences false (suc (count i.1))) (Instr i.0 ∷ []) i.1)
       ∙ sym (ap (λ o. (o >>= λ i. folded_by (next_of_word (word_of (peek 0 t))) (sequences false (suc (count j.1))) (Instr i.0 ∷ []) i.1)
-          >>= λ x. run [] (add nothing x.0) x.1) read)
+      >>= λ x. run [] (add nothing x.0) x.1) read)
     where
       j : Instruction × Toks
       j = i

@@ -1,5 +1,5 @@
 -- The tokens of groups: a token by its number, how many there are, and the same tokens after a group is freed.
-use Rattle.std.proofs.Common.{◌≡◌, ◌∙◌, ℕ, zero, suc, ◌+◌, ◌-◌, ◌<◌, ◌≤◌, List, [], ◌∷◌, ◌++◌, length, map, take, drop, get_or, slice_get, Option, None, Some, refl, sym, ap, arith, append-nil, length-append}
+use Rattle.std.proofs.Common.{◌≡◌, ◌∙◌, ℕ, zero, suc, ◌+◌, ◌-◌, ◌<◌, ◌≤◌, List, [], ◌∷◌, ◌++◌, length, map, take, drop, get_or, slice_get, None, Some, refl, sym, ap, arith, append-nil, length-append}
 use Rattle.std.proofs.lemmas.List.{get_or_append_left}
 use Rattle.std.proofs.lemmas.Option.{slice_get_within, slice_get_past, get_or_from_slice_get}
 use Rattle.std.specs.Global.{Vec}
@@ -43,8 +43,8 @@ later_in group later n all = there group.items (all_in later) n (n - length grou
 
 pub none_in : (groups : List (Vec Placed)) (n : ℕ) → length groups ≡ 0 → token_in groups n ≡ None
 unfolding token_in
-none_in [] n no = refl
-none_in (g ∷ gs) n no = absurd (omega (arith, no))
+none_in [] n e = refl
+none_in (g ∷ gs) n e = absurd (omega (arith, e))
 
 -- ---- so many tokens of a list
 
@@ -170,7 +170,7 @@ unfolding grouped
 regrouped found count groups later group tokens at now read rest end is cut all more e fewer =
     let counted : rest ≡ count - length found = omega (arith, fewer, all) in
     let tail : tokens ++ exactly (rest - length tokens) (all_in later) ≡ exactly (count - length found) (all_in groups) =
-        ap (λ ts. ts ++ exactly (rest - length ts) (all_in later)) cut ∙ exactly_cut rest group.items (all_in later)
-        ∙ ap (λ gs. exactly rest (all_in gs)) (sym is) ∙ ap (λ n. exactly n (all_in groups)) counted in
+    ap (λ ts. ts ++ exactly (rest - length ts) (all_in later)) cut ∙ exactly_cut rest group.items (all_in later)
+    ∙ ap (λ gs. exactly rest (all_in gs)) (sym is) ∙ ap (λ n. exactly n (all_in groups)) counted in
     ap (λ ts. left_of now (map bare_placed ts) end) tail
     ∙ freed at now found (exactly (count - length found) (all_in groups)) end (omega (arith, all, more)) (omega (arith, all, e))

@@ -195,7 +195,7 @@ pub whole_last : (may : Bool) (old now new : Reader) (m k n : ℕ) (body : Body)
     → part ≡ (state_of now body).read → (done ≡ false → m ≡ 1) → Reads (expression may) old new part
 whole_last may old now new m k n body done part held one at fin is last = held_last may Whole (expression may) old now new m n body done part held fin is
     (λ e going. came may (expression may (left old)) m k (state_of now body) (closed_if (reverse body.levels.items) (left now) (sym at ∙ e))
-        (end_if (reverse body.levels.items) (left now) (sym at ∙ e)) one n going)
+    (end_if (reverse body.levels.items) (left now) (sym at ∙ e)) one n going)
     (λ e. going_whole (reverse body.levels.items) (left now) (sym at ∙ e))
     (λ e few. undone (reverse body.levels.items) (left now) (nothing_left (left now) few) (sym at ∙ e)) last
 
@@ -218,7 +218,7 @@ folded_first old opened now k n before body opens does same few none waits instr
   keeps = λ h. does.keeps (stays (opens.keeps h) h) ∙ opens.keeps h;
   yet = λ h. subst (λ i. Going false One (folded_expression (left old)) (suc k) (suc i) (state_of now body)) (sym few)
       (folded_began (left opened) (left old) (opens.gives (does.clean h.0)) (state_of now body)
-          (sym (ap (folded_operator None) at_first) ∙ does.gives h) k (same ∙ few));
+      (sym (ap (folded_operator None) at_first) ∙ does.gives h) k (same ∙ few));
   few = λ h. enough;
   lost = λ h made gone. by h made gone opened.fault refl;
 }

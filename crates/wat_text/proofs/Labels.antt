@@ -41,9 +41,9 @@ pub one_label : (start : Parse (List Index)) (first old a new : Reader) (counter
 one_label start first old a new counter end l x found after few yet r p s =
     both_steps first old new start _ _ s
     (reads_step is_index_next index old a new counter end (bare_index x) (bare_indices found ++ bare_index l ∷ [])
-        (bare_indices after ++ bare_index x ∷ []) few yet (as_read old a (bare_index x) r)
+    (bare_indices after ++ bare_index x ∷ []) few yet (as_read old a (bare_index x) r)
     (next_last a new (bare_index l) (bare_index x) (bare_indices found) (bare_indices after)
-        (mapped_puts bare_index a new l found after (by_pushing a new l found after p))))
+    (mapped_puts bare_index a new l found after (by_pushing a new l found after p))))
 
 ends_with : (x y : Index) (xs ys : List Index) → x ∷ xs ≡ ys ++ y ∷ [] → (before_last x xs ≡ ys) × (last x xs ≡ y)
 ends_with x y [] [] e = (refl, cc)

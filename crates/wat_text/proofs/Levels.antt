@@ -103,13 +103,27 @@ module _ (may : Bool) where
   own_below : (m : ℕ) (l : Level) (h : Option code.Hint) (ws : List Instruction)
       → BelowRules (own (sequences may m) l h ws) (own (sequences may (suc m)) l h ws)
   own_below m level.Operands h ws = same_rules (own (sequences may m) level.Operands h ws)
-  own_below m level.Condition h ws =
-      (same_rule (terminal (form key.Then)), (same_rule (writes (waits h ws)), (arm_below may (sequences may m) (sequences may (suc m))
-          (sequences_below may m), (else_arm_below may (sequences may m) (sequences may (suc m)) (sequences_below may m), (same_rule ends, tt)))))
+  own_below m level.Condition h ws = (
+    same_rule (terminal (form key.Then)),
+    (
+      same_rule (writes (waits h ws)),
+      (
+        arm_below may (sequences may m) (sequences may (suc m))
+            (sequences_below may m),
+        (else_arm_below may (sequences may m) (sequences may (suc m)) (sequences_below may m), (same_rule ends, tt)),
+      ),
+    ),
+  )
   own_below m level.Block h ws = same_rules (own (sequences may m) level.Block h ws)
   own_below m level.Then h ws = (else_arm_below may (sequences may m) (sequences may (suc m)) (sequences_below may m), (same_rule ends, tt))
-  own_below m level.Try h ws = (same_rule (terminal (form key.Do)), (arm_below may (sequences may m) (sequences may (suc m))
-      (sequences_below may m), (handlers_below may (sequences may m) (sequences may (suc m)) (sequences_below may m), tt)))
+  own_below m level.Try h ws = (
+    same_rule (terminal (form key.Do)),
+    (
+      arm_below may (sequences may m) (sequences may (suc m))
+          (sequences_below may m),
+      (handlers_below may (sequences may m) (sequences may (suc m)) (sequences_below may m), tt),
+    ),
+  )
   own_below m level.Do h ws = (handlers_below may (sequences may m) (sequences may (suc m)) (sequences_below may m), tt)
   own_below m level.Catch h ws = (catch_all_arm_below may (sequences may m) (sequences may (suc m)) (sequences_below may m), (same_rule ends, tt))
   own_below m level.Last h ws = same_rules (own (sequences may m) level.Last h ws)

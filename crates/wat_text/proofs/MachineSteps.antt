@@ -135,32 +135,32 @@ module _ (may : Bool) (b : Base) (m : ℕ) where
       -- an instruction with operands
       operands_step : (i : Instruction × Toks) → instruction t ≡ Some i
           → Same may b m (read_operator s >>= push_level level.Operands (position t) h)
-              (run (rule.operands (sequences may m) (hint_items h ++ Instr i.0 ∷ []) ∷ rest) e i.1)
+          (run (rule.operands (sequences may m) (hint_items h ++ Instr i.0 ∷ []) ∷ rest) e i.1)
       operands_step i read = let o = hint_items h ++ Instr i.0 ∷ [] in
           one_step (suc (suc (suc c))) (state (open_of level.Operands (position t) h ∷ ls) (ws ++ i.0 ∷ []) e i.1)
           (ap (λ x. x >>= push_level level.Operands (position t) h) (read_operator_is s (Some i) read))
           (flat (sequences may m Folded) (terminal rparen ∷ writes o ∷ []) rest e i.1
           ∙ sym (mixed_own (suc (suc (suc c))) (state (open_of level.Operands (position t) h ∷ ls) (ws ++ i.0 ∷ []) e i.1)
-              (operands_of m o) (operands_of (suc m) o)
+          (operands_of m o) (operands_of (suc m) o)
           (operands_at m (position t) h i.0) (operands_at (suc m) (position t) h i.0) (λ ps qs. refl)))
 
       -- a block
       block_step : (i : Instruction × Toks) → instruction t ≡ Some i
           → Same may b m (append_hint h s >>= read_instr >>= push_level level.Block (position t) None)
-              (run (chain (writes (hint_items h ++ Instr i.0 ∷ [])) (sequences may m Anywhere ∷ ends ∷ []) ∷ rest) e i.1)
+          (run (chain (writes (hint_items h ++ Instr i.0 ∷ [])) (sequences may m Anywhere ∷ ends ∷ []) ∷ rest) e i.1)
       block_step i read = let o = hint_items h ++ Instr i.0 ∷ [] in let f = with_instr i.0 (with_hint h e) in
           one_step (suc (suc c)) (state (open_of level.Block (position t) None ∷ ls) ws f i.1)
           (ap (λ x. x >>= push_level level.Block (position t) None) (read_instr_is (state ls ws (with_hint h e) t) (Some i) read))
           (flat (writes o) (sequences may m Anywhere ∷ ends ∷ []) rest e i.1
           ∙ ap (λ g. run (sequences may m Anywhere ∷ ends ∷ rest) g i.1) (with_both h i.0 e)
           ∙ sym (mixed_own (suc (suc c)) (state (open_of level.Block (position t) None ∷ ls) ws f i.1)
-              (sequences may m Anywhere ∷ ends ∷ []) (sequences may (suc m) Anywhere ∷ ends ∷ [])
+          (sequences may m Anywhere ∷ ends ∷ []) (sequences may (suc m) Anywhere ∷ ends ∷ [])
           refl refl (λ ps qs. refl)))
 
       try_step : (i : Instruction × Toks) → instruction t ≡ Some i
           → Same may b m (append_hint h s >>= read_instr >>= push_level level.Try (position t) None)
           (run (chain (writes (hint_items h ++ Instr i.0 ∷ []))
-              (terminal (form key.Do) ∷ arm (sequences may m) ∷ handlers (sequences may m) ∷ []) ∷ rest) e i.1)
+          (terminal (form key.Do) ∷ arm (sequences may m) ∷ handlers (sequences may m) ∷ []) ∷ rest) e i.1)
       try_step i read = let o = hint_items h ++ Instr i.0 ∷ [] in let f = with_instr i.0 (with_hint h e) in
           one_step (suc (suc (suc c))) (state (open_of level.Try (position t) None ∷ ls) ws f i.1)
           (ap (λ x. x >>= push_level level.Try (position t) None) (read_instr_is (state ls ws (with_hint h e) t) (Some i) read))
@@ -168,12 +168,12 @@ module _ (may : Bool) (b : Base) (m : ℕ) where
           ∙ ap (λ g. run (terminal (form key.Do) ∷ arm (sequences may m) ∷ handlers (sequences may m) ∷ rest) g i.1) (with_both h i.0 e)
           ∙ sym (mixed_own (suc (suc (suc c))) (state (open_of level.Try (position t) None ∷ ls) ws f i.1)
           (terminal (form key.Do) ∷ arm (sequences may m) ∷ handlers (sequences may m) ∷ [])
-              (terminal (form key.Do) ∷ arm (sequences may (suc m)) ∷ handlers (sequences may (suc m)) ∷ [])
+          (terminal (form key.Do) ∷ arm (sequences may (suc m)) ∷ handlers (sequences may (suc m)) ∷ [])
           refl refl (λ ps qs. refl)))
 
       if_step : (i : Instruction × Toks) → instruction t ≡ Some i
           → Same may b m (read_operator s >>= push_level level.Condition (position t) h)
-              (run (rule.folded_if (sequences may m) (hint_items h ++ Instr i.0 ∷ []) ∷ rest) e i.1)
+          (run (rule.folded_if (sequences may m) (hint_items h ++ Instr i.0 ∷ []) ∷ rest) e i.1)
       if_step i read = let o = hint_items h ++ Instr i.0 ∷ [] in let k = suc (suc (suc (suc (suc (suc c))))) in
           one_step k (state (open_of level.Condition (position t) h ∷ ls) (ws ++ i.0 ∷ []) e i.1)
           (ap (λ x. x >>= push_level level.Condition (position t) h) (read_operator_is s (Some i) read))
@@ -193,7 +193,7 @@ module _ (may : Bool) (b : Base) (m : ℕ) where
 
       operand_or_part : (w : Option Word) (q : Option Part) → part_in t ≡ q → (i : Instruction × Toks) → instruction t ≡ Some i
           → Same may b m (with_operands h s)
-              (run (folded_by (elim q [ Some p ↦ Ends | None ↦ Stands ]) (sequences may m) (hint_items h ++ Instr i.0 ∷ []) ∷ rest) e i.1)
+          (run (folded_by (elim q [ Some p ↦ Ends | None ↦ Stands ]) (sequences may m) (hint_items h ++ Instr i.0 ∷ []) ∷ rest) e i.1)
       operand_or_part w None is i read = by_both (ap (λ q. ((elim q [ Some p ↦ None | None ↦ Some t ]) >>= λ r. Some (with_toks r s))
           >>= read_operator >>= push_level level.Operands (position t) h) is) refl (operands_step i read)
       operand_or_part w (Some p) is i read = no_step (ap (λ q. ((elim q [ Some p ↦ None | None ↦ Some t ]) >>= λ r. Some (with_toks r s))
@@ -228,10 +228,10 @@ module _ (may : Bool) (b : Base) (m : ℕ) where
     -- an instruction without parentheses
     pub stands : (h : Option code.Hint) (e : Expression) (toks t : Toks) (i : Parse Instruction) → instruction t ≡ i
         → Same may b m (append_hint h (state ls ws e t) >>= read_instr)
-            (run (sequence may (sequences may m) Stands p toks (hint_items h) ∷ behind may b (suc m) ls ws) e t)
+        (run (sequence may (sequences may m) Stands p toks (hint_items h) ∷ behind may b (suc m) ls ws) e t)
     stands h e toks t None read = no_step (read_instr_is (state ls ws (with_hint h e) t) None read)
         (in_turn (hinted (hint_items h)) (sequences may m p) (behind may b (suc m) ls ws) e t
-            ∙ fails_by (hinted (hint_items h)) then_on e t (hinted_is (hint_items h) t None read))
+        ∙ fails_by (hinted (hint_items h)) then_on e t (hinted_is (hint_items h) t None read))
     stands h e toks t (Some i) read = let f = with_instr i.0 (with_hint h e) in
         one_step (c ls ws) (state ls ws f i.1) (read_instr_is (state ls ws (with_hint h e) t) (Some i) read)
         (in_turn (hinted (hint_items h)) (sequences may m p) (behind may b (suc m) ls ws) e t
@@ -254,12 +254,12 @@ module _ (may : Bool) (b : Base) (m : ℕ) where
         one_step (suc (suc (c ls ws))) s (ap (λ o. o >>= push_level l (position t) None) (read_instr_is (state ls ws (with_hint h e) t) (Some i) read))
         (flat (hinted (hint_items h)) ((sequences may m Anywhere >> x m) ∷ sequences may m p ∷ []) (behind may b (suc m) ls ws) e t
         ∙ read_by (hinted (hint_items h)) ((sequences may m Anywhere >> x m) ∷ then_on) e t i.1
-            (hint_items h ++ Instr i.0 ∷ []) (hinted_is (hint_items h) t (Some i) read)
+        (hint_items h ++ Instr i.0 ∷ []) (hinted_is (hint_items h) t (Some i) read)
         ∙ ap (λ g. run ((sequences may m Anywhere >> x m) ∷ then_on) g i.1) (with_both h i.0 e)
         ∙ in_turn (sequences may m Anywhere) (x m) then_on f i.1
         ∙ sym (ap (λ rs. run (sequences may m Anywhere ∷ x m ∷ rs) f i.1) rest_at)
         ∙ sym (mixed_own ls ws (suc (suc (c ls ws))) s (sequences may m Anywhere ∷ x m ∷ [])
-            (sequences may (suc m) Anywhere ∷ x (suc m) ∷ []) (todo_is m (position t)) (todo_is (suc m) (position t)) (λ ps qs. refl)))
+        (sequences may (suc m) Anywhere ∷ x (suc m) ∷ []) (todo_is m (position t)) (todo_is (suc m) (position t)) (λ ps qs. refl)))
 
     pub opens_block : (op : BlockOp) (h : Option code.Hint) (e : Expression) (toks t : Toks)
         → Same may b m (append_hint h (state ls ws e t) >>= read_instr >>= push_level (plain_level op) (position t) None)

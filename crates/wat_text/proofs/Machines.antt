@@ -137,7 +137,7 @@ module _ (may : Bool) (b : Base) (m : ℕ) where
   -- a step
   pub step_as : (ls : List Open) (ws : List Instruction) (e : Expression) (toks : Toks) (r : Parse (List Item)) → rule.hint may toks ≡ r
       → step may (state ls ws e toks) ≡ ((r >>= λ h. let o : Option code.Hint × Toks = (hint_in (position toks) h.0, h.1) in Some o)
-          >>= λ h. hinted_step h.0 (state ls ws e h.1))
+      >>= λ h. hinted_step h.0 (state ls ws e h.1))
   step_as ls ws e toks r read = ap (λ r. (r >>= λ h. let o : Option code.Hint × Toks = (hint_in (position toks) h.0, h.1) in Some o)
       >>= λ h. hinted_step h.0 (state ls ws e h.1)) read
 
@@ -155,7 +155,7 @@ unfolds may Whole m [] ws e toks going = by (reading may toks)
         (whole_at may Whole m ws e toks toks None (Bare refl refl) read (not_end (is_end (peek 0 toks)) refl going))
     by (One_there v t at read) = by_both may Whole m (step_as may Whole m [] ws e toks (Some (Hint v ∷ [], t)) read) refl
         (whole_at may Whole m ws e toks t (Some (record { value = v; place = position toks }))
-            (Hinted (record { value = v; place = position toks }) refl at) read (not_end (is_end (peek 0 toks)) refl going))
+        (Hinted (record { value = v; place = position toks }) refl at) read (not_end (is_end (peek 0 toks)) refl going))
     by (Bad at none) = no_step may Whole m (step_as may Whole m [] ws e toks None none) (placed_fails may Whole m Anywhere (at_end ∷ []) e toks none)
 unfolds may b m (o ∷ os) ws e toks going = by (reading may toks)
   where
@@ -164,5 +164,5 @@ unfolds may b m (o ∷ os) ws e toks going = by (reading may toks)
         (by_level may b m o.level os ws o.place o.hint e toks toks None (Bare refl refl) read)
     by (One_there v t at read) = by_both may b m (step_as may b m (o ∷ os) ws e toks (Some (Hint v ∷ [], t)) read) refl
         (by_level may b m o.level os ws o.place o.hint e toks t (Some (record { value = v; place = position toks }))
-            (Hinted (record { value = v; place = position toks }) refl at) read)
+        (Hinted (record { value = v; place = position toks }) refl at) read)
     by (Bad at none) = no_step may b m (step_as may b m (o ∷ os) ws e toks None none) (bad_at may b m o.level os ws o.place o.hint e toks at none)

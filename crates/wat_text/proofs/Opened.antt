@@ -151,7 +151,7 @@ module _ (source : List ℕ) (h : ModuleHead) where
       → Ends (fields_module span (bare_opening x) (left j)) j result → Ends (module_as source Quotes (bare_opening h) (left r)) r result
   quotes_ok r s a b i j first span ps qs placed o x result there same fault make reads ends clean lent p inner new opens keyword id name at f =
       let all : ReadsAll (quotes_of (left r)) r b (map bare_quote qs) = skipped quotes
-          (module_end true) r s a b (map bare_quote qs) same fault make reads ends in
+      (module_end true) r s a b (map bare_quote qs) same fault make reads ends in
       all_in_quotes r first qs (all.clean clean.0, all.made clean.1) (all.gives clean) (there ∙ ap position same) i placed result new inner
       (subst (λ xs. tokens_in_quotes source first xs ≡ Some (map bare_placed placed)) lent p)
       (inner_opened i j o x span result opens (inner_is h o x keyword id name) at f)
@@ -163,7 +163,7 @@ module _ (source : List ℕ) (h : ModuleHead) where
       → ps ≡ qs → (e.fault ≢ fault.Memory → tokens_in_quotes source first ps ≡ None) → Ends (module_as source Quotes (bare_opening h) (left r)) r (Err e)
   quotes_err r s a b first ps qs e there same fault make reads ends clean lent none =
       let all : ReadsAll (quotes_of (left r)) r b (map bare_quote qs) = skipped quotes
-          (module_end true) r s a b (map bare_quote qs) same fault make reads ends in
+      (module_end true) r s a b (map bare_quote qs) same fault make reads ends in
       let before : IsClean r = (all.clean clean.0, all.made clean.1) in
       let nothing : (tokens_in_quotes source first qs ≡ None) → module_as source Quotes (bare_opening h) (left r) ≡ None =
       λ p. ap (λ o. o >>= λ xs. module_in_quotes source (bare_opening h) (position (after (left r))) xs) (all.gives clean)
@@ -192,7 +192,7 @@ pub text_first : (text : List ℕ) (e first : TextError) → (e.fault ≢ fault.
 unfolding module_of
 text_first text e first lexed memory m =
     ap (λ (o : Option (List grammar.Placed)). (o >>= λ ts. all_at_zero ts)
-        >>= λ found. module_in text (all_of found (record { offset = length text }))) (lexed (λ f. m (memory f)))
+    >>= λ found. module_in text (all_of found (record { offset = length text }))) (lexed (λ f. m (memory f)))
 
 module _ (text : List ℕ) (found : List Placed) (end : Span) (at : end ≡ record { offset = length text }) (lexed : tokens bytes_of text ≡ Some (seen_all found))
     (named : All (λ p. IsNamed p.token) found) where

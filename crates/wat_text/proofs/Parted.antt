@@ -45,7 +45,7 @@ module _ (may : Bool) (b : Base) (m : ℕ) where
         by None read = no_step may b m (read_instr_is (state ls ws (with_hint h e) t) None read) (fails_by (hinted items) rs e t (hinted_is None read))
         by (Some i) read = one_step may b m k (state ls ws (with_instr i.0 (with_hint h e)) i.1) (read_instr_is (state ls ws (with_hint h e) t) (Some i) read)
             (read_by (hinted items) rs e t i.1 (items ++ Instr i.0 ∷ []) (hinted_is (Some i) read)
-                ∙ ap (λ g. run rs g i.1) (with_both h i.0 e) ∙ sym (same (with_instr i.0 (with_hint h e)) i.1))
+            ∙ ap (λ g. run rs g i.1) (with_both h i.0 e) ∙ sym (same (with_instr i.0 (with_hint h e)) i.1))
 
     module _ (os : List Open) (place : Span) (h0 : Option code.Hint) where
       abbrev more : List Rule

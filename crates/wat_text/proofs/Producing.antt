@@ -32,7 +32,7 @@ then_versions : (f : ProducersField) (before : List Version) (p : Value) (rest :
 then_versions f before p None = refl
 then_versions f before p (Some xs) =
     ap {A = List Version} (λ ys. Some (ys, xs.1))
-        (ap (λ ys. before ++ ys) (versions_more f p xs.0) ∙ sym (append_assoc before (versions_of f (p ∷ [])) (versions_of f xs.0)))
+    (ap (λ ys. before ++ ys) (versions_more f p xs.0) ∙ sym (append_assoc before (versions_of f (p ∷ [])) (versions_of f xs.0)))
 
 the_same : {A : Type 0} {x y : A} → Some x ≡ Some y → x ≡ y
 the_same e = cc
@@ -91,7 +91,7 @@ gathers_more first old new before now after counter end few yet r s = record {
   where
     step : (f : ProducersField) (before after : List Version) → (IsClean new → versions_with before f (one producer (left old)) ≡ Some (after, left new))
         → Steps old new (versions_with before f (many goes_on producer (end - counter) (left old)))
-            (versions_with after f (many goes_on producer (end - (counter + 1)) (left new)))
+        (versions_with after f (many goes_on producer (end - (counter + 1)) (left new)))
     step f before after gives = record {
       made = r.made;
       clean = r.clean;
@@ -133,15 +133,24 @@ put_value : (v : Tool × Version) (before after : Made) → IsPut v before after
     → (map bare_version after.languages ≡ map bare_version before.languages ++ versions_of Language (bare_value v ∷ []))
     × (map bare_version after.sdks ≡ map bare_version before.sdks ++ versions_of Sdk (bare_value v ∷ []))
     × (map bare_version after.processors ≡ map bare_version before.processors ++ versions_of ProcessedBy (bare_value v ∷ []))
-put_value (tool.Language, v) before after p =
-    (ap (map bare_version) p.0 ∙ mapped bare_version before.languages v, ap (map bare_version) p.1
-        ∙ sym (no_more (map bare_version before.sdks)), ap (map bare_version) p.2 ∙ sym (no_more (map bare_version before.processors)))
-put_value (tool.Sdk, v) before after p =
-    (ap (map bare_version) p.0 ∙ sym (no_more (map bare_version before.languages)), ap (map bare_version) p.1
-        ∙ mapped bare_version before.sdks v, ap (map bare_version) p.2 ∙ sym (no_more (map bare_version before.processors)))
-put_value (tool.ProcessedBy, v) before after p =
-    (ap (map bare_version) p.0 ∙ sym (no_more (map bare_version before.languages)), ap (map bare_version) p.1
-        ∙ sym (no_more (map bare_version before.sdks)), ap (map bare_version) p.2 ∙ mapped bare_version before.processors v)
+put_value (tool.Language, v) before after p = (
+  ap (map bare_version) p.0 ∙ mapped bare_version before.languages v,
+  ap (map bare_version) p.1
+      ∙ sym (no_more (map bare_version before.sdks)),
+  ap (map bare_version) p.2 ∙ sym (no_more (map bare_version before.processors)),
+)
+put_value (tool.Sdk, v) before after p = (
+  ap (map bare_version) p.0 ∙ sym (no_more (map bare_version before.languages)),
+  ap (map bare_version) p.1
+      ∙ mapped bare_version before.sdks v,
+  ap (map bare_version) p.2 ∙ sym (no_more (map bare_version before.processors)),
+)
+put_value (tool.ProcessedBy, v) before after p = (
+  ap (map bare_version) p.0 ∙ sym (no_more (map bare_version before.languages)),
+  ap (map bare_version) p.1
+      ∙ sym (no_more (map bare_version before.sdks)),
+  ap (map bare_version) p.2 ∙ mapped bare_version before.processors v,
+)
 
 -- a part before a ')', with something that takes no tokens between
 closed : {T : Type 0} (rule : Toks → Parse T) (old a b new : Reader) (x : T) → Decides rule old a x

@@ -199,8 +199,10 @@ module _ (may : Bool) (f g : Within) (below : BelowWithin f g) where
   folded_by_below n i = same_rule (λ toks. None)
 
   foldedinstr_below : (h : List Item) → BelowRule (foldedinstr f h) (foldedinstr g h)
-  foldedinstr_below h = record { at = λ toks. bound (same (lparen toks))
-      (λ t. bound (same (instruction t)) (λ i. (folded_by_below (next_of_word (word_of (peek 0 t))) (h ++ Instr i.0 ∷ [])).at i.1)) }
+  foldedinstr_below h = record {
+    at = λ toks. bound (same (lparen toks))
+        (λ t. bound (same (instruction t)) (λ i. (folded_by_below (next_of_word (word_of (peek 0 t))) (h ++ Instr i.0 ∷ [])).at i.1));
+  }
 
   to_end_below : BelowRule (to_end may f) (to_end may g)
   to_end_below = both_below (below.at Anywhere) (same_rule (part may End))
@@ -234,7 +236,7 @@ sequences_below may (suc n) = record {
   at = λ place. record {
     at = λ toks.
         bound (same (hint may toks)) (λ h.
-            (sequence_below may (sequences may n) (sequences may (suc n)) (sequences_below may n) (next_of place h.1) place toks h.0).at h.1);
+        (sequence_below may (sequences may n) (sequences may (suc n)) (sequences_below may n) (next_of place h.1) place toks h.0).at h.1);
   };
 }
 
@@ -245,7 +247,7 @@ made_of e [] = ap (λ is. record { instrs = is; branch_hints = e.branch_hints })
     ∙ ap (λ hs. record { instrs = e.instrs ++ []; branch_hints = hs }) (sym (no_more e.branch_hints))
 made_of e (Instr i ∷ xs) = made_of (with_instr i e) xs
     ∙ ap (λ is. record { instrs = is; branch_hints = e.branch_hints ++ hints_of (length (e.instrs ++ i ∷ [])) xs })
-        (append_assoc e.instrs (i ∷ []) (instrs_of xs))
+    (append_assoc e.instrs (i ∷ []) (instrs_of xs))
     ∙ ap (λ n. record { instrs = e.instrs ++ i ∷ instrs_of xs; branch_hints = e.branch_hints ++ hints_of n xs }) (one_more e.instrs)
   where
     one_more : (is : List Instruction) → length (is ++ i ∷ []) ≡ suc (length is)
@@ -253,4 +255,4 @@ made_of e (Instr i ∷ xs) = made_of (with_instr i e) xs
     one_more (j ∷ js) = ap suc (one_more js)
 made_of e (Hint v ∷ xs) = made_of (record { instrs = e.instrs; branch_hints = e.branch_hints ++ record { instr_index = length e.instrs; value = v } ∷ [] }) xs
     ∙ ap (λ hs. record { instrs = e.instrs ++ instrs_of xs; branch_hints = hs })
-        (append_assoc e.branch_hints (record { instr_index = length e.instrs; value = v } ∷ []) (hints_of (length e.instrs) xs))
+    (append_assoc e.branch_hints (record { instr_index = length e.instrs; value = v } ∷ []) (hints_of (length e.instrs) xs))

@@ -52,7 +52,7 @@ one_bare : (fs : List ModuleField) → has_one_start (bare_fields fs) ≡ has_on
 one_bare [] = refl
 one_bare (f ∷ fs) = ap (λ b. elim b [ true ↦ has_no_start (bare_fields fs) | false ↦ has_one_start (bare_fields fs) ]) (bare_start f)
     ∙ either_same (is_start f) (has_no_start (bare_fields fs)) (has_one_start (bare_fields fs))
-        (has_no_start fs) (has_one_start fs) (no_start_bare fs) (one_bare fs)
+    (has_no_start fs) (has_one_start fs) (no_start_bare fs) (one_bare fs)
 
 pub one_holds : (r : Option Span) (fs : List ModuleField) (toks : Toks) → is_none r ≡ has_one_start fs
     → r ≡ None → where_it_holds (has_one_start (bare_fields fs)) toks ≡ Some toks

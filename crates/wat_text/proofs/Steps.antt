@@ -90,7 +90,7 @@ reads_step is_next part old a new counter end x found after few yet r p =
     let n = end - (counter + 1) in
     let one : end - counter ≡ suc n = omega (arith, few) in
     both_steps old a new (with_parts found (many is_next part (end - counter) (left old)))
-        (with_parts (found ++ x ∷ []) (many is_next part n (left a))) (with_parts after (many is_next part n (left new)))
+    (with_parts (found ++ x ∷ []) (many is_next part n (left a))) (with_parts after (many is_next part n (left new)))
     (record {
       made = r.made;
       clean = r.clean;
@@ -111,7 +111,7 @@ reads_step is_next part old a new counter end x found after few yet r p =
 pub list_step : {T : Type 0} (is_next : Toks → Bool) (part : Toks → Parse (List T)) (old new : Reader) (counter end : ℕ) (found after : List T)
     → counter < end → is_next (left old) ≡ true → ReadsOnto part old new found after
     → Steps old new (with_parts found (many_lists is_next part (end - counter) (left old)))
-        (with_parts after (many_lists is_next part (end - (counter + 1)) (left new)))
+    (with_parts after (many_lists is_next part (end - (counter + 1)) (left new)))
 list_step is_next part old new counter end found after few yet r =
     let n = end - (counter + 1) in
     let one : end - counter ≡ suc n = omega (arith, few) in
@@ -133,7 +133,7 @@ pub one_bare : {S T : Type 0} (bare : S → T) (is_next : Toks → Bool) (part :
 one_bare bare is_next part start first old a new counter end x found after few yet r p s =
     both_steps first old new start _ _ s
     (reads_step is_next part old a new counter end (bare x) (map bare found) (map bare after) few yet
-        (decided part old a (bare x) r) (mapped_puts bare a new x found after (by_pushing a new x found after p)))
+    (decided part old a (bare x) r) (mapped_puts bare a new x found after (by_pushing a new x found after p)))
 
 -- a part that contains lists of the tree
 pub one_read : {S T : Type 0} (bare : S → T) (is_next : Toks → Bool) (part : Toks → Parse T)
@@ -144,7 +144,7 @@ pub one_read : {S T : Type 0} (bare : S → T) (is_next : Toks → Bool) (part :
 one_read bare is_next part start first old a new counter end x found after few yet r p s =
     both_steps first old new start _ _ s
     (reads_step is_next part old a new counter end (bare x) (map bare found) (map bare after) few yet r
-        (mapped_puts bare a new x found after (by_pushing a new x found after p)))
+    (mapped_puts bare a new x found after (by_pushing a new x found after p)))
 
 -- a part that is appended to a list of the tree
 pub one_built : {S T : Type 0} (bare : S → T) (is_next : Toks → Bool) (part : Toks → Parse T)
@@ -155,7 +155,7 @@ pub one_built : {S T : Type 0} (bare : S → T) (is_next : Toks → Bool) (part 
 one_built bare is_next part start first old a new counter end x found after few yet r p s =
     both_steps first old new start _ _ s
     (reads_step is_next part old a new counter end (bare x) (map bare found) (map bare after) few yet r
-        (mapped_puts bare a new x found after (by_building a new x found after p)))
+    (mapped_puts bare a new x found after (by_building a new x found after p)))
 
 -- a list of parts
 pub one_list : {T : Type 0} (is_next : Toks → Bool) (part : Toks → Parse (List T))

@@ -101,7 +101,7 @@ module _ (may : Bool) (b : Base) (m : ℕ) where
         by : First toks t h → Same may b m (hinted_step h (at_level l)) (run rs e toks)
         by (Bare none is) = one_step may b m zero after_it
             (step_is l (Some token.Close) at ∙ ap (λ h. closed h (state (open_of l place h0 ∷ os) ws e (after t))) none ∙ closing)
-                (ending is (ap (peek 0) is ∙ at))
+            (ending is (ap (peek 0) is ∙ at))
         by (Hinted x some is) = no_step may b m (closed_by_hint x some l at) (fails (ap is_rparen is) (ap is_lparen is))
 
     -- the parts of a block without parentheses, at a level that has all instructions
@@ -127,7 +127,7 @@ module _ (may : Bool) (b : Base) (m : ℕ) where
       pub at_plain : Same may b m (hinted_step h (at_level level.Plain)) (run (w Anywhere ∷ follows level.Plain) e toks)
       at_plain = anywhere may b m (open_of level.Plain place h0 ∷ os) ws h e toks t read refl refl
           (λ is. no_step may b m (closed_none level.Plain refl)
-              (no_parts may b m ws h e toks t read os place h0 level.Plain (part_none (Some token.Close) is refl) refl))
+          (no_parts may b m ws h e toks t read os place h0 level.Plain (part_none (Some token.Close) is refl) refl))
           (λ is. no_step may b m (plain_none may b m (open_of level.Plain place h0 ∷ os) ws h e toks t read refl refl None is refl)
           (no_parts may b m ws h e toks t read os place h0 level.Plain (part_none None is refl) refl))
           (λ q is l r n. parts may b m ws h e toks t read os place h0 level.Plain q is refl)
@@ -136,7 +136,7 @@ module _ (may : Bool) (b : Base) (m : ℕ) where
       pub at_plain_if : Same may b m (hinted_step h (at_level level.PlainIf)) (run (w Anywhere ∷ follows level.PlainIf) e toks)
       at_plain_if = anywhere may b m (open_of level.PlainIf place h0 ∷ os) ws h e toks t read refl refl
           (λ is. no_step may b m (closed_none level.PlainIf refl)
-              (no_parts may b m ws h e toks t read os place h0 level.PlainIf (part_none (Some token.Close) is refl) refl))
+          (no_parts may b m ws h e toks t read os place h0 level.PlainIf (part_none (Some token.Close) is refl) refl))
           (λ is. no_step may b m (plain_none may b m (open_of level.PlainIf place h0 ∷ os) ws h e toks t read refl refl None is refl)
           (no_parts may b m ws h e toks t read os place h0 level.PlainIf (part_none None is refl) refl))
           (λ q is l r n. parts may b m ws h e toks t read os place h0 level.PlainIf q is refl)
@@ -145,7 +145,7 @@ module _ (may : Bool) (b : Base) (m : ℕ) where
       pub at_plain_try : Same may b m (hinted_step h (at_level level.PlainTry)) (run (w Anywhere ∷ follows level.PlainTry) e toks)
       at_plain_try = anywhere may b m (open_of level.PlainTry place h0 ∷ os) ws h e toks t read refl refl
           (λ is. no_step may b m (closed_none level.PlainTry refl)
-              (no_parts may b m ws h e toks t read os place h0 level.PlainTry (part_none (Some token.Close) is refl) refl))
+          (no_parts may b m ws h e toks t read os place h0 level.PlainTry (part_none (Some token.Close) is refl) refl))
           (λ is. no_step may b m (plain_none may b m (open_of level.PlainTry place h0 ∷ os) ws h e toks t read refl refl None is refl)
           (no_parts may b m ws h e toks t read os place h0 level.PlainTry (part_none None is refl) refl))
           (λ q is l r n. parts may b m ws h e toks t read os place h0 level.PlainTry q is refl)
@@ -154,7 +154,7 @@ module _ (may : Bool) (b : Base) (m : ℕ) where
       pub at_plain_catch : Same may b m (hinted_step h (at_level level.PlainCatch)) (run (w Anywhere ∷ follows level.PlainCatch) e toks)
       at_plain_catch = anywhere may b m (open_of level.PlainCatch place h0 ∷ os) ws h e toks t read refl refl
           (λ is. no_step may b m (closed_none level.PlainCatch refl)
-              (no_parts may b m ws h e toks t read os place h0 level.PlainCatch (part_none (Some token.Close) is refl) refl))
+          (no_parts may b m ws h e toks t read os place h0 level.PlainCatch (part_none (Some token.Close) is refl) refl))
           (λ is. no_step may b m (plain_none may b m (open_of level.PlainCatch place h0 ∷ os) ws h e toks t read refl refl None is refl)
           (no_parts may b m ws h e toks t read os place h0 level.PlainCatch (part_none None is refl) refl))
           (λ q is l r n. parts may b m ws h e toks t read os place h0 level.PlainCatch q is refl)
@@ -167,7 +167,7 @@ module _ (may : Bool) (b : Base) (m : ℕ) where
           (at_close level.Block (state os ws (with_instr (instr.end_ None) e) (after t)) (follows level.Block) is refl
           (λ r l. no_end toks (todo may b (suc m) os ws) e r)
           (λ same at. ends_at toks (todo may b (suc m) os ws) e (ap is_rparen at)
-              ∙ ap (λ t. run (todo may b (suc m) os ws) (with_instr (instr.end_ None) e) (after t)) same)))
+          ∙ ap (λ t. run (todo may b (suc m) os ws) (with_instr (instr.end_ None) e) (after t)) same)))
           (λ is. no_step may b m (plain_none may b m (open_of level.Block place h0 ∷ os) ws h e toks t read refl refl None is refl)
           (no_end toks (todo may b (suc m) os ws) e (not_close (ap is_rparen is))))
           (λ q is l r n. no_step may b m refl (no_end toks (todo may b (suc m) os ws) e (not_close r)))
@@ -211,7 +211,7 @@ module _ (may : Bool) (b : Base) (m : ℕ) where
               → Same may b m (hinted_step h (at_level level.Operands)) (run (w Folded ∷ follows level.Operands) e toks)
           at_paren is true there = no_step may b m
               (step_is level.Operands (Some token.Open) is
-                  ∙ no_operator may b m (open_of level.Operands place h0 ∷ os) ws h e (after t) (word_of (peek 0 (after t)))
+              ∙ no_operator may b m (open_of level.Operands place h0 ∷ os) ws h e (after t) (word_of (peek 0 (after t)))
               (then_alone (peek 0 (after t)) refl (sym (form_by t key.Then is) ∙ there)))
               (at_next level.Operands Folded Ends (then_ends there) ∙ fails (not_close (ap is_rparen is)))
           at_paren is false there = one_folded may b m (open_of level.Operands place h0 ∷ os) ws h e toks t read Folded refl (folds_at_open there is) is refl
@@ -220,7 +220,7 @@ module _ (may : Bool) (b : Base) (m : ℕ) where
           by (Some token.Open) is = at_paren is (is_form key.Then t) refl
           by (Some token.Close) is = by_both may b m refl (at_next level.Operands Folded Ends (folded_ends (ap is_lparen is)))
               (at_close level.Operands (state os (before_last ws) (with_last (last_of ws) (with_hint h0 e)) (after t))
-                  (follows level.Operands) is refl (λ r l. fails r)
+              (follows level.Operands) is refl (λ r l. fails r)
               (λ same at. closes toks (writes (waits h0 ws) ∷ todo may b (suc m) os (before_last ws)) e (ap is_rparen at)
               ∙ ap (λ f. run (todo may b (suc m) os (before_last ws)) f (after toks)) (hinted_operator_is h0 (last_of ws) e)
               ∙ ap (λ t. run (todo may b (suc m) os (before_last ws)) (with_last (last_of ws) (with_hint h0 e)) (after t)) same))
@@ -235,12 +235,12 @@ module _ (may : Bool) (b : Base) (m : ℕ) where
           → Same may b m (machine.then_arm h (state (open_of level.Condition place h0 ∷ os) ws e (after t))) (run (follows level.Condition) e toks)
       then_arm_at is there (Bare none same) = one_step may b m zero
           (state (open_of level.Arm (after (after t)).before None ∷ open_of level.Then place None ∷ os)
-              (before_last ws) (with_last (last_of ws) (with_hint h0 e)) (after (after t)))
+          (before_last ws) (with_last (last_of ws) (with_hint h0 e)) (after (after t)))
           (ap (λ h. machine.then_arm h (state (open_of level.Condition place h0 ∷ os) ws e (after t))) none)
           (ap (λ t. run (follows level.Condition) e t) same ∙ form_at t (writes (waits h0 ws) ∷ arms_of_if) e key.Then there
           ∙ ap (λ f. run arms_of_if f (after (after t))) (hinted_operator_is h0 (last_of ws) e)
           ∙ in_turn (w Anywhere) (terminal rparen) (else_arm w ∷ ends ∷ todo may b (suc m) os (before_last ws))
-              (with_last (last_of ws) (with_hint h0 e)) (after (after t)))
+          (with_last (last_of ws) (with_hint h0 e)) (after (after t)))
       then_arm_at is there (Hinted x some at) =
           no_step may b m (ap (λ h. machine.then_arm h (state (open_of level.Condition place h0 ∷ os) ws e (after t))) some)
           (no_form toks (writes (waits h0 ws) ∷ arms_of_if) e key.Then (form_not toks key.Then (ap is_lparen at)))
@@ -253,11 +253,15 @@ module _ (may : Bool) (b : Base) (m : ℕ) where
 
           then_or : (x : Bool) → peek 0 t ≡ Some token.Open → is_form key.Then t ≡ x
               → opened h (state (open_of level.Condition place h0 ∷ os) ws e (after t))
-              ≡ elim x as (λ x. Option State) [ true ↦ machine.then_arm h (state (open_of level.Condition place h0 ∷ os) ws e (after t))
-                  | false ↦ folded_operator h (state (open_of level.Condition place h0 ∷ os) ws e (after t)) ]
+              ≡ elim x as (λ x. Option State) [
+                | true ↦ machine.then_arm h (state (open_of level.Condition place h0 ∷ os) ws e (after t))
+                | false ↦ folded_operator h (state (open_of level.Condition place h0 ∷ os) ws e (after t))
+              ]
           then_or x is there =
-              ap (λ b. elim b as (λ b. Option State) [ true ↦ machine.then_arm h (state (open_of level.Condition place h0 ∷ os) ws e (after t))
-                  | false ↦ folded_operator h (state (open_of level.Condition place h0 ∷ os) ws e (after t)) ])
+              ap (λ b. elim b as (λ b. Option State) [
+                | true ↦ machine.then_arm h (state (open_of level.Condition place h0 ∷ os) ws e (after t))
+                | false ↦ folded_operator h (state (open_of level.Condition place h0 ∷ os) ws e (after t))
+              ])
               (sym (form_by t key.Then is) ∙ there)
 
           at_paren : peek 0 t ≡ Some token.Open → (x : Bool) → is_form key.Then t ≡ x

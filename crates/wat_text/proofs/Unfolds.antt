@@ -58,7 +58,7 @@ module _ (may : Bool) (b : Base) (m : ℕ) (ls : List Open) (ws : List Instructi
     one_folded p at is paren goes = by_both may b m (step_is (Some token.Open) paren ∙ goes)
         (next p Folds is ∙ in_turn (foldedinstr (sequences may m) (hint_items h)) (sequences may m p) follows e t
         ∙ ap (λ o. (o >>= inner) >>= λ x. run (sequences may m p ∷ follows) (add e x.0) x.1)
-            (ap (λ o. elim (is_lparen o) [ true ↦ Some (after t) | false ↦ None ]) paren)
+        (ap (λ o. elim (is_lparen o) [ true ↦ Some (after t) | false ↦ None ]) paren)
         ∙ sym (ap (λ q. run (inner ∷ placed may m q follows) e (after t)) at))
         (folds may b m ls ws h e (after t))
 
@@ -82,7 +82,7 @@ module _ (may : Bool) (b : Base) (m : ℕ) (ls : List Open) (ws : List Instructi
           (next Anywhere Stands (ap next_of_token is ∙ stand)
           ∙ (stands may b m ls ws Anywhere at h e toks t None (ap (λ o. instruction_of o (after t)) is ∙ no_instr (after t))).is
           ∙ ap (λ o. o >>= Rattle.wat_text.proofs.Levels.mixed may b
-              (stands may b m ls ws Anywhere at h e toks t None (ap (λ o. instruction_of o (after t)) is ∙ no_instr (after t))).k m)
+          (stands may b m ls ws Anywhere at h e toks t None (ap (λ o. instruction_of o (after t)) is ∙ no_instr (after t))).k m)
           (read_instr_none (ap (λ o. instruction_of o (after t)) is ∙ no_instr (after t))))
         where
           read_instr_none : instruction t ≡ None → (append_hint h s >>= read_instr) ≡ None

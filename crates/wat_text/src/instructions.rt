@@ -1,14 +1,11 @@
 //! Reads one instruction: its keyword and its immediates (text format: instructions).
 
-ghost use Rattle.std.specs.Prelude.{◌≡◌, true, Some, map};
-ghost use Rattle.wat_grammar.specs.Parts.{◌>>=◌};
+ghost use Rattle.std.specs.Prelude.{◌≡◌, true, Some, [], map};
 ghost use Rattle.wat_syntax.specs.Tokens.{one, peek, word_of};
-ghost use Rattle.wat_syntax.specs.Values.{index as index_rule};
-ghost use Rattle.wat_syntax.specs.Operators.{index_instr};
-ghost use Rattle.wat_syntax.specs.Instructions.{memarg, own_instr};
+ghost use Rattle.wat_syntax.specs.Values.{text_of};
 ghost use Rattle.wat_syntax.specs.Instructions.{instruction as instruction_rule, blocktype, is_catch_word, is_catch, catch_clause};
 ghost use Rattle.wat_syntax.specs.Instructions.{catch as catch_rule, catches as catches_rule, try_table_of, opener, is_plaininstr, plaininstr};
-ghost use Rattle.wat_tokens.specs.Words.{alignment_bytes};
+ghost use Rattle.wat_tokens.specs.declared.words.Word.TheVariants as a_word;
 ghost use Rattle.wat_tokens.specs.declared.words.OwnOp.TheVariants as own;
 ghost use Rattle.wat_tokens.specs.declared.tokens.Token.TheVariants as token;
 ghost use Rattle.wat_text.specs.Readers.{left, Reads, Decides, ReadsOnto, Pushes, Builds};
@@ -204,7 +201,7 @@ impl<'a> Reader<'a> {
     /// Reads the memory argument of a load or a store, and returns the instruction.
     #[inline(never)]
     fn access(&mut self, op: MemOp, align: Alignment) -> Instruction<'a>
-        ensures { Decides (λ toks. memarg (alignment_bytes align) toks >>= λ m. Some (instr.Mem op m.0, m.1)) self.old self.new (bare_instr result) }
+        ensures { Decides (plaininstr (a_word.Mem op align) (text_of [])) self.old self.new (bare_instr result) }
     {
         Instruction::Mem(op, self.mem_arg(align.bytes()))
     }
@@ -212,7 +209,7 @@ impl<'a> Reader<'a> {
     /// Reads the index of an instruction such as `local.get`, and returns the instruction.
     #[inline(never)]
     fn indexed(&mut self, op: IndexOp) -> Instruction<'a>
-        ensures { Decides (λ toks. index_rule toks >>= λ x. Some (index_instr op x.0, x.1)) self.old self.new (bare_instr result) }
+        ensures { Decides (plaininstr (a_word.Index op) (text_of [])) self.old self.new (bare_instr result) }
     {
         with_index(op, self.index())
     }
@@ -220,7 +217,7 @@ impl<'a> Reader<'a> {
     /// Reads the number of `i32.const`, and returns the instruction.
     #[inline(never)]
     fn i32_const(&mut self) -> Instruction<'a>
-        ensures { Decides (own_instr own.i32_const) self.old self.new (bare_instr result) }
+        ensures { Decides (plaininstr (a_word.Own own.i32_const) (text_of [])) self.old self.new (bare_instr result) }
     {
         Instruction::i32_const(self.integer32())
     }
@@ -228,7 +225,7 @@ impl<'a> Reader<'a> {
     /// Reads the label of an `end`, if it has one, and returns the instruction.
     #[inline(never)]
     fn end_word(&mut self) -> Instruction<'a>
-        ensures { Decides (own_instr own.end_) self.old self.new (bare_instr result) }
+        ensures { Decides (plaininstr (a_word.Own own.end_) (text_of [])) self.old self.new (bare_instr result) }
     {
         Instruction::end_(self.id())
     }

@@ -235,6 +235,7 @@ impl<'a> Reader<'a> {
     }
 
     /// Frees this group and goes on to the next one, if its first token is read.
+    #[tactic(auto, unfolding(crate::specs::Readers::left))]
     fn next_group(&mut self)
         ensures left { left self.new ≡ left self.old }
         ensures fault { self.new.fault ≡ self.old.fault }

@@ -185,14 +185,14 @@ pub ends_at : (f : ℕ → Option ℕ) (radix i : ℕ) (text : List ℕ) (value 
     → Reads f radix value a (take i text) → r ≡ sized (backwards f radix (reverse text))
 ends_at f radix i text value r a h was is m =
     let read : Read f radix true m.n (reverse text) = subst (λ b. Read f radix b m.n (reverse text)) was
-        (subst (λ t. Read f radix a m.n (reverse t)) (take_all i text h) m.read) in
+    (subst (λ t. Read f radix a m.n (reverse t)) (take_all i text h) m.read) in
     is ∙ ap (λ v. ok_or v fault.Range) m.value_is ∙ kept m.n (backwards f radix (reverse text)) (ended f radix read)
 
 pub stops_at : (f : ℕ → Option ℕ) (radix i : ℕ) (text : List ℕ) (value : Option ℕ) (a : Bool) → f 0x5f ≡ None → length text ≤ i → a ≡ false
     → Reads f radix value a (take i text) → Err fault.Number ≡ sized (backwards f radix (reverse text))
 stops_at f radix i text value a under h was m =
     let read : Read f radix false m.n (reverse text) = subst (λ b. Read f radix b m.n (reverse text)) was
-        (subst (λ t. Read f radix a m.n (reverse t)) (take_all i text h) m.read) in
+    (subst (λ t. Read f radix a m.n (reverse t)) (take_all i text h) m.read) in
     rw (unfinished f radix under read) refl
 
 pub is_some_digit : (o : Option ℕ) (r : Result ℕ TextFault) (d : ℕ) → r ≡ ok_or o fault.Number → r ≡ Ok d → o ≡ Some d

@@ -40,8 +40,10 @@ forward f radix under (c ∷ cs) a n back read =
     go : ((b : Bool) (m : ℕ) (back : List ℕ) → Read f radix b m back
         → backwards f radix (reverse cs ++ back) ≡ when (is_digits_after f b cs) (value_after f radix m cs))
         → (x : Bool) → c == 0x5f ≡ x → (o : Option ℕ) → f c ≡ o → (a : Bool) → Read f radix a n back → backwards f radix (reverse cs ++ (c ∷ back))
-        ≡ when (elim (x && a) as (λ b. Bool) [ true ↦ is_digits_after f false cs
-            | false ↦ elim (is_some o) as (λ b. Bool) [ true ↦ is_digits_after f true cs | false ↦ false ] ])
+        ≡ when (elim (x && a) as (λ b. Bool) [
+          | true ↦ is_digits_after f false cs
+          | false ↦ elim (is_some o) as (λ b. Bool) [ true ↦ is_digits_after f true cs | false ↦ false ]
+        ])
         (elim o as (λ o. ℕ) [ Some d ↦ value_after f radix (radix * n + d) cs | None ↦ value_after f radix n cs ])
     go more true e (Some d) g a m = absurd (cc (e, no_underscore f c d under g))
     go more true e None g true m = subst (λ y. backwards f radix (reverse cs ++ (y ∷ back))
@@ -93,8 +95,10 @@ joined radix d true v k w e = λ i. Some (sym e i, more i)
 -- the first character, by the digit that it is
 pub first : (f : ℕ → Option ℕ) (c : ℕ) (cs : List ℕ) → is_digits_after f false (c ∷ cs) ≡ (is_some (f c) && is_digits_after f true cs)
 unfolding is_digits_after
-first f c cs = ap (λ b. elim b as (λ b. Bool) [ true ↦ is_digits_after f false cs
-    | false ↦ elim (is_some (f c)) as (λ b. Bool) [ true ↦ is_digits_after f true cs | false ↦ false ] ]) (never (c == 0x5f))
+first f c cs = ap (λ b. elim b as (λ b. Bool) [
+  | true ↦ is_digits_after f false cs
+  | false ↦ elim (is_some (f c)) as (λ b. Bool) [ true ↦ is_digits_after f true cs | false ↦ false ]
+]) (never (c == 0x5f))
     ∙ go (is_some (f c))
   where
     go : (b : Bool) → elim b as (λ b. Bool) [ true ↦ is_digits_after f true cs | false ↦ false ] ≡ (b && is_digits_after f true cs)
@@ -107,10 +111,17 @@ second : (f : ℕ → Option ℕ) (b : ℕ) (cs : List ℕ) → is_digits_after 
 unfolding is_digits_after
 second f b cs = go (b == 0x5f)
   where
-    go : (x : Bool) → elim (x && true) as (λ b. Bool) [ true ↦ is_digits_after f false cs
-        | false ↦ elim (is_some (f b)) as (λ b. Bool) [ true ↦ is_digits_after f true cs | false ↦ false ] ]
-        ≡ elim x as (λ b. Bool) [ true ↦ is_digits_after f false cs | false ↦ elim (x && false) as (λ b. Bool) [ true ↦ is_digits_after f false cs
-            | false ↦ elim (is_some (f b)) as (λ b. Bool) [ true ↦ is_digits_after f true cs | false ↦ false ] ] ]
+    go : (x : Bool) → elim (x && true) as (λ b. Bool) [
+      | true ↦ is_digits_after f false cs
+      | false ↦ elim (is_some (f b)) as (λ b. Bool) [ true ↦ is_digits_after f true cs | false ↦ false ]
+    ]
+        ≡ elim x as (λ b. Bool) [
+          | true ↦ is_digits_after f false cs
+          | false ↦ elim (x && false) as (λ b. Bool) [
+            | true ↦ is_digits_after f false cs
+            | false ↦ elim (is_some (f b)) as (λ b. Bool) [ true ↦ is_digits_after f true cs | false ↦ false ]
+          ]
+        ]
     go true = refl
     go false = refl
 
@@ -151,15 +162,15 @@ fraction_is f radix under (c ∷ []) = go (f c) refl ∙ ap (λ b. when {T = ℕ
 fraction_is f radix under (c ∷ b ∷ cs) =
     go (fraction_is f radix under cs) (fraction_is f radix under (b ∷ cs)) (f c) refl (b == 0x5f) refl
     ∙ ap (λ x. when {T = ℕ × ℕ} x (value_after f radix 0 (c ∷ b ∷ cs), count f (c ∷ b ∷ cs)))
-        (sym (first f c (b ∷ cs) ∙ ap (λ x. is_some (f c) && x) (second f b cs)))
+    (sym (first f c (b ∷ cs) ∙ ap (λ x. is_some (f c) && x) (second f b cs)))
   where
     go : fraction f radix cs ≡ when {T = ℕ × ℕ} (is_digits_after f false cs) (value_after f radix 0 cs, count f cs)
         → fraction f radix (b ∷ cs) ≡ when {T = ℕ × ℕ} (is_digits_after f false (b ∷ cs)) (value_after f radix 0 (b ∷ cs), count f (b ∷ cs))
         → (o : Option ℕ) → f c ≡ o → (x : Bool) → b == 0x5f ≡ x
         → (o >>= λ d. elim x as (λ x. Option (ℕ × ℕ)) [ true ↦ fraction f radix cs | false ↦ fraction f radix (b ∷ cs) ]
-            >>= λ p. Some (d * radix ^ p.1 + p.0, p.1 + 1))
+        >>= λ p. Some (d * radix ^ p.1 + p.0, p.1 + 1))
         ≡ when {T = ℕ × ℕ} (is_some o && elim x as (λ b. Bool) [ true ↦ is_digits_after f false cs | false ↦ is_digits_after f false (b ∷ cs) ])
-            (value_after f radix 0 (c ∷ b ∷ cs), count f (c ∷ b ∷ cs))
+        (value_after f radix 0 (c ∷ b ∷ cs), count f (c ∷ b ∷ cs))
     go short long None e x g = refl
     go short long (Some d) e true g =
         let none : f b ≡ None = ap f (eqb-true b 0x5f g) ∙ under in
@@ -174,5 +185,5 @@ fraction_is f radix under (c ∷ b ∷ cs) =
         ∙ over f radix d (b ∷ cs) in
         let k : suc (count f (b ∷ cs)) ≡ count f (c ∷ b ∷ cs) = sym (counted f c d (b ∷ cs) e) in
         ap (λ o. o >>= λ p. Some (d * radix ^ p.1 + p.0, p.1 + 1)) long ∙ joined radix d (is_digits_after f false (b ∷ cs))
-            (value_after f radix 0 (b ∷ cs)) (count f (b ∷ cs)) (value_after f radix 0 (c ∷ b ∷ cs)) v
+        (value_after f radix 0 (b ∷ cs)) (count f (b ∷ cs)) (value_after f radix 0 (c ∷ b ∷ cs)) v
         ∙ λ i. when {T = ℕ × ℕ} (is_digits_after f false (b ∷ cs)) (value_after f radix 0 (c ∷ b ∷ cs), k i)

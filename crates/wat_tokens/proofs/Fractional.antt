@@ -52,9 +52,9 @@ mantissa_is f radix none (text, Some []) b is =
 mantissa_is f radix none (text, Some (c ∷ cs)) b is =
     ap (λ o. o >>= λ p. fraction f radix (c ∷ cs) >>= λ q. Some (p * radix ^ q.1 + q.0, q.1)) (number_is f radix none text)
     ∙ ap (λ r. when (is_digits_after f false text) (value_after f radix 0 text) >>= λ p. r >>= λ q. Some (p * radix ^ q.1 + q.0, q.1))
-        (fraction_is f radix none (c ∷ cs))
+    (fraction_is f radix none (c ∷ cs))
     ∙ go (is_digits_after f false text) (is_digits_after f false (c ∷ cs)) ∙ ap (λ b. when {T = ℕ × ℕ}
-        (is_digits_after f false text && b) (value_after f radix (value_after f radix 0 text) (c ∷ cs), count f (c ∷ cs))) (sym is)
+    (is_digits_after f false text && b) (value_after f radix (value_after f radix 0 text) (c ∷ cs), count f (c ∷ cs))) (sym is)
   where
     go : (a b : Bool) → (when a (value_after f radix 0 text)
         >>= λ p. when {T = ℕ × ℕ} b (value_after f radix 0 (c ∷ cs), count f (c ∷ cs)) >>= λ q. Some (p * radix ^ q.1 + q.0, q.1))
@@ -83,7 +83,7 @@ float_is text =
     ap (λ o. o >>= λ m. exponent (cut 0x45 0x65 text).1 >>= λ e. Some (number (m.0 * up 10 e) (10 ^ m.1 * down 10 e)))
     (mantissa_is digit 10 refl (cut 0x2e 0x2e (cut 0x45 0x65 text).0) (is_fraction false p.fraction) (fraction_test false p.fraction))
     ∙ ap (λ o. when {T = ℕ × ℕ} (is_digits false p.whole && is_fraction false p.fraction) (digits_of false p, places_of false p)
-        >>= λ m. o >>= λ e. Some (number (m.0 * up 10 e) (10 ^ m.1 * down 10 e)))
+    >>= λ m. o >>= λ e. Some (number (m.0 * up 10 e) (10 ^ m.1 * down 10 e)))
     (exponent_is (cut 0x45 0x65 text).1)
     ∙ joined (is_digits false p.whole) (is_fraction false p.fraction) (is_exponent p.exponent) (digits_of false p, places_of false p) (exponent_of p)
     (λ m e. number (m.0 * up 10 e) (10 ^ m.1 * down 10 e))
@@ -95,7 +95,7 @@ hexfloat_is text =
     ap (λ o. o >>= λ m. exponent (cut 0x50 0x70 text).1 >>= λ e. Some (number (m.0 * up 2 e) (16 ^ m.1 * down 2 e)))
     (mantissa_is hexdigit 16 refl (cut 0x2e 0x2e (cut 0x50 0x70 text).0) (is_fraction true p.fraction) (fraction_test true p.fraction))
     ∙ ap (λ o. when {T = ℕ × ℕ} (is_digits true p.whole && is_fraction true p.fraction) (digits_of true p, places_of true p)
-        >>= λ m. o >>= λ e. Some (number (m.0 * up 2 e) (16 ^ m.1 * down 2 e)))
+    >>= λ m. o >>= λ e. Some (number (m.0 * up 2 e) (16 ^ m.1 * down 2 e)))
     (exponent_is (cut 0x50 0x70 text).1)
     ∙ joined (is_digits true p.whole) (is_fraction true p.fraction) (is_exponent p.exponent) (digits_of true p, places_of true p) (exponent_of p)
     (λ m e. number (m.0 * up 2 e) (16 ^ m.1 * down 2 e))

@@ -40,7 +40,7 @@ finite_pattern f bits h =
     let rest : bits % hid f < hid f = mod-lt bits some in
     subst (λ b. (float_is_finite (of_bits f b) ≡ true) × T (not (is_nan (of_bits f b)))) parts
     (is_finite (of_bits f (bits / hid f * hid f + bits % hid f)) false (field_units f (bits / hid f) (bits % hid f))
-        (2 ^ low f) (of_bits_value f (bits / hid f) (bits % hid f) field rest))
+    (2 ^ low f) (of_bits_value f (bits / hid f) (bits % hid f) field rest))
 
 small_pattern : (f : Format) (bits : ℕ) → bits < ones f * hid f → bits < 2 * top f
 small_pattern f bits h = omega (arith, h)
@@ -49,7 +49,7 @@ pub nearest_ok : (f : Format) (num den bits : ℕ) → IsNearestBits f num den b
 nearest_ok f num den bits near h =
     let g = finite_pattern f bits h in
     number_bits f num den ∙ ap (finite_bits f) (sym near.0) ∙ ap (λ b. if b then Ok (to_bits f (of_bits f bits)) else Err fault.Range) g.0
-        ∙ ap Ok (to_bits-of_bits f bits (small_pattern f bits h) g.1)
+    ∙ ap Ok (to_bits-of_bits f bits (small_pattern f bits h) g.1)
 
 pub nearest_range : (f : Format) (num den bits : ℕ) → IsNearestBits f num den bits → bits ≡ ones f * hid f → bits_in f (Some (number num den)) ≡ Err fault.Range
 unfolding float_is_finite
@@ -231,12 +231,12 @@ module _ (f : Format) (p : Form) (all : Leading) (k e high less : ℕ) (r : IsRe
       let far : 2 ^ (all.dropped * 4) * 2 ^ rise * 2 ^ 4096 ≤ denominator =
       subst (λ y. 2 ^ (all.dropped * 4) * 2 ^ rise * 2 ^ 4096 ≤ y) (sym denominator_is)
       (le_trans (le_of_eq (ap (λ y. y * 2 ^ 4096) (sym (pow-add 2 (all.dropped * 4) rise)) ∙ sym (pow-add 2 (all.dropped * 4 + rise) 4096)))
-          (pow_mono (beneath h))) in
+      (pow_mono (beneath h))) in
       let less : all.mantissa + 1 ≤ 2 ^ 63 = omega (arith, r.keeps.fits) in
       let most : digits_of true p ≤ 2 ^ 63 * 2 ^ (all.dropped * 4) = le_trans (le_of_lt below_kept) (mul-le-mul_right (2 ^ (all.dropped * 4)) less) in
       nearest_of_tiny f numerator denominator positive
       (subst (λ y. y * 10 ^ 343 ≤ 2 ^ 64 * denominator) (sym numerator_is)
-          (tiny_at (digits_of true p) (2 ^ (all.dropped * 4)) (2 ^ rise) (2 ^ 4096) (10 ^ 343) denominator most (lit≤ tt) far))
+      (tiny_at (digits_of true p) (2 ^ (all.dropped * 4)) (2 ^ rise) (2 ^ 4096) (10 ^ 343) denominator most (lit≤ tt) far))
 
   huge : 0 < all.mantissa → less + 7168 < high → IsNearestBits f numerator denominator (ones f * hid f)
   huge some h =
@@ -245,7 +245,7 @@ module _ (f : Format) (p : Form) (all : Leading) (k e high less : ℕ) (r : IsRe
       (le_trans (le_of_eq (sym (pow-add 2 (k * 4 + fall) 1999))) (le_trans (pow_mono (beyond h)) (le_of_eq (pow-add 2 (all.dropped * 4) rise)))) in
       nearest_of_huge f numerator denominator positive
       (subst (λ y. 10 ^ 309 * denominator ≤ y) (sym numerator_is) (huge_at all.mantissa (digits_of true p)
-          (2 ^ (all.dropped * 4)) (2 ^ rise) denominator (2 ^ 1999) (10 ^ 309) some from_kept far (lit≤ tt)))
+      (2 ^ (all.dropped * 4)) (2 ^ rise) denominator (2 ^ 1999) (10 ^ 309) some from_kept far (lit≤ tt)))
 
   scaled : less ≤ high → high ≤ less + 7168 → IsScaled f numerator denominator all.mantissa all.is_more (high - less)
   scaled l h =
@@ -314,7 +314,7 @@ module _ (f : Format) (text : List ℕ) (p : Form) (is : p ≡ form 0x50 0x70 te
     pub ok_bits : bits < ones f * hid f → Ok bits ≡ bits_in f (hexfloat text)
     ok_bits small = let same : min bits (ones f * hid f) ≡ bits = omega (arith, small) in
         sym (hexadecimal_is f text p is so
-            ∙ nearest_ok f (num_of p) (den_of p) bits (subst (λ b. IsNearestBits f (num_of p) (den_of p) b) same near_bits) small)
+        ∙ nearest_ok f (num_of p) (den_of p) bits (subst (λ b. IsNearestBits f (num_of p) (den_of p) b) same near_bits) small)
 
     pub range_bits : ones f * hid f ≤ bits → Err fault.Range ≡ bits_in f (hexfloat text)
     range_bits large = let same : min bits (ones f * hid f) ≡ ones f * hid f = omega (arith, large) in

@@ -67,7 +67,7 @@ word_from T utf8 (suc n) b start over = step (cases_lt b (length T)) (is_idchar 
     step (inl below) true e inner =
         let more : length (front is_idchar (drop b T)) ≡ suc (length (front is_idchar (drop (b + 1) T))) = front_more is_idchar b T below e in
         subst (λ k. IsCharBoundary T k) {x = b + 1 + length (front is_idchar (drop (b + 1) T))} {y = b + length (front is_idchar (drop b T))}
-            (omega (arith, more))
+        (omega (arith, more))
         (inner (IsCharBoundary-after_ascii T b utf8 below (is_ascii (get_or T b 0) e)) (omega (arith, over)))
     step (inl below) false e inner =
         let none : length (front is_idchar (drop b T)) ≡ 0 = front_stop is_idchar b T below e in

@@ -65,8 +65,10 @@ plain [] a n is = record { digits = tt; value = refl; many = refl }
 plain (c ∷ cs) a n is = go (λ b m is. plain cs b m is) (c == 0x5f) refl (digit c) refl a is
   where
     go : ((b : Bool) (m : ℕ) → is_digits_after digit b cs ≡ true → Plain m cs) → (x : Bool) → c == 0x5f ≡ x → (o : Option ℕ) → digit c ≡ o → (a : Bool)
-        → elim (x && a) as (λ b. Bool) [ true ↦ is_digits_after digit false cs
-            | false ↦ elim (is_some o) as (λ b. Bool) [ true ↦ is_digits_after digit true cs | false ↦ false ] ] ≡ true
+        → elim (x && a) as (λ b. Bool) [
+          | true ↦ is_digits_after digit false cs
+          | false ↦ elim (is_some o) as (λ b. Bool) [ true ↦ is_digits_after digit true cs | false ↦ false ]
+        ] ≡ true
         → Plain n (c ∷ cs)
     go more true e (Some d) g a is = absurd (cc (e, (digit_is c d g).2))
     go more true e None g true is = over_underscore c n cs e (more false n is)
@@ -94,8 +96,14 @@ exponent_digits None = []
 exponent_digits (Some text) = bare text
 
 abbrev parts_of : Form → Parts
-parts_of p = record { whole = bare p.whole; point = is_point p.fraction; fraction = bare p.fraction;
-    exponent_negative = p.is_negative; exponent = exponent_digits p.exponent; len = length (plain_text p) }
+parts_of p = record {
+  whole = bare p.whole;
+  point = is_point p.fraction;
+  fraction = bare p.fraction;
+  exponent_negative = p.is_negative;
+  exponent = exponent_digits p.exponent;
+  len = length (plain_text p);
+}
 
 value_over : (n : ℕ) (xs ys : List ℕ) → digits_value_after 10 n (xs ++ ys) ≡ digits_value_after 10 (digits_value_after 10 n xs) ys
 value_over n [] ys = refl
@@ -176,4 +184,4 @@ parsed f p h =
     ap (parse_float f) (sym (text_is p h)) ∙ parse_float-text_of f false (parts_of p) (well_formed p h) some
     ∙ λ i. Some (round f false (numerator_is p h i * up_is p.is_negative (digits_value 10 (exponent_digits p.exponent)) (power_of p.exponent) e.1 i)
     (down_is p.is_negative (length (bare p.fraction)) (places_of false p) (digits_value 10 (exponent_digits p.exponent))
-        (power_of p.exponent) (fraction_plain 0 p.fraction h.fraction).many e.1 i))
+    (power_of p.exponent) (fraction_plain 0 p.fraction h.fraction).many e.1 i))

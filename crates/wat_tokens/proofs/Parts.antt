@@ -44,7 +44,7 @@ pub written_string : {S : Type 0} (strings : Option S) (T rest : List ℕ) (begi
     → IsRead (a_string (contents_of strings) (drop begin T)) T begin (take n rest) end
 written_string None T rest begin n end none left start there long inside =
     read_string as_written T begin n end (take n rest) start there (subst (λ r. string_length false r ≡ Some n) left long)
-        (subst (λ r. n < length r) left inside) (ap (λ r. Some (take n r)) (sym left))
+    (subst (λ r. n < length r) left inside) (ap (λ r. Some (take n r)) (sym left))
 written_string (Some s) T rest begin n end none left start there long inside = absurd cc
 
 pub kept_string : {S : Type 0} (strings : Option S) (s : S) (T rest : List ℕ) (begin n end : ℕ) (bytes : List ℕ)
@@ -54,7 +54,7 @@ pub kept_string : {S : Type 0} (strings : Option S) (s : S) (T rest : List ℕ) 
 kept_string None s T rest begin n end bytes none left start there long inside is = absurd cc
 kept_string (Some x) s T rest begin n end bytes none left start there long inside is =
     read_string bytes_of T begin n end bytes start there (subst (λ r. string_length false r ≡ Some n) left long)
-        (subst (λ r. n < length r) left inside) (bytes_are (take n (drop begin T)) bytes (subst (λ r. string (take n r) ≡ Ok bytes) left is))
+    (subst (λ r. n < length r) left inside) (bytes_are (take n (drop begin T)) bytes (subst (λ r. string (take n r) ≡ Ok bytes) left is))
 
 -- a name is a string in UTF-8
 pub read_name : (contents : Contents) (T : List ℕ) (begin end : ℕ) (bytes : List ℕ) → IsUtf8 bytes

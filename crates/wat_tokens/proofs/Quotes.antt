@@ -94,7 +94,7 @@ escape_past t rest later some is inside short past =
     let n = suc (length m - length later) in
     ap (λ x. after_these (t - length rest) (string_length false x)) (parted rest some ∙ ap (λ b. b ∷ m) is)
     ∙ ap (after_these (t - length rest)) (goes_on 0x5c m refl ∙ one_more (string_length true m)
-        ∙ ap (after_these 1) past ∙ twice 1 (length m - length later) n (string_length false later) (omega arith))
+    ∙ ap (after_these 1) past ∙ twice 1 (length m - length later) n (string_length false later) (omega arith))
     ∙ twice (t - length rest) n (t - length later) (string_length false later) (omega (arith, a, inside, short))
 
 pub plain_past : (t k : ℕ) (rest : List ℕ) → 1 ≤ length rest → get_or rest 0 0 ≢ 0x22

@@ -19,8 +19,12 @@ halved_away n k more small far =
     let unit : 2 ^ 64 ≤ 2 ^ k = pow_mono far in
     let none : n / 2 ^ k ≡ 0 = div-eq_of_lt (omega (arith, unit)) in
     let all : n % 2 ^ k ≡ n = mod-eq_of_lt (omega (arith, unit)) in
-    record { below = λ l. sym none; above = λ l. absurd (omega (arith, all, unit));
-        more = λ e b. absurd (omega (arith, all, unit)); tie = λ e b. absurd (omega (arith, all, unit)) }
+    record {
+      below = λ l. sym none;
+      above = λ l. absurd (omega (arith, all, unit));
+      more = λ e b. absurd (omega (arith, all, unit));
+      tie = λ e b. absurd (omega (arith, all, unit));
+    }
 
 -- the width of a mantissa, and how many steps its last bit is above the least
 pub record IsPlaced (f : Format) (m x w steps : ℕ) : Type 0 where
@@ -74,8 +78,10 @@ right_fits f m x w steps t s more p U is X W H =
 
 module _ (f : Format) (num den m x w steps : ℕ) (more : Bool) (p : IsPlaced f m x w steps) (h : IsScaled f num den m more x) where
   wide : more ≡ true → 60 ≤ w
-  wide is = elim (eq-zero-or-pos (60 - w)) [ inl z ↦ omega arith
-      | inr s ↦ (let l : w ≤ 59 = omega arith in absurd (not-le_of_lt (lt_of_lt_of_le p.below (pow_mono l)) (h.long is))) ]
+  wide is = elim (eq-zero-or-pos (60 - w)) [
+    | inl z ↦ omega arith
+    | inr s ↦ (let l : w ≤ 59 = omega arith in absurd (not-le_of_lt (lt_of_lt_of_le p.below (pow_mono l)) (h.long is)))
+  ]
 
   -- where a bit of the mantissa is not dropped, it has all of the number
   whole : steps + 4096 ≤ x → num * 2 ^ low f * 2 ^ 4096 ≡ m * (den * 2 ^ x)
@@ -114,7 +120,7 @@ module _ (f : Format) (num den m x w steps : ℕ) (more : Bool) (p : IsPlaced f 
           fits = subst (λ y. y < 2 ^ prec f) (sym S) (fits_left f m x w steps p u U);
           normal = λ some. subst (λ y. hid f ≤ y) (sym S)
               (le_trans (le_trans (pow_mono (omega (arith, p.steps_is, p.some, g.digits.0))) (le_of_eq (pow-add 2 (w - 1) u)))
-                  (mul-le-mul_right (2 ^ u) p.from));
+              (mul-le-mul_right (2 ^ u) p.from));
         }
 
     pub rounded_left : IsNearestBits f num den (min (steps * hid f + s) (ones f * hid f))
@@ -221,10 +227,10 @@ module _ (f : Format) (num den m x w steps : ℕ) (more : Bool) (p : IsPlaced f 
     unfolding kept rest
     rounded_right = elim (cases_lt (2 * rest) (2 ^ t)) [
       | inl l ↦ nearest_by (S.below l) (nearest_below f num den kept steps h.positive
-              (record { significand = significand_right; from = from_right; below = below_right }) (lower l))
+          (record { significand = significand_right; from = from_right; below = below_right }) (lower l))
       | inr g ↦ elim (eq-or-lt_of_le g) [
         | inr l ↦ nearest_by (S.above l) (nearest_above f num den kept steps h.positive
-                (record { significand = significand_right; from = from_right; below = below_right }) (upper l))
+            (record { significand = significand_right; from = from_right; below = below_right }) (upper l))
         | inl e ↦ go more refl (sym e)
       ]
     ]

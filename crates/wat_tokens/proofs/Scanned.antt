@@ -25,13 +25,13 @@ begins : (c d x : ℕ) (front xs : List ℕ) → (x == c || x == d) ≡ true →
 unfolding cut
 begins c d x front xs is =
     ap (λ b. let t = elim b as (λ b. List ℕ × Option (List ℕ)) [ true ↦ ([], Some xs) | false ↦ (x ∷ (cut c d xs).0, (cut c d xs).1) ] in
-        (front ++ t.0, t.1)) is ∙ λ i. (no_more front i, Some xs)
+    (front ++ t.0, t.1)) is ∙ λ i. (no_more front i, Some xs)
 
 passes : (c d x : ℕ) (front xs : List ℕ) → (x == c || x == d) ≡ false → cut_from c d front (x ∷ xs) ≡ cut_from c d (front ++ x ∷ []) xs
 unfolding cut
 passes c d x front xs is =
     ap (λ b. let t = elim b as (λ b. List ℕ × Option (List ℕ)) [ true ↦ ([], Some xs) | false ↦ (x ∷ (cut c d xs).0, (cut c d xs).1) ] in
-        (front ++ t.0, t.1)) is
+    (front ++ t.0, t.1)) is
     ∙ λ i. (sym (assoc front (x ∷ []) (cut c d xs).0) i, (cut c d xs).1)
 
 nothing : (c d : ℕ) (front : List ℕ) → cut_from c d front [] ≡ (front, None)
@@ -97,7 +97,7 @@ unfolding bare
 bare_append [] ys = refl
 bare_append (x ∷ xs) ys = let rest = bare_append xs ys in
     elim (x == 0x5f) as (λ b. elim b as (λ b. List ℕ) [ true ↦ bare (xs ++ ys) | false ↦ x ∷ bare (xs ++ ys) ]
-        ≡ elim b as (λ b. List ℕ) [ true ↦ bare xs | false ↦ x ∷ bare xs ] ++ bare ys)
+    ≡ elim b as (λ b. List ℕ) [ true ↦ bare xs | false ↦ x ∷ bare xs ] ++ bare ys)
     [ true ↦ rest | false ↦ ap (λ t. x ∷ t) rest ]
 
 bare_one : (x : ℕ) → x == 0x5f ≡ false → bare (x ∷ []) ≡ x ∷ []
@@ -117,13 +117,13 @@ pub copy_on : (i : ℕ) (text out before next : List ℕ) → i < length text �
     → next ≡ before ++ bare (take (i + 1) text)
 copy_on i text out before next h is so now = now ∙ ap (λ t. t ++ get_or text i 0 ∷ []) so ∙ assoc before (bare (take i text)) (get_or text i 0 ∷ [])
     ∙ ap (λ t. before ++ t) (ap (λ t. bare (take i text) ++ t) (sym (bare_one (get_or text i 0) is))
-        ∙ sym (bare_append (take i text) (get_or text i 0 ∷ [])) ∙ ap bare (sym (take_more text i 0 h)))
+    ∙ sym (bare_append (take i text) (get_or text i 0 ∷ [])) ∙ ap bare (sym (take_more text i 0 h)))
 
 pub pass_on : (i : ℕ) (text out before next : List ℕ) → i < length text → get_or text i 0 ≡ 0x5f → out ≡ before ++ bare (take i text) → next ≡ out
     → next ≡ before ++ bare (take (i + 1) text)
 pass_on i text out before next h is so now = now ∙ so
     ∙ ap (λ t. before ++ t) (sym (no_more (bare (take i text))) ∙ ap (λ t. bare (take i text) ++ t) (sym (bare_none (get_or text i 0) is))
-        ∙ sym (bare_append (take i text) (get_or text i 0 ∷ [])) ∙ ap bare (sym (take_more text i 0 h)))
+    ∙ sym (bare_append (take i text) (get_or text i 0 ∷ [])) ∙ ap bare (sym (take_more text i 0 h)))
 
 -- ---- lengths
 

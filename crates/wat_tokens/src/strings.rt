@@ -100,8 +100,7 @@ fn not_raw_bits(bytes: u8x16) -> u64
     (bytes.simd_lt(u8x16::splat(0x20))
         | bytes.simd_eq(u8x16::splat(0x7f))
         | bytes.simd_eq(u8x16::splat(b'"'))
-        | bytes.simd_eq(u8x16::splat(b'\\')))
-    .to_bitmask()
+        | bytes.simd_eq(u8x16::splat(b'\\'))).to_bitmask()
 }
 
 /// Returns how many bytes at the start of a text are themselves in a string. It looks at the first 16 bytes, and returns 0 if there are

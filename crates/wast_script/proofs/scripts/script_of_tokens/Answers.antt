@@ -13,11 +13,11 @@ returns-in-Ok-clause-commands c =
     let new = c.new-reader.ensures in
     let made = c.in-Ok.ensures in
     script_made c.args.text.now c.args.tokens c.new-reader.result c.script.new.self c.in-Ok.script
-        (record { offset = length c.args.text.now }) new.tokens new.left refl c.script.ensures
+    (record { offset = length c.args.text.now }) new.tokens new.left refl c.script.ensures
     (search rules) made.commands made.values made.lanes made.tokens
 
 pub returns-in-Some-clause-refuses : goal.returns-in-Some-clause-refuses
 returns-in-Some-clause-refuses c =
     let new = c.new-reader.ensures in
     no_script c.args.text.now c.args.tokens c.new-reader.result c.script.new.self
-        (record { offset = length c.args.text.now }) c.in-Some.fault new.tokens new.left refl c.script.ensures (search rules)
+    (record { offset = length c.args.text.now }) c.in-Some.fault new.tokens new.left refl c.script.ensures (search rules)

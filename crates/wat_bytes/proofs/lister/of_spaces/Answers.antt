@@ -8,7 +8,7 @@ use Rattle.wat_bytes.proofs.lister.of_spaces.Goals as goal
 pub loop-at-preserved : goal.loop-at-preserved
 loop-at-preserved c =
     listed_more (items c.args.fields.now) c.args.spaces.now c.loop-at.at _ (map content_of c.loop-at.lister.listed.items) _
-        c.loop-at-test.true c.loop-at.invariant c.in_ok-list_space.ensures
+    c.loop-at-test.true c.loop-at.invariant c.in_ok-list_space.ensures
 
 pub returns : goal.returns
 returns c = search (rules, take_all)

@@ -8,9 +8,9 @@ use Rattle.wat_bytes.proofs.names.list_names.Goals as goal
 pub returns-in-Ok-clause-answer : goal.returns-in-Ok-clause-answer
 returns-in-Ok-clause-answer c =
     of_parsed c.bare_laws.ensures ListsText (listed_bare c.bare_laws.ensures) c.args.text.now c.in-Ok.«module» c.names_in.result
-        (subst (IsRead c.args.text.now) c.in-Ok.is c.read_text.ensures.read) c.names_in.ensures
+    (subst (IsRead c.args.text.now) c.in-Ok.is c.read_text.ensures.read) c.names_in.ensures
 
 pub returns-in-Err-clause-answer : goal.returns-in-Err-clause-answer
 returns-in-Err-clause-answer c =
     of_error c.bare_laws.ensures ListsText (listed_bare c.bare_laws.ensures) c.args.text.now c.in-Err.error
-        (subst (IsRead c.args.text.now) c.in-Err.is c.read_text.ensures.read)
+    (subst (IsRead c.args.text.now) c.in-Err.is c.read_text.ensures.read)

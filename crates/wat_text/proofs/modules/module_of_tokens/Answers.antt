@@ -7,4 +7,4 @@ pub returns-clause-refuses : goal.returns-clause-refuses
 returns-clause-refuses c = means_err c.args.source.now
     (all_bare c.args.tokens.items c.args.end) c.new-reader.result c.new-reader.ensures.clean c.new-reader.ensures.left c.module_after.result
     (after_opening (λ o. module_after c.args.source.now o.0 o.1) c.new-reader.result c.module_head-head.new.self
-        (bare_opening c.module_head-head.result) c.module_after.result c.module_head-head.ensures c.module_after.ensures)
+    (bare_opening c.module_head-head.result) c.module_after.result c.module_head-head.ensures c.module_after.ensures)

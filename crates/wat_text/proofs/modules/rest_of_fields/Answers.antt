@@ -13,7 +13,7 @@ returns c =
     let all = rest_of_fields c.args.is_written (left c.args.reader) in
     let fields = c.fields-fields.result in
     let read = reads_all modulefields (module_end c.args.is_written) c.args.reader c.fields-fields.new.self c.module_end.new.self
-        (bare_fields fields) c.fields-fields.ensures c.module_end.ensures in
+    (bare_fields fields) c.fields-fields.ensures c.module_end.ensures in
     fields_finish c.args.is_written (left c.args.reader) c.args.reader c.one_start.new.self c.one_start.new.fields c.finish.result c.unless.result
     (subst (λ fs. ReadsAll all c.args.reader c.one_start.new.self (bare_fields fs)) (sym c.one_start.ensures.stays)
     (all_checked to_end c.args.reader c.module_end.new.self c.one_start.new.self (bare_fields fields) read c.one_start.ensures.checks))

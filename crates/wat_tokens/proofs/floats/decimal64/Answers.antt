@@ -12,8 +12,10 @@ returns-in-Err c = record { value = λ other. let h = c.in-Err.ensures.err (λ e
 
 pub returns-in-Err-parse : goal.returns-in-Err-parse
 returns-in-Err-parse c =
-    let h = c.in-Ok.ensures.ok in record { value = λ other. absurd
-        (decimal_reads binary64 c.args.text.now c.as_slice.result.now h.0 (c.as_slice.ensures.value ∙ h.1) c.in-Err-parse.ensures.exact) }
+    let h = c.in-Ok.ensures.ok in record {
+      value = λ other. absurd
+          (decimal_reads binary64 c.args.text.now c.as_slice.result.now h.0 (c.as_slice.ensures.value ∙ h.1) c.in-Err-parse.ensures.exact);
+    }
 
 pub returns-in-true : goal.returns-in-true
 returns-in-true c =

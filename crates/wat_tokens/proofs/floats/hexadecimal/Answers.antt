@@ -18,15 +18,15 @@ pub returns-then-pieces-ge576460752303423488 : goal.returns-then-pieces-ge576460
 returns-then-pieces-ge576460752303423488 c = λ other.
     let short = short_form 0x50 0x70 c.args.text.now in
     let whole : length c.pieces_of-pieces.result.whole.now ≤ length c.args.text.now = subst
-        (λ p. length p.whole ≤ length c.args.text.now) (sym c.pieces_of-pieces.ensures) short.0 in
+    (λ p. length p.whole ≤ length c.args.text.now) (sym c.pieces_of-pieces.ensures) short.0 in
     let fraction : length c.pieces_of-pieces.result.fraction.now ≤ length c.args.text.now = subst
-        (λ p. length p.fraction ≤ length c.args.text.now) (sym c.pieces_of-pieces.ensures) short.1 in
+    (λ p. length p.fraction ≤ length c.args.text.now) (sym c.pieces_of-pieces.ensures) short.1 in
     absurd (other (
       refl,
       elim c.then-pieces-ge576460752303423488.branch [
         | then-pieces-ge576460752303423488-via-then-pieces-ge576460752303423488 w ↦ omega (arith, w.if-pieces-ge576460752303423488.true, whole)
         | then-pieces-ge576460752303423488-via-else-pieces-ge576460752303423488+then-pieces-ge576460752303423488-2 w ↦ omega
-                (arith, w.if-pieces-ge576460752303423488-2.true, fraction)
+            (arith, w.if-pieces-ge576460752303423488-2.true, fraction)
       ],
     ))
 
@@ -40,11 +40,11 @@ returns-then-all-eq0 c =
     let rise : ℕ = if not p.is_negative then e else 0 in
     let fall : ℕ = if p.is_negative then e else 0 in
     let r = is_read f p whole all e (low f) rise fall (length p.whole) (length p.fraction) (c.read-all.ensures.keeps
-        (value_after hexdigit 16 0 c.pieces_of-pieces.result.whole.now) (c.read-whole.ensures.keeps 0 c.new.ensures.keeps))
-        (omega (arith, c.read-whole.ensures.most, c.new.ensures.count)) c.if-pieces-ge576460752303423488.false c.read-all.ensures.count
-        c.read-all.ensures.most c.if-pieces-ge576460752303423488-2.false c.read-all.ensures.dropped refl refl refl refl in
+    (value_after hexdigit 16 0 c.pieces_of-pieces.result.whole.now) (c.read-whole.ensures.keeps 0 c.new.ensures.keeps))
+    (omega (arith, c.read-whole.ensures.most, c.new.ensures.count)) c.if-pieces-ge576460752303423488.false c.read-all.ensures.count
+    c.read-all.ensures.most c.if-pieces-ge576460752303423488-2.false c.read-all.ensures.dropped refl refl refl refl in
     zero_bits f c.args.text.now p c.pieces_of-pieces.ensures (sym c.is_number.ensures ∙ c.if-not-is_number.false) all
-        (all.count - whole.count) e (all.dropped * 4 + low f + 4096 + rise) ((all.count - whole.count) * 4 + fall) r
+    (all.count - whole.count) e (all.dropped * 4 + low f + 4096 + rise) ((all.count - whole.count) * 4 + fall) r
     c.if-all-eq0.true
 
 pub rounded-bits-requires-clause-most : goal.rounded-bits-requires-clause-most
@@ -61,12 +61,12 @@ returns-then-up-down c =
     let rise = c.power_if.result in
     let fall = c.power_if-2.result in
     let r = is_read f p whole all e c.lowest.result rise fall (length p.whole) (length p.fraction) (c.read-all.ensures.keeps
-        (value_after hexdigit 16 0 c.pieces_of-pieces.result.whole.now) (c.read-whole.ensures.keeps 0 c.new.ensures.keeps))
-        (omega (arith, c.read-whole.ensures.most, c.new.ensures.count)) c.if-pieces-ge576460752303423488.false
-        c.read-all.ensures.count c.read-all.ensures.most c.if-pieces-ge576460752303423488-2.false
-        c.read-all.ensures.dropped c.power_of-power.ensures c.lowest.ensures c.power_if.ensures c.power_if-2.ensures in
+    (value_after hexdigit 16 0 c.pieces_of-pieces.result.whole.now) (c.read-whole.ensures.keeps 0 c.new.ensures.keeps))
+    (omega (arith, c.read-whole.ensures.most, c.new.ensures.count)) c.if-pieces-ge576460752303423488.false
+    c.read-all.ensures.count c.read-all.ensures.most c.if-pieces-ge576460752303423488-2.false
+    c.read-all.ensures.dropped c.power_of-power.ensures c.lowest.ensures c.power_if.ensures c.power_if-2.ensures in
     tiny_bits f c.args.text.now p c.pieces_of-pieces.ensures (sym c.is_number.ensures ∙ c.if-not-is_number.false) all
-        (all.count - whole.count) e (all.dropped * 4 + c.lowest.result + 4096 + rise) ((all.count - whole.count) * 4 + fall) r
+    (all.count - whole.count) e (all.dropped * 4 + c.lowest.result + 4096 + rise) ((all.count - whole.count) * 4 + fall) r
     c.if-up-down.true
 
 pub returns-then-up-down-gt7168 : goal.returns-then-up-down-gt7168
@@ -79,12 +79,12 @@ returns-then-up-down-gt7168 c = λ other.
     let rise = c.power_if.result in
     let fall = c.power_if-2.result in
     let r = is_read f p whole all e c.lowest.result rise fall (length p.whole) (length p.fraction) (c.read-all.ensures.keeps
-        (value_after hexdigit 16 0 c.pieces_of-pieces.result.whole.now) (c.read-whole.ensures.keeps 0 c.new.ensures.keeps))
-        (omega (arith, c.read-whole.ensures.most, c.new.ensures.count)) c.if-pieces-ge576460752303423488.false
-        c.read-all.ensures.count c.read-all.ensures.most c.if-pieces-ge576460752303423488-2.false
-        c.read-all.ensures.dropped c.power_of-power.ensures c.lowest.ensures c.power_if.ensures c.power_if-2.ensures in
+    (value_after hexdigit 16 0 c.pieces_of-pieces.result.whole.now) (c.read-whole.ensures.keeps 0 c.new.ensures.keeps))
+    (omega (arith, c.read-whole.ensures.most, c.new.ensures.count)) c.if-pieces-ge576460752303423488.false
+    c.read-all.ensures.count c.read-all.ensures.most c.if-pieces-ge576460752303423488-2.false
+    c.read-all.ensures.dropped c.power_of-power.ensures c.lowest.ensures c.power_if.ensures c.power_if-2.ensures in
     huge_bits f c.args.text.now p c.pieces_of-pieces.ensures (sym c.is_number.ensures ∙ c.if-not-is_number.false) all
-        (all.count - whole.count) e (all.dropped * 4 + c.lowest.result + 4096 + rise) ((all.count - whole.count) * 4 + fall) r
+    (all.count - whole.count) e (all.dropped * 4 + c.lowest.result + 4096 + rise) ((all.count - whole.count) * 4 + fall) r
     (omega (arith, c.if-all-eq0.false)) (omega (arith, c.if-up-down.false, c.if-up-down-gt7168.true))
 
 pub returns-in-true : goal.returns-in-true
@@ -97,14 +97,14 @@ returns-in-true c =
     let rise = c.power_if.result in
     let fall = c.power_if-2.result in
     let r = is_read f p whole all e c.lowest.result rise fall (length p.whole) (length p.fraction) (c.read-all.ensures.keeps
-        (value_after hexdigit 16 0 c.pieces_of-pieces.result.whole.now) (c.read-whole.ensures.keeps 0 c.new.ensures.keeps))
-        (omega (arith, c.read-whole.ensures.most, c.new.ensures.count)) c.if-pieces-ge576460752303423488.false
-        c.read-all.ensures.count c.read-all.ensures.most c.if-pieces-ge576460752303423488-2.false
-        c.read-all.ensures.dropped c.power_of-power.ensures c.lowest.ensures c.power_if.ensures c.power_if-2.ensures in
+    (value_after hexdigit 16 0 c.pieces_of-pieces.result.whole.now) (c.read-whole.ensures.keeps 0 c.new.ensures.keeps))
+    (omega (arith, c.read-whole.ensures.most, c.new.ensures.count)) c.if-pieces-ge576460752303423488.false
+    c.read-all.ensures.count c.read-all.ensures.most c.if-pieces-ge576460752303423488-2.false
+    c.read-all.ensures.dropped c.power_of-power.ensures c.lowest.ensures c.power_if.ensures c.power_if-2.ensures in
     ok_bits f c.args.text.now p c.pieces_of-pieces.ensures (sym c.is_number.ensures ∙ c.if-not-is_number.false) all
-        (all.count - whole.count) e (all.dropped * 4 + c.lowest.result + 4096 + rise) ((all.count - whole.count) * 4 + fall) r
+    (all.count - whole.count) e (all.dropped * 4 + c.lowest.result + 4096 + rise) ((all.count - whole.count) * 4 + fall) r
     c.if-up-down.false (omega (arith, c.if-up-down-gt7168.false)) c.rounded-bits.result c.rounded-bits.ensures
-        (subst (λ k. c.rounded-bits.result < k) c.infinity.ensures.value c.in-true.is)
+    (subst (λ k. c.rounded-bits.result < k) c.infinity.ensures.value c.in-true.is)
 
 pub returns-in-false : goal.returns-in-false
 returns-in-false c = λ other.
@@ -116,11 +116,11 @@ returns-in-false c = λ other.
     let rise = c.power_if.result in
     let fall = c.power_if-2.result in
     let r = is_read f p whole all e c.lowest.result rise fall (length p.whole) (length p.fraction) (c.read-all.ensures.keeps
-        (value_after hexdigit 16 0 c.pieces_of-pieces.result.whole.now) (c.read-whole.ensures.keeps 0 c.new.ensures.keeps))
-        (omega (arith, c.read-whole.ensures.most, c.new.ensures.count)) c.if-pieces-ge576460752303423488.false
-        c.read-all.ensures.count c.read-all.ensures.most c.if-pieces-ge576460752303423488-2.false
-        c.read-all.ensures.dropped c.power_of-power.ensures c.lowest.ensures c.power_if.ensures c.power_if-2.ensures in
+    (value_after hexdigit 16 0 c.pieces_of-pieces.result.whole.now) (c.read-whole.ensures.keeps 0 c.new.ensures.keeps))
+    (omega (arith, c.read-whole.ensures.most, c.new.ensures.count)) c.if-pieces-ge576460752303423488.false
+    c.read-all.ensures.count c.read-all.ensures.most c.if-pieces-ge576460752303423488-2.false
+    c.read-all.ensures.dropped c.power_of-power.ensures c.lowest.ensures c.power_if.ensures c.power_if-2.ensures in
     range_bits f c.args.text.now p c.pieces_of-pieces.ensures (sym c.is_number.ensures ∙ c.if-not-is_number.false) all
-        (all.count - whole.count) e (all.dropped * 4 + c.lowest.result + 4096 + rise) ((all.count - whole.count) * 4 + fall) r
+    (all.count - whole.count) e (all.dropped * 4 + c.lowest.result + 4096 + rise) ((all.count - whole.count) * 4 + fall) r
     c.if-up-down.false (omega (arith, c.if-up-down-gt7168.false)) c.rounded-bits.result c.rounded-bits.ensures
-        (subst (λ k. k ≤ c.rounded-bits.result) c.infinity.ensures.value c.in-false.is)
+    (subst (λ k. k ≤ c.rounded-bits.result) c.infinity.ensures.value c.in-false.is)

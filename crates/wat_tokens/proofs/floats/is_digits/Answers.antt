@@ -14,7 +14,7 @@ pub returns-then-is_none : goal.returns-then-is_none
 returns-then-is_none c = sym (c.loop-byte.invariant
     ∙ no_digit_on (digit_in c.args.is_hex) c.loop-byte.byte-index c.args.text.now c.loop-byte.after_digit c.loop-byte-test.true
     (sym c.is_between.ensures ∙ c.if-is_between.false)
-        (ap is_some (sym c.digit.ensures.value) ∙ turned _ c.is_none.result true c.is_none.ensures c.if-is_none.true))
+    (ap is_some (sym c.digit.ensures.value) ∙ turned _ c.is_none.result true c.is_none.ensures c.if-is_none.true))
 
 pub loop-byte-preserved : goal.loop-byte-preserved
 loop-byte-preserved c = elim c.if-is_between.branch [
@@ -25,7 +25,7 @@ loop-byte-preserved c = elim c.if-is_between.branch [
   | else-is_between+else-is_none w ↦ c.loop-byte.invariant
       ∙ digit_on (digit_in c.args.is_hex) c.loop-byte.byte-index c.args.text.now c.loop-byte.after_digit c.loop-byte-test.true
       (sym c.is_between.ensures ∙ w.if-is_between.false)
-          (ap is_some (sym w.digit.ensures.value) ∙ turned _ w.is_none.result false w.is_none.ensures w.if-is_none.false)
+      (ap is_some (sym w.digit.ensures.value) ∙ turned _ w.is_none.result false w.is_none.ensures w.if-is_none.false)
       ∙ ap (λ a. is_digits_after (digit_in c.args.is_hex) a (drop (c.loop-byte.byte-index + 1) c.args.text.now)) (sym w.after_digit-is)
 ]
 

@@ -20,7 +20,7 @@ loop-byte-preserved c = elim c.match-digit.branch [
       (sym c.digit.ensures.value ∙ w.in-Some.is) w.with-leading.ensures.keeps w.with-leading.ensures.count w.with-leading.ensures.dropped c.loop-byte.invariant)
   | in_default w ↦ subst (λ l. Reading c.args.start l (c.loop-byte.byte-index + 1) c.args.text.now) (sym w.leading-is)
       (other_read c.args.start c.loop-byte.leading c.loop-byte.byte-index c.args.text.now c.loop-byte-test.true
-          (sym c.digit.ensures.value ∙ w.in_default.is) c.loop-byte.invariant)
+      (sym c.digit.ensures.value ∙ w.in_default.is) c.loop-byte.invariant)
 ]
 
 pub returns-clause-keeps : goal.returns-clause-keeps

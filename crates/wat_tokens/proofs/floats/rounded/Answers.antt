@@ -24,10 +24,10 @@ overflow_add-result c =
     let most : hid f ≤ 2 ^ 52 = subst (λ k. k ≤ 2 ^ 52) c.step.ensures.value c.step.ensures.most in
     let total : steps * hid f + s < 2 ^ 64 = elim c.if-steps-place.branch [
       | then-steps-place v ↦ right_fits f c.args.mantissa x w steps (steps + 4096 - x) s c.args.is_more placed
-              (omega (arith, v.if-steps-place.true)) (subst (IsHalved c.args.mantissa (steps + 4096 - x) c.args.is_more)
-              (sym v.significand-is) v.halved-significand.ensures) c.requires.place c.width_of.ensures.most most
+          (omega (arith, v.if-steps-place.true)) (subst (IsHalved c.args.mantissa (steps + 4096 - x) c.args.is_more)
+          (sym v.significand-is) v.halved-significand.ensures) c.requires.place c.width_of.ensures.most most
       | else-steps-place v ↦ (left_fits f c.args.mantissa x w steps (x - steps - 4096) s placed
-              (omega (arith, v.if-steps-place.false)) v.significand-is c.requires.place c.width_of.ensures.most most).1
+          (omega (arith, v.if-steps-place.false)) v.significand-is c.requires.place c.width_of.ensures.most most).1
     ] in
     omega (arith, total, ap (λ k. steps * k) c.step.ensures.value)
 
@@ -47,10 +47,10 @@ returns c = λ num den h.
     let most : hid f ≤ 2 ^ 52 = subst (λ k. k ≤ 2 ^ 52) c.step.ensures.value c.step.ensures.most in
     subst (λ k. IsNearestBits f num den (min (steps * k + s) (ones f * hid f))) (sym c.step.ensures.value) (elim c.if-steps-place.branch [
       | then-steps-place v ↦ rounded_right f num den c.args.mantissa x w steps c.args.is_more placed h
-              (steps + 4096 - x) s (omega (arith, v.if-steps-place.true))
-              (subst (IsHalved c.args.mantissa (steps + 4096 - x) c.args.is_more) (sym v.significand-is) v.halved-significand.ensures)
+          (steps + 4096 - x) s (omega (arith, v.if-steps-place.true))
+          (subst (IsHalved c.args.mantissa (steps + 4096 - x) c.args.is_more) (sym v.significand-is) v.halved-significand.ensures)
       | else-steps-place v ↦ rounded_left f num den c.args.mantissa x w steps c.args.is_more placed h
-              (x - steps - 4096) s (omega (arith, v.if-steps-place.false))
+          (x - steps - 4096) s (omega (arith, v.if-steps-place.false))
           (left_fits f c.args.mantissa x w steps (x - steps - 4096) s placed
-              (omega (arith, v.if-steps-place.false)) v.significand-is c.requires.place c.width_of.ensures.most most).0
+          (omega (arith, v.if-steps-place.false)) v.significand-is c.requires.place c.width_of.ensures.most most).0
     ])

@@ -24,17 +24,17 @@ returns-in_err-digit c =
     ] in
     let none = is_no_digit c.digit.result c.ok_or.result c.in_err-digit.field-0.0 c.ok_or.ensures.value c.in_err-digit.was in
     p.1 ∙ ap Err (p.2 ∙ none.1) ∙ sym (ap sized (none_at (digit_in c.args.is_hex)
-        (radix_of c.args.is_hex) c.loop-byte.byte-index c.args.digits.now c.loop-byte.value c.loop-byte.after_digit
+    (radix_of c.args.is_hex) c.loop-byte.byte-index c.args.digits.now c.loop-byte.value c.loop-byte.after_digit
     (under c.args.is_hex) c.loop-byte-test.true other (sym c.digit.ensures.value ∙ none.0) c.loop-byte.invariant))
 
 pub loop-byte-preserved : goal.loop-byte-preserved
 loop-byte-preserved c = elim c.if-byte-eq95.branch [
   | then-byte-eq95+then-after_digit w ↦ underscore_at (digit_in c.args.is_hex)
-          (radix_of c.args.is_hex) c.loop-byte.byte-index c.args.digits.now c.loop-byte.value c.if-byte-eq95.value
+      (radix_of c.args.is_hex) c.loop-byte.byte-index c.args.digits.now c.loop-byte.value c.if-byte-eq95.value
       c.loop-byte.after_digit c.if-byte-eq95.after_digit c.loop-byte-test.true w.if-byte-eq95.true
-          w.if-after_digit.true w.value-is w.after_digit-is c.loop-byte.invariant
+      w.if-after_digit.true w.value-is w.after_digit-is c.loop-byte.invariant
   | else-byte-eq95+in_ok-digit w ↦ digit_at (digit_in c.args.is_hex)
-          (radix_of c.args.is_hex) c.loop-byte.byte-index w.in_ok-digit.digit c.args.digits.now c.loop-byte.value c.if-byte-eq95.value
+      (radix_of c.args.is_hex) c.loop-byte.byte-index w.in_ok-digit.digit c.args.digits.now c.loop-byte.value c.if-byte-eq95.value
       c.loop-byte.after_digit c.if-byte-eq95.after_digit (under c.args.is_hex) c.loop-byte-test.true
       (sym w.digit.ensures.value ∙ is_some_digit w.digit.result w.ok_or.result w.in_ok-digit.digit w.ok_or.ensures.value w.in_ok-digit.was)
       (λ n h. w.value-is ∙ w.with_digit-value.ensures n h) w.after_digit-is c.loop-byte.invariant

@@ -16,7 +16,7 @@ pub returns-in_default : goal.returns-in_default
 returns-in_default c =
     let none = c.in-Err.ensures.places c.in_default.not-Memory in
     none.1 ∙ spelled_none (spelled c.args.count c.args.at c.args.text.now) c.loop.places.items c.loop.rest.now
-        (c.args.count - c.loop.counter) (c.args.count - (c.loop.counter + 1)) c.loop.place
+    (c.args.count - c.loop.counter) (c.args.count - (c.loop.counter + 1)) c.loop.place
     (omega (arith, c.loop-test.true)) none.0 c.loop.invariant.all
 
 pub returns : goal.returns

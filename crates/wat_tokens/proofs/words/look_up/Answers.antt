@@ -11,5 +11,5 @@ pub returns : goal.returns
 returns c =
     c.find.ensures
     ∙ found_at c.as_bytes-name.result.now c.hash-bucket.result c.first_at.result c.first_at-2.result
-        c.hash-bucket.ensures.small c.hash-bucket.ensures.bucket c.first_at.ensures c.first_at-2.ensures
+    c.hash-bucket.ensures.small c.hash-bucket.ensures.bucket c.first_at.ensures c.first_at-2.ensures
     ∙ ap word_named c.as_bytes-name.ensures.value

@@ -6,4 +6,4 @@ pub returns : goal.returns
 returns c = action_read c.args.kind c.args.self.now c.id-module.new.self c.text-name.new.self
     c.arguments-arguments.new.self c.close.new.self c.place_before-span.result c.id-module.result
     c.text-name.result c.arguments-arguments.result c.place_before-span.ensures
-        c.id-module.ensures c.text-name.ensures c.arguments-arguments.ensures c.close.ensures
+    c.id-module.ensures c.text-name.ensures c.arguments-arguments.ensures c.close.ensures

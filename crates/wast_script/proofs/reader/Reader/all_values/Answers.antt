@@ -10,5 +10,5 @@ pub loop-preserved : goal.loop-preserved
 loop-preserved c =
     let first = c.args.self.now in
     values_more c.args.usage (with_parts (read_values first.lists) (values c.args.usage (left first))) first
-        c.loop.self c.argument_or_result.new.self c.loop.counter c.left-end.result c.loop-test.true (search rules)
+    c.loop.self c.argument_or_result.new.self c.loop.counter c.left-end.result c.loop-test.true (search rules)
     c.argument_or_result.ensures c.loop.invariant

@@ -10,5 +10,5 @@ returns c =
     let text = c.number-text.result in
     number_read (float_of binary64 c.args.usage) c.args.self.now c.number-text.new.self c.value.new.self text c.value.result c.number-text.ensures
     v.lists v.tokens v.clean (λ h. ok_of (float_of binary64 c.args.usage) text.now c.float_of64-found.result
-        c.value.result c.float_of64-found.ensures.gives (v.gives h)) v.left v.keeps
+    c.value.result c.float_of64-found.ensures.gives (v.gives h)) v.left v.keeps
     (λ h r. let e = v.refuses h r in err_of (float_of binary64 c.args.usage) text.now c.float_of64-found.result e.0 c.float_of64-found.ensures.refuses e.1 e.2)

@@ -16,7 +16,7 @@ returns c =
     let text = c.number-text.result in
     let read : Decides (signed_number 64) c.args.self.now c.value.new.self c.value.result =
     number_read (λ t. option_map (signed_of 64) (integer 64 t)) c.args.self.now
-        c.number-text.new.self c.value.new.self text c.value.result c.number-text.ensures
+    c.number-text.new.self c.value.new.self text c.value.result c.number-text.ensures
     v.lists v.tokens v.clean (λ h. signed_is 64 text.now c.value.result (sym c.integer64.ensures ∙ v.gives h)) v.left v.keeps
     (λ h r. let e = v.refuses h r in signed_not 64 text.now e.0 (sym c.integer64.ensures ∙ e.1)) in
     subst (λ z. Decides (signed_number 64) c.args.self.now c.value.new.self z) (sym (to_z-of_z {w = w64} (search rules))) read

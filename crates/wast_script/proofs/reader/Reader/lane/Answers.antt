@@ -9,5 +9,5 @@ returns c =
     let text = c.number-text.result in
     number_read (lane_of c.args.shape c.args.usage) c.args.self.now c.number-text.new.self c.value.new.self text c.value.result c.number-text.ensures
     v.lists v.tokens v.clean (λ h. ok_of (lane_of c.args.shape c.args.usage) text.now
-        c.lane_of-found.result c.value.result c.lane_of-found.ensures.gives (v.gives h)) v.left v.keeps
+    c.lane_of-found.result c.value.result c.lane_of-found.ensures.gives (v.gives h)) v.left v.keeps
     (λ h r. let e = v.refuses h r in err_of (lane_of c.args.shape c.args.usage) text.now c.lane_of-found.result e.0 c.lane_of-found.ensures.refuses e.1 e.2)

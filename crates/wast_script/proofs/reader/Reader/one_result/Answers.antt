@@ -8,5 +8,5 @@ use Rattle.wast_script.proofs.reader.Reader.one_result.Goals as goal
 pub returns-in-true : goal.returns-in-true
 returns-in-true c =
     either_result c.args.self.now c.accept_form.new.self c.either.new.self
-        (subst (λ x. Accepts (form (codes "either")) c.args.self.now c.accept_form.new.self x) c.in-true.is c.accept_form.ensures)
+    (subst (λ x. Accepts (form (codes "either")) c.args.self.now c.accept_form.new.self x) c.in-true.is c.accept_form.ensures)
     c.either.ensures

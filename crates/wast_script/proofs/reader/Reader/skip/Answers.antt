@@ -8,5 +8,9 @@ use Rattle.wast_script.proofs.reader.Reader.skip.Goals as goal
 -- `search` does not see that one more token is skipped
 pub returns-then-self-len : goal.returns-then-self-len
 unfolding left after
-returns-then-self-len c = record { lists = refl; tokens = refl; fault = refl;
-    left = skipped c.args.self.now.at c.args.self.now.tokens.items c.args.self.now.end (search rules) }
+returns-then-self-len c = record {
+  lists = refl;
+  tokens = refl;
+  fault = refl;
+  left = skipped c.args.self.now.at c.args.self.now.tokens.items c.args.self.now.end (search rules);
+}

@@ -11,4 +11,4 @@ returns-in_default-source_id-clause-listed c =
 pub returns-clause-listed : goal.returns-clause-listed
 returns-clause-listed c =
     adds_entry c.args.self.now _ (source_mark (mark_of_option c.args.id.now)) _ (sym c.in-Some-source_id.ensures) refl refl refl refl
-        (omega arith) c.in_ok-push.ensures.items
+    (omega arith) c.in_ok-push.ensures.items

@@ -9,7 +9,7 @@ pub returns-clause-last : goal.returns-clause-last
 returns-clause-last c =
     let all : c.args.self.now.waiting ≡ c.pop-last.new.self.items ++ option_to_list c.pop-last.result = search rules in
     popped_last bare_instr c.args.self.now.waiting c.pop-last.new.self.items c.pop-last.result all
-        (λ e. empty_if c.args.self.now.waiting (λ lt. grind (arith, common_steps, e, lt, c.pop-last.ensures.variant)))
+    (λ e. empty_if c.args.self.now.waiting (λ lt. grind (arith, common_steps, e, lt, c.pop-last.ensures.variant)))
 
 pub returns-clause-others : goal.returns-clause-others
 returns-clause-others c =
@@ -17,4 +17,4 @@ returns-clause-others c =
     let put : c.replace-none.new.dest ≡ c.pop-last.new.self.items = search rules in
     ap (map bare_instr) put
     ∙ popped_others bare_instr c.args.self.now.waiting c.pop-last.new.self.items c.pop-last.result all
-        (λ e. empty_if c.args.self.now.waiting (λ lt. grind (arith, common_steps, e, lt, c.pop-last.ensures.variant)))
+    (λ e. empty_if c.args.self.now.waiting (λ lt. grind (arith, common_steps, e, lt, c.pop-last.ensures.variant)))

@@ -11,5 +11,5 @@ use Rattle.wat_text.proofs.reader.Reader.all_expressions.Goals as goal
 pub loop-preserved : goal.loop-preserved
 loop-preserved c =
     one_built bare_expression goes_on elemexpr _ c.args.self.now c.loop.self c.expression_in-expression.new.self c.push_expression.new.self
-        c.loop.counter c.left-end.result c.expression_in-expression.result c.loop.exprs c.push_expression.new.exprs
+    c.loop.counter c.left-end.result c.expression_in-expression.result c.loop.exprs c.push_expression.new.exprs
     c.loop-test.true (ap not (sym c.is_end.ensures ∙ c.if-is_end.false)) c.expression_in-expression.ensures c.push_expression.ensures c.loop.invariant

@@ -16,9 +16,9 @@ loop-init c = folded_first c.args.self.now c.open.new.self c.folded_operator.new
 pub loop-preserved : goal.loop-preserved
 loop-preserved c = held_on false One (folded_expression (left c.args.self.now)) c.args.self.now c.loop.self c.body_step.new.self
     (suc (c.left-end.result - c.loop.counter)) (suc c.left-end.result) (suc (c.left-end.result - (c.loop.counter + 1)))
-        (c.left-end.result - (c.loop.counter + 1)) c.loop.body c.body_step.new.body
+    (c.left-end.result - (c.loop.counter + 1)) c.loop.body c.body_step.new.body
     c.body_step.ensures (one_goes (reverse c.loop.body.levels.items) (left c.loop.self) (sym c.is_closed.ensures ∙ c.if-is_closed.false))
-        (omega (arith, c.loop-test.true)) refl c.loop.invariant
+    (omega (arith, c.loop-test.true)) refl c.loop.invariant
 
 pub returns : goal.returns
 returns c = folded_last c.args.self.now c.loop.self c.end_body.new.self

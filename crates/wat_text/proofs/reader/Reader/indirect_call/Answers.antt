@@ -12,4 +12,4 @@ unfolding left
 returns c =
     let call = c.call_indirect-call in
     built callindirect (λ x. instr.call_indirect x) c.args.self.now call.new.self _ (bare_call call.result) c.call_indirect.result
-        (instr.call_indirect call.result) call.ensures c.call_indirect.ensures.made refl refl refl
+    (instr.call_indirect call.result) call.ensures c.call_indirect.ensures.made refl refl refl

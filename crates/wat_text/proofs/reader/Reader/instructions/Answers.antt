@@ -16,14 +16,14 @@ pub loop-preserved : goal.loop-preserved
 loop-preserved c = held_on (may_hint c.args.purpose) Whole
     (expression (may_hint c.args.purpose) (left c.args.self.now)) c.args.self.now c.loop.self c.body_step.new.self
     (suc (c.left-end.result - c.loop.counter)) c.left-end.result (suc (c.left-end.result - (c.loop.counter + 1)))
-        (c.left-end.result - (c.loop.counter + 1)) c.loop.body c.body_step.new.body
+    (c.left-end.result - (c.loop.counter + 1)) c.loop.body c.body_step.new.body
     c.body_step.ensures (whole_goes (reverse c.loop.body.levels.items) (left c.loop.self) (sym c.is_done.ensures ∙ c.if-is_done.false))
-        (omega (arith, c.loop-test.true)) refl c.loop.invariant
+    (omega (arith, c.loop-test.true)) refl c.loop.invariant
 
 pub returns : goal.returns
 returns c = whole_last (may_hint c.args.purpose) c.args.self.now c.loop.self c.end_body.new.self
     (suc (c.left-end.result - c.loop.counter))
-        (c.left-end.result - c.loop.counter) c.left-end.result c.loop.body c.is_done-is_done.result (bare_expression c.finish.result)
+    (c.left-end.result - c.loop.counter) c.left-end.result c.loop.body c.is_done-is_done.result (bare_expression c.finish.result)
     c.loop.invariant refl c.is_done-is_done.ensures c.end_body.ensures (ap bare_expression c.finish.ensures)
     (λ e. elim c.loop-test.branch as (λ w. suc (c.left-end.result - c.loop.counter) ≡ 1) [
       | else-loop-test w ↦ omega (arith, w.loop-test)

@@ -15,7 +15,7 @@ returns c =
     let text = c.number-text.result in
     let read : Decides (signed_number 16) c.args.self.now c.value.new.self c.value.result =
     number_read (λ t. option_map (signed_of 16) (integer 16 t)) c.args.self.now
-        c.number-text.new.self c.value.new.self text c.value.result c.number-text.ensures
+    c.number-text.new.self c.value.new.self text c.value.result c.number-text.ensures
     v.make v.clean (λ h. signed_is 16 text.now c.value.result (sym c.integer16.ensures ∙ v.gives h)) v.left v.keeps
     (λ h r. let e = v.refuses h (search rules) in signed_not 16 text.now e.0 (sym c.integer16.ensures ∙ e.1)) in
     subst (λ z. Decides (signed_number 16) c.args.self.now c.value.new.self z) (sym (to_z-of_z {w = w16} (search rules))) read

@@ -15,7 +15,7 @@ returns c =
     let text = c.number-text.result in
     let read : Decides (signed_number 32) c.args.self.now c.value.new.self c.value.result =
     number_read (λ t. option_map (signed_of 32) (integer 32 t)) c.args.self.now
-        c.number-text.new.self c.value.new.self text c.value.result c.number-text.ensures
+    c.number-text.new.self c.value.new.self text c.value.result c.number-text.ensures
     v.make v.clean (λ h. signed_is 32 text.now c.value.result (sym c.integer32.ensures ∙ v.gives h)) v.left v.keeps
     (λ h r. let e = v.refuses h (search rules) in signed_not 32 text.now e.0 (sym c.integer32.ensures ∙ e.1)) in
     subst (λ z. Decides (signed_number 32) c.args.self.now c.value.new.self z) (sym (to_z-of_z {w = w32} (search rules))) read

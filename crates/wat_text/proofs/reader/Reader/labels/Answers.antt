@@ -10,5 +10,5 @@ pub loop-preserved : goal.loop-preserved
 loop-preserved c =
     let yet : is_index_next (left c.loop.self) ≡ true = search rules in
     one_label _ c.args.self.now c.loop.self c.index-index.new.self c.push_index.new.self c.loop.counter
-        c.left-end.result c.loop.last c.index-index.result c.loop.labels c.push_index.new.indices
+    c.left-end.result c.loop.last c.index-index.result c.loop.labels c.push_index.new.indices
     (search rules) yet c.index-index.ensures c.push_index.ensures c.loop.invariant

@@ -13,5 +13,5 @@ loop-place-preserved c =
     let loop = c.loop-place in
     let new = c.integer16.new.self in
     let read = subst (λ z. Decides (signed_number 16) loop.self new z)
-        (sym (to_z-of_z {w = w16} {z = c.integer16.result} (search rules))) c.integer16.ensures in
+    (sym (to_z-of_z {w = w16} {z = c.integer16.result} (search rules))) c.integer16.ensures in
     filled_more (signed_number 16) 8 loop.place _ loop.self new loop.lanes _ loop.invariant (search rules) read

@@ -12,4 +12,4 @@ unfolding left
 returns c =
     let call = c.call_indirect-call in
     built callindirect (λ x. instr.return_call_indirect x) c.args.self.now call.new.self _ (bare_call call.result) c.return_call_indirect.result
-        (instr.return_call_indirect call.result) call.ensures c.return_call_indirect.ensures.made refl refl refl
+    (instr.return_call_indirect call.result) call.ensures c.return_call_indirect.ensures.made refl refl refl

@@ -8,7 +8,7 @@ use Rattle.wat_text.proofs.reader.Reader.shuffle.Goals as goal
 pub loop-place-preserved : goal.loop-place-preserved
 loop-place-preserved c =
     filled_more u8 16 c.loop-place.place _ c.loop-place.self c.lane.new.self c.loop-place.lanes c.lane.result c.loop-place.invariant
-        (search rules) c.lane.ensures
+    (search rules) c.lane.ensures
 
 pub returns : goal.returns
 returns c =

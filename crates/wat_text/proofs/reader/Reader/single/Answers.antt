@@ -13,4 +13,4 @@ returns-in-Err c =
     let bits : ℕ → F32 = λ b. record { bits = b } in
     made (number (fN binary32)) bits c.args.self.now c.fail_at.new.self 0
     (fault_read (fN binary32) c.args.self.now c.number-text.new.self c.fail_at.new.self c.number-text.result 0 c.in-Err.fault _
-        c.number-text.ensures c.fail_at.ensures c.in-Err.ensures.refuses)
+    c.number-text.ensures c.fail_at.ensures c.in-Err.ensures.refuses)
