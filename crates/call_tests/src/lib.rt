@@ -1,21 +1,18 @@
 //! Tests that are proved as callers: a user-defined resolver and visitor, the calls that check a
-//! module first and those that require it, and the commands of scripts.
+//! module first, and the commands of scripts.
 //!
-//! The pages of docs/ show them. `unit_tests` has the calls of `wast_base`, `wasm_ops` and `wasm_out`.
+//! The pages of docs/ show them. `unit_tests` has the calls of `wasm_out`.
 //! The tests of `tests/` are run alone, because a test of a tree takes minutes to prove.
 //!
 //! # Modules
 //!
 //! - `resolve`: a user-defined resolver, types that match, errors before resolving.
 //! - `visits`: a user-defined visitor. `checked`: modules that are ready, and modules that are not.
-//! - `encodes`: calls that require a module that is ready or resolved.
 //! - `scripts`: commands of scripts.
 #![tactic(auto)]
 
 #[cfg(test)]
 mod checked;
-#[cfg(test)]
-mod encodes;
 #[cfg(test)]
 mod resolve;
 #[cfg(test)]
