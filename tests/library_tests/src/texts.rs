@@ -1,4 +1,4 @@
-//! The calls of `wat_bytes`, with enough memory.
+//! The calls of `wat_bytes`, with enough memory, and how tokens are put in groups.
 
 use std::alloc::Global;
 use wast_core::{EncodeOptions, discard_module};
@@ -8,6 +8,7 @@ use wat_bytes::{
     names_of_last_text, names_of_text, number_in, number_in_text,
 };
 use wat_text::{Strings, read};
+use wat_tokens::token_groups_of;
 
 /// A module with an id in each index space, after an item without one.
 const EACH_SPACE: &str = r#"(module
@@ -193,4 +194,19 @@ fn unsupported_construct_is_printed_with_token(rt: HostRuntime) {
     let refused = refused.expect(&rt, "it is covered");
     let printed = format!(in rt.alloc(); "{refused}").expect(&rt, "memory");
     assert!(rt; printed.as_str() == "uncovered form: instruction beyond the table: `i64.add128`");
+}
+
+#[test]
+fn groups_of_tokens_have_512_each(rt: HostRuntime) {
+    let strings = Strings::new(rt.alloc());
+    let mut text = Vec::new(rt.alloc());
+    for _ in 0..600 {
+        text.push(b')').expect(&rt, "memory");
+    }
+    let text = std::str::from_utf8(text.as_slice()).expect(&rt, "a text");
+    let found = token_groups_of(rt.alloc(), text, &strings).expect(&rt, "tokens");
+    assert!(rt; found.count == 600 && found.groups.len() == 2);
+    for (group, length) in found.groups.iter().zip(&[512, 88]) {
+        assert!(rt; group.len() == *length);
+    }
 }
