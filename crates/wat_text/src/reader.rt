@@ -201,6 +201,7 @@ impl<'a> Reader<'a> {
     }
 
     /// Returns the token after `ahead` others. Returns `None` at the end, and after an error.
+    #[inline(always)]
     #[tactic(auto, unfolding(crate::specs::Readers::left, wat_syntax::specs::Tokens::peek), using(crate::proofs::Groups::peeked_here))]
     pub(crate) fn look(&self, ahead: usize) -> Option<Token<'a>>
         ensures { option_map bare_token result ≡ peek ahead (left self.now) }
@@ -212,6 +213,7 @@ impl<'a> Reader<'a> {
     }
 
     /// Returns the position of the next token, or the end if no token is left.
+    #[inline(always)]
     #[tactic(auto, unfolding(crate::specs::Readers::left, wat_syntax::specs::Tokens::position), using(crate::proofs::Groups::placed_here))]
     pub(crate) fn place(&self) -> Span
         ensures { result ≡ position (left self.now) }
@@ -270,6 +272,7 @@ impl<'a> Reader<'a> {
     }
 
     /// Reads the next token, whatever it is.
+    #[inline(always)]
     #[tactic(auto, unfolding(crate::specs::Readers::left, wat_syntax::specs::Tokens::after))]
     pub(crate) fn skip(&mut self)
         ensures left { left self.new ≡ after (left self.old) }
