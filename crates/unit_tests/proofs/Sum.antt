@@ -34,13 +34,33 @@ one P x h = (omega arith, all_one P x h)
 in_range : All InRangePart sum_module
 unfolding unsigned unsigned_in
 in_range = All-from_recursion InRangePart sum_module (
-  (omega arith, one (InRangeEntry Types) _ (none InRangeU32, ((omega arith, All-from_recursion (λ x. (val_type x).in_range) (val.I32 ∷ val.I32 ∷ []) (tt, (tt, tt))), one (λ x. (val_type x).in_range) val.I32 tt))),
+  (
+    omega arith,
+    one (InRangeEntry Types) _ (
+      none InRangeU32,
+      (
+        (omega arith, All-from_recursion (λ x. (val_type x).in_range) (val.I32 ∷ val.I32 ∷ []) (tt, (tt, tt))),
+        one
+            (λ x. (val_type x).in_range) val.I32 tt,
+      ),
+    ),
+  ),
   (
     (omega arith, one (InRangeEntry Functions) _ (omega arith)),
     (
       (omega arith, one (InRangeEntry Exports) _ (omega arith, omega arith)),
       (
-        (omega arith, one (InRangeEntry Code) _ (omega arith, (none (λ x. (val_type x).in_range), All-from_recursion (λ x. (instr x).in_range) sum_instrs ((omega arith, tt), ((omega arith, tt), (tt, tt)))))),
+        (
+          omega arith,
+          one (InRangeEntry Code) _ (
+            omega arith,
+            (
+              none (λ x. (val_type x).in_range),
+              All-from_recursion (λ x. (instr x).in_range) sum_instrs
+                  ((omega arith, tt), ((omega arith, tt), (tt, tt))),
+            ),
+          ),
+        ),
         ((omega arith, omega arith), tt),
       ),
     ),
@@ -63,11 +83,26 @@ unfolding rows.kinds_of rows.table
 readable = All-from_recursion IsReadablePart sum_module (
   all_one (IsReadable Types) _ (record { covered = refl; rows = All-nil HasRowsExpression; balanced = All-nil IsBalancedExpression; name = All-nil IsText }),
   (
-    all_one (IsReadable Functions) _ (record { covered = refl; rows = All-nil HasRowsExpression; balanced = All-nil IsBalancedExpression; name = All-nil IsText }),
+    all_one (IsReadable Functions) _ (record {
+      covered = refl;
+      rows = All-nil HasRowsExpression;
+      balanced = All-nil IsBalancedExpression;
+      name = All-nil IsText;
+    }),
     (
-      all_one (IsReadable Exports) _ (record { covered = refl; rows = All-nil HasRowsExpression; balanced = All-nil IsBalancedExpression; name = all_one IsText (codes "sum") sum_is_text }),
+      all_one (IsReadable Exports) _ (record {
+        covered = refl;
+        rows = All-nil HasRowsExpression;
+        balanced = All-nil IsBalancedExpression;
+        name = all_one IsText (codes "sum") sum_is_text;
+      }),
       (
-        all_one (IsReadable Code) _ (record { covered = refl; rows = all_one HasRowsExpression sum_instrs (All-from_recursion HasRow sum_instrs (refl, (refl, (refl, tt)))); balanced = All-nil IsBalancedExpression; name = All-nil IsText }),
+        all_one (IsReadable Code) _ (record {
+          covered = refl;
+          rows = all_one HasRowsExpression sum_instrs (All-from_recursion HasRow sum_instrs (refl, (refl, (refl, tt))));
+          balanced = All-nil IsBalancedExpression;
+          name = All-nil IsText;
+        }),
         (made_is_text, tt),
       ),
     ),
@@ -88,6 +123,9 @@ pub appended : (id : ℕ) {front old new p q : List ℕ} → old ≡ front → p
 appended id {front = front} {p = p} e f g = g ∙ ap (λ l. l ++ section id p) e ∙ ap (λ payload. front ++ section id payload) f
 
 -- The sections, one after another.
-pub joined : ((((header ++ section 1 (behind_count (built_with empty (sub_type sum_type).bytes))) ++ section 3 (behind_count (built_with empty (unsigned 0)))) ++ section 7 (behind_count (built_with empty (export_entry sum_export).bytes))) ++ section 10 (behind_count (built_with empty (body sum_body)))) ++ section 0 (payload Custom (record { name = codes "made"; bytes = codes "by hand" })).bytes ≡ header ++ flat_map part sum_module
+pub joined : ((((header ++ section 1 (behind_count (built_with empty (sub_type sum_type).bytes))) ++ section 3
+    (behind_count (built_with empty (unsigned 0)))) ++ section 7 (behind_count (built_with empty (export_entry sum_export).bytes))) ++ section 10
+    (behind_count (built_with empty (body sum_body)))) ++ section 0 (payload Custom (record { name = codes "made"; bytes = codes "by hand" })).bytes
+    ≡ header ++ flat_map part sum_module
 unfolding unsigned unsigned_in
 joined = refl

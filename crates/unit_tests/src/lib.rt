@@ -1,21 +1,17 @@
-//! Tests of what no text can show: the calls of `wasm_out`, with enough memory.
+//! Examples of callers of `wasm_ops` and `wasm_out`.
 //!
-//! Each public call that may take memory succeeds here, unless a text of `wat_golden` shows it,
-//! because contracts permit it to fail. A user-defined sink is here. `call_tests` and the folder
-//! `tests/` have the calls of the other crates.
+//! Pages show them, so they are proved. `tests/library_tests` runs them. `call_tests` and the folder
+//! `tests/` have the other calls.
 //!
 //! # Modules
 //!
-//! - `instrs`: instructions as bytes. `kept`: a user-defined sink.
-//! - `sections`: each section of a module. `writing`: a module without a syntax tree, whose contract
-//!   states what its bytes are read as.
+//! - `kept`: a user-defined sink.
+//! - `sections`: sections with a constant expression. `writing`: a module without a syntax tree,
+//!   whose contract states what its bytes are read as.
 #![tactic(auto)]
 
-#[cfg(test)]
-mod instrs;
 mod kept;
-#[cfg(test)]
-mod sections;
+pub mod sections;
 pub mod writing;
 
 pub use kept::Kept;

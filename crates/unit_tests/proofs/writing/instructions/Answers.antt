@@ -13,4 +13,5 @@ returns-clause-rows c =
     let first = index_instr op.LocalGet 0 in
     let second = index_instr op.LocalGet 1 in
     let third = plain_instr (plain.I32 i32.i32_add) in
-    All-cons IsInstr first (second ∷ third ∷ []) c.in_ok-index.ensures.appended.1 (All-cons IsInstr second (third ∷ []) c.in_ok-index-2.ensures.appended.1 (All-cons IsInstr third [] c.in_ok-plain.ensures.appended.1 (All-nil IsInstr)))
+    All-cons IsInstr first (second ∷ third ∷ []) c.in_ok-index.ensures.appended.1
+    (All-cons IsInstr second (third ∷ []) c.in_ok-index-2.ensures.appended.1 (All-cons IsInstr third [] c.in_ok-plain.ensures.appended.1 (All-nil IsInstr)))

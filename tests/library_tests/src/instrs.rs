@@ -1,10 +1,5 @@
 //! The bytes of instructions, by kinds of immediates.
 
-ghost use Rattle.std.specs.Prelude.{IsTrue};
-ghost use Rattle.wasm_ops.specs.Memargs.{is_aligned, memarg};
-ghost use Rattle.wasm_ops.specs.Spelling as encodings;
-ghost use Rattle.wasm_ops.specs.Spelling.{ref_type};
-
 use wasm_ops::{
     AbstractHeapType, BlockOp, BlockType, BrCastOp, CastOp, Catch, Delimiter, HeapType,
     IndexPairOp, InstructionSink, LanesOp, MemArg, MemArgTarget, Ordering, RefType, Room, Sink,
@@ -49,10 +44,7 @@ fn write_control<'e>(out: &mut Vec<u8>) -> Result<(), Error<'e>> {
 }
 
 /// Returns a reference type.
-fn reference(nullable: bool, heap_type: HeapType) -> RefType
-    requires { IsTrue (encodings.heap_type heap_type).is_covered }
-    ensures { IsTrue (ref_type result).is_covered }
-{
+fn reference(nullable: bool, heap_type: HeapType) -> RefType {
     RefType {
         nullable,
         heap_type,
@@ -80,10 +72,7 @@ fn write_lanes_and_casts<'e>(out: &mut Vec<u8>) -> Result<(), Error<'e>> {
 }
 
 /// Returns the memory argument of the first byte of memory 0.
-fn start() -> MemArg
-    ensures aligned { IsTrue (is_aligned result) }
-    ensures covered { IsTrue (memarg result).is_covered }
-{
+fn start() -> MemArg {
     MemArg {
         align: 0,
         target: MemArgTarget::Memory(0),
