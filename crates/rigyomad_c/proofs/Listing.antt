@@ -14,14 +14,16 @@ one_text : (x : Denoted) (rest : List Denoted) → bytes_in x ++ bytes_of rest �
 unfolding bytes_of
 one_text x rest = refl
 
-names-more : (names : List Name) (bytes : List ℕ) (x : Denoted) (rest : List Denoted) (whole : List Name) → names ++ names_from (length bytes) (x ∷ rest) ≡ whole
+names-more : (names : List Name) (bytes : List ℕ) (x : Denoted) (rest : List Denoted) (whole : List Name)
+    → names ++ names_from (length bytes) (x ∷ rest) ≡ whole
     → (names ++ name_at (length bytes) x ∷ []) ++ names_from (length (bytes ++ bytes_in x)) rest ≡ whole
 names-more names bytes x rest whole before =
     append_assoc names (name_at (length bytes) x ∷ []) (names_from (length (bytes ++ bytes_in x)) rest)
     ∙ (ap (λ n. names ++ name_at (length bytes) x ∷ names_from n rest) (length-append bytes (bytes_in x))
     ∙ (ap (λ l. names ++ l) (one_record (length bytes) x rest) ∙ before))
 
-bytes-more : (bytes : List ℕ) (x : Denoted) (rest : List Denoted) (whole : List ℕ) → bytes ++ bytes_of (x ∷ rest) ≡ whole → (bytes ++ bytes_in x) ++ bytes_of rest ≡ whole
+bytes-more : (bytes : List ℕ) (x : Denoted) (rest : List Denoted) (whole : List ℕ) → bytes ++ bytes_of (x ∷ rest) ≡ whole
+    → (bytes ++ bytes_in x) ++ bytes_of rest ≡ whole
 bytes-more bytes x rest whole before = append_assoc bytes (bytes_in x) (bytes_of rest) ∙ (ap (λ l. bytes ++ l) (one_text x rest) ∙ before)
 
 -- The same in a loop over the names, at the item that comes next.
@@ -31,9 +33,11 @@ module _ (all : List Denoted) (i : ℕ) (x : Denoted) (below : i < length all) w
 
   pub names_go_on : (names : List Name) (bytes : List ℕ) (whole : List Name) → names ++ names_from (length bytes) (drop i all) ≡ whole
       → (names ++ name_at (length bytes) (get_or all i x) ∷ []) ++ names_from (length (bytes ++ bytes_in (get_or all i x))) (drop (i + 1) all) ≡ whole
-  names_go_on names bytes whole before = names-more names bytes (get_or all i x) (drop (i + 1) all) whole (ap (λ l. names ++ names_from (length bytes) l) (sym rest) ∙ before)
+  names_go_on names bytes whole before = names-more names bytes (get_or all i x) (drop (i + 1) all) whole
+      (ap (λ l. names ++ names_from (length bytes) l) (sym rest) ∙ before)
 
-  pub bytes_go_on : (bytes whole : List ℕ) → bytes ++ bytes_of (drop i all) ≡ whole → (bytes ++ bytes_in (get_or all i x)) ++ bytes_of (drop (i + 1) all) ≡ whole
+  pub bytes_go_on : (bytes whole : List ℕ) → bytes ++ bytes_of (drop i all) ≡ whole
+      → (bytes ++ bytes_in (get_or all i x)) ++ bytes_of (drop (i + 1) all) ≡ whole
   bytes_go_on bytes whole before = bytes-more bytes (get_or all i x) (drop (i + 1) all) whole (ap (λ l. bytes ++ bytes_of l) (sym rest) ∙ before)
 
 -- The same after the last one.

@@ -40,7 +40,8 @@ pub pair_is : {A B : Type 0} (x y : A × B) → x.0 ≡ y.0 → x.1 ≡ y.1 → 
 pair_is {A} {B} x y p q = let f : A → A × B = λ a. (a, x.1) in let g : B → A × B = λ b. (y.0, b) in ap f p ∙ ap g q
 
 -- one after the other
-pub pair_code : {A B : Type 0} {F : A → Type 0} {G : B → Type 0} {f : A → List ℕ} {g : B → List ℕ} → IsCode A F f → IsCode B G g → IsCode (A × B) (λ p. F p.0 × G p.1) (λ p. f p.0 ++ g p.1)
+pub pair_code : {A B : Type 0} {F : A → Type 0} {G : B → Type 0} {f : A → List ℕ} {g : B → List ℕ} → IsCode A F f → IsCode B G g
+    → IsCode (A × B) (λ p. F p.0 × G p.1) (λ p. f p.0 ++ g p.1)
 pair_code {f = f} {g = g} a b = record {
   begins = λ x y r s p q e.
       let one = a.begins x.0 y.0 (g x.1 ++ r) (g y.1 ++ s) p.0 q.0 (sym (append_assoc (f x.0) (g x.1) r) ∙ e ∙ append_assoc (f y.0) (g y.1) s) in
@@ -49,7 +50,8 @@ pair_code {f = f} {g = g} a b = record {
 }
 
 -- a code before what fills the rest
-pub pair_whole : {A B : Type 0} {F : A → Type 0} {G : B → Type 0} {f : A → List ℕ} {g : B → List ℕ} → IsCode A F f → IsWhole B G g → IsWhole (A × B) (λ p. F p.0 × G p.1) (λ p. f p.0 ++ g p.1)
+pub pair_whole : {A B : Type 0} {F : A → Type 0} {G : B → Type 0} {f : A → List ℕ} {g : B → List ℕ} → IsCode A F f → IsWhole B G g
+    → IsWhole (A × B) (λ p. F p.0 × G p.1) (λ p. f p.0 ++ g p.1)
 pair_whole {f = f} {g = g} a b = record {
   same = λ x y p q e.
       let one = a.begins x.0 y.0 (g x.1) (g y.1) p.0 q.0 e in
@@ -57,14 +59,16 @@ pair_whole {f = f} {g = g} a b = record {
 }
 
 -- seen another way
-pub code_by : {A B : Type 0} {F : A → Type 0} {f : A → List ℕ} (view : B → A) (back : A → B) → ((x : B) → back (view x) ≡ x) → IsCode A F f → IsCode B (λ x. F (view x)) (λ x. f (view x))
+pub code_by : {A B : Type 0} {F : A → Type 0} {f : A → List ℕ} (view : B → A) (back : A → B) → ((x : B) → back (view x) ≡ x) → IsCode A F f
+    → IsCode B (λ x. F (view x)) (λ x. f (view x))
 code_by view back again c = record {
   begins = λ x y r s p q e.
       let one = c.begins (view x) (view y) r s p q e in
       (sym (again x) ∙ ap back one.0 ∙ again y, one.1);
 }
 
-pub whole_by : {A B : Type 0} {F : A → Type 0} {f : A → List ℕ} (view : B → A) (back : A → B) → ((x : B) → back (view x) ≡ x) → IsWhole A F f → IsWhole B (λ x. F (view x)) (λ x. f (view x))
+pub whole_by : {A B : Type 0} {F : A → Type 0} {f : A → List ℕ} (view : B → A) (back : A → B) → ((x : B) → back (view x) ≡ x) → IsWhole A F f
+    → IsWhole B (λ x. F (view x)) (λ x. f (view x))
 whole_by view back again c = record { same = λ x y p q e. sym (again x) ∙ ap back (c.same (view x) (view y) p q e) ∙ again y }
 
 -- behind one byte
@@ -72,12 +76,14 @@ pub after_byte : {A : Type 0} {F : A → Type 0} {f : A → List ℕ} (b : ℕ) 
 after_byte {f = f} b c = record { begins = λ x y r s p q e. let t : f x ++ r ≡ f y ++ s = cc in c.begins x y r s p q t }
 
 -- as many items on both sides
-items_begin : {A : Type 0} (F : A → Type 0) (f : A → List ℕ) → IsCode A F f → (xs ys : List A) (r s : List ℕ) → length xs ≡ length ys → All F xs → All F ys → flat_map f xs ++ r ≡ flat_map f ys ++ s → (xs ≡ ys) × (r ≡ s)
+items_begin : {A : Type 0} (F : A → Type 0) (f : A → List ℕ) → IsCode A F f → (xs ys : List A) (r s : List ℕ) → length xs ≡ length ys → All F xs
+    → All F ys → flat_map f xs ++ r ≡ flat_map f ys ++ s → (xs ≡ ys) × (r ≡ s)
 items_begin F f code [] [] r s l p q e = (refl, e)
 items_begin F f code [] (y ∷ ys) r s l p q e = absurd (omega (arith, l))
 items_begin F f code (x ∷ xs) [] r s l p q e = absurd (omega (arith, l))
 items_begin F f code (x ∷ xs) (y ∷ ys) r s l p q e =
-    let split : f x ++ (flat_map f xs ++ r) ≡ f y ++ (flat_map f ys ++ s) = sym (append_assoc (f x) (flat_map f xs) r) ∙ ap (λ l. l ++ r) (sym (flat_map-cons f x xs)) ∙ e ∙ ap (λ l. l ++ s) (flat_map-cons f y ys) ∙ append_assoc (f y) (flat_map f ys) s in
+    let split : f x ++ (flat_map f xs ++ r) ≡ f y ++ (flat_map f ys ++ s) = sym (append_assoc (f x) (flat_map f xs) r)
+    ∙ ap (λ l. l ++ r) (sym (flat_map-cons f x xs)) ∙ e ∙ ap (λ l. l ++ s) (flat_map-cons f y ys) ∙ append_assoc (f y) (flat_map f ys) s in
     let one = code.begins x y (flat_map f xs ++ r) (flat_map f ys ++ s) (All-head F x xs p) (All-head F y ys q) split in
     let two = items_begin F f code xs ys r s (omega (arith, l)) (All-tail F x xs p) (All-tail F y ys q) one.1 in
     let a = one.0 in
@@ -88,20 +94,36 @@ items_begin F f code (x ∷ xs) (y ∷ ys) r s l p q e =
 pub vec_code : {A : Type 0} {F : A → Type 0} {f : A → List ℕ} → IsCode A F f → IsCode (List A) (InRangeVec F) (vec f)
 vec_code {F = F} {f = f} c = record {
   begins = λ xs ys r s p q e.
-      let one = unsigned_begins (length xs) (length ys) (flat_map f xs ++ r) (flat_map f ys ++ s) (sym (append_assoc (unsigned (length xs)) (flat_map f xs) r) ∙ e ∙ append_assoc (unsigned (length ys)) (flat_map f ys) s) in
+      let one = unsigned_begins (length xs) (length ys) (flat_map f xs ++ r) (flat_map f ys ++ s)
+      (sym (append_assoc (unsigned (length xs)) (flat_map f xs) r) ∙ e ∙ append_assoc (unsigned (length ys)) (flat_map f ys) s) in
       items_begin F f c xs ys r s one.0 p.1 q.1 one.1;
 }
 
 -- items that are covered each, and in range
-pub spellable_vec : {A : Type 0} (item : A → Encoding) (xs : List A) → IsTrue (list_of item xs).is_covered → (list_of item xs).in_range → InRangeVec (λ x. Spellable (item x)) xs
-spellable_vec item xs c r =
-    (r.0, all_both (λ x. IsTrue (item x).is_covered) (λ x. (item x).in_range) (λ x. Spellable (item x)) (λ x p q. (p, q)) xs (all_tested (λ x. (item x).is_covered) xs c) r.1)
+pub spellable_vec : {A : Type 0} (item : A → Encoding) (xs : List A) → IsTrue (list_of item xs).is_covered → (list_of item xs).in_range
+    → InRangeVec (λ x. Spellable (item x)) xs
+spellable_vec item xs c r = (
+  r.0,
+  all_both (λ x. IsTrue (item x).is_covered) (λ x. (item x).in_range) (λ x. Spellable (item x)) (λ x p q. (p, q)) xs
+      (all_tested (λ x. (item x).is_covered) xs c) r.1,
+)
 
 -- items that fill the rest, none of them empty
-filled : {A : Type 0} (F : A → Type 0) (f : A → List ℕ) → ((x : A) → F x → 0 < length (f x)) → IsCode A F f → (xs ys : List A) → All F xs → All F ys → flat_map f xs ≡ flat_map f ys → xs ≡ ys
+filled : {A : Type 0} (F : A → Type 0) (f : A → List ℕ) → ((x : A) → F x → 0 < length (f x)) → IsCode A F f → (xs ys : List A) → All F xs → All F ys
+    → flat_map f xs ≡ flat_map f ys → xs ≡ ys
 filled F f some code [] [] p q e = refl
-filled F f some code [] (y ∷ ys) p q e = absurd (omega (arith, some y (All-head F y ys q), ap length e ∙ ap length (flat_map-cons f y ys) ∙ length-append (f y) (flat_map f ys)))
-filled F f some code (x ∷ xs) [] p q e = absurd (omega (arith, some x (All-head F x xs p), sym (ap length e) ∙ ap length (flat_map-cons f x xs) ∙ length-append (f x) (flat_map f xs)))
+filled F f some code [] (y ∷ ys) p q e = absurd (omega (
+  arith,
+  some y (All-head F y ys q),
+  ap length e ∙ ap length (flat_map-cons f y ys)
+      ∙ length-append (f y) (flat_map f ys),
+))
+filled F f some code (x ∷ xs) [] p q e = absurd (omega (
+  arith,
+  some x (All-head F x xs p),
+  sym (ap length e) ∙ ap length (flat_map-cons f x xs)
+      ∙ length-append (f x) (flat_map f xs),
+))
 filled F f some code (x ∷ xs) (y ∷ ys) p q e =
     let one = code.begins x y (flat_map f xs) (flat_map f ys) (All-head F x xs p) (All-head F y ys q) (sym (flat_map-cons f x xs) ∙ e ∙ flat_map-cons f y ys) in
     let a = one.0 in
@@ -131,7 +153,8 @@ same_front (x ∷ a) (y ∷ b) r s l e =
 pub sized_code : {A : Type 0} {F : A → Type 0} {f : A → List ℕ} → IsWhole A F f → IsCode A (InRangeSized F f) (length_prefixed f)
 sized_code {f = f} c = record {
   begins = λ x y r s p q e.
-      let one = unsigned_begins (length (f x)) (length (f y)) (f x ++ r) (f y ++ s) (sym (append_assoc (unsigned (length (f x))) (f x) r) ∙ e ∙ append_assoc (unsigned (length (f y))) (f y) s) in
+      let one = unsigned_begins (length (f x)) (length (f y)) (f x ++ r) (f y ++ s) (sym (append_assoc (unsigned (length (f x))) (f x) r) ∙ e
+      ∙ append_assoc (unsigned (length (f y))) (f y) s) in
       let two = same_front (f x) (f y) r s one.0 one.1 in
       (c.same x y p.1 q.1 two.0, two.1);
 }

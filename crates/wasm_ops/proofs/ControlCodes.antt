@@ -31,7 +31,8 @@ index_front n r (b ∷ s) e low high = index_apart n b r s low high e
 val_apart : (t : ValType) (n : ℕ) (r s : List ℕ) → Spellable (val_type t) → (val_type t).bytes ++ r ≡ signed (pos n) ++ s → ⊥
 val_apart t n r s p e = let h = val_front t r p in index_front n s ((val_type t).bytes ++ r) (sym e) (omega (arith, h.0)) h.1
 
-block_begins : (x y : BlockType) (r s : List ℕ) → Spellable (block_type x) → Spellable (block_type y) → (block_type x).bytes ++ r ≡ (block_type y).bytes ++ s → (x ≡ y) × (r ≡ s)
+block_begins : (x y : BlockType) (r s : List ℕ) → Spellable (block_type x) → Spellable (block_type y)
+    → (block_type x).bytes ++ r ≡ (block_type y).bytes ++ s → (x ≡ y) × (r ≡ s)
 block_begins block.Empty block.Empty r s p q e = (refl, cc)
 block_begins (block.Result x) (block.Result y) r s p q e = let one = val_type_code.begins x y r s p q e in (ap block.Result one.0, one.1)
 block_begins (block.FunctionType m) (block.FunctionType n) r s p q e =
@@ -55,7 +56,8 @@ block_type_code = record { begins = block_begins }
 tagged_code : IsCode (ℕ × ℕ) (λ p. InRangeU32 p.0 × InRangeU32 p.1) (λ p. unsigned p.0 ++ unsigned p.1)
 tagged_code = pair_code index_code index_code
 
-catch_begins : (x y : Catch) (r s : List ℕ) → (catch_clause x).in_range → (catch_clause y).in_range → (catch_clause x).bytes ++ r ≡ (catch_clause y).bytes ++ s → (x ≡ y) × (r ≡ s)
+catch_begins : (x y : Catch) (r s : List ℕ) → (catch_clause x).in_range → (catch_clause y).in_range
+    → (catch_clause x).bytes ++ r ≡ (catch_clause y).bytes ++ s → (x ≡ y) × (r ≡ s)
 catch_begins (catches.One t l) (catches.One u m) r s p q e =
     let one = (after_byte 0x00 tagged_code).begins (t, l) (u, m) r s p q e in
     let f : ℕ × ℕ → Catch = λ v. catches.One v.0 v.1 in

@@ -60,10 +60,13 @@ Numbers = ℕ × (Option ℕ × Option ℕ)
 abbrev numbers : Numbers → List ℕ
 numbers n = unsigned n.0 ++ (if_there n.1.0 ++ if_there n.1.1)
 
-numbers_begin : (x y : Numbers) (r s : List ℕ) → is_some x.1.0 ≡ is_some y.1.0 → is_some x.1.1 ≡ is_some y.1.1 → numbers x ++ r ≡ numbers y ++ s → (x ≡ y) × (r ≡ s)
+numbers_begin : (x y : Numbers) (r s : List ℕ) → is_some x.1.0 ≡ is_some y.1.0 → is_some x.1.1 ≡ is_some y.1.1 → numbers x ++ r ≡ numbers y ++ s
+    → (x ≡ y) × (r ≡ s)
 numbers_begin x y r s u v e =
-    let one = unsigned_begins x.0 y.0 ((if_there x.1.0 ++ if_there x.1.1) ++ r) ((if_there y.1.0 ++ if_there y.1.1) ++ s) (sym (append_assoc (unsigned x.0) (if_there x.1.0 ++ if_there x.1.1) r) ∙ e ∙ append_assoc (unsigned y.0) (if_there y.1.0 ++ if_there y.1.1) s) in
-    let two = if_there_begins x.1.0 y.1.0 (if_there x.1.1 ++ r) (if_there y.1.1 ++ s) u (sym (append_assoc (if_there x.1.0) (if_there x.1.1) r) ∙ one.1 ∙ append_assoc (if_there y.1.0) (if_there y.1.1) s) in
+    let one = unsigned_begins x.0 y.0 ((if_there x.1.0 ++ if_there x.1.1) ++ r) ((if_there y.1.0 ++ if_there y.1.1) ++ s)
+    (sym (append_assoc (unsigned x.0) (if_there x.1.0 ++ if_there x.1.1) r) ∙ e ∙ append_assoc (unsigned y.0) (if_there y.1.0 ++ if_there y.1.1) s) in
+    let two = if_there_begins x.1.0 y.1.0 (if_there x.1.1 ++ r) (if_there y.1.1 ++ s) u (sym (append_assoc (if_there x.1.0) (if_there x.1.1) r)
+    ∙ one.1 ∙ append_assoc (if_there y.1.0) (if_there y.1.1) s) in
     let three = if_there_begins x.1.1 y.1.1 r s v two.1 in
     (pair_is x y one.0 (pair_is x.1 y.1 two.0 three.0), three.1)
 
@@ -89,18 +92,31 @@ table_covered t p = (both_true (ref_type t.element_type).is_covered true (both_t
 pub table_type_code : IsPrefixCode table_type
 table_type_code =
     code_within (λ t p. ((table_covered t p.0, p.1.0), tt))
-    (code_by (λ (t : TableType). (t.element_type, ((t.shared, t.table64), (t.minimum, (t.maximum, None))))) (λ p. record { element_type = p.0; minimum = p.1.1.0; maximum = p.1.1.1.0; table64 = p.1.0.1; shared = p.1.0.0 }) (λ t. refl) (pair_code ref_type_code limits_code))
+    (code_by (λ (t : TableType). (t.element_type, ((t.shared, t.table64), (t.minimum, (t.maximum, None))))) (λ p. record {
+      element_type = p.0;
+      minimum = p.1.1.0;
+      maximum = p.1.1.1.0;
+      table64 = p.1.0.1;
+      shared = p.1.0.0;
+    }) (λ t. refl) (pair_code ref_type_code limits_code))
 
 -- no table type begins with 0x40
 pub table_front : (t : TableType) (r : List ℕ) → Spellable (table_type t) → 0x63 ≤ front ((table_type t).bytes ++ r)
 table_front t r p =
     let sized = (limits t.shared t.table64 t.minimum t.maximum None).bytes in
-    subst (λ l. 0x63 ≤ front l) (sym (append_assoc (ref_type t.element_type).bytes sized r)) (ref_front t.element_type (sized ++ r) (table_covered t p.0, p.1.0)).0
+    subst (λ l. 0x63 ≤ front l) (sym (append_assoc (ref_type t.element_type).bytes sized r))
+    (ref_front t.element_type (sized ++ r) (table_covered t p.0, p.1.0)).0
 
 -- whatever their numbers are
 pub any_memory_code : IsCode MemoryType Any (λ x. (memory_type x).bytes)
 any_memory_code =
-    (code_by (λ (m : MemoryType). ((m.shared, m.memory64), (m.minimum, (m.maximum, m.page_size_log2)))) (λ l. record { minimum = l.1.0; maximum = l.1.1.0; memory64 = l.0.1; shared = l.0.0; page_size_log2 = l.1.1.1 }) (λ m. refl) limits_code)
+    (code_by (λ (m : MemoryType). ((m.shared, m.memory64), (m.minimum, (m.maximum, m.page_size_log2)))) (λ l. record {
+      minimum = l.1.0;
+      maximum = l.1.1.0;
+      memory64 = l.0.1;
+      shared = l.0.0;
+      page_size_log2 = l.1.1.1;
+    }) (λ m. refl) limits_code)
 
 pub memory_type_code : IsPrefixCode memory_type
 memory_type_code = code_within (λ m p. tt) any_memory_code
@@ -129,17 +145,22 @@ global_type_code = record {
 }
 
 pub tag_type_code : IsPrefixCode tag_type
-tag_type_code = code_within (λ t p. p.1) (code_by (λ (t : TagType). t.func_type_idx) (λ n. record { func_type_idx = n }) (λ t. refl) (after_byte 0x00 index_code))
+tag_type_code = code_within (λ t p. p.1) (code_by (λ (t : TagType). t.func_type_idx) (λ n. record { func_type_idx = n }) (λ t. refl)
+    (after_byte 0x00 index_code))
 
 -- ---- what is imported
 
-entity_begins : (x y : EntityType) (r s : List ℕ) → Spellable (entity_type x) → Spellable (entity_type y) → (entity_type x).bytes ++ r ≡ (entity_type y).bytes ++ s → (x ≡ y) × (r ≡ s)
+entity_begins : (x y : EntityType) (r s : List ℕ) → Spellable (entity_type x) → Spellable (entity_type y)
+    → (entity_type x).bytes ++ r ≡ (entity_type y).bytes ++ s → (x ≡ y) × (r ≡ s)
 entity_begins (entity.FunctionExact m) y r s p q e = absurd cc
 entity_begins x (entity.FunctionExact n) r s p q e = absurd cc
-entity_begins (entity.Function x) (entity.Function y) r s p q e = let one = (after_byte 0x00 index_code).begins x y r s p.1 q.1 e in (ap entity.Function one.0, one.1)
+entity_begins (entity.Function x) (entity.Function y) r s p q e = let one = (after_byte 0x00 index_code).begins x y r s p.1 q.1 e
+    in (ap entity.Function one.0, one.1)
 entity_begins (entity.Table x) (entity.Table y) r s p q e = let one = (after_byte 0x01 table_type_code).begins x y r s p q e in (ap entity.Table one.0, one.1)
-entity_begins (entity.Memory x) (entity.Memory y) r s p q e = let one = (after_byte 0x02 memory_type_code).begins x y r s p q e in (ap entity.Memory one.0, one.1)
-entity_begins (entity.Global x) (entity.Global y) r s p q e = let one = (after_byte 0x03 global_type_code).begins x y r s p q e in (ap entity.Global one.0, one.1)
+entity_begins (entity.Memory x) (entity.Memory y) r s p q e = let one = (after_byte 0x02 memory_type_code).begins x y r s p q e
+    in (ap entity.Memory one.0, one.1)
+entity_begins (entity.Global x) (entity.Global y) r s p q e = let one = (after_byte 0x03 global_type_code).begins x y r s p q e
+    in (ap entity.Global one.0, one.1)
 entity_begins (entity.Tag x) (entity.Tag y) r s p q e = let one = (after_byte 0x04 tag_type_code).begins x y r s p q e in (ap entity.Tag one.0, one.1)
 entity_begins x y r s p q e = absurd (omega (arith, ap front e))
 

@@ -25,7 +25,8 @@ all_map P f (x ∷ xs) h = All-cons P (f x) (map f xs) (All-head (λ y. P (f y))
 -- of one and the other
 pub all_both : {A : Type 0} (P Q R : A → Type 0) → ((x : A) → P x → Q x → R x) → (xs : List A) → All P xs → All Q xs → All R xs
 all_both P Q R both [] p q = All-nil R
-all_both P Q R both (x ∷ xs) p q = All-cons R x xs (both x (All-head P x xs p) (All-head Q x xs q)) (all_both P Q R both xs (All-tail P x xs p) (All-tail Q x xs q))
+all_both P Q R both (x ∷ xs) p q = All-cons R x xs (both x (All-head P x xs p) (All-head Q x xs q))
+    (all_both P Q R both xs (All-tail P x xs p) (All-tail Q x xs q))
 
 pub both_true : (a b : Bool) → (a && b) ≡ true → (a ≡ true) × (b ≡ true)
 both_true true true e = (refl, refl)
@@ -41,11 +42,13 @@ all_tested p (x ∷ xs) e = let both = both_true (p x) (list_all p xs) e in All-
 pub flat_in_flat : {A B C : Type 0} (g : B → List C) (f : A → List B) (xs : List A) → flat_map (λ x. flat_map g (f x)) xs ≡ flat_map g (flat_map f xs)
 flat_in_flat g f [] = refl
 flat_in_flat g f (x ∷ xs) =
-    flat_map-cons (λ y. flat_map g (f y)) x xs ∙ ap (λ l. flat_map g (f x) ++ l) (flat_in_flat g f xs) ∙ sym (flat_map-append g (f x) (flat_map f xs)) ∙ ap (flat_map g) (sym (flat_map-cons f x xs))
+    flat_map-cons (λ y. flat_map g (f y)) x xs ∙ ap (λ l. flat_map g (f x) ++ l) (flat_in_flat g f xs)
+    ∙ sym (flat_map-append g (f x) (flat_map f xs)) ∙ ap (flat_map g) (sym (flat_map-cons f x xs))
 
 pub all_in_flat : {A B : Type 0} (P : B → Type 0) (f : A → List B) (xs : List A) → All (λ x. All P (f x)) xs → All P (flat_map f xs)
 all_in_flat P f [] h = All-nil P
-all_in_flat P f (x ∷ xs) h = subst (All P) (sym (flat_map-cons f x xs)) (All-append P (f x) (flat_map f xs) (All-head (λ y. All P (f y)) x xs h) (all_in_flat P f xs (All-tail (λ y. All P (f y)) x xs h)))
+all_in_flat P f (x ∷ xs) h = subst (All P) (sym (flat_map-cons f x xs)) (All-append P (f x) (flat_map f xs) (All-head (λ y. All P (f y)) x xs h)
+    (all_in_flat P f xs (All-tail (λ y. All P (f y)) x xs h)))
 
 pub all_of_flat : {A B : Type 0} (P : B → Type 0) (f : A → List B) (xs : List A) → All P (flat_map f xs) → All (λ x. All P (f x)) xs
 all_of_flat P f [] h = All-nil (λ x. All P (f x))

@@ -1,5 +1,6 @@
 -- The spellings of immediates show their value: bits, lists of value types, memory arguments, lanes, flags, orderings.
-use Rattle.std.proofs.Common.{◌≡◌, ◌<◌, ◌+◌, ◌*◌, ℕ, Bool, true, false, ◌&&◌, Option, Some, None, List, [], ◌∷◌, ◌++◌, length, refl, sym, ap, ◌∙◌, append_assoc, arith}
+use Rattle.std.proofs.Common.{◌≡◌, ◌<◌, ◌+◌, ◌*◌, ℕ, Bool, true, false, ◌&&◌, Option, Some, None, List, [], ◌∷◌, ◌++◌, length, refl, sym}
+use Rattle.std.proofs.Common.{ap, ◌∙◌, append_assoc, arith}
 use Rattle.std.proofs.lemmas.Bool.{eqb-true}
 use Rattle.std.proofs.lemmas.Nat.{from_le_bytes-to_le_bytes_4, from_le_bytes-to_le_bytes_8}
 use Rattle.std.specs.Int.{Width, w32, w64, to_le_bytes, from_le_bytes}
@@ -23,7 +24,8 @@ use Rattle.wasm_ops.proofs.TypeCodes.{val_type_code}
 
 -- ---- bits
 
-bits_code : {F : ℕ → Type 0} (w : Width) (count : ℕ) → ((n : ℕ) → length (to_le_bytes w n) ≡ count) → ((n : ℕ) → F n → from_le_bytes w (to_le_bytes w n) ≡ n) → IsCode ℕ F (to_le_bytes w)
+bits_code : {F : ℕ → Type 0} (w : Width) (count : ℕ) → ((n : ℕ) → length (to_le_bytes w n) ≡ count)
+    → ((n : ℕ) → F n → from_le_bytes w (to_le_bytes w n) ≡ n) → IsCode ℕ F (to_le_bytes w)
 bits_code w count long back = record {
   begins = λ m n r s p q e.
       let one = same_front (to_le_bytes w m) (to_le_bytes w n) r s (long m ∙ sym (long n)) e in
@@ -46,7 +48,8 @@ types_code = code_within (λ ts p. spellable_vec val_type ts p.0 p.1) (vec_code 
 -- a number behind another
 two_begin : (a b k l : ℕ) (r s : List ℕ) → (unsigned a ++ unsigned b) ++ r ≡ (unsigned k ++ unsigned l) ++ s → (a ≡ k) × (b ≡ l) × (r ≡ s)
 two_begin a b k l r s e =
-    let one = unsigned_begins a k (unsigned b ++ r) (unsigned l ++ s) (sym (append_assoc (unsigned a) (unsigned b) r) ∙ e ∙ append_assoc (unsigned k) (unsigned l) s) in
+    let one = unsigned_begins a k (unsigned b ++ r) (unsigned l ++ s) (sym (append_assoc (unsigned a) (unsigned b) r) ∙ e
+    ∙ append_assoc (unsigned k) (unsigned l) s) in
     let two = unsigned_begins b l r s one.1 in
     (one.0, two.0, two.1)
 
@@ -61,14 +64,18 @@ parts_begin true true x y r s f g p q e =
     let memory : x.1.0 ≡ y.1.0 = eqb-true x.1.0 0 f ∙ sym (eqb-true y.1.0 0 g) in
     (pair_is x y one.0 (pair_is x.1 y.1 memory one.1), one.2)
 parts_begin false false x y r s f g p q e =
-    let first = unsigned_begins (x.0 + 64) (y.0 + 64) ((unsigned x.1.0 ++ unsigned x.1.1) ++ r) ((unsigned y.1.0 ++ unsigned y.1.1) ++ s) (sym (append_assoc (unsigned (x.0 + 64)) (unsigned x.1.0 ++ unsigned x.1.1) r) ∙ e ∙ append_assoc (unsigned (y.0 + 64)) (unsigned y.1.0 ++ unsigned y.1.1) s) in
+    let first = unsigned_begins (x.0 + 64) (y.0 + 64) ((unsigned x.1.0 ++ unsigned x.1.1) ++ r) ((unsigned y.1.0 ++ unsigned y.1.1) ++ s)
+    (sym (append_assoc (unsigned (x.0 + 64)) (unsigned x.1.0 ++ unsigned x.1.1) r) ∙ e
+    ∙ append_assoc (unsigned (y.0 + 64)) (unsigned y.1.0 ++ unsigned y.1.1) s) in
     let one = two_begin x.1.0 x.1.1 y.1.0 y.1.1 r s first.1 in
     (pair_is x y (omega (arith, first.0)) (pair_is x.1 y.1 one.0 one.1), one.2)
 parts_begin true false x y r s f g p q e =
-    let first = unsigned_begins x.0 (y.0 + 64) (unsigned x.1.1 ++ r) ((unsigned y.1.0 ++ unsigned y.1.1) ++ s) (sym (append_assoc (unsigned x.0) (unsigned x.1.1) r) ∙ e ∙ append_assoc (unsigned (y.0 + 64)) (unsigned y.1.0 ++ unsigned y.1.1) s) in
+    let first = unsigned_begins x.0 (y.0 + 64) (unsigned x.1.1 ++ r) ((unsigned y.1.0 ++ unsigned y.1.1) ++ s)
+    (sym (append_assoc (unsigned x.0) (unsigned x.1.1) r) ∙ e ∙ append_assoc (unsigned (y.0 + 64)) (unsigned y.1.0 ++ unsigned y.1.1) s) in
     absurd (omega (arith, first.0))
 parts_begin false true x y r s f g p q e =
-    let first = unsigned_begins (x.0 + 64) y.0 ((unsigned x.1.0 ++ unsigned x.1.1) ++ r) (unsigned y.1.1 ++ s) (sym (append_assoc (unsigned (x.0 + 64)) (unsigned x.1.0 ++ unsigned x.1.1) r) ∙ e ∙ append_assoc (unsigned y.0) (unsigned y.1.1) s) in
+    let first = unsigned_begins (x.0 + 64) y.0 ((unsigned x.1.0 ++ unsigned x.1.1) ++ r) (unsigned y.1.1 ++ s)
+    (sym (append_assoc (unsigned (x.0 + 64)) (unsigned x.1.0 ++ unsigned x.1.1) r) ∙ e ∙ append_assoc (unsigned y.0) (unsigned y.1.1) s) in
     absurd (omega (arith, first.0))
 
 parts_code : IsCode Parts (λ x. (x.0 < 64) × (InRangeU32 x.1.0 × InRangeU64 x.1.1)) (λ x. memarg_bytes (nat_eq x.1.0 0) x.0 x.1.0 x.1.1)

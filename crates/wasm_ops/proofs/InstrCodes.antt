@@ -1,12 +1,15 @@
 -- The spellings of the instructions of the table show their value.
-use Rattle.std.proofs.Common.{◌≡◌, ◌<◌, ℕ, Bool, true, false, eqb, List, [], ◌∷◌, ◌++◌, length, Option, Some, refl, sym, ap, ◌∙◌, subst, append_assoc, arith, inl, inr, ◌⊎◌}
+use Rattle.std.proofs.Common.{◌≡◌, ◌<◌, ℕ, Bool, true, false, eqb, List, [], ◌∷◌, ◌++◌, length, Option, Some, refl, sym, ap, ◌∙◌, subst}
+use Rattle.std.proofs.Common.{append_assoc, arith, inl, inr, ◌⊎◌}
 use Rattle.std.proofs.lemmas.Bool.{eqb-true, ltb-true}
 use Rattle.wasm_ops.specs.Codes.{IsCode}
 use Rattle.wasm_ops.specs.Leb128.{unsigned}
 use Rattle.wasm_ops.specs.Opcodes.{opcode_bytes, same_opcode, is_apart}
 use Rattle.wasm_ops.specs.declared.opcodes.Opcode.{Opcode}
 use Rattle.wasm_ops.specs.declared.opcodes.Opcode.TheVariants.{Byte, Prefixed}
-use Rattle.wasm_ops.specs.Table.{Kind, Index, Signed32, Signed64, Bits32, Bits64, Heap, Types, Memarg, Block, Labels, Catches, Lane, Lanes, Nullables, Order, Row, Field, Fields, Instr, table, kinds_of, are_distinct, all_apart, IsInstr, field, fields, instr}
+use Rattle.wasm_ops.specs.Table.{Kind, Index, Signed32, Signed64, Bits32, Bits64, Heap, Types, Memarg, Block, Labels, Catches, Lane, Lanes}
+use Rattle.wasm_ops.specs.Table.{Nullables, Order, Row, Field, Fields, Instr, table, kinds_of, are_distinct, all_apart, IsInstr, field}
+use Rattle.wasm_ops.specs.Table.{fields, instr}
 use Rattle.wasm_ops.proofs.Numbers.{unsigned_begins}
 use Rattle.wasm_ops.proofs.Codes.{number_code, signed_code, byte_code, code_within, pair_code}
 use Rattle.wasm_ops.proofs.ControlCodes.{block_type_code, labels_code, catches_code}
@@ -100,10 +103,12 @@ abbrev instruction : (row : Row) → Fields row.kinds → Instr
 instruction row numbers = record { row = row; numbers = numbers }
 
 -- numbers of two rows that are one
-numbers_begin : (i j : Row) (x : Fields i.kinds) (y : Fields j.kinds) (r s : List ℕ) → i ≡ j → IsSpellableFields i.kinds x → IsSpellableFields j.kinds y → (fields i.kinds x).bytes ++ r ≡ (fields j.kinds y).bytes ++ s
+numbers_begin : (i j : Row) (x : Fields i.kinds) (y : Fields j.kinds) (r s : List ℕ) → i ≡ j → IsSpellableFields i.kinds x
+    → IsSpellableFields j.kinds y → (fields i.kinds x).bytes ++ r ≡ (fields j.kinds y).bytes ++ s
     → (instruction i x ≡ instruction j y) × (r ≡ s)
 numbers_begin i j x y r s e p q h =
-    let Motive : Row → Type 0 = λ l. (z : Fields l.kinds) → IsSpellableFields l.kinds z → (fields i.kinds x).bytes ++ r ≡ (fields l.kinds z).bytes ++ s → (instruction i x ≡ instruction l z) × (r ≡ s) in
+    let Motive : Row → Type 0 = λ l. (z : Fields l.kinds) → IsSpellableFields l.kinds z
+    → (fields i.kinds x).bytes ++ r ≡ (fields l.kinds z).bytes ++ s → (instruction i x ≡ instruction l z) × (r ≡ s) in
     let here : Motive i = λ z t f. let one = (fields_code i.kinds).begins x z r s p t f in (ap (instruction i) one.0, one.1) in
     subst Motive e here y q h
 
@@ -118,7 +123,9 @@ instr_code = record {
   begins = λ x y r s p q e.
       let xs = (fields x.row.kinds x.numbers).bytes in
       let ys = (fields y.row.kinds y.numbers).bytes in
-      let one = opcode_begins x.row.opcode y.row.opcode (xs ++ r) (ys ++ s) (apart_at x.row.opcode table x.row.kinds table_apart p.row) (apart_at y.row.opcode table y.row.kinds table_apart q.row) (sym (append_assoc (opcode_bytes x.row.opcode) xs r) ∙ e ∙ append_assoc (opcode_bytes y.row.opcode) ys s) in
+      let one = opcode_begins x.row.opcode y.row.opcode (xs ++ r) (ys ++ s) (apart_at x.row.opcode table x.row.kinds table_apart p.row)
+      (apart_at y.row.opcode table y.row.kinds table_apart q.row) (sym (append_assoc (opcode_bytes x.row.opcode) xs r) ∙ e
+      ∙ append_assoc (opcode_bytes y.row.opcode) ys s) in
       let kinds : x.row.kinds ≡ y.row.kinds = some_is x.row.kinds y.row.kinds (sym p.row ∙ ap (λ k. kinds_of k table) one.0 ∙ q.row) in
       let f : Opcode → Row = λ k. record { opcode = k; kinds = x.row.kinds } in
       let g : List Kind → Row = λ ks. record { opcode = y.row.opcode; kinds = ks } in

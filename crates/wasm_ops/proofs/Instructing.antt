@@ -1,5 +1,6 @@
 -- The instructions of the code are rows of the table, and are spelled as these.
-use Rattle.std.proofs.Common.{◌≡◌, ◌/◌, ◌%◌, ℕ, Bool, true, false, List, [], ◌∷◌, ◌++◌, Option, Some, None, Result, subst, append-nil, ap, sym, refl, ◌∙◌, arith}
+use Rattle.std.proofs.Common.{◌≡◌, ◌/◌, ◌%◌, ℕ, Bool, true, false, List, [], ◌∷◌, ◌++◌, Option, Some, None, Result, subst, append-nil, ap}
+use Rattle.std.proofs.Common.{sym, refl, ◌∙◌, arith}
 use Rattle.std.specs.List.{list_all}
 use Rattle.std.specs.Option.{option_map, option_to_list}
 use Rattle.std.specs.Prelude.{All, nat_lt}
@@ -70,7 +71,8 @@ use Rattle.wasm_ops.specs.Opcodes.{opcode_of, opcode_bytes, InRangeOpcode}
 use Rattle.wasm_ops.specs.SelectInstrs.{select_instr, select_bytes}
 use Rattle.wasm_ops.specs.Sinks.{SinkRules, Writes}
 use Rattle.wasm_ops.specs.Spelling.{InRangeU32, vec, InRangeVec, heap_type, val_type}
-use Rattle.wasm_ops.specs.Table.{Kind, Index, Signed32, Signed64, Bits32, Bits64, Heap, Memarg, Block, Labels, Catches, Lane, Lanes, Nullables, Order, Field, kinds_of, table, Instr, HasRow, field, instr}
+use Rattle.wasm_ops.specs.Table.{Kind, Index, Signed32, Signed64, Bits32, Bits64, Heap, Memarg, Block, Labels, Catches, Lane, Lanes}
+use Rattle.wasm_ops.specs.Table.{Nullables, Order, Field, kinds_of, table, Instr, HasRow, field, instr}
 use Rattle.wasm_ops.specs.VectorInstrs.{lanes_key}
 use Rattle.wasm_ops.proofs.Everywhere.{all_one}
 use Rattle.wasm_ops.proofs.Sinking.{puts_as, written_as}
@@ -273,16 +275,19 @@ opcode_in_range key = within (nat_lt key 0x100)
 
 -- an opcode of this key, before what follows
 pub opcode_written : {S A : Type 0} (rules : SinkRules S) (a b : S) (opcode : Opcode) (key : ℕ) (InRange : Type 0) (bytes : List ℕ) (r : Result A Refusal)
-    → opcode ≡ opcode_of key → Writes rules (InRangeOpcode opcode × InRange) a b (opcode_bytes opcode ++ bytes) r → Writes rules InRange a b (opcode_bytes (opcode_of key) ++ bytes) r
+    → opcode ≡ opcode_of key → Writes rules (InRangeOpcode opcode × InRange) a b (opcode_bytes opcode ++ bytes) r
+    → Writes rules InRange a b (opcode_bytes (opcode_of key) ++ bytes) r
 opcode_written rules a b opcode key InRange bytes r is p =
     puts_as rules (InRangeOpcode (opcode_of key) × InRange) InRange a b (opcode_bytes (opcode_of key) ++ bytes) r (λ h. h.1) (λ h. (opcode_in_range key, h))
     (subst (λ o. Writes rules (InRangeOpcode o × InRange) a b (opcode_bytes o ++ bytes) r) is p)
 
 -- an opcode of this key, before nothing
 pub plain_written : {S A : Type 0} (rules : SinkRules S) (a b : S) (opcode : Opcode) (key : ℕ) (r : Result A Refusal)
-    → opcode ≡ opcode_of key → Writes rules (InRangeOpcode opcode) a b (opcode_bytes opcode) r → Writes rules (Unit {0}) a b (opcode_bytes (opcode_of key) ++ []) r
+    → opcode ≡ opcode_of key → Writes rules (InRangeOpcode opcode) a b (opcode_bytes opcode) r
+    → Writes rules (Unit {0}) a b (opcode_bytes (opcode_of key) ++ []) r
 plain_written rules a b opcode key r is p =
-    written_as rules (InRangeOpcode (opcode_of key)) (Unit {0}) a b (opcode_bytes (opcode_of key)) (opcode_bytes (opcode_of key) ++ []) r (λ h. tt) (λ h. opcode_in_range key) (sym (append-nil (opcode_bytes (opcode_of key))))
+    written_as rules (InRangeOpcode (opcode_of key)) (Unit {0}) a b (opcode_bytes (opcode_of key)) (opcode_bytes (opcode_of key) ++ []) r (λ h. tt)
+    (λ h. opcode_in_range key) (sym (append-nil (opcode_bytes (opcode_of key))))
     (subst (λ o. Writes rules (InRangeOpcode o) a b (opcode_bytes o) r) is p)
 
 -- what has one immediate, and what has two
@@ -293,31 +298,40 @@ abbrev two : ℕ → (kind other : Kind) → Field kind → Field other → Inst
 two key kind other x y = record { row = record { opcode = opcode_of key; kinds = kind ∷ other ∷ [] }; numbers = (x, (y, tt)) }
 
 pub one_written : {S A : Type 0} (rules : SinkRules S) (a b : S) (key : ℕ) (kind : Kind) (x : Field kind) (InRange : Type 0) (r : Result A Refusal)
-    → (InRange → (field kind x).in_range) → ((field kind x).in_range → InRange) → Writes rules InRange a b (opcode_bytes (opcode_of key) ++ (field kind x).bytes) r
+    → (InRange → (field kind x).in_range) → ((field kind x).in_range → InRange)
+    → Writes rules InRange a b (opcode_bytes (opcode_of key) ++ (field kind x).bytes) r
     → Writes rules (instr (one key kind x)).in_range a b (instr (one key kind x)).bytes r
 one_written rules a b key kind x InRange r f g p =
-    written_as rules InRange (instr (one key kind x)).in_range a b (opcode_bytes (opcode_of key) ++ (field kind x).bytes) (instr (one key kind x)).bytes r (λ h. (f h, tt)) (λ i. g i.0)
+    written_as rules InRange (instr (one key kind x)).in_range a b (opcode_bytes (opcode_of key) ++ (field kind x).bytes)
+    (instr (one key kind x)).bytes r (λ h. (f h, tt)) (λ i. g i.0)
     (ap (λ bytes. opcode_bytes (opcode_of key) ++ bytes) (sym (append-nil (field kind x).bytes))) p
 
-pub two_written : {S A : Type 0} (rules : SinkRules S) (a b : S) (key : ℕ) (kind other : Kind) (x : Field kind) (y : Field other) (InRange : Type 0) (r : Result A Refusal)
+pub two_written : {S A : Type 0} (rules : SinkRules S) (a b : S) (key : ℕ) (kind other : Kind) (x : Field kind) (y : Field other) (InRange : Type 0)
+    (r : Result A Refusal)
     → (InRange → (field kind x).in_range × (field other y).in_range) → ((field kind x).in_range × (field other y).in_range → InRange)
     → Writes rules InRange a b (opcode_bytes (opcode_of key) ++ ((field kind x).bytes ++ (field other y).bytes)) r
     → Writes rules (instr (two key kind other x y)).in_range a b (instr (two key kind other x y)).bytes r
 two_written rules a b key kind other x y InRange r f g p =
-    written_as rules InRange (instr (two key kind other x y)).in_range a b (opcode_bytes (opcode_of key) ++ ((field kind x).bytes ++ (field other y).bytes)) (instr (two key kind other x y)).bytes r
+    written_as rules InRange (instr (two key kind other x y)).in_range a b
+    (opcode_bytes (opcode_of key) ++ ((field kind x).bytes ++ (field other y).bytes)) (instr (two key kind other x y)).bytes r
     (λ h. let both = f h in (both.0, (both.1, tt))) (λ i. g (i.0, i.1.0))
     (ap (λ bytes. opcode_bytes (opcode_of key) ++ ((field kind x).bytes ++ bytes)) (sym (append-nil (field other y).bytes))) p
 
 -- a branch on a cast, by its flags, label and heap types
 pub br_cast_written : {S A : Type 0} (rules : SinkRules S) (a b : S) (op : BrCastOp) (label : ℕ) (from to : RefType) (InRange : Type 0) (r : Result A Refusal)
-    → (InRange → InRangeU32 label × ((heap_type from.heap_type).in_range × (heap_type to.heap_type).in_range)) → (InRangeU32 label × ((heap_type from.heap_type).in_range × (heap_type to.heap_type).in_range) → InRange)
-    → Writes rules InRange a b (opcode_bytes (opcode_of (br_cast_key op)) ++ (nullables from.nullable to.nullable ∷ (unsigned label ++ ((heap_type from.heap_type).bytes ++ (heap_type to.heap_type).bytes)))) r
+    → (InRange → InRangeU32 label × ((heap_type from.heap_type).in_range × (heap_type to.heap_type).in_range))
+    → (InRangeU32 label × ((heap_type from.heap_type).in_range × (heap_type to.heap_type).in_range) → InRange)
+    → Writes rules InRange a b (opcode_bytes (opcode_of (br_cast_key op)) ++
+    (nullables from.nullable to.nullable ∷ (unsigned label ++ ((heap_type from.heap_type).bytes ++ (heap_type to.heap_type).bytes)))) r
     → Writes rules (instr (br_cast_instr op label from to)).in_range a b (instr (br_cast_instr op label from to)).bytes r
 br_cast_written rules a b op label from to InRange r f g p =
     let front = opcode_bytes (opcode_of (br_cast_key op)) in
-    written_as rules InRange (instr (br_cast_instr op label from to)).in_range a b (front ++ (nullables from.nullable to.nullable ∷ (unsigned label ++ ((heap_type from.heap_type).bytes ++ (heap_type to.heap_type).bytes)))) (instr (br_cast_instr op label from to)).bytes r
+    written_as rules InRange (instr (br_cast_instr op label from to)).in_range a b
+    (front ++ (nullables from.nullable to.nullable ∷ (unsigned label ++ ((heap_type from.heap_type).bytes ++ (heap_type to.heap_type).bytes))))
+    (instr (br_cast_instr op label from to)).bytes r
     (λ h. let is = f h in (tt, (is.0, (is.1.0, (is.1.1, tt))))) (λ i. g (i.1.0, (i.1.1.0, i.1.1.1.0)))
-    (ap (λ bytes. front ++ (nullables from.nullable to.nullable ∷ (unsigned label ++ ((heap_type from.heap_type).bytes ++ bytes)))) (sym (append-nil (heap_type to.heap_type).bytes))) p
+    (ap (λ bytes. front ++ (nullables from.nullable to.nullable ∷ (unsigned label ++ ((heap_type from.heap_type).bytes ++ bytes))))
+    (sym (append-nil (heap_type to.heap_type).bytes))) p
 
 -- ---- branches by a table, with what spells their labels, and blocks, with what spells their clauses
 
@@ -329,8 +343,10 @@ br_table_written rules a b labels default bytes InRange r same f g p =
     two_written rules a b 0x0e Labels Index labels default (InRange × InRangeU32 default) r (λ h. (f h.0, h.1)) (λ h. (g h.0, h.1))
     (subst (λ l. Writes rules (InRange × InRangeU32 default) a b (br_table_bytes l default) r) same p)
 
-pub try_table_written : {S A : Type 0} (rules : SinkRules S) (a b : S) (ty : BlockType) (clauses : List Catch) (bytes : List ℕ) (InRange : Type 0) (r : Result A Refusal)
-    → bytes ≡ vec (λ x. (catch_clause x).bytes) clauses → (InRange → InRangeVec (λ x. (catch_clause x).in_range) clauses) → (InRangeVec (λ x. (catch_clause x).in_range) clauses → InRange)
+pub try_table_written : {S A : Type 0} (rules : SinkRules S) (a b : S) (ty : BlockType) (clauses : List Catch) (bytes : List ℕ) (InRange : Type 0)
+    (r : Result A Refusal)
+    → bytes ≡ vec (λ x. (catch_clause x).bytes) clauses → (InRange → InRangeVec (λ x. (catch_clause x).in_range) clauses)
+    → (InRangeVec (λ x. (catch_clause x).in_range) clauses → InRange)
     → Writes rules ((block_type ty).in_range × InRange) a b (try_table_bytes ty bytes) r
     → Writes rules (instr (try_table_instr ty clauses)).in_range a b (instr (try_table_instr ty clauses)).bytes r
 try_table_written rules a b ty clauses bytes InRange r same f g p =
@@ -339,18 +355,23 @@ try_table_written rules a b ty clauses bytes InRange r same f g p =
 
 -- ---- choices, with what spells their types
 
-pub select_written : {S A X : Type 0} (rules : SinkRules S) (spell : X → List ℕ) (InRange : X → Type 0) (types : X → List ValType) (a b : S) (o : Option X) (r : Result A Refusal)
-    → ((x : X) → spell x ≡ vec (λ x. (val_type x).bytes) (types x)) → ((x : X) → InRange x → InRangeVec (λ x. (val_type x).in_range) (types x)) → ((x : X) → InRangeVec (λ x. (val_type x).in_range) (types x) → InRange x)
+pub select_written : {S A X : Type 0} (rules : SinkRules S) (spell : X → List ℕ) (InRange : X → Type 0) (types : X → List ValType) (a b : S)
+    (o : Option X) (r : Result A Refusal)
+    → ((x : X) → spell x ≡ vec (λ x. (val_type x).bytes) (types x)) → ((x : X) → InRange x → InRangeVec (λ x. (val_type x).in_range) (types x))
+    → ((x : X) → InRangeVec (λ x. (val_type x).in_range) (types x) → InRange x)
     → Writes rules (All InRange (option_to_list o)) a b (select_bytes (option_map spell o)) r
     → Writes rules (instr (select_instr (option_map types o))).in_range a b (instr (select_instr (option_map types o))).bytes r
 select_written rules spell InRange types a b None r same f g p =
     puts_as rules (All InRange []) (Unit {0}) a b (0x1b ∷ []) r (λ h. tt) (λ h. All-nil InRange) p
 select_written rules spell InRange types a b (Some x) r same f g p =
-    written_as rules (All InRange (x ∷ [])) (instr (select_instr (Some (types x)))).in_range a b (0x1c ∷ spell x) (instr (select_instr (Some (types x)))).bytes r
+    written_as rules (All InRange (x ∷ [])) (instr (select_instr (Some (types x)))).in_range a b (0x1c ∷ spell x)
+    (instr (select_instr (Some (types x)))).bytes r
     (λ h. (f x (All-head InRange x [] h), tt)) (λ i. all_one InRange x (g x i.0))
     (ap (λ bytes. 0x1c ∷ bytes) (same x ∙ sym (append-nil (vec (λ x. (val_type x).bytes) (types x))))) p
 
 -- the same of what holds value types
-pub lists_covered : {X : Type 0} (types : X → List ValType) (o : Option X) → list_all (λ x. list_all (λ x. (val_type x).is_covered) (types x)) (option_to_list o) ≡ true → (instr (select_instr (option_map types o))).is_covered ≡ true
+pub lists_covered : {X : Type 0} (types : X → List ValType) (o : Option X)
+    → list_all (λ x. list_all (λ x. (val_type x).is_covered) (types x)) (option_to_list o) ≡ true
+    → (instr (select_instr (option_map types o))).is_covered ≡ true
 lists_covered types None h = refl
 lists_covered types (Some x) h = h

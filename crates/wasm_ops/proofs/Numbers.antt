@@ -61,7 +61,8 @@ unsigned_in-fuel (suc k) zero n le lf = unsigned_in-small (suc k) n (omega arith
 unsigned_in-fuel (suc k) (suc j) n le lf =
     elim (cases_lt n 128) [
       | inl lt ↦ unsigned_in-small (suc k) n lt ∙ sym (unsigned_in-small (suc j) n lt)
-      | inr ge ↦ unsigned_in-large k n ge ∙ ap (λ bs. (128 + n % 128) ∷ bs) (unsigned_in-fuel k j (n / 128) (omega arith) (omega arith)) ∙ sym (unsigned_in-large j n ge)
+      | inr ge ↦ unsigned_in-large k n ge ∙ ap (λ bs. (128 + n % 128) ∷ bs) (unsigned_in-fuel k j (n / 128) (omega arith) (omega arith))
+          ∙ sym (unsigned_in-large j n ge)
     ]
 
 pub unsigned-small : (n : ℕ) → n < 128 → unsigned n ≡ n ∷ []
@@ -71,7 +72,8 @@ unsigned-small n lt = unsigned_in-small n n lt
 pub unsigned-large : (n : ℕ) → 128 ≤ n → unsigned n ≡ (128 + n % 128) ∷ unsigned (n / 128)
 unfolding unsigned
 unsigned-large zero ge = absurd (omega arith)
-unsigned-large (suc k) ge = unsigned_in-large k (suc k) ge ∙ ap (λ bs. (128 + suc k % 128) ∷ bs) (unsigned_in-fuel k (suc k / 128) (suc k / 128) (omega arith) (omega arith))
+unsigned-large (suc k) ge = unsigned_in-large k (suc k) ge
+    ∙ ap (λ bs. (128 + suc k % 128) ∷ bs) (unsigned_in-fuel k (suc k / 128) (suc k / 128) (omega arith) (omega arith))
 
 -- as many bytes as the number's size asks
 pub unsigned_fits : (k n : ℕ) → n < 128 ^ suc k → length (unsigned n) ≤ suc k

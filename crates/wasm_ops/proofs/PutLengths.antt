@@ -1,5 +1,6 @@
 -- A value behind a number, for which a byte is kept until the value is there.
-use Rattle.std.proofs.Common.{◌≡◌, ◌≤◌, ◌<◌, ◌+◌, ◌-◌, ℕ, Bool, true, false, List, [], ◌∷◌, ◌++◌, Result, Ok, Err, is_err, ap, subst, inl, inr, arith, length, length-append}
+use Rattle.std.proofs.Common.{◌≡◌, ◌≤◌, ◌<◌, ◌+◌, ◌-◌, ℕ, Bool, true, false, List, [], ◌∷◌, ◌++◌, Result, Ok, Err, is_err, ap, subst, inl}
+use Rattle.std.proofs.Common.{inr, arith, length, length-append}
 use Rattle.wasm_ops.specs.Leb128.{unsigned}
 use Rattle.wasm_ops.specs.declared.sink.Refusal.{Refusal}
 use Rattle.wasm_ops.specs.Sinks.{SinkRules, Writes, Sets, AppendLaws}
@@ -67,8 +68,10 @@ unset_within rules c d n m true laws lt k says_no = absurd cc
 unset_within rules c d n m false laws lt k says_no = omega (arith, laws.grows c d [] k, lt)
 
 -- the number was not set, all is cut off, and put anew
-pub put_anew : {S A : Type 0} (rules : SinkRules S) (one all : Type 0) (a c d e f : S) (byte m : ℕ) (y whole : List ℕ) (n : ℕ) (says : Bool) (r : Result A Refusal)
-    → AppendLaws rules → rules.appended a c (byte ∷ y) → n ≡ rules.size_of a → Sets rules c d n m says → says ≡ false → rules.is_cut d n e → (one → all) → (all → one) → Writes rules one e f whole r → Writes rules all a f whole r
+pub put_anew : {S A : Type 0} (rules : SinkRules S) (one all : Type 0) (a c d e f : S) (byte m : ℕ) (y whole : List ℕ) (n : ℕ) (says : Bool)
+    (r : Result A Refusal)
+    → AppendLaws rules → rules.appended a c (byte ∷ y) → n ≡ rules.size_of a → Sets rules c d n m says → says ≡ false → rules.is_cut d n e
+    → (one → all) → (all → one) → Writes rules one e f whole r → Writes rules all a f whole r
 put_anew rules one all a c d e f byte m y whole n true r laws h at k says_no cut from to p = absurd cc
 put_anew rules one all a c d e f byte m y whole n false r laws h at k says_no cut from to p =
     let put = laws.joins a c d (byte ∷ y) [] h k in

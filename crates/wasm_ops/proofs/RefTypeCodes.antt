@@ -23,7 +23,8 @@ front (b ∷ bs) = b
 -- the abstract heap types in the order of their bytes, from 0x68 on
 abbrev abstract_at : ℕ → AbstractHeapType
 abstract_at byte =
-    get_or (heaps.Cont ∷ heaps.Exn ∷ heaps.Array ∷ heaps.Struct ∷ heaps.I31 ∷ heaps.Eq ∷ heaps.Any ∷ heaps.Extern ∷ heaps.Func ∷ heaps.None ∷ heaps.NoExtern ∷ heaps.NoFunc ∷ heaps.NoExn ∷ heaps.NoCont ∷ []) (byte - 0x68) heaps.Func
+    get_or (heaps.Cont ∷ heaps.Exn ∷ heaps.Array ∷ heaps.Struct ∷ heaps.I31 ∷ heaps.Eq ∷ heaps.Any ∷ heaps.Extern ∷ heaps.Func ∷ heaps.None
+    ∷ heaps.NoExtern ∷ heaps.NoFunc ∷ heaps.NoExn ∷ heaps.NoCont ∷ []) (byte - 0x68) heaps.Func
 
 abstract_shown : (t : AbstractHeapType) → abstract_at (abstract_byte t) ≡ t
 abstract_shown heaps.Func = refl
@@ -53,7 +54,8 @@ abstract_apart t n r s e = let h = abstract_range t in index_apart n (abstract_b
 pub not_true : {A : Type 0} → IsTrue false → A
 not_true h = absurd cc
 
-heap_begins : (x y : HeapType) (r s : List ℕ) → Spellable (heap_type x) → Spellable (heap_type y) → (heap_type x).bytes ++ r ≡ (heap_type y).bytes ++ s → (x ≡ y) × (r ≡ s)
+heap_begins : (x y : HeapType) (r s : List ℕ) → Spellable (heap_type x) → Spellable (heap_type y)
+    → (heap_type x).bytes ++ r ≡ (heap_type y).bytes ++ s → (x ≡ y) × (r ≡ s)
 heap_begins (heap.Abstract false a) (heap.Abstract false b) r s p q e =
     let one = abstract_code.begins a b r s tt tt e in
     let f : AbstractHeapType → HeapType = λ t. heap.Abstract false t in
@@ -75,13 +77,15 @@ heap_type_code = record { begins = heap_begins }
 
 -- ---- reference types
 
-short_front : (h : HeapType) (r : List ℕ) → Spellable (heap_type h) → is_short h ≡ true → (0x68 ≤ front ((heap_type h).bytes ++ r)) × (front ((heap_type h).bytes ++ r) ≤ 0x75)
+short_front : (h : HeapType) (r : List ℕ) → Spellable (heap_type h) → is_short h ≡ true
+    → (0x68 ≤ front ((heap_type h).bytes ++ r)) × (front ((heap_type h).bytes ++ r) ≤ 0x75)
 short_front (heap.Abstract false ty) r p short = abstract_range ty
 short_front (heap.Abstract true ty) r p short = not_true p.0
 short_front (heap.Concrete n) r p short = not_true short
 short_front (heap.Exact n) r p short = not_true short
 
-ref_begins : (m n a b : Bool) (h k : HeapType) (r s : List ℕ) → Spellable (heap_type h) → Spellable (heap_type k) → is_short h ≡ a → is_short k ≡ b → ref_bytes m a (heap_type h).bytes ++ r ≡ ref_bytes n b (heap_type k).bytes ++ s
+ref_begins : (m n a b : Bool) (h k : HeapType) (r s : List ℕ) → Spellable (heap_type h) → Spellable (heap_type k) → is_short h ≡ a → is_short k ≡ b
+    → ref_bytes m a (heap_type h).bytes ++ r ≡ ref_bytes n b (heap_type k).bytes ++ s
     → (m ≡ n) × (h ≡ k) × (r ≡ s)
 ref_begins true true true true h k r s p q u v e = let one = heap_begins h k r s p q e in (refl, one.0, one.1)
 ref_begins true true false false h k r s p q u v e = let one = (after_byte 0x63 heap_type_code).begins h k r s p q e in (refl, one.0, one.1)
@@ -105,7 +109,8 @@ ref_type_code = record {
 pub ref_front : (t : RefType) (r : List ℕ) → Spellable (ref_type t) → (0x63 ≤ front ((ref_type t).bytes ++ r)) × (front ((ref_type t).bytes ++ r) ≤ 0x75)
 ref_front t r p = by_bytes t.nullable (is_short t.heap_type) t.heap_type r p refl
   where
-    by_bytes : (m a : Bool) (h : HeapType) (r : List ℕ) → Spellable (heap_type h) → is_short h ≡ a → (0x63 ≤ front (ref_bytes m a (heap_type h).bytes ++ r)) × (front (ref_bytes m a (heap_type h).bytes ++ r) ≤ 0x75)
+    by_bytes : (m a : Bool) (h : HeapType) (r : List ℕ) → Spellable (heap_type h) → is_short h ≡ a
+        → (0x63 ≤ front (ref_bytes m a (heap_type h).bytes ++ r)) × (front (ref_bytes m a (heap_type h).bytes ++ r) ≤ 0x75)
     by_bytes true true h r p u = let one = short_front h r p u in (omega (arith, one.0), one.1)
     by_bytes true false h r p u = (omega arith, omega arith)
     by_bytes false a h r p u = (omega arith, omega arith)

@@ -1,5 +1,6 @@
 -- A number's bytes in the place of one byte, digit by digit.
-use Rattle.std.proofs.Common.{◌≡◌, ◌≤◌, ◌<◌, ◌+◌, ◌/◌, ◌%◌, ℕ, List, [], ◌∷◌, ◌++◌, take, drop, get_or, set, length, sym, ap, ◌∙◌, append_assoc, add-one, arith, drop-cons}
+use Rattle.std.proofs.Common.{◌≡◌, ◌≤◌, ◌<◌, ◌+◌, ◌/◌, ◌%◌, ℕ, List, [], ◌∷◌, ◌++◌, take, drop, get_or, set, length, sym, ap, ◌∙◌}
+use Rattle.std.proofs.Common.{append_assoc, add-one, arith, drop-cons}
 use Rattle.std.specs.List.{insert}
 use Rattle.std.proofs.lemmas.List.{length-take-le, set_split}
 use Rattle.std.proofs.Math.Seq.{take-append-add, drop-append-add}
@@ -14,8 +15,10 @@ digit_set xs at n lt large =
     let front = take at xs in
     let back = drop at xs in
     let long : length front ≡ at = length-take-le at xs (omega (arith, lt)) in
-    let first : take (at + 1) (front ++ d ∷ back) ≡ front ++ d ∷ [] = ap (λ k. take (k + 1) (front ++ d ∷ back)) (sym long) ∙ take-append-add front (d ∷ back) 1 in
-    let behind : drop (at + 1 + 1) (front ++ d ∷ back) ≡ drop 1 back = ap (λ k. drop (k + 1 + 1) (front ++ d ∷ back)) (sym long) ∙ ap (λ k. drop k (front ++ d ∷ back)) (two (length front)) ∙ drop-append-add front (d ∷ back) 2 in
+    let first : take (at + 1) (front ++ d ∷ back) ≡ front ++ d ∷ [] = ap (λ k. take (k + 1) (front ++ d ∷ back)) (sym long)
+    ∙ take-append-add front (d ∷ back) 1 in
+    let behind : drop (at + 1 + 1) (front ++ d ∷ back) ≡ drop 1 back = ap (λ k. drop (k + 1 + 1) (front ++ d ∷ back)) (sym long)
+    ∙ ap (λ k. drop k (front ++ d ∷ back)) (two (length front)) ∙ drop-append-add front (d ∷ back) 2 in
     let rest : drop 1 back ≡ drop (at + 1) xs = ap (drop 1) (drop-cons xs at (get_or xs at 0) lt) ∙ ap (λ k. drop k xs) (sym (add-one at)) in
     ap (λ l. l ++ (unsigned (n / 128) ++ drop (at + 1 + 1) (front ++ d ∷ back))) first
     ∙ ap (λ l. (front ++ d ∷ []) ++ (unsigned (n / 128) ++ l)) (behind ∙ rest)

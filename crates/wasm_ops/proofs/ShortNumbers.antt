@@ -11,7 +11,8 @@ unsigned-two n large small =
     unsigned-large n large ∙ ap (λ bs. (128 + n % 128) ∷ bs) (unsigned-small (n / 128) last)
 
 -- -300 is 0xd4 0x7d
-pub digits-two : (negative : Bool) (n : ℕ) → 64 ≤ n → n < 8192 → digits negative n ≡ (128 + complement_if negative (n % 128)) ∷ complement_if negative (n / 128) ∷ []
+pub digits-two : (negative : Bool) (n : ℕ) → 64 ≤ n → n < 8192
+    → digits negative n ≡ (128 + complement_if negative (n % 128)) ∷ complement_if negative (n / 128) ∷ []
 digits-two negative n large small =
     let last : n / 128 < 64 = omega (arith, small) in
     digits-large negative n large ∙ ap (λ bs. (128 + complement_if negative (n % 128)) ∷ bs) (digits-small negative (n / 128) last)

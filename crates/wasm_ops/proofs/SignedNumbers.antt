@@ -1,5 +1,6 @@
 -- Each signed number has one spelling, and no spelling begins another.
-use Rattle.std.proofs.Common.{◌≡◌, ◌^◌, ◌<◌, ◌≤◌, ℕ, zero, suc, ◌+◌, ◌-◌, ◌*◌, ◌/◌, ◌%◌, Bool, true, false, List, [], ◌∷◌, ◌++◌, length, refl, sym, ap, ◌∙◌, subst, arith, inl, inr}
+use Rattle.std.proofs.Common.{◌≡◌, ◌^◌, ◌<◌, ◌≤◌, ℕ, zero, suc, ◌+◌, ◌-◌, ◌*◌, ◌/◌, ◌%◌, Bool, true, false, List, [], ◌∷◌, ◌++◌, length}
+use Rattle.std.proofs.Common.{refl, sym, ap, ◌∙◌, subst, arith, inl, inr}
 use Rattle.std.specs.Prelude.{ℤ, pos, negsuc}
 use Rattle.std.proofs.Math.Nat.{pow-suc}
 use Rattle.std.proofs.lemmas.Bool.{cases_lt, lt-ltb, le-ltb, ltb-true}
@@ -22,7 +23,8 @@ unfolding signed_in
 signed_in-large b k n le = rw (le-ltb n 64 le, signed_in) refl
 
 -- one more byte in front
-signed-cons : (b : Bool) (n : ℕ) (bs : List ℕ) → IsChain bs → HasSigned bs (int_of b (n / 128)) → IsChain ((128 + complement_if b (n % 128)) ∷ bs) × HasSigned ((128 + complement_if b (n % 128)) ∷ bs) (int_of b n)
+signed-cons : (b : Bool) (n : ℕ) (bs : List ℕ) → IsChain bs → HasSigned bs (int_of b (n / 128))
+    → IsChain ((128 + complement_if b (n % 128)) ∷ bs) × HasSigned ((128 + complement_if b (n % 128)) ∷ bs) (int_of b n)
 signed-cons b n [] h s = absurd h
 signed-cons false n (c ∷ cs) h s = ((omega arith, omega arith, h), (s.0, omega (arith, s.1)))
 signed-cons true n (c ∷ cs) h s = ((omega arith, omega arith, h), (s.0, rw (pow-suc 128 (length (c ∷ cs))) (omega (arith, s.1))))
@@ -60,8 +62,16 @@ signed_in-shortest b (suc k) n (p ∷ c ∷ ps) le h s =
 
 pub signed_spells : (z : ℤ) → SpellsSigned (signed z) z
 unfolding signed
-signed_spells (pos n) = let r = signed_in-is false n n (omega arith) in record { chain = r.0; sum = r.1; shortest = λ other h s. signed_in-shortest false n n other (omega arith) h s }
-signed_spells (negsuc n) = let r = signed_in-is true n n (omega arith) in record { chain = r.0; sum = r.1; shortest = λ other h s. signed_in-shortest true n n other (omega arith) h s }
+signed_spells (pos n) = let r = signed_in-is false n n (omega arith) in record {
+  chain = r.0;
+  sum = r.1;
+  shortest = λ other h s. signed_in-shortest false n n other (omega arith) h s;
+}
+signed_spells (negsuc n) = let r = signed_in-is true n n (omega arith) in record {
+  chain = r.0;
+  sum = r.1;
+  shortest = λ other h s. signed_in-shortest true n n other (omega arith) h s;
+}
 
 -- bytes stand for one number
 pub one_signed : (bytes : List ℕ) (y z : ℤ) → HasSigned bytes y → HasSigned bytes z → y ≡ z
@@ -95,7 +105,8 @@ signed_in-fuel b (suc k) zero n le lf = signed_in-small b (suc k) n (omega arith
 signed_in-fuel b (suc k) (suc j) n le lf =
     elim (cases_lt n 64) [
       | inl lt ↦ signed_in-small b (suc k) n lt ∙ sym (signed_in-small b (suc j) n lt)
-      | inr ge ↦ signed_in-large b k n ge ∙ ap (λ bs. (128 + complement_if b (n % 128)) ∷ bs) (signed_in-fuel b k j (n / 128) (omega arith) (omega arith)) ∙ sym (signed_in-large b j n ge)
+      | inr ge ↦ signed_in-large b k n ge
+          ∙ ap (λ bs. (128 + complement_if b (n % 128)) ∷ bs) (signed_in-fuel b k j (n / 128) (omega arith) (omega arith)) ∙ sym (signed_in-large b j n ge)
     ]
 
 pub digits-small : (b : Bool) (n : ℕ) → n < 64 → digits b n ≡ complement_if b n ∷ []
@@ -105,7 +116,8 @@ digits-small b n lt = signed_in-small b n n lt
 pub digits-large : (b : Bool) (n : ℕ) → 64 ≤ n → digits b n ≡ (128 + complement_if b (n % 128)) ∷ digits b (n / 128)
 unfolding digits
 digits-large b zero ge = absurd (omega arith)
-digits-large b (suc k) ge = signed_in-large b k (suc k) ge ∙ ap (λ bs. (128 + complement_if b (suc k % 128)) ∷ bs) (signed_in-fuel b k (suc k / 128) (suc k / 128) (omega arith) (omega arith))
+digits-large b (suc k) ge = signed_in-large b k (suc k) ge
+    ∙ ap (λ bs. (128 + complement_if b (suc k % 128)) ∷ bs) (signed_in-fuel b k (suc k / 128) (suc k / 128) (omega arith) (omega arith))
 
 pub digits_fit : (b : Bool) (k n : ℕ) → n < 64 * 128 ^ k → length (digits b n) ≤ suc k
 digits_fit b zero n lt = rw (digits-small b n (omega arith)) (omega arith)

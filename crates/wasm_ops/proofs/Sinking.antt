@@ -1,5 +1,6 @@
 -- One append after another, and what is cut back.
-use Rattle.std.proofs.Common.{◌≡◌, ◌≤◌, ◌<◌, ◌+◌, ◌-◌, ℕ, Bool, true, false, List, [], ◌∷◌, ◌++◌, Result, Ok, Err, is_err, refl, sym, ap, ◌∙◌, subst, inl, inr, arith, length, take, get_or, append-nil}
+use Rattle.std.proofs.Common.{◌≡◌, ◌≤◌, ◌<◌, ◌+◌, ◌-◌, ℕ, Bool, true, false, List, [], ◌∷◌, ◌++◌, Result, Ok, Err, is_err, refl, sym, ap}
+use Rattle.std.proofs.Common.{◌∙◌, subst, inl, inr, arith, length, take, get_or, append-nil}
 use Rattle.std.specs.Prelude.{All}
 use Rattle.std.specs.List.{flat_map, list_all}
 use Rattle.std.proofs.lemmas.Grind.{flat_map-append}
@@ -13,16 +14,22 @@ use Rattle.wasm_ops.specs.Sinks.{SinkRules, IsRefusal, Writes, Puts, Skips, Appe
 
 -- what has no room behind x has none where x is a part
 pub refused_behind : {S : Type 0} (rules : SinkRules S) (all part : Type 0) (a b : S) (x y whole : List ℕ) (e : Refusal)
-    → AppendLaws rules → length x + length y ≤ length whole → (all → part) → rules.appended a b x → IsRefusal rules b (length y) part e → IsRefusal rules a (length whole) all e
+    → AppendLaws rules → length x + length y ≤ length whole → (all → part) → rules.appended a b x → IsRefusal rules b (length y) part e
+    → IsRefusal rules a (length whole) all e
 refused_behind rules all part a b x y whole e laws le has h r =
     elim r [
-      | inl p ↦ inl (p.0, λ f. p.1 (laws.fits_less b (length y) (length whole - length x) (omega arith) (laws.fits_rest a b x (length whole) (omega arith) f h)))
+      | inl p ↦ inl (
+        p.0,
+        λ f. p.1 (laws.fits_less b (length y) (length whole - length x) (omega arith)
+            (laws.fits_rest a b x (length whole) (omega arith) f h)),
+      )
       | inr p ↦ inr (p.0, λ s. p.1 (has s))
     ]
 
 -- after x, y was refused: the sink is cut back to its size before x
 pub cut_back : {S A : Type 0} (rules : SinkRules S) (all part : Type 0) (a b c d : S) (x y whole : List ℕ) (n : ℕ) (r : Result A Refusal)
-    → AppendLaws rules → length x + length y ≤ length whole → (all → part) → rules.appended a b x → Writes rules part b c y r → is_err r ≡ true → n ≡ rules.size_of a → rules.is_cut c n d → Writes rules all a d whole r
+    → AppendLaws rules → length x + length y ≤ length whole → (all → part) → rules.appended a b x → Writes rules part b c y r → is_err r ≡ true
+    → n ≡ rules.size_of a → rules.is_cut c n d → Writes rules all a d whole r
 cut_back rules all part a b c d x y whole n (Ok t) laws le has h p bad s k = absurd cc
 cut_back rules all part a b c d x y whole n (Err e) laws le has h p bad s k = (
   laws.cuts_back a c d (x ++ []) (laws.joins a b c x [] h p.0) (subst (λ (m : ℕ). rules.is_cut c m d) s k),
@@ -47,7 +54,8 @@ pub was_put : {S A : Type 0} (rules : SinkRules S) (in_range : Type 0) (a b : S)
 was_put rules in_range a b x (Ok t) p good = p
 was_put rules in_range a b x (Err e) p good = absurd cc
 
-flat_map-take-more : {X A : Type 0} (f : X → List A) (xs : List X) (k : ℕ) (x : X) → k < length xs → x ≡ get_or xs k x → flat_map f (take k xs) ++ f x ≡ flat_map f (take (k + 1) xs)
+flat_map-take-more : {X A : Type 0} (f : X → List A) (xs : List X) (k : ℕ) (x : X) → k < length xs → x ≡ get_or xs k x
+    → flat_map f (take k xs) ++ f x ≡ flat_map f (take (k + 1) xs)
 flat_map-take-more f xs k x lt is =
     ap (λ bs. flat_map f (take k xs) ++ bs) (sym (flat_map-cons f x [] ∙ append-nil (f x)))
     ∙ sym (flat_map-append f (take k xs) (x ∷ []))
@@ -55,8 +63,10 @@ flat_map-take-more f xs k x lt is =
     ∙ ap (flat_map f) (sym (take_more xs k x lt))
 
 -- one item more
-pub one_item_more : {S A X : Type 0} (rules : SinkRules S) (spell : X → List ℕ) (in_range : X → Type 0) (a b c : S) (xs : List X) (k : ℕ) (x : X) (r : Result A Refusal)
-    → AppendLaws rules → k < length xs → x ≡ get_or xs k x → rules.appended a b (flat_map spell (take k xs)) → All in_range (take k xs) → Writes rules (in_range x) b c (spell x) r → is_err r ≡ false
+pub one_item_more : {S A X : Type 0} (rules : SinkRules S) (spell : X → List ℕ) (in_range : X → Type 0) (a b c : S) (xs : List X) (k : ℕ) (x : X)
+    (r : Result A Refusal)
+    → AppendLaws rules → k < length xs → x ≡ get_or xs k x → rules.appended a b (flat_map spell (take k xs)) → All in_range (take k xs)
+    → Writes rules (in_range x) b c (spell x) r → is_err r ≡ false
     → rules.appended a c (flat_map spell (take (k + 1) xs)) × All in_range (take (k + 1) xs)
 one_item_more rules spell in_range a b c xs k x r laws lt is has all p good =
     let one = was_put rules (in_range x) b c (spell x) r p good in (
@@ -75,8 +85,10 @@ said_no rules a b count true p says_no = absurd cc
 said_no rules a b count false p says_no = p
 
 -- after x and a no, y was refused: the sink is cut back to its size before x
-pub cut_after_no : {S A : Type 0} (rules : SinkRules S) (all part : Type 0) (a b s c d : S) (x y whole : List ℕ) (n count : ℕ) (says : Bool) (r : Result A Refusal)
-    → AppendLaws rules → length x + length y ≤ length whole → (all → part) → rules.appended a b x → Skips rules b s count says → says ≡ false → Writes rules part s c y r → is_err r ≡ true → n ≡ rules.size_of a → rules.is_cut c n d → Writes rules all a d whole r
+pub cut_after_no : {S A : Type 0} (rules : SinkRules S) (all part : Type 0) (a b s c d : S) (x y whole : List ℕ) (n count : ℕ) (says : Bool)
+    (r : Result A Refusal)
+    → AppendLaws rules → length x + length y ≤ length whole → (all → part) → rules.appended a b x → Skips rules b s count says → says ≡ false
+    → Writes rules part s c y r → is_err r ≡ true → n ≡ rules.size_of a → rules.is_cut c n d → Writes rules all a d whole r
 cut_after_no rules all part a b s c d x y whole n count says r laws le has h told says_no p bad at k =
     cut_back rules all part a s c d x y whole n r laws le has (subst (λ t. rules.appended a t x) (sym (said_no rules b s count says told says_no)) h) p bad at k
 
@@ -104,4 +116,5 @@ told_as rules in_range a b x r e p is = (
 pub one_written : {S A X : Type 0} (rules : SinkRules S) (spell : X → List ℕ) (InRange : X → Type 0) (a b : S) (x : X) (r : Result A Refusal)
     → Writes rules (InRange x) a b (spell x) r → Writes rules (All InRange (x ∷ [])) a b (flat_map spell (x ∷ [])) r
 one_written rules spell InRange a b x r p =
-    written_as rules (InRange x) (All InRange (x ∷ [])) a b (spell x) (flat_map spell (x ∷ [])) r (all_one InRange x) (All-head InRange x []) (sym (flat_one spell x)) p
+    written_as rules (InRange x) (All InRange (x ∷ [])) a b (spell x) (flat_map spell (x ∷ [])) r (all_one InRange x) (All-head InRange x [])
+    (sym (flat_one spell x)) p

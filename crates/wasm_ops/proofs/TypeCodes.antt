@@ -3,7 +3,9 @@ use Rattle.std.proofs.Common.{◌≡◌, ◌≢◌, ◌<◌, ◌&&◌, ℕ, Bool
 use Rattle.std.specs.Prelude.{nat_eq, IsTrue, not, is_none}
 use Rattle.wasm_ops.specs.Codes.{IsCode, IsPrefixCode}
 use Rattle.wasm_ops.specs.Leb128.{unsigned}
-use Rattle.wasm_ops.specs.Spelling.{list_of, Any, InRangeU32, vec, InRangeVec, mutability, export_kind, sub_bytes, Spellable, array_type, composite_inner_type, composite_type, field_type, func_type, storage_type, struct_type, sub_type, val_type}
+use Rattle.wasm_ops.specs.Spelling.{list_of, Any, InRangeU32, vec, InRangeVec, mutability, export_kind, sub_bytes, Spellable, array_type}
+use Rattle.wasm_ops.specs.Spelling.{composite_inner_type, composite_type, field_type, func_type, storage_type, struct_type, sub_type}
+use Rattle.wasm_ops.specs.Spelling.{val_type}
 use Rattle.wasm_ops.specs.declared.types.ValType.{ValType}
 use Rattle.wasm_ops.specs.declared.types.ValType.TheVariants as val
 use Rattle.wasm_ops.specs.declared.types.StorageType.{StorageType}
@@ -24,7 +26,8 @@ use Rattle.wasm_ops.proofs.Everywhere.{both_true}
 
 -- ---- value types, storage types and fields
 
-val_begins : (x y : ValType) (r s : List ℕ) → Spellable (val_type x) → Spellable (val_type y) → (val_type x).bytes ++ r ≡ (val_type y).bytes ++ s → (x ≡ y) × (r ≡ s)
+val_begins : (x y : ValType) (r s : List ℕ) → Spellable (val_type x) → Spellable (val_type y) → (val_type x).bytes ++ r ≡ (val_type y).bytes ++ s
+    → (x ≡ y) × (r ≡ s)
 val_begins val.I32 val.I32 r s p q e = (refl, cc)
 val_begins val.I64 val.I64 r s p q e = (refl, cc)
 val_begins val.F32 val.F32 r s p q e = (refl, cc)
@@ -44,7 +47,8 @@ val_front val.I32 r p = (omega arith, omega arith)
 val_front (val.Ref t) r p = let one = ref_front t r p in (omega (arith, one.1), omega (arith, one.1))
 val_front t r p = (omega arith, omega arith)
 
-storage_begins : (x y : StorageType) (r s : List ℕ) → Spellable (storage_type x) → Spellable (storage_type y) → (storage_type x).bytes ++ r ≡ (storage_type y).bytes ++ s → (x ≡ y) × (r ≡ s)
+storage_begins : (x y : StorageType) (r s : List ℕ) → Spellable (storage_type x) → Spellable (storage_type y)
+    → (storage_type x).bytes ++ r ≡ (storage_type y).bytes ++ s → (x ≡ y) × (r ≡ s)
 storage_begins storage.I8 storage.I8 r s p q e = (refl, cc)
 storage_begins storage.I16 storage.I16 r s p q e = (refl, cc)
 storage_begins (storage.Val x) (storage.Val y) r s p q e = let one = val_begins x y r s p q e in (ap storage.Val one.0, one.1)
@@ -63,7 +67,10 @@ pub mutability_code : IsCode Bool Any (λ m. mutability m ∷ [])
 mutability_code = code_by mutability (λ byte. nat_eq byte 1) mutability_shown byte_code
 
 pub field_type_code : IsPrefixCode field_type
-field_type_code = code_within (λ f p. (p, tt)) (code_by (λ (f : FieldType). (f.element_type, f.mutable)) (λ p. record { element_type = p.0; mutable = p.1 }) (λ f. refl) (pair_code storage_type_code mutability_code))
+field_type_code = code_within (λ f p. (p, tt)) (code_by (λ (f : FieldType). (f.element_type, f.mutable)) (λ p. record {
+  element_type = p.0;
+  mutable = p.1;
+}) (λ f. refl) (pair_code storage_type_code mutability_code))
 
 -- ---- kinds of exports
 
@@ -82,8 +89,10 @@ export_kind_code = record { begins = kind_begins }
 
 pub func_type_code : IsPrefixCode func_type
 func_type_code =
-    code_within (λ f p. let both = both_true (list_of val_type f.params).is_covered (list_of val_type f.results).is_covered p.0 in (spellable_vec val_type f.params both.0 p.1.0, spellable_vec val_type f.results both.1 p.1.1))
-    (code_by (λ (f : FuncType). (f.params, f.results)) (λ p. record { params = p.0; results = p.1 }) (λ x. refl) (after_byte 0x60 (pair_code (vec_code val_type_code) (vec_code val_type_code))))
+    code_within (λ f p. let both = both_true (list_of val_type f.params).is_covered (list_of val_type f.results).is_covered p.0 in
+    (spellable_vec val_type f.params both.0 p.1.0, spellable_vec val_type f.results both.1 p.1.1))
+    (code_by (λ (f : FuncType). (f.params, f.results)) (λ p. record { params = p.0; results = p.1 }) (λ x. refl)
+    (after_byte 0x60 (pair_code (vec_code val_type_code) (vec_code val_type_code))))
 
 pub struct_type_code : IsPrefixCode struct_type
 struct_type_code =
@@ -93,7 +102,8 @@ struct_type_code =
 pub array_type_code : IsPrefixCode array_type
 array_type_code = code_by (λ (a : ArrayType). a.0) (λ f. record { 0 = f }) (λ a. refl) (after_byte 0x5e field_type_code)
 
-inner_begins : (x y : CompositeInnerType) (r s : List ℕ) → Spellable (composite_inner_type x) → Spellable (composite_inner_type y) → (composite_inner_type x).bytes ++ r ≡ (composite_inner_type y).bytes ++ s → (x ≡ y) × (r ≡ s)
+inner_begins : (x y : CompositeInnerType) (r s : List ℕ) → Spellable (composite_inner_type x) → Spellable (composite_inner_type y)
+    → (composite_inner_type x).bytes ++ r ≡ (composite_inner_type y).bytes ++ s → (x ≡ y) × (r ≡ s)
 inner_begins (inner.Func x) (inner.Func y) r s p q e = let one = func_type_code.begins x y r s p q e in (ap inner.Func one.0, one.1)
 inner_begins (inner.Struct x) (inner.Struct y) r s p q e = let one = struct_type_code.begins x y r s p q e in (ap inner.Struct one.0, one.1)
 inner_begins (inner.Array x) (inner.Array y) r s p q e = let one = array_type_code.begins x y r s p q e in (ap inner.Array one.0, one.1)
@@ -105,14 +115,21 @@ inner_begins x y r s p q e = absurd (omega (arith, ap front e))
 abbrev plain : CompositeInnerType → CompositeType
 plain i = record { inner = i; shared = false; descriptor = None; describes = None }
 
-plain_by : (i : CompositeInnerType) (shared : Bool) (descriptor describes : Option ℕ) → (not shared && (is_none descriptor && is_none describes)) ≡ true → record { inner = i; shared = shared; descriptor = descriptor; describes = describes } ≡ plain i
+plain_by : (i : CompositeInnerType) (shared : Bool) (descriptor describes : Option ℕ)
+    → (not shared && (is_none descriptor && is_none describes)) ≡ true → record {
+      inner = i;
+      shared = shared;
+      descriptor = descriptor;
+      describes = describes;
+    } ≡ plain i
 plain_by i false None None e = refl
 plain_by i true descriptor describes e = absurd cc
 plain_by i false (Some n) describes e = absurd cc
 plain_by i false None (Some n) e = absurd cc
 
 -- what is asked of it, and of what it is made of
-covered_both : (x : CompositeType) → IsTrue (composite_type x).is_covered → IsTrue (not x.shared && (is_none x.descriptor && is_none x.describes)) × IsTrue (composite_inner_type x.inner).is_covered
+covered_both : (x : CompositeType) → IsTrue (composite_type x).is_covered
+    → IsTrue (not x.shared && (is_none x.descriptor && is_none x.describes)) × IsTrue (composite_inner_type x.inner).is_covered
 covered_both x e = both_true (not x.shared && (is_none x.descriptor && is_none x.describes)) (composite_inner_type x.inner).is_covered e
 
 is_plain : (x : CompositeType) → IsTrue (composite_type x).is_covered → x ≡ plain x.inner
@@ -142,7 +159,8 @@ below_code = pair_code (vec_code index_code) composite_type_code
 abbrev Fine : List ℕ → CompositeType → Type 0
 Fine ps c = InRangeVec InRangeU32 ps × Spellable (composite_type c)
 
-sub_begins : (m n : Bool) (ps qs : List ℕ) (c d : CompositeType) (r s : List ℕ) → Fine ps c → Fine qs d → sub_bytes m ps (composite_type c).bytes ++ r ≡ sub_bytes n qs (composite_type d).bytes ++ s → (m ≡ n) × (below ps c ≡ below qs d) × (r ≡ s)
+sub_begins : (m n : Bool) (ps qs : List ℕ) (c d : CompositeType) (r s : List ℕ) → Fine ps c → Fine qs d
+    → sub_bytes m ps (composite_type c).bytes ++ r ≡ sub_bytes n qs (composite_type d).bytes ++ s → (m ≡ n) × (below ps c ≡ below qs d) × (r ≡ s)
 sub_begins true true [] [] c d r s p q e =
     let one = composite_type_code.begins c d r s p.1 q.1 e in
     let f : CompositeType → Below = λ t. ([], t) in
@@ -163,7 +181,8 @@ sub_begins false true ps (y ∷ ys) c d r s p q e = absurd (omega (arith, ap fro
 pub sub_type_code : IsPrefixCode sub_type
 sub_type_code = record {
   begins = λ x y r s p q e.
-      let one = sub_begins x.is_final y.is_final x.supertype_idxs y.supertype_idxs x.composite_type y.composite_type r s (p.1.0, (p.0, p.1.1)) (q.1.0, (q.0, q.1.1)) e in
+      let one = sub_begins x.is_final y.is_final x.supertype_idxs y.supertype_idxs x.composite_type y.composite_type r s (p.1.0, (p.0, p.1.1))
+      (q.1.0, (q.0, q.1.1)) e in
       let f : Bool → SubType = λ b. record { is_final = b; supertype_idxs = x.supertype_idxs; composite_type = x.composite_type } in
       let g : Below → SubType = λ p. record { is_final = y.is_final; supertype_idxs = p.0; composite_type = p.1 } in
       (ap f one.0 ∙ ap g one.1, one.2);
@@ -173,7 +192,8 @@ sub_type_code = record {
 pub sub_front : (s : SubType) (r : List ℕ) → IsTrue (sub_type s).is_covered → 0x4e < front ((sub_type s).bytes ++ r)
 sub_front s r h = sub_bytes_front s.is_final s.supertype_idxs s.composite_type.inner r (covered_both s.composite_type h).1
   where
-    sub_bytes_front : (m : Bool) (ps : List ℕ) (i : CompositeInnerType) (r : List ℕ) → IsTrue (composite_inner_type i).is_covered → 0x4e < front (sub_bytes m ps (composite_inner_type i).bytes ++ r)
+    sub_bytes_front : (m : Bool) (ps : List ℕ) (i : CompositeInnerType) (r : List ℕ) → IsTrue (composite_inner_type i).is_covered
+        → 0x4e < front (sub_bytes m ps (composite_inner_type i).bytes ++ r)
     sub_bytes_front true [] i r h = omega (arith, composite_front i r h)
     sub_bytes_front true (p ∷ ps) i r h = omega arith
     sub_bytes_front false ps i r h = omega arith

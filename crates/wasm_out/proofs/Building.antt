@@ -11,7 +11,8 @@ use Rattle.wasm_out.specs.Bodies.{Body, locals, IsSpellableContent, SpellsBody}
 use Rattle.wasm_out.specs.Built.{Built, built_with, builder_of}
 
 -- one item more
-pub built_with-built : {A : Type 0} (spell : A → List ℕ) (items : List A) (item : A) → built_with (builder_of spell items) (spell item) ≡ builder_of spell (items ++ (item ∷ []))
+pub built_with-built : {A : Type 0} (spell : A → List ℕ) (items : List A) (item : A)
+    → built_with (builder_of spell items) (spell item) ≡ builder_of spell (items ++ (item ∷ []))
 built_with-built spell items item =
     let f : ℕ → Built = λ n. record { count = n; bytes = flat_map spell items ++ spell item } in
     let g : List ℕ → Built = λ bs. record { count = length (items ++ (item ∷ [])); bytes = bs } in

@@ -35,12 +35,14 @@ wide_out_of_range : (memory_type wide).in_range → ⊥
 wide_out_of_range r = omega (arith, r.0)
 
 -- the part that such bytes begin with holds memories, and that one alone
-no_first : (kind : PartKind) (items : PartItems kind) (rest : List ℕ) → (payload kind items).in_range → section (part_id kind) (payload kind items).bytes ++ rest ≡ 0x05 ∷ 0x0c ∷ wide_payload → ⊥
+no_first : (kind : PartKind) (items : PartItems kind) (rest : List ℕ) → (payload kind items).in_range
+    → section (part_id kind) (payload kind items).bytes ++ rest ≡ 0x05 ∷ 0x0c ∷ wide_payload → ⊥
 no_first (Listed Memories) items rest r e =
     let bytes = vec (λ x. (memory_type x).bytes) items in
     let t : (unsigned (length bytes) ++ bytes) ++ rest ≡ 0x0c ∷ wide_payload = cc in
     let one = unsigned_begins (length bytes) 12 (bytes ++ rest) wide_payload (sym (append_assoc (unsigned (length bytes)) bytes rest) ∙ t ∙ twelve) in
-    let two = (vec_code any_memory_code).begins items (wide ∷ []) rest [] (r.0, all_each Any (λ m. tt) items) (omega arith, all_each Any (λ m. tt) (wide ∷ [])) (one.1 ∙ wide_spelled) in
+    let two = (vec_code any_memory_code).begins items (wide ∷ []) rest [] (r.0, all_each Any (λ m. tt) items)
+    (omega arith, all_each Any (λ m. tt) (wide ∷ [])) (one.1 ∙ wide_spelled) in
     wide_out_of_range (All-head (λ x. (memory_type x).in_range) wide [] (subst (All (λ x. (memory_type x).in_range)) two.0 r.1))
 no_first kind items rest r e = absurd (omega (arith, ap front e))
 

@@ -1,5 +1,6 @@
 -- Lemmas about a test of each element of a list, and one element.
-use Rattle.std.proofs.Common.{◌≡◌, ℕ, ◌+◌, ◌<◌, ◌||◌, Bool, true, false, cond, true≢false, Option, Some, List, [], ◌∷◌, length, get_or, refl, sym, ◌∙◌, inl, inr}
+use Rattle.std.proofs.Common.{◌≡◌, ℕ, ◌+◌, ◌<◌, ◌||◌, Bool, true, false, cond, true≢false, Option, Some, List, [], ◌∷◌, length, get_or}
+use Rattle.std.proofs.Common.{refl, sym, ◌∙◌, inl, inr}
 use Rattle.std.specs.Prelude.{is_some}
 use Rattle.std.specs.List.{list_all, list_any, position_from}
 use Rattle.std.proofs.lemmas.Bool.{cases_Bool}

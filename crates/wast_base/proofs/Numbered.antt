@@ -23,7 +23,8 @@ span_still number (index.Id id) = by (number (name_of id))
     by (Some k) = refl
 
 -- numbering an index twice is the same as once, if both look-ups agree
-pub resolved_twice : (number other : Name → Option ℕ) → ((q : Name) → other q ≡ number q) → (i : Index) → resolved_index other (resolved_index number i) ≡ resolved_index number i
+pub resolved_twice : (number other : Name → Option ℕ) → ((q : Name) → other q ≡ number q) → (i : Index)
+    → resolved_index other (resolved_index number i) ≡ resolved_index number i
 resolved_twice number other h (index.Num k p) = refl
 resolved_twice number other h (index.Id id) = by (number (name_of id)) refl
   where

@@ -18,9 +18,11 @@ module _ {X : Type 0} (p : X → Bool) where
   position_head true x xs h =
       let e : nat_lt 0 (suc (length xs)) ≡ true = lt-ltb 0 (suc (length xs)) (omega arith) in
       rw h (ap (λ b. cond {A = Option ℕ} b (Some 0) None) e)
-  position_head false x xs h = rw (h, one_more (position_or_len p xs), compare.suc-suc) (shifted (nat_lt (position_or_len p xs) (length xs)) (position_or_len p xs))
+  position_head false x xs h = rw (h, one_more (position_or_len p xs), compare.suc-suc)
+      (shifted (nat_lt (position_or_len p xs) (length xs)) (position_or_len p xs))
 
-  pub first_place : (xs : List X) (i : ℕ) (d : X) → i < length xs → p (get_or xs i d) ≡ true → ((k : ℕ) → k < i → p (get_or xs k d) ≡ false) → position p xs ≡ Some i
+  pub first_place : (xs : List X) (i : ℕ) (d : X) → i < length xs → p (get_or xs i d) ≡ true → ((k : ℕ) → k < i → p (get_or xs k d) ≡ false)
+      → position p xs ≡ Some i
   first_place xs i d lt here before =
       let is = position_or_len_is p xs i d (omega arith) before (λ l. here) in
       rw is (ap (λ b. cond {A = Option ℕ} b (Some i) None) (lt-ltb i (length xs) lt))

@@ -42,7 +42,8 @@ ended names name low high le h = record {
 }
 
 -- a comparison with an element of a slice is one with its name
-pub tested_there : {X : Type 0} (called : X → Name) (xs : List X) (i : ℕ) (d : X) (name : Name) (b : Bool) → i < length xs → name_lt (called (get_or xs i d)) name ≡ b → name_lt (get_or (map called xs) i name) name ≡ b
+pub tested_there : {X : Type 0} (called : X → Name) (xs : List X) (i : ℕ) (d : X) (name : Name) (b : Bool) → i < length xs
+    → name_lt (called (get_or xs i d)) name ≡ b → name_lt (get_or (map called xs) i name) name ≡ b
 tested_there called xs i d name b lt h = subst (λ (n : Name). name_lt n name ≡ b) (sym (get_or-map called xs i d name lt)) h
 
 pub as_many : {X : Type 0} (called : X → Name) (xs : List X) → length (map called xs) ≡ length xs

@@ -1,5 +1,6 @@
 -- A resolved module does not change when it is resolved again.
-use Rattle.std.proofs.Common.{◌≡◌, ℕ, ◌+◌, ◌<◌, Bool, true, List, [], ◌∷◌, ◌++◌, map, append-nil, Option, Some, None, Result, Ok, Err, is_some, refl, sym, ap, ◌∙◌, subst, inl, inr, arith}
+use Rattle.std.proofs.Common.{◌≡◌, ℕ, ◌+◌, ◌<◌, Bool, true, List, [], ◌∷◌, ◌++◌, map, append-nil, Option, Some, None, Result, Ok, Err}
+use Rattle.std.proofs.Common.{is_some, refl, sym, ap, ◌∙◌, subst, inl, inr, arith}
 use Rattle.std.specs.Bool.{⊤}
 use Rattle.std.specs.List.{list_all}
 use Rattle.std.specs.Cmp.{first_so, second_so}
@@ -21,7 +22,8 @@ use Rattle.wast_resolve_rules.specs.Resolved.{numbered_by, numbered_at}
 use Rattle.wast_resolve_rules.specs.Scopes.{denoted}
 use Rattle.wast_resolve_names.specs.Resolvers.{KnownNames, known_to}
 use Rattle.wast_resolve_laws.specs.Laws.{ItemsStay}
-use Rattle.wast_resolve_laws.specs.Rests.{start_fields_of, numbers, with_start_fields, final_names, RestsMet, RestsStill, RestsByPosition, FillsNoMore, StartsStayBelow, StartsAreMet, StartsComeBefore}
+use Rattle.wast_resolve_laws.specs.Rests.{start_fields_of, numbers, with_start_fields, final_names, RestsMet, RestsStill, RestsByPosition}
+use Rattle.wast_resolve_laws.specs.Rests.{FillsNoMore, StartsStayBelow, StartsAreMet, StartsComeBefore}
 use Rattle.wasm_out.specs.Parts.{Part}
 use Rattle.wasm_out.specs.Reads.{Reads}
 use Rattle.wast_core.specs.Tree.{Id, Index, ModuleField}
@@ -56,7 +58,8 @@ module _ (k : IdContext) where
       by_number id None h js a = absurd (cc h)
       by_number id (Some n) h js a = record { ks = (n, place_of id) ∷ a.ks; are = ap (λ ls. index.Num n (place_of id) ∷ ls) a.are }
 
-      by_index : (i : Index) → denotes i ≡ true → AreNumbers (map (numbered_at k space.Func) is) → AreNumbers (numbered_at k space.Func i ∷ map (numbered_at k space.Func) is)
+      by_index : (i : Index) → denotes i ≡ true → AreNumbers (map (numbered_at k space.Func) is)
+          → AreNumbers (numbered_at k space.Func i ∷ map (numbered_at k space.Func) is)
       by_index (index.Num n p) h a = record { ks = (n, p) ∷ a.ks; are = ap (λ ls. index.Num n p ∷ ls) a.are }
       by_index (index.Id id) h a = by_number id (k.number space.Func (name_of id)) h (map (numbered_at k space.Func) is) a
 
@@ -69,7 +72,8 @@ starts_last are_met before by_position means n name fields is above met denote =
     let js : List Index = map (numbered_at (final_names n fields) space.Func) is in
     let a = are_numbers (final_names n fields) is denote in
     let rests : meaning name (resolved_fields_from n fields ++ start_fields_of js) ≡ parts name (resolved_fields_from n fields ++ start_fields_of js) =
-    subst (λ ls. meaning name (resolved_fields_from n fields ++ start_fields_of ls) ≡ parts name (resolved_fields_from n fields ++ start_fields_of ls)) (sym a.are) (ap (parts name) (by_position n fields a.ks)) in (
+    subst (λ ls. meaning name (resolved_fields_from n fields ++ start_fields_of ls) ≡ parts name
+    (resolved_fields_from n fields ++ start_fields_of ls)) (sym a.are) (ap (parts name) (by_position n fields a.ks)) in (
       met_too,
       rests ∙ (ap (λ (xs : List ModuleField). parts name (xs ++ start_fields_of js)) split.2
           ∙ (sym (parts_swapped name js own types) ∙ (ap (parts name) (sym split.3) ∙ means n name (fields ++ start_fields_of is) above met_too))),
@@ -80,7 +84,8 @@ numbers_settled : (xs : List ModuleField) (ks : List (ℕ × Span)) → list_all
 numbers_settled xs [] = refl
 numbers_settled xs (k ∷ ks) = numbers_settled xs ks
 
-numbers_denote : (n : ℕ) (xs : List ModuleField) (ks : List (ℕ × Span)) → list_all (λ i. is_some (denoted ((final_names n xs).number space.Func) i)) (numbers ks) ≡ true
+numbers_denote : (n : ℕ) (xs : List ModuleField) (ks : List (ℕ × Span)) → list_all (λ i. is_some (denoted ((final_names n xs).number space.Func) i))
+    (numbers ks) ≡ true
 numbers_denote n xs [] = refl
 numbers_denote n xs (k ∷ ks) = numbers_denote n xs ks
 
@@ -127,8 +132,10 @@ module _ (resting : RestsMet) (still : RestsStill) (n m : ℕ) (fields : List Mo
   names_stay its = ap id_context (sym (its m list) ∙ (ap items list_stays ∙ its n fields))
 
   -- So resolving returns the same names and fields.
-  resolves_list : ItemsStay → (names : KnownNames) → known_to names ≡ id_context (items (explicit_fields_from n fields)) → (result : Result KnownNames Error) (second : ModuleKind)
-      → ResolvesKind m (kind.Text list) result second → (last : ℕ) → (second ≡ kind.Text list → last ≡ m) → ResolvesAgain names (kind.Text list) m result second last
+  resolves_list : ItemsStay → (names : KnownNames) → known_to names ≡ id_context (items (explicit_fields_from n fields))
+      → (result : Result KnownNames Error) (second : ModuleKind)
+      → ResolvesKind m (kind.Text list) result second → (last : ℕ) → (second ≡ kind.Text list → last ≡ m)
+      → ResolvesAgain names (kind.Text list) m result second last
   resolves_list its names know (Ok again) second h last counts =
       let is : second ≡ kind.Text list = h.1 ∙ ap kind.Text list_stays in
       (h.2 ∙ (names_stay its ∙ sym know), is, counts is)
@@ -136,12 +143,15 @@ module _ (resting : RestsMet) (still : RestsStill) (n m : ℕ) (fields : List Mo
 
   -- And encoding returns the same bytes.
   means_the_same : MeansWhatIsWritten → RestsByPosition → (name : Option (List ℕ)) → meaning name list ≡ meaning name fields
-  means_the_same means by_position name = subst (λ xs. meaning name xs ≡ parts name list) bare (ap (parts name) (by_position n fields [] ∙ bare)) ∙ means n name fields above met
+  means_the_same means by_position name = subst (λ xs. meaning name xs ≡ parts name list) bare (ap (parts name) (by_position n fields [] ∙ bare))
+      ∙ means n name fields above met
 
-  unwritten : (name : Option (List ℕ)) → IsCovered list → (e : Error) → IsUnwritten (head_of (uncovered_forms (resolved_fields_from m list))) (IsBounded m name list) e → IsWithheld (IsBounded m name list → ⊥) e
+  unwritten : (name : Option (List ℕ)) → IsCovered list → (e : Error)
+      → IsUnwritten (head_of (uncovered_forms (resolved_fields_from m list))) (IsBounded m name list) e → IsWithheld (IsBounded m name list → ⊥) e
   unwritten name covered e h = subst (λ o. IsUnwritten o (IsBounded m name list) e) (ap (λ xs. head_of (uncovered_forms xs)) list_stays ∙ covered) h
 
-  unencoded : TooLargeIsUnbounded → (name : Option (List ℕ)) → IsCovered list → (e : Error) (second : ModuleKind) → IsUnencoded m name list e second → IsWithheld (IsBounded m name list → ⊥) e
+  unencoded : TooLargeIsUnbounded → (name : Option (List ℕ)) → IsCovered list → (e : Error) (second : ModuleKind) → IsUnencoded m name list e second
+      → IsWithheld (IsBounded m name list → ⊥) e
   unencoded bounded name covered e second (inl h) = more (unresolved e h.0)
     where
       more : IsWithheld (IsTooLarge m list) e → IsWithheld (IsBounded m name list → ⊥) e
@@ -149,10 +159,15 @@ module _ (resting : RestsMet) (still : RestsStill) (n m : ℕ) (fields : List Mo
       more (inr h) = inr (h.0, λ b. bounded m name list h.1 b)
   unencoded bounded name covered e second (inr h) = unwritten name covered e h.1
 
-  encodes_list : TooLargeIsUnbounded → MeansWhatIsWritten → RestsByPosition → ((b c : List ℕ) (p : List Part) → Reads b p → Reads c p → b ≡ c) → (name : Option (List ℕ)) (bytes : List ℕ) → Reads bytes (meaning name fields) → IsCovered list
-      → (result : Result (Vec ℕ) Error) (second : ModuleKind) → EncodesKind m name (kind.Text list) result second → EncodesAgain bytes name (kind.Text list) m result second
-  encodes_list bounded means by_position one name bytes reads covered (Ok again) second h =
-      (one again.items bytes (meaning name fields) (subst (λ ps. Reads again.items ps) (means_the_same means by_position name) h.2) reads, h.3 ∙ ap kind.Text list_stays)
+  encodes_list : TooLargeIsUnbounded → MeansWhatIsWritten → RestsByPosition → ((b c : List ℕ) (p : List Part) → Reads b p → Reads c p → b ≡ c)
+      → (name : Option (List ℕ)) (bytes : List ℕ) → Reads bytes (meaning name fields) → IsCovered list
+      → (result : Result (Vec ℕ) Error) (second : ModuleKind) → EncodesKind m name (kind.Text list) result second
+      → EncodesAgain bytes name (kind.Text list) m result second
+  encodes_list bounded means by_position one name bytes reads covered (Ok again) second h = (
+    one again.items bytes (meaning name fields) (subst (λ ps. Reads again.items ps) (means_the_same means by_position name) h.2) reads,
+    h.3
+        ∙ ap kind.Text list_stays,
+  )
   encodes_list bounded means by_position one name bytes reads covered (Err e) second h = unencoded bounded name covered e second h
 
 pub second_resolve : RestsMet → RestsStill → FillsNoMore → ItemsStay → SecondResolve
@@ -161,7 +176,8 @@ second_resolve resting still fills its (kind.Text fields) first second n m after
     let resolves : ResolvesKind m (kind.Text list) result second = subst (λ k. ResolvesKind m k result second) a.kind.1 b.kind in
     let counts : Counts (kind.Text list) second m last = subst (λ k. Counts k second m last) a.kind.1 b.counter in
     let none : generated_id_count list ≡ 0 = ap generated_id_count (sym (append-nil list)) ∙ fills n fields [] in
-    let stays : second ≡ kind.Text list → last ≡ m = λ e. let d : last ≡ m + generated_id_count list = subst (λ k. Counts (kind.Text list) k m last) e counts in omega (arith, d, none) in
+    let stays : second ≡ kind.Text list
+    → last ≡ m = λ e. let d : last ≡ m + generated_id_count list = subst (λ k. Counts (kind.Text list) k m last) e counts in omega (arith, d, none) in
     subst (λ k. ResolvesAgain names k m result second last) (sym a.kind.1)
     (resolves_list resting still n m fields above a.kind.0 its names a.kind.2 result second resolves last stays)
 second_resolve resting still fills its (kind.Binary pieces) first second n m after last names (Ok again) above a b =
@@ -172,12 +188,14 @@ second_resolve resting still fills its (kind.Binary pieces) first second n m aft
     absurd (subst (λ k. ResolvesKind m k (Err e) second) a.kind.1 b.kind)
 second_resolve resting still fills its (kind.Refused e) first second n m after last names result above a b = absurd a.kind
 
-pub second_encoding : RestsMet → RestsStill → RestsByPosition → TooLargeIsUnbounded → MeansWhatIsWritten → ((b c : List ℕ) (p : List Part) → Reads b p → Reads c p → b ≡ c) → SecondEncoding
+pub second_encoding : RestsMet → RestsStill → RestsByPosition → TooLargeIsUnbounded → MeansWhatIsWritten
+    → ((b c : List ℕ) (p : List Part) → Reads b p → Reads c p → b ≡ c) → SecondEncoding
 second_encoding resting still by_position bounded means one (kind.Text fields) first second n m name bytes result above a b =
     let list : List ModuleField = resolved_fields_from n fields in
     let is : first ≡ kind.Text list = a.3 in
     subst (λ k. EncodesAgain bytes.items name k m result second) (sym is)
-    (encodes_list resting still n m fields above a.0 bounded means by_position one name bytes.items a.2 a.1 result second (subst (λ k. EncodesKind m name k result second) is b))
+    (encodes_list resting still n m fields above a.0 bounded means by_position one name bytes.items a.2 a.1 result second
+    (subst (λ k. EncodesKind m name k result second) is b))
 second_encoding resting still by_position bounded means one (kind.Binary pieces) first second n m name bytes (Ok again) above a b =
     let is : first ≡ kind.Binary pieces = a.1 in
     let encodes : EncodesKind m name (kind.Binary pieces) (Ok again) second = subst (λ k. EncodesKind m name k (Ok again) second) is b in

@@ -80,14 +80,21 @@ module _ (name : Option (List ℕ)) where
 
     range_same : InRangeModule name xs → InRangeModule name ys
     range_same h =
-        all_both (InRangeSlot name xs) (InRangeSlot name xs) (InRangeSlot name ys) (λ s p q. (subst (λ (f : Slot → List Part). All InRangePart (f s)) slots_same p.0, held_same s p.1)) order h h
+        all_both (InRangeSlot name xs) (InRangeSlot name xs) (InRangeSlot name ys)
+        (λ s p q. (subst (λ (f : Slot → List Part). All InRangePart (f s)) slots_same p.0, held_same s p.1)) order h h
 
     pub writable_same : IsWritable name xs → IsWritable name ys
-    writable_same w = record { in_range = range_same w.in_range; length = subst (λ (ps : List Part). length (header ++ flat_map part ps) < 2 ^ 64) parts_same w.length }
+    writable_same w = record {
+      in_range = range_same w.in_range;
+      length = subst (λ (ps : List Part). length (header ++ flat_map part ps) < 2 ^ 64) parts_same w.length;
+    }
 
 -- If each check passes, the ids of a counter do not matter.
 pub means_what_is_written : SamePositions → MeansWhatIsWritten
-means_what_is_written positions n name fields above met = parts_same name (resolved_fields_from n fields) (resolved_fields (by_positions fields)) (positions n fields above met)
+means_what_is_written positions n name fields above met = parts_same name (resolved_fields_from n fields) (resolved_fields (by_positions fields))
+    (positions n fields above met)
 
-pub written_where_meant : SamePositions → (n : ℕ) (name : Option (List ℕ)) (fields : List ModuleField) → greatest_generation fields < n → IsMet fields → IsWritable name (resolved_fields (by_positions fields)) → IsWritable name (resolved_fields_from n fields)
-written_where_meant positions n name fields above met w = writable_same name (resolved_fields (by_positions fields)) (resolved_fields_from n fields) (sym (positions n fields above met)) w
+pub written_where_meant : SamePositions → (n : ℕ) (name : Option (List ℕ)) (fields : List ModuleField) → greatest_generation fields < n
+    → IsMet fields → IsWritable name (resolved_fields (by_positions fields)) → IsWritable name (resolved_fields_from n fields)
+written_where_meant positions n name fields above met w = writable_same name (resolved_fields (by_positions fields)) (resolved_fields_from n fields)
+    (sym (positions n fields above met)) w

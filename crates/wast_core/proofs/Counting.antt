@@ -20,7 +20,8 @@ needs_stay f h [] = refl
 needs_stay f h (i ∷ is) = λ t. need_stays f h i t || needs_stay f (context_after h i) is t
 
 -- The same for a body.
-body_need : (f : Change) (u : TypeUse FunctionType) (k : FuncKind) → list_any needs_data_count (instrs_of (mapped_func_kind f u k)) ≡ list_any needs_data_count (instrs_of k)
+body_need : (f : Change) (u : TypeUse FunctionType) (k : FuncKind)
+    → list_any needs_data_count (instrs_of (mapped_func_kind f u k)) ≡ list_any needs_data_count (instrs_of k)
 body_need f u (func.Import import exact) = refl
 body_need f u (func.Inline locals e) = needs_stay f (body_here u (param_marks u.inline ++ local_marks locals)) e.instrs
 

@@ -16,7 +16,8 @@ given_there (e ∷ m) a c h = by (same_name a e.0) (renamed_name m a) (given_the
     rest true o k g = refl
     rest false o k g = k g
 
-    by : (b : Bool) (o : Option Name) → (o ≡ Some c → list_any (λ d. same_name c d.1) m ≡ true) → cond b (Some e.1) o ≡ Some c → list_any (λ d. same_name c d.1) (e ∷ m) ≡ true
+    by : (b : Bool) (o : Option Name) → (o ≡ Some c → list_any (λ d. same_name c d.1) m ≡ true) → cond b (Some e.1) o ≡ Some c
+        → list_any (λ d. same_name c d.1) (e ∷ m) ≡ true
     by true o k g =
         let is : e.1 ≡ c = cc in
         ap (λ (b : Bool). b || list_any (λ d. same_name c d.1) m) (ap (same_name c) is ∙ same_name_itself c)

@@ -69,12 +69,15 @@ module _ (f : Change) (tells : KeepsNumbers f) where
   -- A function has the same body and hints, and an import the same functions.
   same_hints : (u : TypeUse FunctionType) (k : FuncKind) → if_hinted (mapped_func_kind f u k) ≡ if_hinted k
   same_hints u (func.Import import exact) = refl
-  same_hints u (func.Inline locals e) = ap (λ (b : Body). if not (length e.branch_hints == 0) then Some (record { body = b; hints = e.branch_hints }) else None) (body_told f tells u (func.Inline locals e))
+  same_hints u (func.Inline locals e) =
+      ap (λ (b : Body). if not (length e.branch_hints == 0) then Some (record { body = b; hints = e.branch_hints }) else None)
+      (body_told f tells u (func.Inline locals e))
 
   same_imported : (i : ImportItems) → flat_map imported_func (item_sigs (mapped_import_items f i)) ≡ flat_map imported_func (item_sigs i)
   same_imported i =
       ap (flat_map imported_func) (sigs_changed f i)
-      ∙ each_like (mapped_sig f) imported_func imported_func (λ s. ap (λ k. if same_space space.Func k then None ∷ [] else []) (same_space_of f s.kind)) (item_sigs i)
+      ∙ each_like (mapped_sig f) imported_func imported_func (λ s. ap (λ k. if same_space space.Func k then None ∷ [] else [])
+      (same_space_of f s.kind)) (item_sigs i)
 
   same_functions : (x : ModuleField) → functions_in (mapped_field f x) ≡ functions_in x
   same_functions (field.Func x) = ap (λ o. o ∷ []) (same_hints x.ty x.kind)
@@ -88,17 +91,20 @@ module _ (f : Change) (tells : KeepsNumbers f) where
   pub same_slot : (name : Option (List ℕ)) (xs : List ModuleField) (s : Slot) → is_front s ≡ true → in_slot name (all_mapped f xs) s ≡ in_slot name xs s
   same_slot name xs (slot.Custom place) h = ap (map custom_part) (same_customs place xs)
   same_slot name xs (slot.Section kind) h = ap (section_part (section_kind kind)) (same_entries (section_kind kind) xs)
-  same_slot name xs slot.Start h = each_like (mapped_field f) starts_in starts_in (λ x. ap (λ (c : Contribution). map start_part c.starts) (contributed_told f tells x)) xs
+  same_slot name xs slot.Start h =
+      each_like (mapped_field f) starts_in starts_in (λ x. ap (λ (c : Contribution). map start_part c.starts) (contributed_told f tells x)) xs
   same_slot name xs slot.DataCount h = λ i. count_parts (same_need f xs i) (length (same_entries Data xs i))
   same_slot name xs slot.Hints h = ap hints_part (same_hinted xs)
   same_slot name xs slot.Names h = absurd (cc h)
 
-  same_places : (xs : List ModuleField) (ss : List Slot) → flat_map (in_slot None (all_mapped f xs)) (filter is_front ss) ≡ flat_map (in_slot None xs) (filter is_front ss)
+  same_places : (xs : List ModuleField) (ss : List Slot) → flat_map (in_slot None (all_mapped f xs)) (filter is_front ss) ≡ flat_map
+      (in_slot None xs) (filter is_front ss)
   same_places xs [] = refl
   same_places xs (s ∷ ss) = by (is_front s) refl (same_places xs ss)
     where
       by : (b : Bool) → is_front s ≡ b → flat_map (in_slot None (all_mapped f xs)) (filter is_front ss) ≡ flat_map (in_slot None xs) (filter is_front ss)
-          → flat_map (in_slot None (all_mapped f xs)) (if b then (s ∷ filter is_front ss) else filter is_front ss) ≡ flat_map (in_slot None xs) (if b then (s ∷ filter is_front ss) else filter is_front ss)
+          → flat_map (in_slot None (all_mapped f xs)) (if b then (s ∷ filter is_front ss) else filter is_front ss) ≡ flat_map (in_slot None xs)
+          (if b then (s ∷ filter is_front ss) else filter is_front ss)
       by true h rest = λ i. same_slot None xs s h i ++ rest i
       by false h rest = rest
 

@@ -7,7 +7,8 @@ use Rattle.wast_base.specs.declared.ids.Span.{Span}
 use Rattle.wast_base.specs.Ids.{Mark}
 use Rattle.wast_base.specs.Faults.{Cause}
 use Rattle.wast_base.specs.declared.faults.Form.{Form}
-use Rattle.wast_tree_nodes.specs.Sites.{Check, ItemIndex, Site, Asked, Used, Repeated, Begins, if_there, in_index, in_signature, in_type_use, mark_asked, asked_in, checks_of, in_module}
+use Rattle.wast_tree_nodes.specs.Sites.{Check, ItemIndex, Site, Asked, Used, Repeated, Begins, if_there, in_index, in_signature}
+use Rattle.wast_tree_nodes.specs.Sites.{in_type_use, mark_asked, asked_in, checks_of, in_module}
 use Rattle.wast_tree_nodes.specs.Uncovered.{uncovered_in, uncovered_forms}
 use Rattle.wast_tree_map.specs.Mapped.{KeepsMarks, mapped_site}
 use Rattle.wast_tree_map.specs.Laws.{all_mapped}
@@ -22,7 +23,8 @@ use Rattle.wast_resolve_rules.specs.Finished.{resolved_fields_from}
 use Rattle.wast_resolve_rules.specs.Resolved.{resolved_fields}
 use Rattle.wast_resolve_rules.specs.Stripped.{at_start, stripping}
 use Rattle.wast_resolve_laws.specs.Laws.{SamePositions}
-use Rattle.wast_resolve_laws.specs.Renaming.{Renaming, IsRenaming, renaming, renamed_use, renamed_fields, told_marks, RenamesFault, RenamedAnswer, RenamedPositions, WrittenAnswer, WrittenPositions}
+use Rattle.wast_resolve_laws.specs.Renaming.{Renaming, IsRenaming, renaming, renamed_use, renamed_fields, told_marks, RenamesFault}
+use Rattle.wast_resolve_laws.specs.Renaming.{RenamedAnswer, RenamedPositions, WrittenAnswer, WrittenPositions}
 use Rattle.wast_resolve_laws.proofs.OtherNames.{names}
 use Rattle.wast_core.specs.Tree.{Index, FunctionType, TypeUse, ModuleField}
 use Rattle.wast_core.specs.Tree.space
@@ -34,7 +36,8 @@ abbrev forms : List Check → List Form
 forms asks = flat_map uncovered_in asks
 
 -- A change of sites that keeps the constructs of each site keeps those of all.
-sites_keep : (f : Site → Site) → ((s : Site) → forms (asked_in (f s)) ≡ forms (asked_in s)) → (ss : List Site) → forms (checks_of (map f ss)) ≡ forms (checks_of ss)
+sites_keep : (f : Site → Site) → ((s : Site) → forms (asked_in (f s)) ≡ forms (asked_in s)) → (ss : List Site)
+    → forms (checks_of (map f ss)) ≡ forms (checks_of ss)
 sites_keep f same [] = refl
 sites_keep f same (s ∷ ss) =
     flat_map-append uncovered_in (asked_in (f s)) (checks_of (map f ss))
@@ -42,7 +45,8 @@ sites_keep f same (s ∷ ss) =
 
 -- Generated ids and positions of type uses do not matter.
 use_stripped : (o : Option Index) (t : Option FunctionType)
-    → forms (if_there (in_index space.Ty) (option_map at_start o) ++ if_there in_signature t) ≡ forms (if_there (in_index space.Ty) o ++ if_there in_signature t)
+    → forms (if_there (in_index space.Ty) (option_map at_start o) ++ if_there in_signature t) ≡ forms
+    (if_there (in_index space.Ty) o ++ if_there in_signature t)
 use_stripped None t = refl
 use_stripped (Some i) t = refl
 
@@ -94,7 +98,8 @@ module _ (r : Renaming) (is : IsRenaming r) where
   site_named x = refl
 
   named_forms : (xs : List ModuleField) → uncovered_forms (renamed_fields r xs) ≡ uncovered_forms xs
-  named_forms xs = ap (λ ss. forms (checks_of ss)) (stands_named n (renaming r) (names r is) xs) ∙ sites_keep (named_site n (renaming r)) site_named (in_module xs)
+  named_forms xs = ap (λ ss. forms (checks_of ss)) (stands_named n (renaming r) (names r is) xs)
+      ∙ sites_keep (named_site n (renaming r)) site_named (in_module xs)
 
 -- If each check passed, each passes.
 met_so : (r : Renaming) (marks : List Mark) (a b : Option (Cause × Span)) → RenamesFault r.name marks a b → a ≡ None → b ≡ None
@@ -111,7 +116,9 @@ by_position positions fields others met still same m n above over =
 
 pub renamed_forms : SamePositions → RenamedAnswer → RenamedPositions → RenamedForms
 renamed_forms positions answer renamed r is fields met =
-    by_position positions fields (renamed_fields r fields) met (met_so r (told_marks (explicit_fields fields)) (first_unmet (demands (explicit_fields fields))) (first_unmet (demands (explicit_fields (renamed_fields r fields)))) (answer r is fields) met)
+    by_position positions fields (renamed_fields r fields) met
+    (met_so r (told_marks (explicit_fields fields)) (first_unmet (demands (explicit_fields fields)))
+    (first_unmet (demands (explicit_fields (renamed_fields r fields)))) (answer r is fields) met)
     (ap uncovered_forms (renamed r is fields) ∙ named_forms r is (resolved_fields (by_positions fields)))
 
 pub written_forms : SamePositions → RenamedAnswer → RenamedPositions → WrittenAnswer → WrittenPositions → WrittenForms
@@ -121,6 +128,8 @@ written_forms positions answer renamed written written_positions r is n fields a
     let same : uncovered_forms (resolved_fields (by_positions all)) ≡ uncovered_forms (resolved_fields (by_positions fields)) =
     forms_alike (resolved_fields (by_positions all)) (resolved_fields (by_positions fields)) (written_positions n fields above met) in (
       by_position positions fields all met all_met same,
-      by_position positions fields (renamed_fields r all) met (met_so r (told_marks (explicit_fields all)) (first_unmet (demands (explicit_fields all))) (first_unmet (demands (explicit_fields (renamed_fields r all)))) (answer r is all) all_met)
+      by_position positions fields (renamed_fields r all) met
+          (met_so r (told_marks (explicit_fields all)) (first_unmet (demands (explicit_fields all)))
+          (first_unmet (demands (explicit_fields (renamed_fields r all)))) (answer r is all) all_met)
           (ap uncovered_forms (renamed r is all) ∙ (named_forms r is (resolved_fields (by_positions all)) ∙ same)),
     )

@@ -58,7 +58,8 @@ field_long : (before : List Item) (x : ModuleField) → has_oversized_data x ≡
 field_long before (field.Memory m) h =
     let i = by_position before space.Memory m.span m.id in
     let exports = exports_of m.span export.Memory i m.exports in
-    list_any-append is_long exports (data_in m.kind m.span i ++ memory_alone m m.kind ∷ []) ∙ second_true (any_long exports) (any_long (data_in m.kind m.span i ++ memory_alone m m.kind ∷ [])) (memory_long m m.kind i h)
+    list_any-append is_long exports (data_in m.kind m.span i ++ memory_alone m m.kind ∷ [])
+    ∙ second_true (any_long exports) (any_long (data_in m.kind m.span i ++ memory_alone m m.kind ∷ [])) (memory_long m m.kind i h)
 field_long before x h = absurd (cc h)
 
 either_true : (p q a b : Bool) → (p ≡ true → a ≡ true) → (q ≡ true → b ≡ true) → (p || q) ≡ true → (a || b) ≡ true
@@ -70,7 +71,8 @@ after_long before [] h = absurd (cc h)
 after_long before (x ∷ xs) h =
     let here = desugar_field (by_position before) x in
     let rest = written_after (before ++ items_in x) xs in
-    list_any-append is_long here rest ∙ either_true (has_oversized_data x) (list_any has_oversized_data xs) (any_long here) (any_long rest) (field_long before x) (after_long (before ++ items_in x) xs) h
+    list_any-append is_long here rest ∙ either_true (has_oversized_data x) (list_any has_oversized_data xs) (any_long here) (any_long rest)
+    (field_long before x) (after_long (before ++ items_in x) xs) h
 
 -- It does not change when type uses and indices are resolved.
 each_long : (f : ModuleField → ModuleField) → ((x : ModuleField) → is_long (f x) ≡ is_long x) → (xs : List ModuleField) → any_long (map f xs) ≡ any_long xs
@@ -100,7 +102,8 @@ not_long x h = refl
 none_long : (xs : List ModuleField) → All (λ x. (data_entry x).in_range) (entries Data xs) → any_long xs ≡ false
 none_long [] h = refl
 none_long (x ∷ xs) h =
-    ap (λ b. b || any_long xs) (not_long x (all_left (λ x. (data_entry x).in_range) (entries_in Data x) (entries Data xs) h)) ∙ none_long xs (all_right (λ x. (data_entry x).in_range) (entries_in Data x) (entries Data xs) h)
+    ap (λ b. b || any_long xs) (not_long x (all_left (λ x. (data_entry x).in_range) (entries_in Data x) (entries Data xs) h))
+    ∙ none_long xs (all_right (λ x. (data_entry x).in_range) (entries_in Data x) (entries Data xs) h)
 
 all_in_range : (ds : List DataEntry) → All InRangePart (section_part Data ds) → All (λ x. (data_entry x).in_range) ds
 all_in_range [] h = All-nil (λ x. (data_entry x).in_range)
@@ -116,6 +119,7 @@ too_large_is_unbounded n name fields h b =
       | inl crowded ↦ b.spaces crowded
       | inr more ↦ elim more [
         | inl counter ↦ let small = b.counter in absurd (omega (arith, counter, small))
-        | inr long ↦ absurd (cc (sym (stays_long fields long) ∙ none_long (resolved_fields (by_positions fields)) (data_in_range name (resolved_fields (by_positions fields)) b.writable.in_range)))
+        | inr long ↦ absurd (cc (sym (stays_long fields long)
+            ∙ none_long (resolved_fields (by_positions fields)) (data_in_range name (resolved_fields (by_positions fields)) b.writable.in_range)))
       ]
     ]

@@ -18,7 +18,8 @@ use Rattle.wast_core.specs.Tree.index
 use Rattle.wast_core_sections.specs.declared.slots.Slot.TheVariants as slot
 use Rattle.wast_core_sections.specs.Slots.{order}
 use Rattle.wast_core_conv.specs.Values.{index_value, short_block_type, use_as_block}
-use Rattle.wast_core.specs.Front.{KeepsNumbers, is_front, parts_before_names, meant_front, RenamedParts, WrittenMeans, front_bytes, names_bytes, BeginAlike, SameFront, WrittenFront}
+use Rattle.wast_core.specs.Front.{KeepsNumbers, is_front, parts_before_names, meant_front, RenamedParts, WrittenMeans, front_bytes}
+use Rattle.wast_core.specs.Front.{names_bytes, BeginAlike, SameFront, WrittenFront}
 use Rattle.wast_core_sections.specs.Sections.{in_slot, parts}
 use Rattle.wast_core.specs.Meaning.{meaning}
 use Rattle.wast_core.proofs.Fronts.{front_stays}
@@ -55,7 +56,8 @@ module _ (r : Renaming) where
 
 -- Names do not matter.
 pub renamed_parts : RenamedPositions → RenamedParts
-renamed_parts positions r is fields = ap parts_before_names (positions r is fields) ∙ front_stays (renaming r) (renaming_tells r) (resolved_fields (by_positions fields))
+renamed_parts positions r is fields = ap parts_before_names (positions r is fields)
+    ∙ front_stays (renaming r) (renaming_tells r) (resolved_fields (by_positions fields))
 
 pub written_means : RenamedPositions → WrittenPositions → WrittenMeans
 written_means renamed written r is n fields above met =
@@ -71,10 +73,12 @@ names_last name xs =
     flat_map-append (in_slot name xs) (filter is_front order) (slot.Names ∷ [])
     ∙ ap (λ (ps : List Part). parts_before_names xs ++ ps) (append-nil (in_slot name xs slot.Names))
 
-bytes_are : (name : Option (List ℕ)) (fields : List ModuleField) (b : List ℕ) → Reads b (meaning name fields) → b ≡ front_bytes fields ++ names_bytes name fields
+bytes_are : (name : Option (List ℕ)) (fields : List ModuleField) (b : List ℕ) → Reads b (meaning name fields)
+    → b ≡ front_bytes fields ++ names_bytes name fields
 bytes_are name fields b reads =
     let xs = resolved_fields (by_positions fields) in
-    reads.spelled ∙ (ap (λ (ps : List Part). header ++ flat_map part ps) (names_last name xs) ∙ ap (λ (bs : List ℕ). header ++ bs) (flat_map-append part (parts_before_names xs) (in_slot name xs slot.Names)))
+    reads.spelled ∙ (ap (λ (ps : List Part). header ++ flat_map part ps) (names_last name xs)
+    ∙ ap (λ (bs : List ℕ). header ++ bs) (flat_map-append part (parts_before_names xs) (in_slot name xs slot.Names)))
 
 begin_alike : (fields others : List ModuleField) → meant_front others ≡ meant_front fields → BeginAlike fields others
 begin_alike fields others same name other b c reads so = (

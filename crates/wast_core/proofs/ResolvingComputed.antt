@@ -11,8 +11,16 @@ use Rattle.wast_resolve_spaces.proofs.Trying.{nothing_known}
 use Rattle.wast_core.specs.WorkedResolving.{ReadyModules, KnownNames27, ResolvedModules, space_of_one}
 
 pub ready_modules : ReadyModules
-ready_modules a b c d e f =
-    (record { well_formed = refl; above = omega arith }, record { well_formed = refl; above = omega arith }, record { well_formed = refl; above = omega arith }, refl, refl)
+ready_modules a b c d e f = (
+  record { well_formed = refl; above = omega arith },
+  record { well_formed = refl; above = omega arith },
+  record {
+    well_formed = refl;
+    above = omega arith;
+  },
+  refl,
+  refl,
+)
 
 -- What a name refers to if one item has a name.
 one_known : (name : List ℕ) (q : Name) → number_in (space_of_one name) q ≡ cond (eq_by_cmp key_cmp (key_of q) (key_of (Written name))) (Some 0) None

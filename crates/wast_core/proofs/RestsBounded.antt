@@ -1,5 +1,6 @@
 -- Resolved fields are bounded if the module was, because numbering changes no count.
-use Rattle.std.proofs.Common.{◌≡◌, ℕ, ◌+◌, ◌<◌, ◌^◌, true, List, [], ◌∷◌, ◌++◌, map, length, append-nil, Option, Some, None, option_map, refl, sym, ap, ◌∙◌, subst, inl, inr, arith}
+use Rattle.std.proofs.Common.{◌≡◌, ℕ, ◌+◌, ◌<◌, ◌^◌, true, List, [], ◌∷◌, ◌++◌, map, length, append-nil, Option, Some, None, option_map}
+use Rattle.std.proofs.Common.{refl, sym, ap, ◌∙◌, subst, inl, inr, arith}
 use Rattle.std.specs.List.{flat_map, list_all}
 use Rattle.std.proofs.lemmas.List.{length-map}
 use Rattle.wast_base.specs.Filling.{one_if, missing_id_count}
@@ -19,7 +20,9 @@ use Rattle.wast_expand_keys.specs.Expanded.{lacks_id, type_id_count}
 use Rattle.wast_expand_types.proofs.AtRest.{wants_no_more}
 use Rattle.wast_expand_types.proofs.Staying.{says}
 use Rattle.wast_resolve_rules.specs.Scopes.{Shape, Function, Struct, Other, Scope, module_scope, denoted, type_at, params_of, unsaid_params}
-use Rattle.wast_resolve_rules.specs.Demands.{first_unmet, item_demands, site_demands, order_demands, name_demands, demands, item_counts, kind_marks, local_counts_in, open_counts_at, open_counts, body_counts_in, body_counts, HasMany, HasManyItems, IsCrowded}
+use Rattle.wast_resolve_rules.specs.Demands.{first_unmet, item_demands, site_demands, order_demands, name_demands, demands, item_counts}
+use Rattle.wast_resolve_rules.specs.Demands.{kind_marks, local_counts_in, open_counts_at, open_counts, body_counts_in, body_counts, HasMany}
+use Rattle.wast_resolve_rules.specs.Demands.{HasManyItems, IsCrowded}
 use Rattle.wast_resolve_rules.specs.Explicit.{explicit_fields, explicit_fields_from, by_positions, generated_id_count}
 use Rattle.wast_resolve_rules.specs.Finished.{resolved_fields_from}
 use Rattle.wast_resolve_rules.specs.Resolved.{numbered_at, numbering_change, resolved_fields}
@@ -53,7 +56,8 @@ module _ (c : Scope) where
   params_still (Some (Struct number)) = refl
   params_still (Some Other) = refl
 
-  unsaid_still : (o : Option Index) (t : Option FunctionType) → unsaid_params (rested c) (option_map (numbered_at k space.Ty) o) (option_map (mapped_signature (numbered_at k)) t) ≡ unsaid_params c o t
+  unsaid_still : (o : Option Index) (t : Option FunctionType)
+      → unsaid_params (rested c) (option_map (numbered_at k space.Ty) o) (option_map (mapped_signature (numbered_at k)) t) ≡ unsaid_params c o t
   unsaid_still None None = refl
   unsaid_still None (Some t) = refl
   unsaid_still (Some i) (Some t) = refl
@@ -111,7 +115,8 @@ explicit_rests n fields =
     let none : type_id_count xs ≡ 0 = wants_no_more (n + reference_id_count fields) (desugared_from n fields) in
     let kept : missing_id_count lacks_id (resolved_fields_from n fields) ≡ missing_id_count lacks_id xs = ids_kept (module_scope xs) xs in
     let ids : missing_id_count lacks_id (resolved_fields_from n fields) ≡ 0 = omega (arith, none, kept) in
-    let say : list_all says (in_module (resolved_fields_from n fields)) ≡ true = still_says (module_scope xs) xs (expanded_says (n + reference_id_count fields) (desugared_from n fields)) in
+    let say : list_all says (in_module (resolved_fields_from n fields)) ≡ true =
+    still_says (module_scope xs) xs (expanded_says (n + reference_id_count fields) (desugared_from n fields)) in
     explicit_is (resolved_fields_from n fields) (finished_indexed n fields) ids say (finished_written_out n fields)
 
 -- So it has as many items as the fields.
@@ -129,7 +134,8 @@ crowded_before counts bodies stay n fields above met h = by (subst IsCrowded (ex
     by (inr inside) = inr (met_names, subst HasMany (resolved_bodies (explicit_fields_from n fields) ∙ bodies n fields above met_names) inside.1)
 
 pub rests_bounded : SameCounts → SameBodyCounts → ItemsStay → RestsByPosition → FillsNoMore
-    → ((n : ℕ) (name : Option (List ℕ)) (fields : List ModuleField) → greatest_generation fields < n → IsMet fields → IsWritable name (resolved_fields (by_positions fields)) → IsWritable name (resolved_fields_from n fields))
+    → ((n : ℕ) (name : Option (List ℕ)) (fields : List ModuleField) → greatest_generation fields < n → IsMet fields
+    → IsWritable name (resolved_fields (by_positions fields)) → IsWritable name (resolved_fields_from n fields))
     → RestsBounded
 rests_bounded counts bodies stay by_position fills written m n name fields above met below bounded =
     let list = resolved_fields_from n fields in

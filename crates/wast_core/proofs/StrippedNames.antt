@@ -5,7 +5,8 @@ use Rattle.std.specs.List.{flat_map}
 use Rattle.std.proofs.lemmas.Grind.{common_steps}
 use Rattle.wast_base.specs.Ids.{Name, Written, Generated, name_of, is_generated}
 use Rattle.wast_tree_nodes.specs.Sites.{BodyContext, context_after, param_marks, local_marks, body_here}
-use Rattle.wast_tree_map.specs.Mapped.{mapped_type, mapped_tag_type, mapped_item_kind, mapped_sig, mapped_import_items, mapped_instr, mapped_instrs, mapped_local, mapped_func_kind, mapped_func, mapped_field}
+use Rattle.wast_tree_map.specs.Mapped.{mapped_type, mapped_tag_type, mapped_item_kind, mapped_sig, mapped_import_items, mapped_instr}
+use Rattle.wast_tree_map.specs.Mapped.{mapped_instrs, mapped_local, mapped_func_kind, mapped_func, mapped_field}
 use Rattle.wast_tree_map.specs.Laws.{all_mapped}
 use Rattle.wast_resolve_rules.specs.Stripped.{written_id, at_start, stripped_use, stripping}
 use Rattle.wast_core.specs.Tree.{Id, Index, NameAnnotation, FunctionType, TypeUse, TagType, ItemKind, ImportItems, Instruction, FuncKind, Func, ModuleField}
@@ -18,10 +19,12 @@ use Rattle.wast_core.specs.Tree.func
 use Rattle.wast_core.specs.Tree.field
 use Rattle.wast_core_name_section.specs.GivenNames.{written_text, id_text, given_name}
 use Rattle.wast_core_name_section.specs.WithinItems as within
-use Rattle.wast_core_name_section.specs.WithinItems.{arity, types_within, types_of, arity_at, params_or, local_name, locals_in, label_in, labels_in, locals_of, tag_params, lists_in_type}
+use Rattle.wast_core_name_section.specs.WithinItems.{arity, types_within, types_of, arity_at, params_or, local_name, locals_in, label_in}
+use Rattle.wast_core_name_section.specs.WithinItems.{labels_in, locals_of, tag_params, lists_in_type}
 use Rattle.wast_core_name_section.specs.ModuleNames.{type_name, import_names, item_names_in}
 use Rattle.wast_core_name_section.proofs.Each.{each_like}
-use Rattle.wast_core_name_section.proofs.SameNameSection.{SameLists, SameInKind, SameInImport, KeepsNames, arity_in, same_arity, in_type, in_func, in_tag, in_imported_func, names_imported, in_import}
+use Rattle.wast_core_name_section.proofs.SameNameSection.{SameLists, SameInKind, SameInImport, KeepsNames, arity_in, same_arity, in_type}
+use Rattle.wast_core_name_section.proofs.SameNameSection.{in_func, in_tag, in_imported_func, names_imported, in_import}
 use Rattle.wast_core.proofs.Fronts.{same_space_of, sigs_changed}
 use Rattle.wast_core.proofs.Stripping.{def_stays}
 use Rattle.wast_core.proofs.ToldTypes.{each_alike}
@@ -40,7 +43,8 @@ same_types : (ts : List ty.«Type») → map type_name (map (mapped_type strippi
 same_types ts = each_alike (mapped_type stripping) type_name (λ t i. (space.Ty, same_given t.name t.id i)) ts
 
 same_imported : (x : ImportItems) → import_names (mapped_import_items stripping x) ≡ import_names x
-same_imported x = names_imported (mapped_sig stripping) x (mapped_import_items stripping x) (sigs_changed stripping x) (λ s i. (same_space_of stripping s.kind i, same_given s.name s.id i))
+same_imported x = names_imported (mapped_sig stripping) x (mapped_import_items stripping x) (sigs_changed stripping x)
+    (λ s i. (same_space_of stripping s.kind i, same_given s.name s.id i))
 
 same_names : (x : ModuleField) → item_names_in (mapped_field stripping x) ≡ item_names_in x
 same_names x = grind (arith, common_steps, same_given, same_types, same_imported)
@@ -91,9 +95,11 @@ same_import x = in_import (mapped_sig stripping) x (mapped_import_items strippin
 
 same_lists : (xs : List ModuleField) (x : ModuleField) → SameLists (all_mapped stripping xs) xs (mapped_field stripping x) x
 same_lists xs (field.Ty t) = λ w. in_type w (mapped_type stripping t) t (def_stays t)
-same_lists xs (field.Rec r) = λ w. each_like (mapped_type stripping) (lists_in_type w) (lists_in_type w) (λ t. in_type w (mapped_type stripping t) t (def_stays t)) r.types
+same_lists xs (field.Rec r) = λ w. each_like (mapped_type stripping) (lists_in_type w) (lists_in_type w)
+    (λ t. in_type w (mapped_type stripping t) t (def_stays t)) r.types
 same_lists xs (field.Import i) = same_import i.items
-same_lists xs (field.Func f) = λ w. in_func w (types_of (all_mapped stripping xs)) (types_of xs) (mapped_func stripping f) f (same_locals xs f) (same_labels f.ty f.kind)
+same_lists xs (field.Func f) = λ w. in_func w (types_of (all_mapped stripping xs)) (types_of xs) (mapped_func stripping f) f (same_locals xs f)
+    (same_labels f.ty f.kind)
 same_lists xs (field.Tag t) = λ w. in_tag w (mapped_tag_type stripping t.ty) t.ty (same_params t.ty)
 same_lists xs x = λ w. refl
 

@@ -45,7 +45,8 @@ module _ (t : ModuleField → Bool) (none : (i : Index) → t (field.Start i) �
       list_any-append t xs (start_fields_of is ++ ys)
       ∙ (ap (λ b. list_any t xs || b) (list_any-append t (start_fields_of is) ys ∙ ap (λ b. b || list_any t ys) (starts_fail is))
       ∙ (sym (list_any-append t xs ys)
-      ∙ (sym (or_false (list_any t (xs ++ ys))) ∙ (ap (λ b. list_any t (xs ++ ys) || b) (sym (starts_fail is)) ∙ sym (list_any-append t (xs ++ ys) (start_fields_of is))))))
+      ∙ (sym (or_false (list_any t (xs ++ ys))) ∙ (ap (λ b. list_any t (xs ++ ys) || b) (sym (starts_fail is))
+      ∙ sym (list_any-append t (xs ++ ys) (start_fields_of is))))))
 
 -- Types have no start section.
 no_starts : (ts : List ty.«Type») → flat_map starts_in (map field.Ty ts) ≡ []
@@ -68,14 +69,17 @@ module _ (name : Option (List ℕ)) (is : List Index) (xs : List ModuleField) (t
   starts_swapped : flat_map starts_in before ≡ flat_map starts_in after
   starts_swapped =
       flat_map-append starts_in xs (start_fields_of is ++ ys)
-      ∙ (ap (λ ps. flat_map starts_in xs ++ ps) (flat_map-append starts_in (start_fields_of is) ys ∙ (ap (λ ps. flat_map starts_in (start_fields_of is) ++ ps) (no_starts ts) ∙ append-nil (flat_map starts_in (start_fields_of is))))
-      ∙ (ap (λ ps. ps ++ flat_map starts_in (start_fields_of is)) (sym (append-nil (flat_map starts_in xs)) ∙ (ap (λ ps. flat_map starts_in xs ++ ps) (sym (no_starts ts)) ∙ sym (flat_map-append starts_in xs ys)))
+      ∙ (ap (λ ps. flat_map starts_in xs ++ ps) (flat_map-append starts_in (start_fields_of is) ys
+      ∙ (ap (λ ps. flat_map starts_in (start_fields_of is) ++ ps) (no_starts ts) ∙ append-nil (flat_map starts_in (start_fields_of is))))
+      ∙ (ap (λ ps. ps ++ flat_map starts_in (start_fields_of is)) (sym (append-nil (flat_map starts_in xs))
+      ∙ (ap (λ ps. flat_map starts_in xs ++ ps) (sym (no_starts ts)) ∙ sym (flat_map-append starts_in xs ys)))
       ∙ sym (flat_map-append starts_in (xs ++ ys) (start_fields_of is))))
 
   names_swapped : name_subsections name before ≡ name_subsections name after
   names_swapped =
       subsections_alike before after (λ s. swapped (names_given s) (λ i. refl))
-      (λ w. swapped (lists_within (types_of before) w) (λ i. refl) ∙ ap (λ types. flat_map (lists_within types w) after) (swapped types_within (λ i. refl))) name
+      (λ w. swapped (lists_within (types_of before) w) (λ i. refl)
+      ∙ ap (λ types. flat_map (lists_within types w) after) (swapped types_within (λ i. refl))) name
 
   slot_swapped : (s : Slot) → in_slot name before s ≡ in_slot name after s
   slot_swapped (slot.Custom place) = ap (map custom_part) (swapped (customs_in place) (λ i. refl))

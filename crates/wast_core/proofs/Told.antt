@@ -3,8 +3,14 @@ use Rattle.std.proofs.Common.{◌≡◌, List, [], ◌∷◌, ◌++◌, map, Opt
 use Rattle.std.proofs.lemmas.Grind.{common_steps}
 use Rattle.wast_base.specs.Blocks.{Blocks}
 use Rattle.wast_tree_nodes.specs.Sites.{Where, Locals, BodyContext, constant_context, context_after, param_marks, local_marks, body_here}
-use Rattle.wast_tree_map.specs.Mapped.{Change, mapped_val, named_def, mapped_mem_arg, mapped_heap, mapped_ref, mapped_type, mapped_table_type, mapped_global_type, mapped_tag_type, mapped_block, mapped_catch, mapped_instr, mapped_instrs, mapped_constant, mapped_local, mapped_func_kind, mapped_item_kind, mapped_import_items, mapped_payload, mapped_table_kind, mapped_global_kind, mapped_elem_kind, mapped_data_kind, mapped_field}
-use Rattle.wast_core.specs.Tree.{Space, ValType, TypeDef, MemArg, Index, TypeUse, FunctionType, HeapType, RefType, TableType, GlobalType, TagType, ItemKind, ImportItems, BlockType, TryTableCatch, Instruction, Expression, Local, FuncKind, TableKind, GlobalKind, ElemKind, ElemPayload, DataKind, ModuleField}
+use Rattle.wast_tree_map.specs.Mapped.{Change, mapped_val, named_def, mapped_mem_arg, mapped_heap, mapped_ref, mapped_type}
+use Rattle.wast_tree_map.specs.Mapped.{mapped_table_type, mapped_global_type, mapped_tag_type, mapped_block, mapped_catch, mapped_instr}
+use Rattle.wast_tree_map.specs.Mapped.{mapped_instrs, mapped_constant, mapped_local, mapped_func_kind, mapped_item_kind}
+use Rattle.wast_tree_map.specs.Mapped.{mapped_import_items, mapped_payload, mapped_table_kind, mapped_global_kind, mapped_elem_kind}
+use Rattle.wast_tree_map.specs.Mapped.{mapped_data_kind, mapped_field}
+use Rattle.wast_core.specs.Tree.{Space, ValType, TypeDef, MemArg, Index, TypeUse, FunctionType, HeapType, RefType, TableType, GlobalType}
+use Rattle.wast_core.specs.Tree.{TagType, ItemKind, ImportItems, BlockType, TryTableCatch, Instruction, Expression, Local, FuncKind}
+use Rattle.wast_core.specs.Tree.{TableKind, GlobalKind, ElemKind, ElemPayload, DataKind, ModuleField}
 use Rattle.wast_core.specs.Tree.ty
 use Rattle.wast_core.specs.Tree.space
 use Rattle.wast_core.specs.Tree.instr
@@ -12,7 +18,9 @@ use Rattle.wast_core.specs.Tree.func
 use Rattle.wasm_ops.specs.SelectInstrs.{select_instr}
 use Rattle.wast_core_conv.specs.FieldEntries.{as_imports, table_of, value_of}
 use Rattle.wast_core_conv.specs.Values.{as_block_type, as_catch, as_heap_type, as_ref_type, as_table_type, as_global_type, as_mem_arg}
-use Rattle.wast_core_sections.specs.Sections.{contribution_of, index_value, as_val_type, as_sub_type, type_index, as_tag_type, as_entity_type, as_instr, as_expression, as_body, as_element_mode, as_element_items, as_data_mode}
+use Rattle.wast_core_sections.specs.Sections.{contribution_of, index_value, as_val_type, as_sub_type, type_index, as_tag_type}
+use Rattle.wast_core_sections.specs.Sections.{as_entity_type, as_instr, as_expression, as_body, as_element_mode, as_element_items}
+use Rattle.wast_core_sections.specs.Sections.{as_data_mode}
 use Rattle.wast_core.specs.Front.{KeepsNumbers}
 use Rattle.wast_core.proofs.ToldTypes as types
 use Rattle.wast_core.proofs.ToldTypes.{each_alike, option_alike}
@@ -86,7 +94,21 @@ module _ (f : Change) (t : KeepsNumbers f) where
   -- Bodies.
   instr_told : (h : BodyContext) (i : Instruction) → as_instr (mapped_instr f h i) ≡ as_instr i
   instr_told h (instr.select t) = ap select_instr (select_told t.tys)
-  instr_told h i = grind (arith, common_steps, heap_told, ref_told, block_told, mem_arg_told, use_told, catches_told, labels_told, index_told, local_told, member_told, label_told)
+  instr_told h i = grind (
+    arith,
+    common_steps,
+    heap_told,
+    ref_told,
+    block_told,
+    mem_arg_told,
+    use_told,
+    catches_told,
+    labels_told,
+    index_told,
+    local_told,
+    member_told,
+    label_told,
+  )
 
   instrs_told : (h : BodyContext) (is : List Instruction) → map as_instr (mapped_instrs f h is) ≡ map as_instr is
   instrs_told h [] = refl
@@ -103,7 +125,10 @@ module _ (f : Change) (t : KeepsNumbers f) where
 
   pub body_told : (u : TypeUse FunctionType) (k : FuncKind) → as_body (mapped_func_kind f u k) ≡ as_body k
   body_told u (func.Import import exact) = refl
-  body_told u (func.Inline locals e) = λ t. record { locals = locals_told locals t; instrs = instrs_told (body_here u (param_marks u.inline ++ local_marks locals)) e.instrs t }
+  body_told u (func.Inline locals e) = λ t. record {
+    locals = locals_told locals t;
+    instrs = instrs_told (body_here u (param_marks u.inline ++ local_marks locals)) e.instrs t;
+  }
 
   -- Tables, globals and segments.
   table_told : (k : TableKind) → table_of (mapped_table_kind f k) ≡ table_of k
@@ -122,4 +147,20 @@ module _ (f : Change) (t : KeepsNumbers f) where
   place_told k = grind (arith, common_steps, constant_told, index_told)
 
   pub contributed_told : (x : ModuleField) → contribution_of (mapped_field f x) ≡ contribution_of x
-  contributed_told x = grind (arith, common_steps, def_told, group_told, import_told, use_told, body_told, table_told, global_type_told, value_told, mode_told, items_told, place_told, tag_told, index_told)
+  contributed_told x = grind (
+    arith,
+    common_steps,
+    def_told,
+    group_told,
+    import_told,
+    use_told,
+    body_told,
+    table_told,
+    global_type_told,
+    value_told,
+    mode_told,
+    items_told,
+    place_told,
+    tag_told,
+    index_told,
+  )

@@ -1,12 +1,15 @@
 -- What is read of a type does not change, if each index in it has the same number.
 use Rattle.std.proofs.Common.{◌≡◌, List, [], ◌∷◌, map, Option, Some, None, option_map, refl, ap, arith}
 use Rattle.std.proofs.lemmas.Grind.{common_steps}
-use Rattle.wast_tree_map.specs.Mapped.{Ids, Indices, mapped_heap, mapped_ref, mapped_val, mapped_storage, named_param, named_struct_field, named_inner, named_def, mapped_table_type, mapped_global_type}
+use Rattle.wast_tree_map.specs.Mapped.{Ids, Indices, mapped_heap, mapped_ref, mapped_val, mapped_storage, named_param, named_struct_field}
+use Rattle.wast_tree_map.specs.Mapped.{named_inner, named_def, mapped_table_type, mapped_global_type}
 use Rattle.wasm_ops.specs.declared.types.CompositeInnerType.TheVariants as composite
-use Rattle.wast_core.specs.Tree.{Id, Index, Space, NameAnnotation, HeapType, RefType, ValType, StorageType, StructField, InnerTypeKind, TypeDef, TableType, GlobalType}
+use Rattle.wast_core.specs.Tree.{Id, Index, Space, NameAnnotation, HeapType, RefType, ValType, StorageType, StructField, InnerTypeKind}
+use Rattle.wast_core.specs.Tree.{TypeDef, TableType, GlobalType}
 use Rattle.wast_core.specs.Tree.inner
 use Rattle.wast_core.specs.Tree.space
-use Rattle.wast_core_conv.specs.Values.{index_value, as_heap_type, as_ref_type, as_val_type, as_storage_type, as_field_type, as_inner_type, as_sub_type, as_table_type, as_global_type}
+use Rattle.wast_core_conv.specs.Values.{index_value, as_heap_type, as_ref_type, as_val_type, as_storage_type, as_field_type, as_inner_type}
+use Rattle.wast_core_conv.specs.Values.{as_sub_type, as_table_type, as_global_type}
 
 -- What is read of each element of a list.
 pub each_alike : {A B : Type 0} (f : A → A) (g : A → B) → ((x : A) → g (f x) ≡ g x) → (xs : List A) → map g (map f xs) ≡ map g xs
@@ -50,7 +53,9 @@ module _ (f : Indices) (reads : (s : Space) (i : Index) → index_value (f s i) 
 
   -- Things with ids, whatever these become.
   module _ (own : Ids) where
-    params_told : (ps : List (Option Id × Option NameAnnotation × ValType)) → map (λ (p : Option Id × Option NameAnnotation × ValType). as_val_type p.2) (map (named_param own f) ps) ≡ map (λ (p : Option Id × Option NameAnnotation × ValType). as_val_type p.2) ps
+    params_told : (ps : List (Option Id × Option NameAnnotation × ValType))
+        → map (λ (p : Option Id × Option NameAnnotation × ValType). as_val_type p.2) (map (named_param own f) ps) ≡ map
+        (λ (p : Option Id × Option NameAnnotation × ValType). as_val_type p.2) ps
     params_told ps = each_alike (named_param own f) (λ p. as_val_type p.2) (λ p. val_told p.2) ps
 
     field_told : (x : StructField) → as_field_type (named_struct_field own f x) ≡ as_field_type x

@@ -44,7 +44,8 @@ below bound xs e = λ k d lt. ltb-true _ _ (all_tested (λ x. nat_lt x bound) xs
 not_many : (ns : List ℕ) → list_all (λ n. nat_lt n (2 ^ 32)) ns ≡ true → HasMany ns → ⊥
 not_many ns e c = let at = c.1.0 in let few = below (2 ^ 32) ns e at.0 c.0 at.1 in let many = c.1.1 in let same = at.2 in absurd (omega arith)
 
-not_crowded : (fields : List ModuleField) → list_all (λ n. nat_lt n (2 ^ 32)) (item_counts (items fields)) ≡ true → list_all (λ n. nat_lt n (2 ^ 32)) (body_counts fields) ≡ true → IsCrowded fields → ⊥
+not_crowded : (fields : List ModuleField) → list_all (λ n. nat_lt n (2 ^ 32)) (item_counts (items fields)) ≡ true
+    → list_all (λ n. nat_lt n (2 ^ 32)) (body_counts fields) ≡ true → IsCrowded fields → ⊥
 not_crowded fields e f c = elim c [ inl many ↦ not_many (item_counts (items fields)) e many | inr many ↦ not_many (body_counts fields) f many.1 ]
 
 -- A list of none, and of one.
@@ -55,8 +56,11 @@ one : {A : Type 0} (P : A → Type 0) (x : A) → P x → InRangeVec P (x ∷ []
 one P x h = (omega arith, all_one P x h)
 
 -- What is in range in the parts and in the names is so at each position.
-each_place : (name : Option (List ℕ)) (fields : List ModuleField) → All InRangePart (parts name fields) → ((place : CustomPlace) → All (λ x. (custom_bytes x).in_range) (customs_at place fields)) → InRangeHints (hinted_functions fields) → All (λ x. (name_subsection x).in_range) (subsections_of name fields) → InRangeModule name fields
-each_place name fields h customs hints names = all_both (λ s. All InRangePart (in_slot name fields s)) (InRangeHeld name fields) (InRangeSlot name fields) (λ s p q. (p, q)) order (all_of_flat InRangePart (in_slot name fields) order h) (all_each (InRangeHeld name fields) held order)
+each_place : (name : Option (List ℕ)) (fields : List ModuleField) → All InRangePart (parts name fields)
+    → ((place : CustomPlace) → All (λ x. (custom_bytes x).in_range) (customs_at place fields)) → InRangeHints (hinted_functions fields)
+    → All (λ x. (name_subsection x).in_range) (subsections_of name fields) → InRangeModule name fields
+each_place name fields h customs hints names = all_both (λ s. All InRangePart (in_slot name fields s)) (InRangeHeld name fields)
+    (InRangeSlot name fields) (λ s p q. (p, q)) order (all_of_flat InRangePart (in_slot name fields) order h) (all_each (InRangeHeld name fields) held order)
   where
     held : (s : Slot) → InRangeHeld name fields s
     held (slot.Custom place) = customs place
@@ -65,7 +69,18 @@ each_place name fields h customs hints names = all_both (λ s. All InRangePart (
     held x = tt
 
 pub row1 : Row1
-row1 = (record { spaces = not_crowded [] refl refl; counter = omega arith; writable = record { in_range = each_place None [] (All-nil InRangePart) (λ place. All-nil (λ x. (custom_bytes x).in_range)) (none InRangeHinted) (All-nil (λ x. (name_subsection x).in_range)); length = omega arith } }, refl)
+row1 = (
+  record {
+    spaces = not_crowded [] refl refl;
+    counter = omega arith;
+    writable = record {
+      in_range = each_place None [] (All-nil InRangePart) (λ place. All-nil (λ x. (custom_bytes x).in_range)) (none InRangeHinted)
+          (All-nil (λ x. (name_subsection x).in_range));
+      length = omega arith;
+    };
+  },
+  refl,
+)
 
 parts27 : All InRangePart out.worked_parts
 unfolding unsigned unsigned_in
@@ -101,13 +116,22 @@ bounded27 : (a b c d e f : Address) → IsBounded 1 None (worked.row27 a b c d e
 unfolding unsigned unsigned_in
 bounded27 a b c d e f =
     let fields = worked.row27 a b c d e f in
-    record { spaces = not_crowded (explicit_fields fields) refl refl; counter = omega arith; writable = record { in_range = each_place None (resolved_fields (by_positions fields)) parts27 (λ place. All-nil (λ x. (custom_bytes x).in_range)) (none InRangeHinted) (names27 a b c d e f); length = omega arith } }
+    record {
+      spaces = not_crowded (explicit_fields fields) refl refl;
+      counter = omega arith;
+      writable = record {
+        in_range = each_place None (resolved_fields (by_positions fields)) parts27
+            (λ place. All-nil (λ x. (custom_bytes x).in_range)) (none InRangeHinted) (names27 a b c d e f);
+        length = omega arith;
+      };
+    }
 
 reads27 : (a b c d e f : Address) → Reads out.worked_bytes (meaning None (worked.row27 a b c d e f))
 unfolding unsigned unsigned_in
 reads27 a b c d e f =
     let bounded = bounded27 a b c d e f in
-    reads_module None (resolved_fields (by_positions (worked.row27 a b c d e f))) out.worked_bytes refl (texts27 a b c d e f) bounded.writable.in_range refl (below 256 out.worked_bytes refl)
+    reads_module None (resolved_fields (by_positions (worked.row27 a b c d e f))) out.worked_bytes refl
+    (texts27 a b c d e f) bounded.writable.in_range refl (below 256 out.worked_bytes refl)
 
 pub row27 : Row27
 unfolding unsigned unsigned_in

@@ -47,7 +47,8 @@ closers_bare (Closes ∷ ts) = ap (λ (n : ℕ). n + 1) (closers_bare ts)
 closers_bare (Stays ∷ ts) = closers_bare ts
 
 -- A prefix has the same number of closers and openers.
-front_bare : (ts : List BlockEffect) (n : ℕ) → nat_le (closers (take n (map bare ts))) (openers (take n (map bare ts))) ≡ nat_le (closers (take n ts)) (openers (take n ts))
+front_bare : (ts : List BlockEffect) (n : ℕ) → nat_le (closers (take n (map bare ts))) (openers (take n (map bare ts))) ≡ nat_le
+    (closers (take n ts)) (openers (take n ts))
 front_bare ts n =
     ap (λ us. nat_le (closers us) (openers us)) (take-map bare n ts)
     ∙ ap (λ k. nat_le k (openers (map bare (take n ts)))) (closers_bare (take n ts))

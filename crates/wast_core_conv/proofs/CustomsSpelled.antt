@@ -18,11 +18,15 @@ pub all_ready : {A : Type 0} (xs : List A) → list_all (λ x. true) xs ≡ true
 all_ready xs = all_covered (λ x. true) xs (λ x. refl)
 
 -- A list after other bytes, by what its items become.
-pub listed_behind : {S R A B : Type 0} (rules : SinkRules S) (a b : S) (front : List ℕ) (fits : Type 0) (spell : B → List ℕ) (InRange : B → Type 0) (f : A → B) (xs ys : List A) (r : Result R Refusal) → xs ≡ ys
-    → Writes rules (fits × InRangeVec (λ x. InRange (f x)) xs) a b (front ++ vec (λ x. spell (f x)) xs) r → Writes rules (fits × InRangeVec InRange (map f ys)) a b (front ++ vec spell (map f ys)) r
+pub listed_behind : {S R A B : Type 0} (rules : SinkRules S) (a b : S) (front : List ℕ) (fits : Type 0) (spell : B → List ℕ) (InRange : B
+    → Type 0) (f : A → B) (xs ys : List A) (r : Result R Refusal) → xs ≡ ys
+    → Writes rules (fits × InRangeVec (λ x. InRange (f x)) xs) a b (front ++ vec (λ x. spell (f x)) xs) r
+    → Writes rules (fits × InRangeVec InRange (map f ys)) a b (front ++ vec spell (map f ys)) r
 listed_behind rules a b front fits spell InRange f xs ys r e p =
-    written_as rules (fits × InRangeVec (λ x. InRange (f x)) xs) (fits × InRangeVec InRange (map f ys)) a b (front ++ vec (λ x. spell (f x)) xs) (front ++ vec spell (map f ys)) r
-    (λ h. (h.0, in_range_mapped InRange f ys (subst (InRangeVec (λ x. InRange (f x))) e h.1))) (λ h. (h.0, subst (InRangeVec (λ x. InRange (f x))) (sym e) (in_range_unmapped InRange f ys h.1)))
+    written_as rules (fits × InRangeVec (λ x. InRange (f x)) xs) (fits × InRangeVec InRange (map f ys)) a b (front ++ vec (λ x. spell (f x)) xs)
+    (front ++ vec spell (map f ys)) r
+    (λ h. (h.0, in_range_mapped InRange f ys (subst (InRangeVec (λ x. InRange (f x))) e h.1)))
+    (λ h. (h.0, subst (InRangeVec (λ x. InRange (f x))) (sym e) (in_range_unmapped InRange f ys h.1)))
     (ap (λ zs. front ++ vec (λ x. spell (f x)) zs) e ∙ ap (λ (bs : List ℕ). front ++ bs) (vec_mapped spell f ys)) p
 
 -- The subsections of a section that may be encoded.

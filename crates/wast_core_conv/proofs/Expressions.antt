@@ -49,7 +49,8 @@ cast_covered : (op : CastOp) (ty : RefType) → encodable (check_sites (in_ref t
 cast_covered op ty e = both_true _ true (heap_covered ty.heap (sym (asking_passes (in_ref ty)) ∙ e)) refl
 
 br_cast_covered : (op : BrCastOp) (l : Index) (from to : RefType)
-    → encodable (in_cast constant_context.blocks l to from) ≡ true → (instr (br_cast_instr op (meaning.index_value l) (meaning.as_ref_type from) (meaning.as_ref_type to))).is_covered ≡ true
+    → encodable (in_cast constant_context.blocks l to from) ≡ true
+    → (instr (br_cast_instr op (meaning.index_value l) (meaning.as_ref_type from) (meaning.as_ref_type to))).is_covered ≡ true
 br_cast_covered op l from to e =
     let parts = cast_parts l to from e in
     both_true _ _ (heap_covered from.heap parts.from) (both_true _ true (heap_covered to.heap parts.to) refl)
@@ -83,17 +84,22 @@ pub expression_balanced : (e : Expression) → is_encodable_expression e ≡ tru
 expression_balanced e h = balanced_as e.instrs (ready_balanced e h)
 
 -- The bytes of a constant expression.
-pub spells_expression : (is : List Instruction) (bytes : List ℕ) → list_all is_encodable_instr is ≡ true → is_balanced (block_effects is) ≡ true → (bytes ≡ flat_map (λ i. (instr (meaning.as_instr i)).bytes) is) × All (λ i. (instr (meaning.as_instr i)).in_range) is → SpellsExpression bytes
+pub spells_expression : (is : List Instruction) (bytes : List ℕ) → list_all is_encodable_instr is ≡ true → is_balanced (block_effects is) ≡ true
+    → (bytes ≡ flat_map (λ i. (instr (meaning.as_instr i)).bytes) is) × All (λ i. (instr (meaning.as_instr i)).in_range) is → SpellsExpression bytes
 spells_expression is bytes h closes p = record {
   list = map meaning.as_instr is;
-  in_range = is_expression (map meaning.as_instr is) (instrs_covered is h) (All-map (λ x. (instr x).in_range) meaning.as_instr is p.1) (instrs_rows is h) (balanced_as is closes);
+  in_range = is_expression (map meaning.as_instr is) (instrs_covered is h) (All-map (λ x. (instr x).in_range) meaning.as_instr is p.1)
+      (instrs_rows is h) (balanced_as is closes);
   spelled = p.0 ∙ sym (flat_map-map (λ x. (instr x).bytes) meaning.as_instr is);
 }
 
-pub expression_made : (is : List Instruction) (bytes : List ℕ) → (bytes ≡ flat_map (λ i. (instr (meaning.as_instr i)).bytes) is) × All (λ i. (instr (meaning.as_instr i)).in_range) is → (bytes ≡ instrs (map meaning.as_instr is)) × (expression (map meaning.as_instr is)).in_range
+pub expression_made : (is : List Instruction) (bytes : List ℕ)
+    → (bytes ≡ flat_map (λ i. (instr (meaning.as_instr i)).bytes) is) × All (λ i. (instr (meaning.as_instr i)).in_range) is
+    → (bytes ≡ instrs (map meaning.as_instr is)) × (expression (map meaning.as_instr is)).in_range
 expression_made is bytes p = (p.0 ∙ sym (flat_map-map (λ x. (instr x).bytes) meaning.as_instr is), All-map (λ x. (instr x).in_range) meaning.as_instr is p.1)
 
-pub expression_refused : (is : List Instruction) (e : Error) → IsRefused (All (λ i. (instr (meaning.as_instr i)).in_range) is) e → IsRefused (expression (map meaning.as_instr is)).in_range e
+pub expression_refused : (is : List Instruction) (e : Error) → IsRefused (All (λ i. (instr (meaning.as_instr i)).in_range) is) e
+    → IsRefused (expression (map meaning.as_instr is)).in_range e
 expression_refused is e r = elim r [ inl m ↦ inl m | inr l ↦ inr (l.0, λ h. l.1 (all_unmap (λ x. (instr x).in_range) meaning.as_instr is h)) ]
 
 -- An expression, by the list of its instructions.
@@ -101,7 +107,9 @@ pub expression_written : {S A : Type 0} (rules : SinkRules S) (a b : S) (xs is :
     → Writes rules (All (λ i. (instr (meaning.as_instr i)).in_range) xs × Unit {0}) a b (flat_map (λ i. (instr (meaning.as_instr i)).bytes) xs ++ 0x0b ∷ []) r
     → Writes rules (expression (map meaning.as_instr is)).in_range a b (expression (map meaning.as_instr is)).bytes r
 expression_written rules a b xs is r e p =
-    written_as rules (All (λ i. (instr (meaning.as_instr i)).in_range) xs × Unit {0}) (expression (map meaning.as_instr is)).in_range a b (flat_map (λ i. (instr (meaning.as_instr i)).bytes) xs ++ 0x0b ∷ []) (expression (map meaning.as_instr is)).bytes r
+    written_as rules (All (λ i. (instr (meaning.as_instr i)).in_range) xs × Unit {0}) (expression (map meaning.as_instr is)).in_range a b
+    (flat_map (λ i. (instr (meaning.as_instr i)).bytes) xs ++ 0x0b ∷ []) (expression (map meaning.as_instr is)).bytes r
     (λ h. All-map (λ x. (instr x).in_range) meaning.as_instr is (subst (All (λ i. (instr (meaning.as_instr i)).in_range)) e h.0))
     (λ h. (subst (All (λ i. (instr (meaning.as_instr i)).in_range)) (sym e) (all_unmap (λ x. (instr x).in_range) meaning.as_instr is h), tt))
-    (ap (λ ys. flat_map (λ i. (instr (meaning.as_instr i)).bytes) ys ++ 0x0b ∷ []) e ∙ ap (λ (bytes : List ℕ). bytes ++ 0x0b ∷ []) (sym (flat_map-map (λ x. (instr x).bytes) meaning.as_instr is))) p
+    (ap (λ ys. flat_map (λ i. (instr (meaning.as_instr i)).bytes) ys ++ 0x0b ∷ []) e
+    ∙ ap (λ (bytes : List ℕ). bytes ++ 0x0b ∷ []) (sym (flat_map-map (λ x. (instr x).bytes) meaning.as_instr is))) p

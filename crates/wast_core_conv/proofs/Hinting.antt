@@ -1,5 +1,6 @@
 -- The branch hints of a body: counting the bytes before each hint gives the offsets that the definition has.
-use Rattle.std.proofs.Common.{◌≡◌, ℕ, ◌+◌, ◌-◌, ◌≤◌, ◌<◌, ◌^◌, ◌⊎◌, true, ◌&&◌, List, [], ◌∷◌, ◌++◌, map, length, take, drop, get_or, slice_range, Result, Ok, Err, is_err, false, inl, inr, refl, sym, ap, ◌∙◌, subst, arith, length-append}
+use Rattle.std.proofs.Common.{◌≡◌, ℕ, ◌+◌, ◌-◌, ◌≤◌, ◌<◌, ◌^◌, ◌⊎◌, true, ◌&&◌, List, [], ◌∷◌, ◌++◌, map, length, take, drop, get_or}
+use Rattle.std.proofs.Common.{slice_range, Result, Ok, Err, is_err, false, inl, inr, refl, sym, ap, ◌∙◌, subst, arith, length-append}
 use Rattle.std.specs.Prelude.{All, IfOk, nat_le, nat_lt}
 use Rattle.std.specs.List.{flat_map, list_all}
 use Rattle.std.proofs.lemmas.Bool.{leb-true, le-leb, ltb-true}
@@ -50,7 +51,8 @@ first_stands count first h hs e =
     }
 
 -- The hint at an index.
-pub hint_stands : (count first : ℕ) (hs : List BranchHint) (k : ℕ) (d : BranchHint) → k < length hs → stand_from count first (drop k hs) ≡ true → Stands count first (get_or hs k d) (drop (k + 1) hs)
+pub hint_stands : (count first : ℕ) (hs : List BranchHint) (k : ℕ) (d : BranchHint) → k < length hs → stand_from count first (drop k hs) ≡ true
+    → Stands count first (get_or hs k d) (drop (k + 1) hs)
 hint_stands count first hs k d lt e = first_stands count first (get_or hs k d) (drop (k + 1) hs) (ap (stand_from count first) (sym (drop_more hs k d lt)) ∙ e)
 
 -- Hints that are on instructions from one index on also are from the index before it on.
@@ -61,7 +63,8 @@ stand_sooner count first (h ∷ hs) e =
     let parts = both_pass (is_hint_in_order count (first + 1) h) (stand_from count (h.instr_index + 1) hs) e in
     let more = both_pass (nat_le (first + 1) h.instr_index) (nat_lt h.instr_index count && nat_lt h.value 2) parts.0 in
     both_true (is_hint_in_order count first h) (stand_from count (h.instr_index + 1) hs)
-    (both_true (nat_le first h.instr_index) (nat_lt h.instr_index count && nat_lt h.value 2) (le-leb first h.instr_index (omega (arith, it.behind))) more.1) it.rest
+    (both_true (nat_le first h.instr_index) (nat_lt h.instr_index count && nat_lt h.value 2)
+    (le-leb first h.instr_index (omega (arith, it.behind))) more.1) it.rest
 
 -- The body of a function whose hints may be encoded.
 pub record Parts (ls : List Local) (e : Expression) : Type 0 where
@@ -106,12 +109,14 @@ counted_before ls is n i before le at =
       length-append (spelled (take n is)) (spelled (slice_range is n i)),
     )
 
-in_range_between : (is : List Instruction) (n i : ℕ) → n ≤ i → All (λ x. (instr x).in_range) (take i (map meaning.as_instr is)) → InRangeSpelled (slice_range is n i)
+in_range_between : (is : List Instruction) (n i : ℕ) → n ≤ i → All (λ x. (instr x).in_range) (take i (map meaning.as_instr is))
+    → InRangeSpelled (slice_range is n i)
 in_range_between is n i le h =
     let here = all_unmap (λ x. (instr x).in_range) meaning.as_instr (take i is) (subst (All (λ x. (instr x).in_range)) (take-map meaning.as_instr i is) h) in
     all_right (λ j. (instr (meaning.as_instr j)).in_range) (take n is) (slice_range is n i) (subst InRangeSpelled (up_to is n i le) here)
 
-pub in_range_joined : (is : List Instruction) (n i : ℕ) → n ≤ i → All (λ x. (instr x).in_range) (take n (map meaning.as_instr is)) → InRangeSpelled (slice_range is n i) → All (λ x. (instr x).in_range) (take i (map meaning.as_instr is))
+pub in_range_joined : (is : List Instruction) (n i : ℕ) → n ≤ i → All (λ x. (instr x).in_range) (take n (map meaning.as_instr is))
+    → InRangeSpelled (slice_range is n i) → All (λ x. (instr x).in_range) (take i (map meaning.as_instr is))
 in_range_joined is n i le h k =
     let first = all_unmap (λ x. (instr x).in_range) meaning.as_instr (take n is) (subst (All (λ x. (instr x).in_range)) (take-map meaning.as_instr n is) h) in
     let all = subst InRangeSpelled (sym (up_to is n i le)) (All-append (λ j. (instr (meaning.as_instr j)).in_range) (take n is) (slice_range is n i) first k) in
@@ -130,7 +135,8 @@ pub if_no_error : {A E : Type 0} (P : Type 0) (r : Result A E) → is_err r ≡ 
 if_no_error P (Ok x) good h = h
 if_no_error P (Err e) good h = absurd cc
 
-pub written_in_range : {S A : Type 0} (rules : SinkRules S) (in_range : Type 0) (a b : S) (x : List ℕ) (r : Result A Refusal) → Writes rules in_range a b x r → is_err r ≡ false → in_range
+pub written_in_range : {S A : Type 0} (rules : SinkRules S) (in_range : Type 0) (a b : S) (x : List ℕ) (r : Result A Refusal)
+    → Writes rules in_range a b x r → is_err r ≡ false → in_range
 written_in_range rules in_range a b x (Ok t) p good = p.1
 written_in_range rules in_range a b x (Err e) p good = absurd cc
 
@@ -148,23 +154,30 @@ uncounted rules a n more value InRange e laws r = (
 
 -- The hint was counted and written.
 pub counted_hint : {S A : Type 0} (rules : SinkRules S) (a b : S) (m n value : ℕ) (InRange : Type 0) (r : Result A Refusal) → m ≡ n → InRange
-    → Writes rules (branch_hint (hint_at m value)).in_range a b (branch_hint (hint_at m value)).bytes r → Writes rules (InRange × (branch_hint (hint_at n value)).in_range) a b (branch_hint (hint_at n value)).bytes r
+    → Writes rules (branch_hint (hint_at m value)).in_range a b (branch_hint (hint_at m value)).bytes r
+    → Writes rules (InRange × (branch_hint (hint_at n value)).in_range) a b (branch_hint (hint_at n value)).bytes r
 counted_hint rules a b m n value InRange r is counts p =
-    puts_as rules (branch_hint (hint_at n value)).in_range (InRange × (branch_hint (hint_at n value)).in_range) a b (branch_hint (hint_at n value)).bytes r (λ h. (counts, h)) (λ h. h.1)
+    puts_as rules (branch_hint (hint_at n value)).in_range (InRange × (branch_hint (hint_at n value)).in_range) a b
+    (branch_hint (hint_at n value)).bytes r (λ h. (counts, h)) (λ h. h.1)
     (subst (λ k. Writes rules (branch_hint (hint_at k value)).in_range a b (branch_hint (hint_at k value)).bytes r) is p)
 
 -- It is the hint of the body.
-pub hint_written : {S A : Type 0} (rules : SinkRules S) (a b : S) (ls : List Local) (is : List Instruction) (h : BranchHint) (n before : ℕ) (r : Result A Refusal)
+pub hint_written : {S A : Type 0} (rules : SinkRules S) (a b : S) (ls : List Local) (is : List Instruction) (h : BranchHint) (n before : ℕ)
+    (r : Result A Refusal)
     → n ≤ h.instr_index → before ≡ length (bytes_before (meaning.body_of ls is) n) → All (λ x. (instr x).in_range) (take n (map meaning.as_instr is))
-    → Writes rules (InRangeSpelled (slice_range is n h.instr_index) × (branch_hint (hint_at (before + length (spelled (slice_range is n h.instr_index))) h.value)).in_range) a b (branch_hint (hint_at (before + length (spelled (slice_range is n h.instr_index))) h.value)).bytes r
+    → Writes rules (InRangeSpelled (slice_range is n h.instr_index) ×
+    (branch_hint (hint_at (before + length (spelled (slice_range is n h.instr_index))) h.value)).in_range) a b
+    (branch_hint (hint_at (before + length (spelled (slice_range is n h.instr_index))) h.value)).bytes r
     → Writes rules (InRangeHintOf (meaning.body_of ls is) h) a b (branch_hint (as_branch_hint (meaning.body_of ls is) h)).bytes r
 hint_written rules a b ls is h n before r le counts first p =
     let body = meaning.body_of ls is in
     let between = slice_range is n h.instr_index in
     let whole = length (bytes_before body h.instr_index) in
-    puts_as rules (InRangeSpelled between × (branch_hint (hint_at whole h.value)).in_range) (InRangeHintOf body h) a b (branch_hint (hint_at whole h.value)).bytes r
+    puts_as rules (InRangeSpelled between × (branch_hint (hint_at whole h.value)).in_range) (InRangeHintOf body h) a b
+    (branch_hint (hint_at whole h.value)).bytes r
     (λ q. (in_range_joined is n h.instr_index le first q.0, q.1)) (λ q. (in_range_between is n h.instr_index le q.0, q.1))
-    (subst (λ k. Writes rules (InRangeSpelled between × (branch_hint (hint_at k h.value)).in_range) a b (branch_hint (hint_at k h.value)).bytes r) (counted_before ls is n h.instr_index before le counts) p)
+    (subst (λ k. Writes rules (InRangeSpelled between × (branch_hint (hint_at k h.value)).in_range) a b (branch_hint (hint_at k h.value)).bytes r)
+    (counted_before ls is n h.instr_index before le counts) p)
 
 -- ---- All hints of a body.
 

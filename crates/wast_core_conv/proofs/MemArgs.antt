@@ -16,7 +16,8 @@ use Rattle.wast_core_conv.specs.Meaning as meaning
 use Rattle.wast_core_conv.proofs.EachPasses.{both_pass, both_true, both_lists}
 
 -- The index of a memory or type is a number, and the target is a memory.
-target_parts : (t : MemArgTarget) → are_encodable (in_target t) ≡ true → (are_numbered (in_target t) ≡ true) × (is_covered_target (meaning.as_mem_arg_target t) ≡ true)
+target_parts : (t : MemArgTarget) → are_encodable (in_target t) ≡ true
+    → (are_numbered (in_target t) ≡ true) × (is_covered_target (meaning.as_mem_arg_target t) ≡ true)
 target_parts (target.Memory i) h = (h, refl)
 target_parts (target.Array i) h = let both = both_pass (is_number i) _ h in (both_true (is_number i) true both.0 refl, both.1)
 

@@ -6,7 +6,12 @@ use Rattle.std.specs.List.{flat_map, list_all}
 use Rattle.wast_base.specs.Ids.{is_number}
 use Rattle.wast_tree_nodes.specs.Clauses.{hints_stand, is_segment_type_allowed}
 use Rattle.wast_tree_nodes.specs.Types.{says_enough}
-use Rattle.wast_tree_nodes.specs.Sites.{Check, ItemIndex, InnerIndex, PlainId, Clause, Covered, OfItem, OfCall, Site, Asked, Used, Declared, LocalAt, FieldAt, LabelAt, constant_context, check_sites, if_there, at_index, in_type, in_rec, in_ref, in_type_use, in_use, in_indirect, in_local, in_func, in_func_kind, in_expression, in_table_type, in_global_type, in_tag_type, in_import, in_constant, in_payload, in_table_kind, in_global_kind, in_global, in_elem_kind, in_elem, in_data_kind, in_field, in_module, asked_in, checks_of}
+use Rattle.wast_tree_nodes.specs.Sites.{Check, ItemIndex, InnerIndex, PlainId, Clause, Covered, OfItem, OfCall, Site, Asked, Used, Declared}
+use Rattle.wast_tree_nodes.specs.Sites.{LocalAt, FieldAt, LabelAt, constant_context, check_sites, if_there, at_index, in_type, in_rec}
+use Rattle.wast_tree_nodes.specs.Sites.{in_ref, in_type_use, in_use, in_indirect, in_local, in_func, in_func_kind, in_expression}
+use Rattle.wast_tree_nodes.specs.Sites.{in_table_type, in_global_type, in_tag_type, in_import, in_constant, in_payload, in_table_kind}
+use Rattle.wast_tree_nodes.specs.Sites.{in_global_kind, in_global, in_elem_kind, in_elem, in_data_kind, in_field, in_module, asked_in}
+use Rattle.wast_tree_nodes.specs.Sites.{checks_of}
 use Rattle.wast_tree_nodes.specs.Items.{items}
 use Rattle.wast_tree_nodes.specs.Known.{IdContext, id_context}
 use Rattle.wast_tree_nodes.specs.WellFormed.{is_kept, is_well_formed}
@@ -14,7 +19,9 @@ use Rattle.wast_tree_nodes.specs.Uncovered.{is_covered_ask, uncovered_in, uncove
 use Rattle.wast_tree_nodes.specs.Resolved.{is_numbered, are_numbered, site_passes, is_resolved_site, is_resolved}
 use Rattle.wast_tree_nodes.specs.Profiles.{is_imported_func, is_imported_global}
 use Rattle.wast_tree_nodes.specs.WrittenOut.{exports_nothing, is_written_table, is_written_field, is_written_out}
-use Rattle.wast_core_conv.specs.Tree.{Index, Space, CallIndirect, TypeUse, FunctionType, Expression, Rec, Imports, FuncKind, Func, TableKind, Table, Memory, GlobalKind, Global, ElemKind, ElemPayload, Elem, DataKind, Data, Tag, ModuleField}
+use Rattle.wast_core_conv.specs.Tree.{Index, Space, CallIndirect, TypeUse, FunctionType, Expression, Rec, Imports, FuncKind, Func}
+use Rattle.wast_core_conv.specs.Tree.{TableKind, Table, Memory, GlobalKind, Global, ElemKind, ElemPayload, Elem, DataKind, Data, Tag}
+use Rattle.wast_core_conv.specs.Tree.{ModuleField}
 use Rattle.wast_core_conv.specs.Tree.space
 use Rattle.wast_core_conv.specs.Tree.ty
 use Rattle.wast_core_conv.specs.Tree.func
@@ -24,14 +31,21 @@ use Rattle.wast_core_conv.specs.Tree.elem
 use Rattle.wast_core_conv.specs.Tree.payload
 use Rattle.wast_core_conv.specs.Tree.data_kind
 use Rattle.wast_core_conv.specs.Tree.field
-use Rattle.wast_core_conv.specs.Encodable.{is_encodable_ask, are_encodable, is_encodable_site, encodable, is_entered_site, are_entered, is_number_if, is_encodable_code, is_encodable_expression, is_encodable_type, is_encodable_type_use, is_encodable_kind, is_encodable_import, is_encodable_init, is_encodable_table_kind, is_encodable_table, is_encodable_global_kind, is_encodable_global, is_encodable_tag, is_encodable_elem_kind, is_encodable_payload, is_encodable_elem, is_encodable_data_kind, is_encodable_data, is_encodable_field, is_encodable, is_at_rest, are_resolved}
+use Rattle.wast_core_conv.specs.Encodable.{is_encodable_ask, are_encodable, is_encodable_site, encodable, is_entered_site, are_entered}
+use Rattle.wast_core_conv.specs.Encodable.{is_number_if, is_encodable_code, is_encodable_expression, is_encodable_type}
+use Rattle.wast_core_conv.specs.Encodable.{is_encodable_type_use, is_encodable_kind, is_encodable_import, is_encodable_init}
+use Rattle.wast_core_conv.specs.Encodable.{is_encodable_table_kind, is_encodable_table, is_encodable_global_kind, is_encodable_global}
+use Rattle.wast_core_conv.specs.Encodable.{is_encodable_tag, is_encodable_elem_kind, is_encodable_payload, is_encodable_elem}
+use Rattle.wast_core_conv.specs.Encodable.{is_encodable_data_kind, is_encodable_data, is_encodable_field, is_encodable, is_at_rest}
+use Rattle.wast_core_conv.specs.Encodable.{are_resolved}
 use Rattle.wast_core_conv.specs.Hints.{are_encodable_hints}
 use Rattle.wast_core_conv.proofs.EachPasses.{both_pass, both_true, both_lists, each_passes, each_by, each_then}
 use Rattle.wast_core_conv.proofs.Standing.{asking_passes, asked_then, encodable_at, code_ready, code_hinted, constant_ready, body_tells}
 
 -- ---- Well formed, resolved and desugared.
 
-pub fields_at_rest : (fields : List ModuleField) → is_well_formed fields ≡ true → is_resolved fields ≡ true → is_written_out fields ≡ true → is_at_rest fields ≡ true
+pub fields_at_rest : (fields : List ModuleField) → is_well_formed fields ≡ true → is_resolved fields ≡ true → is_written_out fields ≡ true
+    → is_at_rest fields ≡ true
 fields_at_rest fields kept resolved written = both_true (is_resolved fields) _ resolved (both_true (is_written_out fields) _ written kept)
 
 -- ---- Already resolved and supported.
@@ -86,7 +100,8 @@ fields_ready fields rest none =
     let written = both_pass (is_written_out fields) _ resolved.1 in
     let asks = checks_of (in_module fields) in
     let k = id_context (items fields) in
-    let kept = each_by (is_kept k) is_covered_ask is_kept_here (λ a h. both_true (is_met a) (is_covered_ask a) (ask_met k a h)) asks written.1 (forms_covered asks none) in
+    let kept = each_by (is_kept k) is_covered_ask is_kept_here (λ a h. both_true (is_met a) (is_covered_ask a) (ask_met k a h)) asks written.1
+    (forms_covered asks none) in
     each_by (λ x. encodable (in_field x)) is_written_field is_encodable_field (λ x. both_true (encodable (in_field x)) (is_written_field x)) fields
     (sym (each_passes is_encodable_site in_field fields) ∙ sites_ready (in_module fields) kept resolved.0) written.0
 
@@ -101,7 +116,8 @@ pub asks_numbered : (asks : List Check) → are_encodable asks ≡ true → are_
 asks_numbered asks h = each_then is_encodable_ask is_numbered ask_numbered asks h
 
 -- A site passes if the tests of its checks follow from tests that it passes.
-module _ (alone within next further : Check → Bool) (one : (a : Check) → alone a ≡ true → next a ≡ true) (each : (a : Check) → within a ≡ true → further a ≡ true) where
+module _ (alone within next further : Check → Bool) (one : (a : Check) → alone a ≡ true → next a ≡ true) (each : (a : Check) → within a ≡ true
+    → further a ≡ true) where
   site_then : (s : Site) → site_passes alone within s ≡ true → site_passes next further s ≡ true
   site_then (Asked a) h = one a h
   site_then (Used w u) h =

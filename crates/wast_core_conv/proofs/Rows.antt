@@ -3,7 +3,8 @@ use Rattle.std.proofs.Common.{◌≡◌, true, List, [], ◌++◌, map, refl, sy
 use Rattle.std.specs.Prelude.{All, option_map}
 use Rattle.std.specs.List.{list_all}
 use Rattle.std.proofs.lemmas.List.Elements.{All-map}
-use Rattle.wast_tree_nodes.specs.Sites.{Check, Site, constant_context, check_sites, uncovered_check, in_index, at_index, in_pair, in_ref, in_access, in_cast, in_handlers}
+use Rattle.wast_tree_nodes.specs.Sites.{Check, Site, constant_context, check_sites, uncovered_check, in_index, at_index, in_pair, in_ref}
+use Rattle.wast_tree_nodes.specs.Sites.{in_access, in_cast, in_handlers}
 use Rattle.wasm_ops.specs.Table.{HasRow, kinds_of, table}
 use Rattle.wasm_ops.proofs.Instructing.{plain_row, mem_row, lane_row, mem_lane_row, cast_row, select_row}
 use Rattle.wasm_ops.specs.declared.casts.CastOp.TheVariants as cast
@@ -24,7 +25,8 @@ asks_fail : (asks : List Check) (f : Form) → encodable (check_sites (asks ++ u
 asks_fail asks f e = let no = (both_lists is_encodable_ask asks (uncovered_check f) (sym (asking_passes (asks ++ uncovered_check f)) ∙ e)).1 in cc
 
 handlers_fail : (ss : List Site) (t : ResumeTable) → encodable (ss ++ in_handlers constant_context.blocks t) ≡ true → ⊥
-handlers_fail ss t e = let no = sym (handlers_tell constant_context.blocks t) ∙ (both_lists is_encodable_site ss (in_handlers constant_context.blocks t) e).1 in cc
+handlers_fail ss t e = let no = sym (handlers_tell constant_context.blocks t)
+    ∙ (both_lists is_encodable_site ss (in_handlers constant_context.blocks t) e).1 in cc
 
 pub instr_row : (i : Instruction) → is_encodable_instr i ≡ true → HasRow (meaning.as_instr i)
 unfolding kinds_of table

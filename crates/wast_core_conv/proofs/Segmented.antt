@@ -37,32 +37,55 @@ use Rattle.wast_core_conv.proofs.TypesReady.{heap_covered}
 
 -- ---- Items.
 
-pub are_payload : (ty : types.RefType) (xs es : List Expression) (r : RefType) (v : Vec (List ℕ)) → are_encodable (in_ref ty) ≡ true → r ≡ meaning.as_ref_type ty → xs ≡ es → AreExpressions xs v.items → ArePayload (payload.Exprs ty es) (elements.Expressions r v)
+pub are_payload : (ty : types.RefType) (xs es : List Expression) (r : RefType) (v : Vec (List ℕ)) → are_encodable (in_ref ty) ≡ true
+    → r ≡ meaning.as_ref_type ty → xs ≡ es → AreExpressions xs v.items → ArePayload (payload.Exprs ty es) (elements.Expressions r v)
 are_payload ty xs es r v covered is same made =
     let value : v.items ≡ map (λ e. instrs (meaning.as_expression e)) es = made.value ∙ ap (map (λ e. instrs (meaning.as_expression e))) same in
-    let counted : length (map meaning.as_expression es) ≡ length v.items = length-map es meaning.as_expression ∙ sym (ap length value ∙ length-map es (λ e. instrs (meaning.as_expression e))) in record {
+    let counted : length (map meaning.as_expression es) ≡ length v.items = length-map es meaning.as_expression
+    ∙ sym (ap length value ∙ length-map es (λ e. instrs (meaning.as_expression e))) in record {
       kind = ap kinds.Expressions is;
-      list = ap (vec ended) value ∙ sym (vec_mapped ended (λ e. instrs (meaning.as_expression e)) es) ∙ vec_mapped (λ x. (expression x).bytes) meaning.as_expression es;
+      list = ap (vec ended) value ∙ sym (vec_mapped ended (λ e. instrs (meaning.as_expression e)) es)
+          ∙ vec_mapped (λ x. (expression x).bytes) meaning.as_expression es;
       ready = rw is (heap_covered ty.heap covered);
-      in_range = λ h. (subst (λ x. (ref_type x).in_range) is h.0, (subst InRangeU32 (sym counted) h.1, All-map (λ x. (expression x).in_range) meaning.as_expression es (subst (All (λ e. (expression (meaning.as_expression e)).in_range)) same made.in_range)));
+      in_range = λ h. (
+        subst (λ x. (ref_type x).in_range) is h.0,
+        (
+          subst InRangeU32 (sym counted) h.1,
+          All-map (λ x. (expression x).in_range) meaning.as_expression es
+              (subst (All (λ e. (expression (meaning.as_expression e)).in_range)) same made.in_range),
+        ),
+      );
       built = λ h. (subst (λ x. (ref_type x).in_range) (sym is) h.0, subst InRangeU32 counted h.1.0);
     }
 
-pub payload_refused : (ty : types.RefType) (xs es : List Expression) (e : Error) → xs ≡ es → IsRefused (All (λ x. (expression (meaning.as_expression x)).in_range) xs) e → IsRefused (element_list (meaning.as_element_items (payload.Exprs ty es))).in_range e
-payload_refused ty xs es e same r = elim r [ inl m ↦ inl m | inr l ↦ inr (l.0, λ h. l.1 (subst (All (λ x. (expression (meaning.as_expression x)).in_range)) (sym same) (all_unmap (λ x. (expression x).in_range) meaning.as_expression es h.1))) ]
+pub payload_refused : (ty : types.RefType) (xs es : List Expression) (e : Error) → xs ≡ es
+    → IsRefused (All (λ x. (expression (meaning.as_expression x)).in_range) xs) e
+    → IsRefused (element_list (meaning.as_element_items (payload.Exprs ty es))).in_range e
+payload_refused ty xs es e same r =
+    elim r [
+      | inl m ↦ inl m
+      | inr l ↦ inr (
+        l.0,
+        λ h. l.1 (subst (All (λ x. (expression (meaning.as_expression x)).in_range)) (sym same)
+            (all_unmap (λ x. (expression x).in_range) meaning.as_expression es h.1)),
+      )
+    ]
 
 -- ---- Modes.
 
-pub mode_bytes : {O : Type 0} (f : O → List Instr) (m : SegmentMode O) (k : ElementKind) (list : List ℕ) → segment_bytes (λ o. (expression (f o)).bytes) m k list ≡ element_bytes (seen_mode f m) k list
+pub mode_bytes : {O : Type 0} (f : O → List Instr) (m : SegmentMode O) (k : ElementKind) (list : List ℕ)
+    → segment_bytes (λ o. (expression (f o)).bytes) m k list ≡ element_bytes (seen_mode f m) k list
 mode_bytes f mode.Passive k list = refl
 mode_bytes f x k list = refl
 
-pub mode_in_range : {O : Type 0} (f : O → List Instr) (m : SegmentMode O) → InRangeMode (λ o. (expression (f o)).in_range) m → (element_place (seen_mode f m)).in_range
+pub mode_in_range : {O : Type 0} (f : O → List Instr) (m : SegmentMode O) → InRangeMode (λ o. (expression (f o)).in_range) m
+    → (element_place (seen_mode f m)).in_range
 mode_in_range f mode.Passive h = h
 mode_in_range f mode.Declared h = h
 mode_in_range f (mode.Active table offset) h = h
 
-pub range_of_mode : {O : Type 0} (f : O → List Instr) (m : SegmentMode O) → (element_place (seen_mode f m)).in_range → InRangeMode (λ o. (expression (f o)).in_range) m
+pub range_of_mode : {O : Type 0} (f : O → List Instr) (m : SegmentMode O) → (element_place (seen_mode f m)).in_range
+    → InRangeMode (λ o. (expression (f o)).in_range) m
 range_of_mode f mode.Passive h = h
 range_of_mode f mode.Declared h = h
 range_of_mode f (mode.Active table offset) h = h
@@ -79,25 +102,36 @@ funcref_form : (b : Bool) (h : HeapType) → (b && tree.is_func_heap h) ≡ true
 funcref_form true h e = heap_form h e
 funcref_form false h e = absurd cc
 
-pub suits_form : (k : ElemKind) (p : ElemPayload) → tree.is_segment_type_allowed k p ≡ true → has_form (meaning.as_element_mode k) (kind_of (meaning.as_element_items p)) ≡ true
+pub suits_form : (k : ElemKind) (p : ElemPayload) → tree.is_segment_type_allowed k p ≡ true
+    → has_form (meaning.as_element_mode k) (kind_of (meaning.as_element_items p)) ≡ true
 suits_form (elem.Active (Some table) offset) p e = refl
 suits_form (elem.Active None offset) (payload.Indices is) e = refl
 suits_form (elem.Active None offset) (payload.Exprs ty es) e = funcref_form ty.nullable ty.heap e
 suits_form x p e = refl
 
 -- A segment, by its mode, its kind and the bytes of its list.
-pub segment_written : {S A O : Type 0} (rules : SinkRules S) (a b : S) (f : O → List Instr) (m : SegmentMode O) (k : ElemKind) (p : ElemPayload) (kind : ElementKind) (InList : Type 0) (list : List ℕ) (r : Result A Refusal)
-    → seen_mode f m ≡ meaning.as_element_mode k → kind ≡ kind_of (meaning.as_element_items p) → list ≡ (element_list (meaning.as_element_items p)).bytes → (InList → (element_list (meaning.as_element_items p)).in_range) → ((element_list (meaning.as_element_items p)).in_range → InList)
-    → Writes rules (InRangeMode (λ o. (expression (f o)).in_range) m × ((element_type kind).in_range × InList)) a b (segment_bytes (λ o. (expression (f o)).bytes) m kind list) r
-    → Writes rules ((element_place (meaning.as_element_mode k)).in_range × ((element_type (kind_of (meaning.as_element_items p))).in_range × (element_list (meaning.as_element_items p)).in_range)) a b (element_bytes (meaning.as_element_mode k) (kind_of (meaning.as_element_items p)) (element_list (meaning.as_element_items p)).bytes) r
+pub segment_written : {S A O : Type 0} (rules : SinkRules S) (a b : S) (f : O → List Instr) (m : SegmentMode O) (k : ElemKind) (p : ElemPayload)
+    (kind : ElementKind) (InList : Type 0) (list : List ℕ) (r : Result A Refusal)
+    → seen_mode f m ≡ meaning.as_element_mode k → kind ≡ kind_of (meaning.as_element_items p)
+    → list ≡ (element_list (meaning.as_element_items p)).bytes → (InList → (element_list (meaning.as_element_items p)).in_range)
+    → ((element_list (meaning.as_element_items p)).in_range → InList)
+    → Writes rules (InRangeMode (λ o. (expression (f o)).in_range) m × ((element_type kind).in_range × InList)) a b
+    (segment_bytes (λ o. (expression (f o)).bytes) m kind list) r
+    → Writes rules ((element_place (meaning.as_element_mode k)).in_range × ((element_type (kind_of (meaning.as_element_items p))).in_range ×
+    (element_list (meaning.as_element_items p)).in_range)) a b (element_bytes (meaning.as_element_mode k) (kind_of (meaning.as_element_items p))
+    (element_list (meaning.as_element_items p)).bytes) r
 segment_written rules a b f m k p kind InList list r same is are into back h =
     let items = meaning.as_element_items p in
     let stands = meaning.as_element_mode k in
-    written_as rules (InRangeMode (λ o. (expression (f o)).in_range) m × ((element_type kind).in_range × InList)) ((element_place stands).in_range × ((element_type (kind_of items)).in_range × (element_list items).in_range)) a b (segment_bytes (λ o. (expression (f o)).bytes) m kind list) (element_bytes stands (kind_of items) (element_list items).bytes) r
+    written_as rules (InRangeMode (λ o. (expression (f o)).in_range) m × ((element_type kind).in_range × InList))
+    ((element_place stands).in_range × ((element_type (kind_of items)).in_range × (element_list items).in_range)) a b
+    (segment_bytes (λ o. (expression (f o)).bytes) m kind list) (element_bytes stands (kind_of items) (element_list items).bytes) r
     (λ x. (subst (λ x. (element_place x).in_range) same (mode_in_range f m x.0), (subst (λ x. (element_type x).in_range) is x.1.0, into x.1.1)))
     (λ x. (range_of_mode f m (subst (λ x. (element_place x).in_range) (sym same) x.0), (subst (λ x. (element_type x).in_range) (sym is) x.1.0, back x.1.1)))
-    (mode_bytes f m kind list ∙ ap (λ x. element_bytes x kind list) same ∙ ap (λ x. element_bytes stands x list) is ∙ ap (element_bytes stands (kind_of items)) are) h
+    (mode_bytes f m kind list ∙ ap (λ x. element_bytes x kind list) same ∙ ap (λ x. element_bytes stands x list) is
+    ∙ ap (element_bytes stands (kind_of items)) are) h
 
 -- The flags of a segment of this kind.
-pub has_its_form : {O : Type 0} (f : O → List Instr) (m : SegmentMode O) (k : ElemKind) (p : ElemPayload) (kind : ElementKind) → seen_mode f m ≡ meaning.as_element_mode k → kind ≡ kind_of (meaning.as_element_items p) → tree.is_segment_type_allowed k p ≡ true → is_form m kind ≡ true
+pub has_its_form : {O : Type 0} (f : O → List Instr) (m : SegmentMode O) (k : ElemKind) (p : ElemPayload) (kind : ElementKind)
+    → seen_mode f m ≡ meaning.as_element_mode k → kind ≡ kind_of (meaning.as_element_items p) → tree.is_segment_type_allowed k p ≡ true → is_form m kind ≡ true
 has_its_form f m k p kind same is e = mode_form f m kind ∙ ap (λ x. has_form x kind) same ∙ ap (has_form (meaning.as_element_mode k)) is ∙ suits_form k p e

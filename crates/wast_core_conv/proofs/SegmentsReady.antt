@@ -16,7 +16,8 @@ use Rattle.wast_core_conv.specs.Tree.{RefType, Expression, ElemKind, ElemPayload
 use Rattle.wast_core_conv.specs.Tree.elem
 use Rattle.wast_core_conv.specs.Tree.payload
 use Rattle.wast_core_conv.specs.Tree.data_kind
-use Rattle.wast_core_conv.specs.Encodable.{is_number_if, are_encodable, is_encodable_expression, is_encodable_elem_kind, is_encodable_payload, is_encodable_elem, is_encodable_data_kind}
+use Rattle.wast_core_conv.specs.Encodable.{is_number_if, are_encodable, is_encodable_expression, is_encodable_elem_kind}
+use Rattle.wast_core_conv.specs.Encodable.{is_encodable_payload, is_encodable_elem, is_encodable_data_kind}
 use Rattle.wast_core_conv.specs.FieldEntries.{as_element_mode, as_element_items, as_data_mode}
 use Rattle.wast_core_conv.specs.Meaning as meaning
 use Rattle.wast_core_conv.proofs.EachPasses.{both_pass, both_true, each_becomes, each_has}
@@ -64,33 +65,39 @@ elem_covered x e =
 mode_rows : (k : ElemKind) → is_encodable_elem_kind k ≡ true → All HasRowsExpression (place_expressions (as_element_mode k))
 mode_rows elem.Passive e = All-nil HasRowsExpression
 mode_rows elem.Declared e = All-nil HasRowsExpression
-mode_rows (elem.Active table offset) e = all_one HasRowsExpression (meaning.as_expression offset) (expression_rows offset (both_pass (is_number_if table) (is_encodable_expression offset) e).1)
+mode_rows (elem.Active table offset) e = all_one HasRowsExpression (meaning.as_expression offset)
+    (expression_rows offset (both_pass (is_number_if table) (is_encodable_expression offset) e).1)
 
 items_rows : (q : ElemPayload) → is_encodable_payload q ≡ true → All HasRowsExpression (item_expressions (as_element_items q))
 items_rows (payload.Indices is) e = All-nil HasRowsExpression
 items_rows (payload.Exprs ty es) e =
-    All-map HasRowsExpression meaning.as_expression es (each_has is_encodable_expression (λ x. HasRowsExpression (meaning.as_expression x)) expression_rows es (exprs_parts ty es e).1)
+    All-map HasRowsExpression meaning.as_expression es
+    (each_has is_encodable_expression (λ x. HasRowsExpression (meaning.as_expression x)) expression_rows es (exprs_parts ty es e).1)
 
 pub elem_rows : (x : Elem) → is_encodable_elem x ≡ true → All HasRowsExpression (expressions Elements (meaning.as_element x))
 elem_rows x e =
     let parts = elem_parts x e in
-    All-append HasRowsExpression (place_expressions (as_element_mode x.kind)) (item_expressions (as_element_items x.payload)) (mode_rows x.kind parts.stands) (items_rows x.payload parts.holds)
+    All-append HasRowsExpression (place_expressions (as_element_mode x.kind)) (item_expressions (as_element_items x.payload))
+    (mode_rows x.kind parts.stands) (items_rows x.payload parts.holds)
 
 mode_balanced : (k : ElemKind) → is_encodable_elem_kind k ≡ true → All IsBalancedExpression (place_expressions (as_element_mode k))
 mode_balanced elem.Passive e = All-nil IsBalancedExpression
 mode_balanced elem.Declared e = All-nil IsBalancedExpression
 mode_balanced (elem.Active table offset) e =
-    all_one IsBalancedExpression (meaning.as_expression offset) (expression_balanced offset (both_pass (is_number_if table) (is_encodable_expression offset) e).1)
+    all_one IsBalancedExpression (meaning.as_expression offset)
+    (expression_balanced offset (both_pass (is_number_if table) (is_encodable_expression offset) e).1)
 
 items_balanced : (q : ElemPayload) → is_encodable_payload q ≡ true → All IsBalancedExpression (item_expressions (as_element_items q))
 items_balanced (payload.Indices is) e = All-nil IsBalancedExpression
 items_balanced (payload.Exprs ty es) e =
-    All-map IsBalancedExpression meaning.as_expression es (each_has is_encodable_expression (λ x. IsBalancedExpression (meaning.as_expression x)) expression_balanced es (exprs_parts ty es e).1)
+    All-map IsBalancedExpression meaning.as_expression es
+    (each_has is_encodable_expression (λ x. IsBalancedExpression (meaning.as_expression x)) expression_balanced es (exprs_parts ty es e).1)
 
 pub elem_balanced : (x : Elem) → is_encodable_elem x ≡ true → All IsBalancedExpression (expressions Elements (meaning.as_element x))
 elem_balanced x e =
     let parts = elem_parts x e in
-    All-append IsBalancedExpression (place_expressions (as_element_mode x.kind)) (item_expressions (as_element_items x.payload)) (mode_balanced x.kind parts.stands) (items_balanced x.payload parts.holds)
+    All-append IsBalancedExpression (place_expressions (as_element_mode x.kind)) (item_expressions (as_element_items x.payload))
+    (mode_balanced x.kind parts.stands) (items_balanced x.payload parts.holds)
 
 -- The same for data segments.
 pub place_covered : (k : DataKind) → is_encodable_data_kind k ≡ true → (data_place (as_data_mode k)).is_covered ≡ true
@@ -99,7 +106,8 @@ place_covered (data_kind.Active memory offset) e = expression_covered offset (bo
 
 pub place_rows : (k : DataKind) → is_encodable_data_kind k ≡ true → All HasRowsExpression (data_expressions (as_data_mode k))
 place_rows data_kind.Passive e = All-nil HasRowsExpression
-place_rows (data_kind.Active memory offset) e = all_one HasRowsExpression (meaning.as_expression offset) (expression_rows offset (both_pass (is_number memory) (is_encodable_expression offset) e).1)
+place_rows (data_kind.Active memory offset) e = all_one HasRowsExpression (meaning.as_expression offset)
+    (expression_rows offset (both_pass (is_number memory) (is_encodable_expression offset) e).1)
 
 pub place_balanced : (k : DataKind) → is_encodable_data_kind k ≡ true → All IsBalancedExpression (data_expressions (as_data_mode k))
 place_balanced data_kind.Passive e = All-nil IsBalancedExpression

@@ -8,13 +8,19 @@ use Rattle.wast_base.specs.Ids.{Name, Mark, mark_of_option, is_number}
 use Rattle.wast_base.specs.Spaces.{name_if}
 use Rattle.wast_tree_nodes.specs.Clauses.{hints_stand}
 use Rattle.wast_tree_nodes.specs.Instrs.{block_effects}
-use Rattle.wast_tree_nodes.specs.Sites.{Check, ItemIndex, Clause, OfBlock, Site, Asked, Used, LabelAt, Begins, BodyContext, constant_context, context_after, body_here, param_marks, local_marks, declaration_sites, check_sites, if_there, in_id, in_index, at_index, in_local, at_label, in_use, in_caught, in_catch, in_try_table, in_br_table, in_ref, in_access, in_cast, in_handle, in_handlers, uncovered_check, in_instr, in_instrs, in_expression, in_constant, in_func_kind}
+use Rattle.wast_tree_nodes.specs.Sites.{Check, ItemIndex, Clause, OfBlock, Site, Asked, Used, LabelAt, Begins, BodyContext}
+use Rattle.wast_tree_nodes.specs.Sites.{constant_context, context_after, body_here, param_marks, local_marks, declaration_sites}
+use Rattle.wast_tree_nodes.specs.Sites.{check_sites, if_there, in_id, in_index, at_index, in_local, at_label, in_use, in_caught, in_catch}
+use Rattle.wast_tree_nodes.specs.Sites.{in_try_table, in_br_table, in_ref, in_access, in_cast, in_handle, in_handlers, uncovered_check}
+use Rattle.wast_tree_nodes.specs.Sites.{in_instr, in_instrs, in_expression, in_constant, in_func_kind}
 use Rattle.wast_tree_nodes.specs.Resolved.{is_numbered, are_numbered}
-use Rattle.wast_core_conv.specs.Tree.{Id, Index, Space, TypeUse, FunctionType, BrTableIndices, TryTable, TryTableCatch, RefType, StructAccess, ResumeTable, Instruction, Expression, Local}
+use Rattle.wast_core_conv.specs.Tree.{Id, Index, Space, TypeUse, FunctionType, BrTableIndices, TryTable, TryTableCatch, RefType}
+use Rattle.wast_core_conv.specs.Tree.{StructAccess, ResumeTable, Instruction, Expression, Local}
 use Rattle.wast_core_conv.specs.Tree.form
 use Rattle.wast_core_conv.specs.Tree.instr as instruction
 use Rattle.wast_core_conv.specs.Tree.func
-use Rattle.wast_core_conv.specs.Encodable.{is_encodable_ask, are_encodable, is_encodable_site, encodable, are_entered, is_encodable_catch, is_encodable_instr, is_encodable_code, is_encodable_expression, is_encodable_kind}
+use Rattle.wast_core_conv.specs.Encodable.{is_encodable_ask, are_encodable, is_encodable_site, encodable, are_entered, is_encodable_catch}
+use Rattle.wast_core_conv.specs.Encodable.{is_encodable_instr, is_encodable_code, is_encodable_expression, is_encodable_kind}
 use Rattle.wast_core_conv.proofs.EachPasses.{both_pass, both_true, both_lists, each_passes, each_of_one, each_same}
 
 pub asking_passes : (asks : List Check) → encodable (check_sites asks) ≡ are_encodable asks
@@ -52,7 +58,8 @@ br_table_tells blocks t =
     list_all-append is_encodable_site (flat_map (at_label blocks) t.labels) (at_label blocks t.default)
     ∙ ap (λ b. b && (is_number t.default && true)) (each_of_one is_encodable_site (LabelAt blocks) t.labels)
 
-pub br_table_parts : (t : BrTableIndices) → encodable (in_br_table constant_context.blocks t) ≡ true → (list_all is_number t.labels ≡ true) × (is_number t.default ≡ true)
+pub br_table_parts : (t : BrTableIndices) → encodable (in_br_table constant_context.blocks t) ≡ true
+    → (list_all is_number t.labels ≡ true) × (is_number t.default ≡ true)
 br_table_parts t e =
     let both = both_pass (list_all is_number t.labels) _ (sym (br_table_tells constant_context.blocks t) ∙ e) in
     (both.0, (both_pass (is_number t.default) true both.1).0)
@@ -76,7 +83,8 @@ try_table_tells blocks t =
     ap (λ b. is_encodable_site (Used OfBlock t.block.ty) && b)
     (list_all-append is_encodable_site (flat_map (in_catch blocks) t.catches) begins ∙ ap (λ b. b && true) (catches_tell blocks t.catches))
 
-pub try_table_parts : (t : TryTable) → encodable (in_try_table constant_context.blocks t) ≡ true → (encodable (in_use OfBlock t.block.ty) ≡ true) × (list_all is_encodable_catch t.catches ≡ true)
+pub try_table_parts : (t : TryTable) → encodable (in_try_table constant_context.blocks t) ≡ true
+    → (encodable (in_use OfBlock t.block.ty) ≡ true) × (list_all is_encodable_catch t.catches ≡ true)
 try_table_parts t e =
     let both = both_pass (is_encodable_site (Used OfBlock t.block.ty)) _ (sym (try_table_tells constant_context.blocks t) ∙ e) in
     (both_true _ true both.0 refl, (both_pass (list_all is_encodable_catch t.catches) true both.1).0)

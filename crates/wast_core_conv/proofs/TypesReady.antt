@@ -3,14 +3,17 @@ use Rattle.std.proofs.Common.{◌≡◌, Bool, true, false, ◌&&◌, List, [], 
 use Rattle.std.specs.Prelude.{not, is_none, Option, Some, None, option_map}
 use Rattle.std.specs.List.{flat_map, list_all}
 use Rattle.wast_base.specs.Ids.{is_number}
-use Rattle.wast_tree_nodes.specs.Sites.{Check, Covered, is_continuation, is_sequential, check_sites, if_there, in_index, in_heap, in_val, in_select, in_storage, in_param, in_signature, OfBlock, Used, in_type_use, in_use, in_struct_field, in_descriptor, in_inner, in_def, in_type, in_rec, in_local}
+use Rattle.wast_tree_nodes.specs.Sites.{Check, Covered, is_continuation, is_sequential, check_sites, if_there, in_index, in_heap, in_val}
+use Rattle.wast_tree_nodes.specs.Sites.{in_select, in_storage, in_param, in_signature, OfBlock, Used, in_type_use, in_use, in_struct_field}
+use Rattle.wast_tree_nodes.specs.Sites.{in_descriptor, in_inner, in_def, in_type, in_rec, in_local}
 use Rattle.wast_tree_nodes.specs.Resolved.{are_numbered}
 use Rattle.wasm_ops.specs.CastInstrs.{fence_instr}
 use Rattle.wasm_ops.specs.Control.{block_type}
 use Rattle.wasm_ops.specs.Memargs.{is_covered_ordering}
 use Rattle.wasm_ops.specs.SelectInstrs.{select_instr}
 use Rattle.wasm_ops.specs.Table.{instr}
-use Rattle.wast_core_conv.specs.Tree.{Id, Index, NameAnnotation, AbstractHeapType, HeapType, ValType, StorageType, StructField, FunctionType, BlockType, InnerTypeKind, TypeDef, Rec, Ordering, SelectTypes, Local}
+use Rattle.wast_core_conv.specs.Tree.{Id, Index, NameAnnotation, AbstractHeapType, HeapType, ValType, StorageType, StructField}
+use Rattle.wast_core_conv.specs.Tree.{FunctionType, BlockType, InnerTypeKind, TypeDef, Rec, Ordering, SelectTypes, Local}
 use Rattle.wast_core_conv.specs.Tree.abstract
 use Rattle.wast_core_conv.specs.Tree.form
 use Rattle.wast_core_conv.specs.Tree.heap
@@ -73,12 +76,15 @@ val_covered t e = refl
 
 -- The types of `select`.
 select_all : (ts : List ValType) → are_encodable (flat_map in_val ts) ≡ true → list_all (λ x. (val_type x).is_covered) (map meaning.as_val_type ts) ≡ true
-select_all ts e = each_becomes (λ v. are_encodable (in_val v)) meaning.as_val_type (λ x. (val_type x).is_covered) val_covered ts (sym (each_passes is_encodable_ask in_val ts) ∙ e)
+select_all ts e = each_becomes (λ v. are_encodable (in_val v)) meaning.as_val_type (λ x. (val_type x).is_covered) val_covered ts
+    (sym (each_passes is_encodable_ask in_val ts) ∙ e)
 
-pub select_covered : (t : SelectTypes) → are_encodable (in_select t) ≡ true → (instr (select_instr (option_map (map meaning.as_val_type) t.tys))).is_covered ≡ true
+pub select_covered : (t : SelectTypes) → are_encodable (in_select t) ≡ true
+    → (instr (select_instr (option_map (map meaning.as_val_type) t.tys))).is_covered ≡ true
 select_covered t e = of_types t.tys e
   where
-    of_types : (o : Option (List ValType)) → are_encodable (if_there (flat_map in_val) o) ≡ true → (instr (select_instr (option_map (map meaning.as_val_type) o))).is_covered ≡ true
+    of_types : (o : Option (List ValType)) → are_encodable (if_there (flat_map in_val) o) ≡ true
+        → (instr (select_instr (option_map (map meaning.as_val_type) o))).is_covered ≡ true
     of_types None e = refl
     of_types (Some ts) e = both_true _ true (select_all ts e) refl
 
@@ -88,7 +94,8 @@ sequential_covered None e = refl
 sequential_covered (Some ordering.SeqCst) e = refl
 sequential_covered (Some ordering.AcqRel) e = e
 
-pub fence_covered : (o : Option Ordering) → encodable (check_sites (Covered form.Ordering (is_sequential o) ∷ [])) ≡ true → (instr (fence_instr (meaning.fence_ordering o))).is_covered ≡ true
+pub fence_covered : (o : Option Ordering) → encodable (check_sites (Covered form.Ordering (is_sequential o) ∷ [])) ≡ true
+    → (instr (fence_instr (meaning.fence_ordering o))).is_covered ≡ true
 fence_covered o e = both_true _ true (sequential_covered o (both_pass (is_sequential o) true e).0) refl
 
 -- The type of a block: a type index, or at most one result.
@@ -100,7 +107,8 @@ short_covered : (o : Option FunctionType) → are_encodable (if_there in_signatu
 short_covered None e = refl
 short_covered (Some t) e = given_covered t.results (signature_parts is_encodable_ask t e).1
 
-use_covered : (index : Option Index) (inline : Option FunctionType) → are_encodable (if_there in_signature inline) ≡ true → (block_type (use_as_block index inline)).is_covered ≡ true
+use_covered : (index : Option Index) (inline : Option FunctionType) → are_encodable (if_there in_signature inline) ≡ true
+    → (block_type (use_as_block index inline)).is_covered ≡ true
 use_covered (Some i) inline e = refl
 use_covered None inline e = short_covered inline e
 
@@ -122,7 +130,8 @@ field_covered f e = storage_covered f.ty (sym (behind_id f.id (in_storage f.ty))
 inner_covered : (t : InnerTypeKind) → are_encodable (in_inner t) ≡ true → (composite_inner_type (meaning.as_inner_type t)).is_covered ≡ true
 inner_covered (inner.Func t) e =
     let a = signature_parts is_encodable_ask t e in
-    both_true (list_all (λ x. (val_type x).is_covered) (map (λ p. meaning.as_val_type p.2) t.params)) (list_all (λ x. (val_type x).is_covered) (map meaning.as_val_type t.results))
+    both_true (list_all (λ x. (val_type x).is_covered) (map (λ p. meaning.as_val_type p.2) t.params))
+    (list_all (λ x. (val_type x).is_covered) (map meaning.as_val_type t.results))
     (each_becomes (λ p. are_encodable (in_param p)) (λ p. meaning.as_val_type p.2) (λ x. (val_type x).is_covered) param_covered t.params a.0)
     (each_becomes (λ v. are_encodable (in_val v)) meaning.as_val_type (λ x. (val_type x).is_covered) val_covered t.results a.1)
 inner_covered (inner.Struct t) e =

@@ -21,7 +21,8 @@ use Rattle.wast_core_name_section.specs.declared.within.Within.TheVariants as wi
 use Rattle.wast_core_name_section.proofs.NameMaps.{other_space}
 
 -- If no kind of imported items is in an index space, no signature has an item of it.
-none_imported : (s : Space) → ((k : ItemKind) → same_space s (space_of_kind k) ≡ false) → (sigs : List ItemSig) → flat_map (given_name_in s) (map sig_name sigs) ≡ []
+none_imported : (s : Space) → ((k : ItemKind) → same_space s (space_of_kind k) ≡ false) → (sigs : List ItemSig)
+    → flat_map (given_name_in s) (map sig_name sigs) ≡ []
 none_imported s other [] = refl
 none_imported s other (sig ∷ sigs) = rw (other sig.kind) (none_imported s other sigs)
 

@@ -1,5 +1,6 @@
 -- Lists of names inside items, as they are found, counted and written.
-use Rattle.std.proofs.Common.{◌≡◌, ◌<◌, ◌≤◌, ◌+◌, ℕ, zero, suc, List, [], ◌∷◌, ◌++◌, length, Option, Some, None, refl, sym, ap, ◌∙◌, subst, arith, length-append, map, take, get_or, inl, inr}
+use Rattle.std.proofs.Common.{◌≡◌, ◌<◌, ◌≤◌, ◌+◌, ℕ, zero, suc, List, [], ◌∷◌, ◌++◌, length, Option, Some, None, refl, sym, ap, ◌∙◌, subst}
+use Rattle.std.proofs.Common.{arith, length-append, map, take, get_or, inl, inr}
 use Rattle.std.specs.Prelude.{nat_lt, true, false, ◌||◌, slice_get, option_map}
 use Rattle.std.proofs.lemmas.Bool.{ltb-false, lt-ltb, le-ltb, cases_lt}
 use Rattle.std.proofs.lemmas.List.{length-map, take_all}
@@ -18,7 +19,8 @@ pub each_named : {A : Type 0} (n : ℕ) (f : A → Option (List ℕ)) (xs : List
 each_named n f xs = ap (named_from n) (flat_map_single f xs)
 
 -- Two lists, as they are counted.
-pub both_counted : {A : Type 0} (xs ys : List (Option A)) (first m n : ℕ) → m ≡ saturated_count (length (named_from 0 xs)) → n ≡ saturated_count (length (named_from 0 ys)) → saturated_count (m + n) ≡ saturated_count (length (named_from 0 xs ++ named_from first ys))
+pub both_counted : {A : Type 0} (xs ys : List (Option A)) (first m n : ℕ) → m ≡ saturated_count (length (named_from 0 xs))
+    → n ≡ saturated_count (length (named_from 0 ys)) → saturated_count (m + n) ≡ saturated_count (length (named_from 0 xs ++ named_from first ys))
 both_counted xs ys first m n is also = omega (arith, length-append (named_from 0 xs) (named_from first ys), as_many 0 first ys)
 
 -- A list that has names.
@@ -38,7 +40,8 @@ behind_nameless (suc n) k names = behind_nameless n (k + 1) names ∙ ap (λ m. 
 
 -- Parameters and then locals.
 pub params_then : (params : List (Option Id × Option NameAnnotation × ValType)) (locals : List Local)
-    → named_from 0 (flat_map (λ p. param_name p ∷ []) params) ++ named_from (length params) (flat_map (λ l. local_name l ∷ []) locals) ≡ named_from 0 (map param_name params ++ map local_name locals)
+    → named_from 0 (flat_map (λ p. param_name p ∷ []) params) ++ named_from (length params) (flat_map (λ l. local_name l ∷ []) locals) ≡ named_from 0
+    (map param_name params ++ map local_name locals)
 params_then params locals =
     ap (λ z. z ++ named_from (length params) (flat_map (λ l. local_name l ∷ []) locals)) (each_named 0 param_name params)
     ∙ ap (λ z. named_from 0 (map param_name params) ++ z) (each_named (length params) local_name locals)
@@ -47,27 +50,34 @@ params_then params locals =
     ∙ sym (named_append 0 (map param_name params) (map local_name locals))
 
 -- Locals after as many parameters without names as a type has, if there is one.
-pub nameless_then : (n : ℕ) (locals : List Local) → named_from n (flat_map (λ l. local_name l ∷ []) locals) ≡ named_from 0 (params_then_locals (Some (unnamed_list n)) (map local_name locals))
-nameless_then n locals = each_named n local_name locals ∙ sym (behind_nameless n 0 (map local_name locals) ∙ ap (λ k. named_from k (map local_name locals)) (omega arith))
+pub nameless_then : (n : ℕ) (locals : List Local)
+    → named_from n (flat_map (λ l. local_name l ∷ []) locals) ≡ named_from 0 (params_then_locals (Some (unnamed_list n)) (map local_name locals))
+nameless_then n locals = each_named n local_name locals
+    ∙ sym (behind_nameless n 0 (map local_name locals) ∙ ap (λ k. named_from k (map local_name locals)) (omega arith))
 
-pub nothing_named : (arity : Option ℕ) (locals : List Local) → false ≡ nat_lt 0 (length (named_from 0 (flat_map (λ l. local_name l ∷ []) locals))) → [] ≡ named_from 0 (params_then_locals (option_map unnamed_list arity) (map local_name locals))
+pub nothing_named : (arity : Option ℕ) (locals : List Local) → false ≡ nat_lt 0 (length (named_from 0 (flat_map (λ l. local_name l ∷ []) locals)))
+    → [] ≡ named_from 0 (params_then_locals (option_map unnamed_list arity) (map local_name locals))
 nothing_named None locals never = refl
 nothing_named (Some n) locals never =
     let few = ltb-false 0 (length (named_from 0 (flat_map (λ l. local_name l ∷ []) locals))) (sym never) in
     sym (none_named 0 n (flat_map (λ l. local_name l ∷ []) locals) 0 (omega arith) refl) ∙ nameless_then n locals
 
-pub either_named : (xs ys : List (Option (List ℕ))) (first : ℕ) → (nat_lt 0 (length (named_from 0 xs)) || nat_lt 0 (length (named_from 0 ys))) ≡ nat_lt 0 (length (named_from 0 xs ++ named_from first ys))
+pub either_named : (xs ys : List (Option (List ℕ))) (first : ℕ)
+    → (nat_lt 0 (length (named_from 0 xs)) || nat_lt 0 (length (named_from 0 ys))) ≡ nat_lt 0 (length (named_from 0 xs ++ named_from first ys))
 either_named xs ys first =
     let a = length (named_from 0 xs) in
     let b = length (named_from 0 ys) in
     let whole = named_from 0 xs ++ named_from first ys in
     elim (cases_lt 0 a) [
-      | inl some ↦ ap (λ t. t || nat_lt 0 b) (lt-ltb 0 a some) ∙ sym (lt-ltb 0 (length whole) (omega (arith, length-append (named_from 0 xs) (named_from first ys))))
-      | inr none ↦ ap (λ t. t || nat_lt 0 b) (le-ltb 0 a none) ∙ ap (nat_lt 0) (omega (arith, length-append (named_from 0 xs) (named_from first ys), as_many 0 first ys))
+      | inl some ↦ ap (λ t. t || nat_lt 0 b) (lt-ltb 0 a some)
+          ∙ sym (lt-ltb 0 (length whole) (omega (arith, length-append (named_from 0 xs) (named_from first ys))))
+      | inr none ↦ ap (λ t. t || nat_lt 0 b) (le-ltb 0 a none)
+          ∙ ap (nat_lt 0) (omega (arith, length-append (named_from 0 xs) (named_from first ys), as_many 0 first ys))
     ]
 
 -- A part of a list, after the parts before it.
-pub found_in : {A B : Type 0} (f : A → List B) (xs : List A) (i j : ℕ) (x : A) (part : List B) (d : B) → i < length xs → x ≡ get_or xs i x → part ≡ f x → j < length part
+pub found_in : {A B : Type 0} (f : A → List B) (xs : List A) (i j : ℕ) (x : A) (part : List B) (d : B) → i < length xs → x ≡ get_or xs i x
+    → part ≡ f x → j < length part
     → slice_get (flat_map f xs) (length (flat_map f (take i xs)) + j) ≡ Some (get_or part j d)
 found_in f xs i j x part d lt item is within =
     let here : f (get_or xs i x) ≡ part = ap f (sym item) ∙ sym is in
@@ -85,5 +95,6 @@ found_at {B = B} f xs i j x lt item within = by_first (f x) refl within
     by_first (d ∷ ds) is inside = found_in f xs i j x (d ∷ ds) d lt item is inside ∙ sym (slice_get-get_or (d ∷ ds) j d inside)
 
 -- Nothing comes after the last part.
-pub found_past : {A B : Type 0} (f : A → List B) (xs : List A) (i j k : ℕ) → length xs ≤ i → length (flat_map f (take i xs)) + j ≡ k → slice_get (flat_map f xs) k ≡ None
+pub found_past : {A B : Type 0} (f : A → List B) (xs : List A) (i j k : ℕ) → length xs ≤ i → length (flat_map f (take i xs)) + j ≡ k
+    → slice_get (flat_map f xs) k ≡ None
 found_past f xs i j k past is = slice_get_past (flat_map f xs) k (omega (arith, is, ap (λ ys. length (flat_map f ys)) (take_all i xs past)))

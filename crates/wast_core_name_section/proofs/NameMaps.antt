@@ -1,5 +1,6 @@
 -- Subsections of names, and the name section, as they are written.
-use Rattle.std.proofs.Common.{◌≡◌, ◌<◌, ◌≤◌, ◌+◌, ℕ, Bool, true, false, nat_lt, List, [], ◌∷◌, ◌++◌, length, Option, Result, Ok, Err, inl, inr, refl, sym, ap, ◌∙◌, subst, arith, length-append, append-nil, map, take, get_or}
+use Rattle.std.proofs.Common.{◌≡◌, ◌<◌, ◌≤◌, ◌+◌, ℕ, Bool, true, false, nat_lt, List, [], ◌∷◌, ◌++◌, length, Option, Result, Ok, Err, inl}
+use Rattle.std.proofs.Common.{inr, refl, sym, ap, ◌∙◌, subst, arith, length-append, append-nil, map, take, get_or}
 use Rattle.std.specs.Prelude.{All, codes}
 use Rattle.std.specs.List.{flat_map}
 use Rattle.std.proofs.lemmas.Bool.{lt-ltb, ltb-true, ltb-false}
@@ -30,7 +31,8 @@ use Rattle.wast_core_name_section.specs.ModuleNames.{given_name_in, type_name, d
 use Rattle.wast_core_name_section.proofs.Each.{each_more, each_around}
 
 -- The names of items, each of one thing in a list.
-pub names_of_each : {X : Type 0} (s : Space) (name_of : X → Space × Option (List ℕ)) (xs : List X) (items : List (Space × Option (List ℕ))) → map name_of xs ≡ items → flat_map (given_name_in s) items ≡ flat_map (λ x. given_name_in s (name_of x)) xs
+pub names_of_each : {X : Type 0} (s : Space) (name_of : X → Space × Option (List ℕ)) (xs : List X) (items : List (Space × Option (List ℕ)))
+    → map name_of xs ≡ items → flat_map (given_name_in s) items ≡ flat_map (λ x. given_name_in s (name_of x)) xs
 names_of_each s name_of xs items is = ap (flat_map (given_name_in s)) (sym is) ∙ flat_map-map (given_name_in s) name_of xs
 
 -- Types are items of the type index space alone.
@@ -43,39 +45,49 @@ pub subsection_written : {S R : Type 0} (rules : SinkRules S) (a b : S) (s : Nam
     → id ≡ subsection_id s.of → Writes rules (name_subsection s).in_range a b (id ∷ length_prefixed (λ x. (name_content x).bytes) s.content) r
     → Writes rules (All (λ x. (name_subsection x).in_range) (s ∷ [])) a b (flat_map (λ x. (name_subsection x).bytes) (s ∷ [])) r
 subsection_written rules a b s id r id_is p =
-    one_written rules (λ x. (name_subsection x).bytes) (λ x. (name_subsection x).in_range) a b s r (subst (λ n. Writes rules (name_subsection s).in_range a b (n ∷ length_prefixed (λ x. (name_content x).bytes) s.content) r) id_is p)
+    one_written rules (λ x. (name_subsection x).bytes) (λ x. (name_subsection x).in_range) a b s r
+    (subst (λ n. Writes rules (name_subsection s).in_range a b (n ∷ length_prefixed (λ x. (name_content x).bytes) s.content) r) id_is p)
 
 -- A name map as a subsection.
-pub map_counted : {A : Type 0} (entry : ℕ × A → List ℕ) (InRange : ℕ × A → Type 0) (es : List (ℕ × A)) (count : ℕ) → count ≡ saturated_count (length es) → 0 < count → InRangeMap entry InRange es → InRangeU32 count
+pub map_counted : {A : Type 0} (entry : ℕ × A → List ℕ) (InRange : ℕ × A → Type 0) (es : List (ℕ × A)) (count : ℕ)
+    → count ≡ saturated_count (length es) → 0 < count → InRangeMap entry InRange es → InRangeU32 count
 map_counted entry InRange [] count is some h = absurd (omega arith)
 map_counted entry InRange (e ∷ es) count is some h = let few : InRangeU32 (length (e ∷ es)) = h.1.0 in omega arith
 
 -- There is no subsection if no entry is counted.
-pub no_map : {S A : Type 0} (rules : SinkRules S) (entry : ℕ × A → List ℕ) (InRange : ℕ × A → Type 0) (a : S) (es : List (ℕ × A)) (id count : ℕ) → AppendLaws rules → count ≡ saturated_count (length es) → count ≡ 0
+pub no_map : {S A : Type 0} (rules : SinkRules S) (entry : ℕ × A → List ℕ) (InRange : ℕ × A → Type 0) (a : S) (es : List (ℕ × A)) (id count : ℕ)
+    → AppendLaws rules → count ≡ saturated_count (length es) → count ≡ 0
     → Writes {A = Unit {0}} rules (InRangeMap entry InRange es) a a (map_bytes id entry es) (Ok tt)
 no_map rules entry InRange a [] id count laws is none = (laws.none a, tt)
 no_map rules entry InRange a (e ∷ es) id count laws is none = absurd (omega arith)
 
 -- Otherwise it has its entries after their number.
-pub map_put : {S R A : Type 0} (rules : SinkRules S) (entry : ℕ × A → List ℕ) (InRange : ℕ × A → Type 0) (a b : S) (es : List (ℕ × A)) (id count : ℕ) (r : Result R Refusal) → count ≡ length es → 0 < count
-    → Writes rules (Unit {0} × (InRangeU32 (length (unsigned count ++ flat_map entry es)) × (InRangeU32 count × All InRange es))) a b (id ∷ (unsigned (length (unsigned count ++ flat_map entry es)) ++ (unsigned count ++ flat_map entry es))) r
+pub map_put : {S R A : Type 0} (rules : SinkRules S) (entry : ℕ × A → List ℕ) (InRange : ℕ × A → Type 0) (a b : S) (es : List (ℕ × A)) (id count : ℕ)
+    (r : Result R Refusal) → count ≡ length es → 0 < count
+    → Writes rules (Unit {0} × (InRangeU32 (length (unsigned count ++ flat_map entry es)) × (InRangeU32 count × All InRange es))) a b
+    (id ∷ (unsigned (length (unsigned count ++ flat_map entry es)) ++ (unsigned count ++ flat_map entry es))) r
     → Writes rules (InRangeMap entry InRange es) a b (map_bytes id entry es) r
 map_put rules entry InRange a b [] id count r is some p = absurd (omega arith)
 map_put rules entry InRange a b (e ∷ es) id count r is some p =
     let all = e ∷ es in
     puts_as rules (Unit {0} × InRangeMap entry InRange all) (InRangeMap entry InRange all) a b (map_bytes id entry all) r (λ h. h.1) (λ h. (tt, h))
-    (subst (λ n. Writes rules (Unit {0} × (InRangeU32 (length (unsigned n ++ flat_map entry all)) × (InRangeU32 n × All InRange all))) a b (id ∷ (unsigned (length (unsigned n ++ flat_map entry all)) ++ (unsigned n ++ flat_map entry all))) r) is p)
+    (subst (λ n. Writes rules (Unit {0} × (InRangeU32 (length (unsigned n ++ flat_map entry all)) × (InRangeU32 n × All InRange all))) a b
+    (id ∷ (unsigned (length (unsigned n ++ flat_map entry all)) ++ (unsigned n ++ flat_map entry all))) r) is p)
 
 pub direct_written : {S R : Type 0} (rules : SinkRules S) (a b : S) (of : Named) (names : List (ℕ × List ℕ)) (id : ℕ) (r : Result R Refusal)
-    → id ≡ subsection_id of → Writes rules (InRangeMap (λ x. (name_entry x).bytes) (λ x. (name_entry x).in_range) names) a b (map_bytes id (λ x. (name_entry x).bytes) names) r
+    → id ≡ subsection_id of → Writes rules (InRangeMap (λ x. (name_entry x).bytes) (λ x. (name_entry x).in_range) names) a b
+    (map_bytes id (λ x. (name_entry x).bytes) names) r
     → Writes rules (All (λ x. (name_subsection x).in_range) (direct of names)) a b (flat_map (λ x. (name_subsection x).bytes) (direct of names)) r
-direct_written rules a b of [] id r id_is p = written_as rules (Unit {0}) (All (λ x. (name_subsection x).in_range) []) a b [] [] r (λ h. All-nil (λ x. (name_subsection x).in_range)) (λ h. tt) refl p
+direct_written rules a b of [] id r id_is p = written_as rules (Unit {0}) (All (λ x. (name_subsection x).in_range) []) a b [] [] r
+    (λ h. All-nil (λ x. (name_subsection x).in_range)) (λ h. tt) refl p
 direct_written rules a b of (e ∷ es) id r id_is p = subsection_written rules a b (record { of = of; content = Direct (e ∷ es) }) id r id_is p
 
 pub indirect_written : {S R : Type 0} (rules : SinkRules S) (a b : S) (of : Named) (lists : List (ℕ × List (ℕ × List ℕ))) (id : ℕ) (r : Result R Refusal)
-    → id ≡ subsection_id of → Writes rules (InRangeMap (λ x. (map_entry x).bytes) (λ x. (map_entry x).in_range) lists) a b (map_bytes id (λ x. (map_entry x).bytes) lists) r
+    → id ≡ subsection_id of → Writes rules (InRangeMap (λ x. (map_entry x).bytes) (λ x. (map_entry x).in_range) lists) a b
+    (map_bytes id (λ x. (map_entry x).bytes) lists) r
     → Writes rules (All (λ x. (name_subsection x).in_range) (indirect of lists)) a b (flat_map (λ x. (name_subsection x).bytes) (indirect of lists)) r
-indirect_written rules a b of [] id r id_is p = written_as rules (Unit {0}) (All (λ x. (name_subsection x).in_range) []) a b [] [] r (λ h. All-nil (λ x. (name_subsection x).in_range)) (λ h. tt) refl p
+indirect_written rules a b of [] id r id_is p = written_as rules (Unit {0}) (All (λ x. (name_subsection x).in_range) []) a b [] [] r
+    (λ h. All-nil (λ x. (name_subsection x).in_range)) (λ h. tt) refl p
 indirect_written rules a b of (e ∷ es) id r id_is p = subsection_written rules a b (record { of = of; content = Indirect (e ∷ es) }) id r id_is p
 
 -- Whether a map has a subsection.
@@ -92,18 +104,22 @@ abbrev pub first_map : NameMap
 first_map = map_of.Items space.Func
 
 -- Some items, and those of each element of a list.
-pub together : {X Y : Type 0} (spell : Y → List ℕ) (f : X → List Y) (ys : List Y) (xs : List X) → flat_map spell ys ++ flat_map (λ x. flat_map spell (f x)) xs ≡ flat_map spell (ys ++ flat_map f xs)
+pub together : {X Y : Type 0} (spell : Y → List ℕ) (f : X → List Y) (ys : List Y) (xs : List X)
+    → flat_map spell ys ++ flat_map (λ x. flat_map spell (f x)) xs ≡ flat_map spell (ys ++ flat_map f xs)
 together spell f ys xs = ap (λ z. flat_map spell ys ++ z) (flat_in_flat spell f xs) ∙ sym (flat_map-append spell ys (flat_map f xs))
 
-pub all_together : {X Y : Type 0} (InRange : Y → Type 0) (f : X → List Y) (ys : List Y) (xs : List X) → All InRange ys → All (λ x. All InRange (f x)) xs → All InRange (ys ++ flat_map f xs)
+pub all_together : {X Y : Type 0} (InRange : Y → Type 0) (f : X → List Y) (ys : List Y) (xs : List X) → All InRange ys
+    → All (λ x. All InRange (f x)) xs → All InRange (ys ++ flat_map f xs)
 all_together InRange f ys xs h k = All-append InRange ys (flat_map f xs) h (all_in_flat InRange f xs k)
 
-pub all_apart : {X Y : Type 0} (InRange : Y → Type 0) (f : X → List Y) (ys : List Y) (xs : List X) → All InRange (ys ++ flat_map f xs) → All InRange ys × All (λ x. All InRange (f x)) xs
+pub all_apart : {X Y : Type 0} (InRange : Y → Type 0) (f : X → List Y) (ys : List Y) (xs : List X) → All InRange (ys ++ flat_map f xs)
+    → All InRange ys × All (λ x. All InRange (f x)) xs
 all_apart InRange f ys xs h = (all_left InRange ys (flat_map f xs) h, all_of_flat InRange f xs (all_right InRange ys (flat_map f xs) h))
 
 -- Writing failed before more was written.
 pub front_refused : {S : Type 0} (rules : SinkRules S) (all part : Type 0) (a b : S) (x whole : List ℕ) (e : Refusal)
-    → AppendLaws rules → length x ≤ length whole → (all → part) → Writes {A = Unit {0}} rules part a b x (Err e) → Writes {A = Unit {0}} rules all a b whole (Err e)
+    → AppendLaws rules → length x ≤ length whole → (all → part) → Writes {A = Unit {0}} rules part a b x (Err e)
+    → Writes {A = Unit {0}} rules all a b whole (Err e)
 front_refused rules all part a b x whole e laws le has p = (
   p.0,
   elim p.1 [
@@ -137,15 +153,18 @@ module _ {X : Type 0} (f : X → List NameSubsection) (ys : List NameSubsection)
   parts_fit : InRangePayload whole → Apart
   parts_fit h = let apart = all_apart (λ x. (name_subsection x).in_range) f ys xs h.1 in ((h.0, apart.0), apart.1)
 
-  pub payload_written : {S A : Type 0} (rules : SinkRules S) (a b : S) (r : Result A Refusal) → Writes rules Apart a b (first ++ rest) r → Writes rules (InRangePayload whole) a b (payload_of whole) r
+  pub payload_written : {S A : Type 0} (rules : SinkRules S) (a b : S) (r : Result A Refusal) → Writes rules Apart a b (first ++ rest) r
+      → Writes rules (InRangePayload whole) a b (payload_of whole) r
   payload_written rules a b r p = written_as rules Apart (InRangePayload whole) a b (first ++ rest) (payload_of whole) r payload_fits parts_fit payload_bytes p
 
   -- The same after its length.
   pub sized_written : {S A : Type 0} (rules : SinkRules S) (a b : S) (size : ℕ) (r : Result A Refusal) → size ≡ length (payload_of whole)
-      → Writes rules ((InRangeU32 size × (InRangeName (codes "name") × All (λ x. (name_subsection x).in_range) ys)) × All (λ x. All (λ x. (name_subsection x).in_range) (f x)) xs) a b ((unsigned size ++ first) ++ rest) r
+      → Writes rules ((InRangeU32 size × (InRangeName (codes "name") × All (λ x. (name_subsection x).in_range) ys)) × All
+      (λ x. All (λ x. (name_subsection x).in_range) (f x)) xs) a b ((unsigned size ++ first) ++ rest) r
       → Writes rules (InRangeSized InRangePayload payload_of whole) a b (length_prefixed payload_of whole) r
   sized_written rules a b size r is p =
-      written_as rules ((InRangeU32 size × (InRangeName (codes "name") × All (λ x. (name_subsection x).in_range) ys)) × All (λ x. All (λ x. (name_subsection x).in_range) (f x)) xs) (InRangeSized InRangePayload payload_of whole) a b
+      written_as rules ((InRangeU32 size × (InRangeName (codes "name") × All (λ x. (name_subsection x).in_range) ys)) × All
+      (λ x. All (λ x. (name_subsection x).in_range) (f x)) xs) (InRangeSized InRangePayload payload_of whole) a b
       ((unsigned size ++ first) ++ rest) (length_prefixed payload_of whole) r
       (λ h. (subst InRangeU32 is h.0.0, payload_fits (h.0.1, h.1)))
       (λ h. let parts = parts_fit h.1 in ((subst InRangeU32 (sym is) h.0, parts.0), parts.1))
@@ -160,17 +179,21 @@ byte_kept rules a b c n says laws h at set says_yes =
 
 -- A section is left out if it has no subsections.
 pub names_absent : {S : Type 0} (rules : SinkRules S) (a : S) (subsections : List NameSubsection) → AppendLaws rules → nat_lt 0 (length subsections) ≡ false
-    → Writes {A = Unit {0}} rules (All InRangePart (names_part subsections) × All (λ x. (name_subsection x).in_range) subsections) a a (flat_map part (names_part subsections)) (Ok tt)
+    → Writes {A = Unit {0}} rules (All InRangePart (names_part subsections) × All (λ x. (name_subsection x).in_range) subsections) a a
+    (flat_map part (names_part subsections)) (Ok tt)
 names_absent rules a [] laws none = (laws.none a, (All-nil InRangePart, All-nil (λ x. (name_subsection x).in_range)))
 names_absent rules a (s ∷ ss) laws none = absurd (omega (arith, ltb-false 0 (length (s ∷ ss)) none))
 
 -- Otherwise its payload comes after its id and its length.
-pub names_written : {S A : Type 0} (rules : SinkRules S) (a b : S) (subsections : List NameSubsection) (r : Result A Refusal) → nat_lt 0 (length subsections) ≡ true
+pub names_written : {S A : Type 0} (rules : SinkRules S) (a b : S) (subsections : List NameSubsection) (r : Result A Refusal)
+    → nat_lt 0 (length subsections) ≡ true
     → Writes rules (InRangeSized InRangePayload payload_of subsections) a b (0 ∷ length_prefixed payload_of subsections) r
-    → Writes rules (All InRangePart (names_part subsections) × All (λ x. (name_subsection x).in_range) subsections) a b (flat_map part (names_part subsections)) r
+    → Writes rules (All InRangePart (names_part subsections) × All (λ x. (name_subsection x).in_range) subsections) a b
+    (flat_map part (names_part subsections)) r
 names_written rules a b [] r some p = absurd cc
 names_written rules a b (s ∷ ss) r some p =
     let bytes = flat_map (λ x. (name_subsection x).bytes) (s ∷ ss) in
     let it : Part = record { kind = Custom; items = record { name = codes "name"; bytes = bytes } } in
-    written_as rules (InRangeSized InRangePayload payload_of (s ∷ ss)) (All InRangePart (it ∷ []) × All (λ x. (name_subsection x).in_range) (s ∷ ss)) a b (part it) (flat_map part (it ∷ [])) r
+    written_as rules (InRangeSized InRangePayload payload_of (s ∷ ss)) (All InRangePart (it ∷ []) × All (λ x. (name_subsection x).in_range)
+    (s ∷ ss)) a b (part it) (flat_map part (it ∷ [])) r
     (λ h. (all_one InRangePart it (h.0, h.1.0), h.1.1)) (λ h. let one = All-head InRangePart it [] h.0 in (one.0, (one.1, h.1))) (sym (flat_one part it)) p

@@ -1,7 +1,9 @@
 -- Proves the example name sections by computing them.
 use Rattle.std.proofs.Common.{refl}
 use Rattle.wasm_ops.specs.Leb128.{unsigned, unsigned_in}
-use Rattle.wast_core_name_section.specs.WorkedNames.{Row34, Row35, InlineParameter, SecondOfGroup, NoFunctionType, GeneratedField, NamedGlobal, ImportedFunction, EachSpace, ImportedParameter, TagParameter, NamedLabels, GroupedImport, SharedSignature}
+use Rattle.wast_core_name_section.specs.WorkedNames.{Row34, Row35, InlineParameter, SecondOfGroup, NoFunctionType, GeneratedField}
+use Rattle.wast_core_name_section.specs.WorkedNames.{NamedGlobal, ImportedFunction, EachSpace, ImportedParameter, TagParameter, NamedLabels}
+use Rattle.wast_core_name_section.specs.WorkedNames.{GroupedImport, SharedSignature}
 
 pub row34 : Row34
 unfolding unsigned unsigned_in

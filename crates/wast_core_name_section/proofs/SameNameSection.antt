@@ -14,8 +14,11 @@ use Rattle.wast_core_name_section.specs.declared.within.Within.TheVariants as wi
 use Rattle.wast_core_name_section.specs.declared.names_payload.NameMap.{NameMap}
 use Rattle.wast_core_name_section.specs.declared.names_payload.NameMap.TheVariants as map_of
 use Rattle.wast_core_name_section.specs.GivenNames.{named_from}
-use Rattle.wast_core_name_section.specs.WithinItems.{arity, arity_of, types_within, types_of, locals_of, labels_in, inline_params, tag_params, list_of, lists_in_type, lists_in_func, lists_in_tag, lists_in_imported_func, lists_in_kind, lists_in_sig, lists_in_import, lists_within}
-use Rattle.wast_core_name_section.specs.ModuleNames.{sig_name, import_names, item_names_in, given_name_in, names_given, named_items, direct, named_of, indirect, named_within, map_names, module_name, name_maps, name_subsections}
+use Rattle.wast_core_name_section.specs.WithinItems.{arity, arity_of, types_within, types_of, locals_of, labels_in, inline_params}
+use Rattle.wast_core_name_section.specs.WithinItems.{tag_params, list_of, lists_in_type, lists_in_func, lists_in_tag}
+use Rattle.wast_core_name_section.specs.WithinItems.{lists_in_imported_func, lists_in_kind, lists_in_sig, lists_in_import, lists_within}
+use Rattle.wast_core_name_section.specs.ModuleNames.{sig_name, import_names, item_names_in, given_name_in, names_given, named_items, direct}
+use Rattle.wast_core_name_section.specs.ModuleNames.{named_of, indirect, named_within, map_names, module_name, name_maps, name_subsections}
 use Rattle.wast_core_name_section.proofs.Each.{each_like}
 
 -- The lists inside a field are those inside another, each field among the fields of its module.
@@ -40,13 +43,15 @@ module _ (f : ModuleField → ModuleField) (keeps : KeepsNames f) where
   same_map : (xs : List ModuleField) (m : NameMap) → map_names (map f xs) m ≡ map_names xs m
   same_map xs (map_of.Items s) = ap (direct (named_of s)) (same_items s xs)
   same_map xs (map_of.Within w) =
-      ap (λ lists. indirect (named_within w) (named_from 0 lists)) (each_like f (lists_within (types_of (map f xs)) w) (lists_within (types_of xs) w) (λ x. keeps.lists xs x w) xs)
+      ap (λ lists. indirect (named_within w) (named_from 0 lists)) (each_like f (lists_within (types_of (map f xs)) w) (lists_within (types_of xs) w)
+      (λ x. keeps.lists xs x w) xs)
 
   pub same_subsections : (name : Option (List ℕ)) (xs : List ModuleField) → name_subsections name (map f xs) ≡ name_subsections name xs
   same_subsections name xs = ap (λ g. module_name name ++ flat_map g name_maps) (fun_ext (same_map xs))
 
 -- Two lists of fields whose items have the same names and lists have the same subsections.
-module _ (xs ys : List ModuleField) (items : (s : Space) → flat_map (names_given s) xs ≡ flat_map (names_given s) ys) (lists : (w : Within) → flat_map (lists_within (types_of xs) w) xs ≡ flat_map (lists_within (types_of ys) w) ys) where
+module _ (xs ys : List ModuleField) (items : (s : Space) → flat_map (names_given s) xs ≡ flat_map (names_given s) ys) (lists : (w : Within)
+    → flat_map (lists_within (types_of xs) w) xs ≡ flat_map (lists_within (types_of ys) w) ys) where
   map_alike : (m : NameMap) → map_names xs m ≡ map_names ys m
   map_alike (map_of.Items s) = ap (λ names. direct (named_of s) (named_from 0 names)) (items s)
   map_alike (map_of.Within w) = ap (λ lists. indirect (named_within w) (named_from 0 lists)) (lists w)
@@ -89,7 +94,8 @@ in_type within.Fields s t is = ap (λ d. lists_in_type within.Fields (record t {
 in_type within.Parameters s t is = ap (λ d. lists_in_type within.Parameters (record t { def = d })) is
 in_type x s t is = refl
 
-pub in_func : (w : Within) (xs ys : List ty.«Type») (f g : Func) → locals_of xs f ≡ locals_of ys g → labels_in f.kind ≡ labels_in g.kind → lists_in_func xs w f ≡ lists_in_func ys w g
+pub in_func : (w : Within) (xs ys : List ty.«Type») (f g : Func) → locals_of xs f ≡ locals_of ys g → labels_in f.kind ≡ labels_in g.kind
+    → lists_in_func xs w f ≡ lists_in_func ys w g
 in_func within.Labels xs ys f g is also = ap (λ (names : List (Option (List ℕ))). list_of names ∷ []) also
 in_func within.Locals xs ys f g is also = ap (λ (names : List (Option (List ℕ))). list_of names ∷ []) is
 in_func x xs ys f g is also = refl

@@ -1,5 +1,6 @@
 -- The ranges of all kinds, extended by one field.
-use Rattle.std.proofs.Common.{◌≡◌, ℕ, ◌+◌, ◌<◌, ◌≤◌, Bool, true, false, ◌&&◌, List, [], ◌∷◌, ◌++◌, length, get_or, set, replicate, take, drop, refl, sym, ap, ◌∙◌, subst, arith}
+use Rattle.std.proofs.Common.{◌≡◌, ℕ, ◌+◌, ◌<◌, ◌≤◌, Bool, true, false, ◌&&◌, List, [], ◌∷◌, ◌++◌, length, get_or, set, replicate, take}
+use Rattle.std.proofs.Common.{drop, refl, sym, ap, ◌∙◌, subst, arith}
 use Rattle.std.specs.List.{list_all}
 use Rattle.std.proofs.lemmas.Bool.{eqb-true, eqb-false, and_parts}
 use Rattle.std.proofs.lemmas.List.{get_or-replicate, get_or-set_same, get_or-set_other}
@@ -22,9 +23,11 @@ abbrev nowhere : FieldRange
 nowhere = record { first = 0; end = 0 }
 
 -- The range of the kind of the field is the new one, and those of other kinds do not change.
-pub one_more : (rs : List FieldRange) (i : ℕ) (new : FieldRange) (k : FieldKind) (before : List ModuleField) (field : ModuleField) → i ≡ kind_rank (kind_in field) → i < length rs
+pub one_more : (rs : List FieldRange) (i : ℕ) (new : FieldRange) (k : FieldKind) (before : List ModuleField) (field : ModuleField)
+    → i ≡ kind_rank (kind_in field) → i < length rs
     → (is_reach (is_of k) before (get_or rs i nowhere) ≡ true → is_reach (is_of k) (before ++ field ∷ []) new ≡ true)
-    → is_reach (is_of k) before (get_or rs (kind_rank k) nowhere) ≡ true → is_reach (is_of k) (before ++ field ∷ []) (get_or (set rs i new) (kind_rank k) nowhere) ≡ true
+    → is_reach (is_of k) before (get_or rs (kind_rank k) nowhere) ≡ true
+    → is_reach (is_of k) (before ++ field ∷ []) (get_or (set rs i new) (kind_rank k) nowhere) ≡ true
 one_more rs i new k before field is lt grows h = by_test (is_of k field) refl
   where
     by_test : (b : Bool) → is_of k field ≡ b → is_reach (is_of k) (before ++ field ∷ []) (get_or (set rs i new) (kind_rank k) nowhere) ≡ true
@@ -33,7 +36,8 @@ one_more rs i new k before field is lt grows h = by_test (is_of k field) refl
         let found : get_or (set rs i new) (kind_rank k) nowhere ≡ new = ap (λ j. get_or (set rs i new) j nowhere) same ∙ get_or-set_same rs i new nowhere lt in
         ap (is_reach (is_of k) (before ++ field ∷ [])) found ∙ grows (ap (λ j. is_reach (is_of k) before (get_or rs j nowhere)) (sym same) ∙ h)
     by_test false other =
-        let found : get_or (set rs i new) (kind_rank k) nowhere ≡ get_or rs (kind_rank k) nowhere = get_or-set_other rs i (kind_rank k) new nowhere (λ e. eqb-false (kind_rank k) (kind_rank (kind_in field)) other (e ∙ is)) in
+        let found : get_or (set rs i new) (kind_rank k) nowhere ≡ get_or rs (kind_rank k) nowhere = get_or-set_other rs i (kind_rank k) new nowhere
+        (λ e. eqb-false (kind_rank k) (kind_rank (kind_in field)) other (e ∙ is)) in
         ap (is_reach (is_of k) (before ++ field ∷ [])) found ∙ passed_over (is_of k) before field (get_or rs (kind_rank k) nowhere) other h
 
 each_is : (p : FieldKind → Bool) (ks : List FieldKind) → ((k : FieldKind) → p k ≡ true) → list_all p ks ≡ true
@@ -41,7 +45,8 @@ each_is p [] h = refl
 each_is p (k ∷ ks) h = ap (λ b. b && list_all p ks) (h k) ∙ each_is p ks h
 
 -- The ranges of all kinds, from the range of each kind.
-pub all_found : (fields : List ModuleField) (rs : FieldRanges) → ((k : FieldKind) → is_reach (is_of k) fields (reach_of rs k) ≡ true) → are_reaches fields rs ≡ true
+pub all_found : (fields : List ModuleField) (rs : FieldRanges) → ((k : FieldKind) → is_reach (is_of k) fields (reach_of rs k) ≡ true)
+    → are_reaches fields rs ≡ true
 unfolding are_reaches
 all_found fields rs h = each_is (λ k. is_reach (is_of k) fields (reach_of rs k)) kinds h
 
@@ -96,6 +101,8 @@ empty_reach p fields r none h =
     subst (λ n. none_pass p (drop n fields) ≡ true) none (and_parts (none_pass p (take r.first fields)) (none_pass p (drop r.end fields)) outside).1
 
 -- If the ranges of all custom sections are empty, there are none.
-pub no_customs : (rs : FieldRanges) → ((k : ℕ) → 12 ≤ k → k < 38 → (get_or rs.by_rank k nowhere).end ≡ 0) → (fields : List ModuleField) (place : CustomPlace) → are_reaches fields rs ≡ true → none_pass (is_of (kind.Custom place)) fields ≡ true
+pub no_customs : (rs : FieldRanges) → ((k : ℕ) → 12 ≤ k → k < 38 → (get_or rs.by_rank k nowhere).end ≡ 0)
+    → (fields : List ModuleField) (place : CustomPlace) → are_reaches fields rs ≡ true → none_pass (is_of (kind.Custom place)) fields ≡ true
 no_customs rs empty fields place h =
-    empty_reach (is_of (kind.Custom place)) fields (reach_of rs (kind.Custom place)) (empty (12 + place_rank place) (omega arith) (omega (arith, place_below place))) (found_for fields rs (kind.Custom place) h)
+    empty_reach (is_of (kind.Custom place)) fields (reach_of rs (kind.Custom place))
+    (empty (12 + place_rank place) (omega arith) (omega (arith, place_below place))) (found_for fields rs (kind.Custom place) h)

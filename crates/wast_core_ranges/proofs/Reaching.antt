@@ -1,5 +1,6 @@
 -- Properties of the fields in a range, and of ranges that are extended or united.
-use Rattle.std.proofs.Common.{◌≡◌, ℕ, ◌≤◌, ◌+◌, ◌-◌, Bool, true, false, ◌&&◌, ◌||◌, not, List, [], ◌∷◌, ◌++◌, length, length-append, take, drop, take-append-drop, append-nil, refl, sym, ap, ◌∙◌, arith}
+use Rattle.std.proofs.Common.{◌≡◌, ℕ, ◌≤◌, ◌+◌, ◌-◌, Bool, true, false, ◌&&◌, ◌||◌, not, List, [], ◌∷◌, ◌++◌, length, length-append, take}
+use Rattle.std.proofs.Common.{drop, take-append-drop, append-nil, refl, sym, ap, ◌∙◌, arith}
 use Rattle.std.specs.Prelude.{nat_le}
 use Rattle.std.specs.List.{list_all, flat_map}
 use Rattle.std.proofs.lemmas.Bool.{leb-true, le-leb}
@@ -77,7 +78,8 @@ none_either p q (x ∷ xs) h k =
 -- ---- one more field
 
 -- A field of another kind does not change the range.
-pub passed_over : (p : ModuleField → Bool) (xs : List ModuleField) (x : ModuleField) (r : FieldRange) → p x ≡ false → is_reach p xs r ≡ true → is_reach p (xs ++ x ∷ []) r ≡ true
+pub passed_over : (p : ModuleField → Bool) (xs : List ModuleField) (x : ModuleField) (r : FieldRange) → p x ≡ false → is_reach p xs r ≡ true
+    → is_reach p (xs ++ x ∷ []) r ≡ true
 passed_over p xs x r other h =
     let it = reach_parts p xs r h in
     let first : r.first ≤ length xs = omega (arith, it.ordered, it.inside) in
@@ -94,7 +96,8 @@ passed_over p xs x r other h =
 none_at_all : (p : ModuleField → Bool) (fields : List ModuleField) (r : FieldRange) → IsReach p fields r → r.end ≡ 0 → none_pass p fields ≡ true
 none_at_all p fields r h zero = ap (λ i. none_pass p (drop i fields)) (sym zero) ∙ h.behind
 
-pub first_alone : (p q : ModuleField → Bool) (fields : List ModuleField) (r o : FieldRange) → o.end ≡ 0 → is_reach p fields r ≡ true → is_reach q fields o ≡ true → is_reach (λ f. p f || q f) fields r ≡ true
+pub first_alone : (p q : ModuleField → Bool) (fields : List ModuleField) (r o : FieldRange) → o.end ≡ 0 → is_reach p fields r ≡ true
+    → is_reach q fields o ≡ true → is_reach (λ f. p f || q f) fields r ≡ true
 first_alone p q fields r o zero h k =
     let it = reach_parts p fields r h in
     let none = none_at_all q fields o (reach_parts q fields o k) zero in
@@ -105,7 +108,8 @@ first_alone p q fields r o zero h k =
       behind = none_either p q (drop r.end fields) it.behind (none_last q fields r.end none);
     }
 
-pub other_alone : (p q : ModuleField → Bool) (fields : List ModuleField) (r o : FieldRange) → r.end ≡ 0 → is_reach p fields r ≡ true → is_reach q fields o ≡ true → is_reach (λ f. p f || q f) fields o ≡ true
+pub other_alone : (p q : ModuleField → Bool) (fields : List ModuleField) (r o : FieldRange) → r.end ≡ 0 → is_reach p fields r ≡ true
+    → is_reach q fields o ≡ true → is_reach (λ f. p f || q f) fields o ≡ true
 other_alone p q fields r o zero h k =
     let it = reach_parts q fields o k in
     let none = none_at_all p fields r (reach_parts p fields r h) zero in
@@ -116,7 +120,8 @@ other_alone p q fields r o zero h k =
       behind = none_either p q (drop o.end fields) (none_last p fields o.end none) it.behind;
     }
 
-pub both_within : (p q : ModuleField → Bool) (fields : List ModuleField) (r o : FieldRange) (first end : ℕ) → first ≤ r.first → first ≤ o.first → r.end ≤ end → o.end ≤ end → end ≤ length fields
+pub both_within : (p q : ModuleField → Bool) (fields : List ModuleField) (r o : FieldRange) (first end : ℕ) → first ≤ r.first → first ≤ o.first
+    → r.end ≤ end → o.end ≤ end → end ≤ length fields
     → is_reach p fields r ≡ true → is_reach q fields o ≡ true → is_reach (λ f. p f || q f) fields (record { first = first; end = end }) ≡ true
 both_within p q fields r o first end a b c d e h k =
     let it = reach_parts p fields r h in
@@ -130,7 +135,8 @@ both_within p q fields r o first end a b c d e h k =
 
 -- ---- the items of fields in a range
 
-none_give : {A : Type 0} (g : ModuleField → List A) (p : ModuleField → Bool) (xs : List ModuleField) → ((f : ModuleField) → p f ≡ false → g f ≡ []) → none_pass p xs ≡ true → flat_map g xs ≡ []
+none_give : {A : Type 0} (g : ModuleField → List A) (p : ModuleField → Bool) (xs : List ModuleField) → ((f : ModuleField) → p f ≡ false → g f ≡ [])
+    → none_pass p xs ≡ true → flat_map g xs ≡ []
 none_give g p [] elsewhere h = refl
 none_give g p (x ∷ xs) elsewhere h =
     let both = both_pass (not (p x)) (none_pass p xs) h in
@@ -145,7 +151,8 @@ in_three : (fields : List ModuleField) (r : FieldRange) → r.first ≤ r.end �
 in_three fields r le = sym (take-append-drop r.first fields) ∙ ap (λ xs. take r.first fields ++ xs) (drop_split fields r.first r.end le)
 
 -- If only fields that pass a test have items, the fields in their range have all items.
-pub all_there : {A : Type 0} (g : ModuleField → List A) (p : ModuleField → Bool) (fields : List ModuleField) (r : FieldRange) → ((f : ModuleField) → p f ≡ false → g f ≡ []) → is_reach p fields r ≡ true → flat_map g (fields_in r fields) ≡ flat_map g fields
+pub all_there : {A : Type 0} (g : ModuleField → List A) (p : ModuleField → Bool) (fields : List ModuleField) (r : FieldRange)
+    → ((f : ModuleField) → p f ≡ false → g f ≡ []) → is_reach p fields r ≡ true → flat_map g (fields_in r fields) ≡ flat_map g fields
 all_there g p fields r elsewhere h =
     let it = reach_parts p fields r h in
     let first = take r.first fields in
@@ -160,9 +167,11 @@ all_there g p fields r elsewhere h =
     )
 
 -- A test that each field passes is passed by each field in the range.
-pub all_pass_there : (t : ModuleField → Bool) (fields : List ModuleField) (r : FieldRange) → is_inside fields r ≡ true → list_all t fields ≡ true → list_all t (fields_in r fields) ≡ true
+pub all_pass_there : (t : ModuleField → Bool) (fields : List ModuleField) (r : FieldRange) → is_inside fields r ≡ true → list_all t fields ≡ true
+    → list_all t (fields_in r fields) ≡ true
 all_pass_there t fields r h all =
     let within = both_pass (nat_le r.first r.end) (nat_le r.end (length fields)) h in
     let whole = ap (list_all t) (sym (in_three fields r (leb-true r.first r.end within.0))) ∙ all in
-    let rest = both_pass (list_all t (take r.first fields)) _ (sym (list_all-append t (take r.first fields) (fields_in r fields ++ drop r.end fields)) ∙ whole) in
+    let rest = both_pass (list_all t (take r.first fields)) _
+    (sym (list_all-append t (take r.first fields) (fields_in r fields ++ drop r.end fields)) ∙ whole) in
     (both_pass (list_all t (fields_in r fields)) _ (sym (list_all-append t (fields_in r fields) (drop r.end fields)) ∙ rest.1)).0

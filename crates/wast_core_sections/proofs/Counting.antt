@@ -32,35 +32,43 @@ no_body_elsewhere : (x : ModuleField) → is_of kind.Func x ≡ false → body_i
 no_body_elsewhere (field.Func f) h = cc
 no_body_elsewhere x h = refl
 
-pub functions_need : (fields : List ModuleField) (r : FieldRange) → is_reach (is_of kind.Func) fields r ≡ true → needs_count (fields_in r fields) ≡ needs_count fields
+pub functions_need : (fields : List ModuleField) (r : FieldRange) → is_reach (is_of kind.Func) fields r ≡ true
+    → needs_count (fields_in r fields) ≡ needs_count fields
 functions_need fields r h =
-    any_in_flat needs_data_count body_instrs (fields_in r fields) ∙ (ap (list_any needs_data_count) (all_there body_instrs (is_of kind.Func) fields r no_body_elsewhere h) ∙ sym (any_in_flat needs_data_count body_instrs fields))
+    any_in_flat needs_data_count body_instrs (fields_in r fields)
+    ∙ (ap (list_any needs_data_count) (all_there body_instrs (is_of kind.Func) fields r no_body_elsewhere h)
+    ∙ sym (any_in_flat needs_data_count body_instrs fields))
 
 -- Without an index of a data segment, none needs one.
 pub none_needs : (fields : List ModuleField) (asked : Bool) → asked ≡ false → may_be_counted fields asked ≡ true → needs_count fields ≡ false
 none_needs fields asked none may = not-true (needs_count fields) (subst (λ b. may_be_counted fields b ≡ true) none may)
 
 -- The count is the number of data segments.
-counts_are : (fields : List ModuleField) (needed : Bool) (count : ℕ) → needed ≡ needs_count fields → count ≡ length (entries Data fields) → count_parts needed count ≡ data_counts fields
+counts_are : (fields : List ModuleField) (needed : Bool) (count : ℕ) → needed ≡ needs_count fields → count ≡ length (entries Data fields)
+    → count_parts needed count ≡ data_counts fields
 counts_are fields needed count is same = λ i. count_parts (is i) (same i)
 
 -- A data count is left out if it is not needed.
 pub count_absent : {S : Type 0} (rules : SinkRules S) (fields : List ModuleField) (a : S) → AppendLaws rules → false ≡ needs_count fields
     → Writes {A = Unit {0}} rules (All InRangePart (data_counts fields)) a a (flat_map part (data_counts fields)) (Ok tt)
 count_absent rules fields a laws is =
-    subst (λ (ps : List Part). Writes {A = Unit {0}} rules (All InRangePart ps) a a (flat_map part ps) (Ok tt)) (counts_are fields false (length (entries Data fields)) is refl) (laws.none a, All-nil InRangePart)
+    subst (λ (ps : List Part). Writes {A = Unit {0}} rules (All InRangePart ps) a a (flat_map part ps) (Ok tt))
+    (counts_are fields false (length (entries Data fields)) is refl) (laws.none a, All-nil InRangePart)
 
 -- A needed data count is out of range if there are too many segments.
 pub count_in_range : (fields : List ModuleField) → true ≡ needs_count fields → All InRangePart (data_counts fields) → InRangeU32 (length (entries Data fields))
 count_in_range fields is h =
     let n = length (entries Data fields) in
-    (All-head InRangePart (record { kind = DataCount; items = n }) [] (subst (λ (ps : List Part). All InRangePart ps) (sym (counts_are fields true n is refl)) h)).1
+    (All-head InRangePart (record { kind = DataCount; items = n }) []
+    (subst (λ (ps : List Part). All InRangePart ps) (sym (counts_are fields true n is refl)) h)).1
 
 -- A needed data count is written as a section with one number.
-pub count_written : {S A : Type 0} (rules : SinkRules S) (fields : List ModuleField) (count : ℕ) (a b : S) (r : Result A Refusal) → true ≡ needs_count fields → count ≡ length (entries Data fields)
+pub count_written : {S A : Type 0} (rules : SinkRules S) (fields : List ModuleField) (count : ℕ) (a b : S) (r : Result A Refusal)
+    → true ≡ needs_count fields → count ≡ length (entries Data fields)
     → Writes rules (Unit {0} × (InRangeU32 (length (unsigned count)) × InRangeU32 count)) a b (section 12 (unsigned count)) r
     → Writes rules (All InRangePart (data_counts fields)) a b (flat_map part (data_counts fields)) r
 count_written rules fields count a b r is same p =
     let here : Part = record { kind = DataCount; items = count } in
     subst (λ (ps : List Part). Writes rules (All InRangePart ps) a b (flat_map part ps) r) (counts_are fields true count is same)
-    (one_written rules part InRangePart a b here r (puts_as rules (Unit {0} × InRangePart here) (InRangePart here) a b (part here) r (λ h. h.1) (λ h. (tt, h)) p))
+    (one_written rules part InRangePart a b here r (puts_as rules (Unit {0} × InRangePart here) (InRangePart here) a b (part here) r (λ h. h.1)
+    (λ h. (tt, h)) p))

@@ -23,13 +23,16 @@ in_range_apart cs h = (
     each_part cs h = all_both InRangeCustom InRangeCustom (λ c. InRangePart (custom_part c)) (λ c p q. (p.0, p.1.0)) cs h h
 
 in_range_joined : (cs : List Custom) → All InRangePart (map custom_part cs) × All (λ x. (custom_bytes x).in_range) cs → All InRangeCustom cs
-in_range_joined cs h = all_both (λ c. InRangePart (custom_part c)) (λ x. (custom_bytes x).in_range) InRangeCustom (λ c p q. (p.0, (p.1, q))) cs (all_unmap InRangePart custom_part cs h.0) h.1
+in_range_joined cs h = all_both (λ c. InRangePart (custom_part c)) (λ x. (custom_bytes x).in_range) InRangeCustom (λ c p q. (p.0, (p.1, q))) cs
+    (all_unmap InRangePart custom_part cs h.0) h.1
 
 sections_are_parts : (cs : List Custom) → flat_map custom_section cs ≡ flat_map part (map custom_part cs)
 sections_are_parts cs = sym (each_like custom_part part custom_section (λ c. refl) cs)
 
 -- So written sections are written parts.
 pub parts_written : {S A : Type 0} (rules : SinkRules S) (cs : List Custom) (a b : S) (r : Result A Refusal)
-    → Writes rules (All InRangeCustom cs) a b (flat_map custom_section cs) r → Writes rules (All InRangePart (map custom_part cs) × All (λ x. (custom_bytes x).in_range) cs) a b (flat_map part (map custom_part cs)) r
+    → Writes rules (All InRangeCustom cs) a b (flat_map custom_section cs) r
+    → Writes rules (All InRangePart (map custom_part cs) × All (λ x. (custom_bytes x).in_range) cs) a b (flat_map part (map custom_part cs)) r
 parts_written rules cs a b r p =
-    written_as rules (All InRangeCustom cs) (All InRangePart (map custom_part cs) × All (λ x. (custom_bytes x).in_range) cs) a b (flat_map custom_section cs) (flat_map part (map custom_part cs)) r (in_range_apart cs) (in_range_joined cs) (sections_are_parts cs) p
+    written_as rules (All InRangeCustom cs) (All InRangePart (map custom_part cs) × All (λ x. (custom_bytes x).in_range) cs) a b
+    (flat_map custom_section cs) (flat_map part (map custom_part cs)) r (in_range_apart cs) (in_range_joined cs) (sections_are_parts cs) p

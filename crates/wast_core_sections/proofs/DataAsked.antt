@@ -4,7 +4,9 @@ use Rattle.std.proofs.Common.{◌≡◌, Bool, true, false, not, ◌||◌, List,
 use Rattle.std.specs.List.{flat_map, list_any}
 use Rattle.std.proofs.Math.Bool.{or-true}
 use Rattle.std.proofs.lemmas.List.Folds.{list_any-append}
-use Rattle.wast_tree_nodes.specs.Sites.{Site, Asked, Clause, OfItem, BodyContext, context_after, check_sites, declaration_sites, param_marks, local_marks, body_here, in_local, in_use, in_instr, in_instrs, in_expression, in_func_kind, in_field, in_module, checks_of}
+use Rattle.wast_tree_nodes.specs.Sites.{Site, Asked, Clause, OfItem, BodyContext, context_after, check_sites, declaration_sites}
+use Rattle.wast_tree_nodes.specs.Sites.{param_marks, local_marks, body_here, in_local, in_use, in_instr, in_instrs, in_expression}
+use Rattle.wast_tree_nodes.specs.Sites.{in_func_kind, in_field, in_module, checks_of}
 use Rattle.wast_tree_nodes.specs.Clauses.{hints_stand}
 use Rattle.wast_tree_nodes.specs.Instrs.{needs_data_count}
 use Rattle.wast_tree_nodes.proofs.Asking.{asked_both}
@@ -54,7 +56,8 @@ instrs_ask : (h : BodyContext) (is : List Instruction) → (asks_data (in_instrs
 instrs_ask h [] = refl
 instrs_ask h (i ∷ is) =
     ap (λ b. b || not (list_any needs_data_count (i ∷ is))) (both_ask (in_instr h i) (in_instrs (context_after h i) is))
-    ∙ join (asks_data (in_instr h i)) (asks_data (in_instrs (context_after h i) is)) (needs_data_count i) (list_any needs_data_count is) (instr_asks h i) (instrs_ask (context_after h i) is)
+    ∙ join (asks_data (in_instr h i)) (asks_data (in_instrs (context_after h i) is)) (needs_data_count i) (list_any needs_data_count is)
+    (instr_asks h i) (instrs_ask (context_after h i) is)
 
 body_asks : (u : TypeUse FunctionType) (k : FuncKind) → (asks_data (in_func_kind u k) || not (list_any needs_data_count (instrs_of k))) ≡ true
 body_asks u (func.Import import exact) = or-true (asks_data (in_func_kind u (func.Import import exact)))

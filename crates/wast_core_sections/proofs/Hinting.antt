@@ -1,5 +1,6 @@
 -- The section of branch hints, as it is written.
-use Rattle.std.proofs.Common.{◌≡◌, ◌<◌, ◌≤◌, ◌+◌, ℕ, Bool, true, false, ◌||◌, List, [], ◌∷◌, ◌++◌, map, length, take, drop, get_or, Some, None, Result, Ok, refl, sym, ap, ◌∙◌, subst, arith, length-append}
+use Rattle.std.proofs.Common.{◌≡◌, ◌<◌, ◌≤◌, ◌+◌, ℕ, Bool, true, false, ◌||◌, List, [], ◌∷◌, ◌++◌, map, length, take, drop, get_or, Some}
+use Rattle.std.proofs.Common.{None, Result, Ok, refl, sym, ap, ◌∙◌, subst, arith, length-append}
 use Rattle.std.specs.Prelude.{All, if◌then◌else◌}
 use Rattle.std.specs.List.{flat_map}
 use Rattle.std.proofs.lemmas.List.{length-map}
@@ -25,7 +26,8 @@ use Rattle.wast_tree_nodes.specs.Items.{space_of_kind}
 use Rattle.wast_core_sections.specs.Tree.{Func, FuncKind, ImportItems, ItemSig, ModuleField}
 use Rattle.wast_core_sections.specs.Tree.space
 use Rattle.wast_core_sections.specs.Tree.field
-use Rattle.wast_core_sections.specs.Hints.{has_hints, if_hinted, imported_func, functions_in, hinted_functions, as_function_hints, hinted_function, hints_part, InRangeHinted, InRangeHints}
+use Rattle.wast_core_sections.specs.Hints.{has_hints, if_hinted, imported_func, functions_in, hinted_functions, as_function_hints}
+use Rattle.wast_core_sections.specs.Hints.{hinted_function, hints_part, InRangeHinted, InRangeHints}
 
 -- Only functions and imports define functions.
 abbrev pub is_function_or_import : ModuleField → Bool
@@ -41,7 +43,8 @@ pub imported_unhinted : (n : ℕ) (sigs : List ItemSig) → named_from n (flat_m
 imported_unhinted n [] = refl
 imported_unhinted n (s ∷ ss) = by_test (same_space space.Func (space_of_kind s.kind)) (imported_unhinted (n + 1) ss) (imported_unhinted n ss)
   where
-    by_test : (b : Bool) → named_from (n + 1) (flat_map imported_func ss) ≡ [] → named_from n (flat_map imported_func ss) ≡ [] → named_from n ((if b then None ∷ [] else []) ++ flat_map imported_func ss) ≡ []
+    by_test : (b : Bool) → named_from (n + 1) (flat_map imported_func ss) ≡ [] → named_from n (flat_map imported_func ss) ≡ []
+        → named_from n ((if b then None ∷ [] else []) ++ flat_map imported_func ss) ≡ []
     by_test true counted passed = counted
     by_test false counted passed = passed
 
@@ -51,7 +54,8 @@ others_unhinted (field.Import i) h = sym (ap (λ es. length es) (imported_unhint
 others_unhinted x h = refl
 
 pub nothing_written : {S : Type 0} (rules : SinkRules S) (a : S) (n : ℕ) (i : ImportItems) → AppendLaws rules
-    → rules.appended a a (flat_map hinted_function (named_from n (flat_map imported_func (item_sigs i)))) × All InRangeHinted (named_from n (flat_map imported_func (item_sigs i)))
+    → rules.appended a a (flat_map hinted_function (named_from n (flat_map imported_func (item_sigs i)))) × All InRangeHinted
+    (named_from n (flat_map imported_func (item_sigs i)))
 nothing_written rules a n i laws = rw (imported_unhinted n (item_sigs i)) (laws.none a, All-nil InRangeHinted)
 
 -- A function occurs with its hints, or without any.
@@ -66,7 +70,8 @@ pub alike : (fields first : List ModuleField) → flat_map functions_in first �
 alike fields first same = ap (named_from 0) same
 
 -- The number of functions with hints among some fields, and with one field more.
-pub hinted_more : (xs : List ModuleField) (k : ℕ) (x : ModuleField) → k < length xs → x ≡ get_or xs k x → length (hinted_functions (take (k + 1) xs)) ≡ length (hinted_functions (take k xs)) + length (named_from 0 (functions_in x))
+pub hinted_more : (xs : List ModuleField) (k : ℕ) (x : ModuleField) → k < length xs → x ≡ get_or xs k x
+    → length (hinted_functions (take (k + 1) xs)) ≡ length (hinted_functions (take k xs)) + length (named_from 0 (functions_in x))
 hinted_more xs k x lt item =
     let first = flat_map functions_in (take k xs) in
     omega (
@@ -77,7 +82,8 @@ hinted_more xs k x lt item =
       as_many (0 + length first) 0 (functions_in x),
     )
 
-pub hinted_at_most : (xs : List ModuleField) (k : ℕ) (x : ModuleField) → k < length xs → x ≡ get_or xs k x → length (hinted_functions (take k xs)) + length (named_from 0 (functions_in x)) ≤ length (hinted_functions xs)
+pub hinted_at_most : (xs : List ModuleField) (k : ℕ) (x : ModuleField) → k < length xs → x ≡ get_or xs k x
+    → length (hinted_functions (take k xs)) + length (named_from 0 (functions_in x)) ≤ length (hinted_functions xs)
 hinted_at_most xs k x lt item =
     let first = flat_map functions_in (take k xs) in
     let here = functions_in x in
@@ -115,11 +121,13 @@ section_written rules (f ∷ fs) a b n r count some p =
     let all = f ∷ fs in
     let bytes = (hints (map as_function_hints all)).bytes in
     let here : Part = record { kind = Custom; items = record { name = hints_name; bytes = bytes } } in
-    let payload : held n all ≡ hints_payload bytes = ap (λ (m : ℕ). name hints_name ++ (unsigned m ++ flat_map hinted_function all)) count ∙ ap hints_payload (hints_are_these all) in
+    let payload : held n all ≡ hints_payload bytes = ap (λ (m : ℕ). name hints_name ++ (unsigned m ++ flat_map hinted_function all)) count
+    ∙ ap hints_payload (hints_are_these all) in
     written_as rules (Unit {0} × (InRangeU32 (length (held n all)) × InRangeHeld n all)) (All InRangePart (hints_part all) × InRangeHints all) a b
     (section 0 (held n all)) (flat_map part (hints_part all)) r
     (λ h. (all_one InRangePart here (subst (λ (bs : List ℕ). InRangeU32 (length bs)) payload h.1.0, h.1.1.0), (subst InRangeU32 count h.1.1.1.0, h.1.1.1.1)))
-    (λ h. let head = All-head InRangePart here [] h.0 in (tt, (subst (λ (bs : List ℕ). InRangeU32 (length bs)) (sym payload) head.0, (head.1, (subst InRangeU32 (sym count) h.1.0, h.1.1)))))
+    (λ h. let head = All-head InRangePart here [] h.0 in
+    (tt, (subst (λ (bs : List ℕ). InRangeU32 (length bs)) (sym payload) head.0, (head.1, (subst InRangeU32 (sym count) h.1.0, h.1.1)))))
     (ap (section 0) payload ∙ sym (flat_one part here))
     p
 

@@ -1,5 +1,6 @@
 -- Bytes that move once, and a number that is written over others, digit by digit.
-use Rattle.std.proofs.Common.{◌≡◌, ◌≤◌, ◌<◌, ◌+◌, ◌-◌, ◌/◌, ◌%◌, ℕ, List, [], ◌∷◌, ◌++◌, take, drop, set, length, sym, ap, ◌∙◌, append_assoc, add-one, arith, length-append}
+use Rattle.std.proofs.Common.{◌≡◌, ◌≤◌, ◌<◌, ◌+◌, ◌-◌, ◌/◌, ◌%◌, ℕ, List, [], ◌∷◌, ◌++◌, take, drop, set, length, sym, ap, ◌∙◌}
+use Rattle.std.proofs.Common.{append_assoc, add-one, arith, length-append}
 use Rattle.std.specs.List.{copy_within}
 use Rattle.std.proofs.Math.Seq.{paste, take-append_seam, drop-append_seam}
 use Rattle.std.proofs.lemmas.List.{drop-append-le, drop-set-lt, length-drop, length-take-le, set_split, take-append-le, take-take, take_all, take_more_set}
@@ -80,14 +81,21 @@ total_grows xs zeros at more lt long =
     omega (arith, length-paste d (at + 1 + more) s n (omega (arith, total)) has, total)
 
 -- The vector xs has grown to ys, and then bytes of it moved.
-pub moved : (xs zeros ys zs : List ℕ) (at more end : ℕ) → at < length xs → length zeros ≡ more → end ≡ length xs → ys ≡ xs ++ zeros → zs ≡ copy_within ys (at + 1) end (at + 1 + more)
+pub moved : (xs zeros ys zs : List ℕ) (at more end : ℕ) → at < length xs → length zeros ≡ more → end ≡ length xs → ys ≡ xs ++ zeros
+    → zs ≡ copy_within ys (at + 1) end (at + 1 + more)
     → (take at zs ≡ take at xs) × (drop (at + 1 + more) zs ≡ drop (at + 1) xs) × (length zs ≡ length xs + more)
 moved xs zeros ys zs at more end lt long is grown now =
-    let e : zs ≡ copy_within (xs ++ zeros) (at + 1) (length xs) (at + 1 + more) = now ∙ ap (λ l. copy_within l (at + 1) end (at + 1 + more)) grown ∙ ap (λ k. copy_within (xs ++ zeros) (at + 1) k (at + 1 + more)) is in
-    (ap (take at) e ∙ front_stays xs zeros at more lt long, ap (drop (at + 1 + more)) e ∙ rest_moves xs zeros at more lt long, ap length e ∙ total_grows xs zeros at more lt long)
+    let e : zs ≡ copy_within (xs ++ zeros) (at + 1) (length xs) (at + 1 + more) = now ∙ ap (λ l. copy_within l (at + 1) end (at + 1 + more)) grown
+    ∙ ap (λ k. copy_within (xs ++ zeros) (at + 1) k (at + 1 + more)) is in (
+      ap (take at) e ∙ front_stays xs zeros at more lt long,
+      ap (drop (at + 1 + more)) e ∙ rest_moves xs zeros at more lt long,
+      ap length e
+          ∙ total_grows xs zeros at more lt long,
+    )
 
 -- The number is over a byte that was there and over the room after it.
-pub over_room : (xs ys : List ℕ) (at n more : ℕ) → more + 1 ≡ length (unsigned n) → take at ys ≡ take at xs → drop (at + 1 + more) ys ≡ drop (at + 1) xs → overwritten ys at n ≡ with_number xs at n
+pub over_room : (xs ys : List ℕ) (at n more : ℕ) → more + 1 ≡ length (unsigned n) → take at ys ≡ take at xs
+    → drop (at + 1 + more) ys ≡ drop (at + 1) xs → overwritten ys at n ≡ with_number xs at n
 over_room xs ys at n more wide front rest =
     let same : at + length (unsigned n) ≡ at + 1 + more = omega (arith, wide) in
     ap (λ l. l ++ (unsigned n ++ drop (at + length (unsigned n)) ys)) front

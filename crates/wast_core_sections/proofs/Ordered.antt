@@ -55,12 +55,14 @@ abbrev Follows : List PartKind → List PartKind → Type 0
 Follows kinds rest = (least : ℕ) → rises_from least rest ≡ true → rises_from least kinds ≡ true
 
 -- What is left out has no place.
-left_out : (least p after : ℕ) (kinds rest : List PartKind) → Follows kinds rest → p ≤ after → (nat_le least p && rises_from after rest) ≡ true → rises_from least kinds ≡ true
+left_out : (least p after : ℕ) (kinds rest : List PartKind) → Follows kinds rest → p ≤ after → (nat_le least p && rises_from after rest) ≡ true
+    → rises_from least kinds ≡ true
 left_out least p after kinds rest follows le h =
     let both = both_true (nat_le least p) (rises_from after rest) h in
     from_lower least after kinds (omega (arith, leb-true least p both.0)) (follows after both.1)
 
-one_there : (least p after : ℕ) (kinds rest : List PartKind) → Follows kinds rest → (nat_le least p && rises_from after rest) ≡ true → (nat_le least p && rises_from after kinds) ≡ true
+one_there : (least p after : ℕ) (kinds rest : List PartKind) → Follows kinds rest → (nat_le least p && rises_from after rest) ≡ true
+    → (nat_le least p && rises_from after kinds) ≡ true
 one_there least p after kinds rest follows h =
     let both = both_true (nat_le least p) (rises_from after rest) h in
     both_hold (nat_le least p) (rises_from after kinds) both.0 (follows after both.1)
@@ -77,7 +79,8 @@ names_anywhere : (ss : List NameSubsection) (kinds rest : List PartKind) → Fol
 names_anywhere [] kinds rest follows = follows
 names_anywhere (s ∷ ss) kinds rest follows = follows
 
-list_once : (kind : SectionKind) (es : List (Entry kind)) (kinds rest : List PartKind) → Follows kinds rest → Follows (kinds_of (section_part kind es) ++ kinds) (Listed kind ∷ rest)
+list_once : (kind : SectionKind) (es : List (Entry kind)) (kinds rest : List PartKind) → Follows kinds rest
+    → Follows (kinds_of (section_part kind es) ++ kinds) (Listed kind ∷ rest)
 list_once kind [] kinds rest follows least h = left_out least (place kind) (place kind + 1) kinds rest follows (omega arith) h
 list_once kind (e ∷ es) kinds rest follows least h = one_there least (place kind) (place kind + 1) kinds rest follows h
 
@@ -90,7 +93,8 @@ starts_after : (ns : List ℕ) (kinds : List PartKind) → rises_from 9 kinds �
 starts_after [] kinds h = h
 starts_after (n ∷ ns) kinds h = starts_after ns kinds h
 
-starts_there : (ns : List ℕ) (least : ℕ) (kinds : List PartKind) → nat_le least 9 ≡ true → rises_from 9 kinds ≡ true → rises_from least (kinds_of (map start_part ns) ++ kinds) ≡ true
+starts_there : (ns : List ℕ) (least : ℕ) (kinds : List PartKind) → nat_le least 9 ≡ true → rises_from 9 kinds ≡ true
+    → rises_from least (kinds_of (map start_part ns) ++ kinds) ≡ true
 starts_there [] least kinds le h = from_lower least 9 kinds (leb-true least 9 le) h
 starts_there (n ∷ ns) least kinds le h = both_hold (nat_le least 9) (rises_from 9 (kinds_of (map start_part ns) ++ kinds)) le (starts_after ns kinds h)
 
@@ -102,13 +106,15 @@ starts_are (f ∷ fs) = ap (λ l. starts_in f ++ l) (starts_are fs) ∙ sym (map
     map_both [] ys = refl
     map_both (x ∷ xs) ys = ap (λ l. start_part x ∷ l) (map_both xs ys)
 
-starts_once : (fields : List ModuleField) (kinds rest : List PartKind) → Follows kinds rest → Follows (kinds_of (flat_map starts_in fields) ++ kinds) (Start ∷ rest)
+starts_once : (fields : List ModuleField) (kinds rest : List PartKind) → Follows kinds rest
+    → Follows (kinds_of (flat_map starts_in fields) ++ kinds) (Start ∷ rest)
 starts_once fields kinds rest follows least h =
     let both = both_true (nat_le least 9) (rises_from 9 rest) h in
     subst (λ ps. rises_from least (kinds_of ps ++ kinds) ≡ true) (sym (starts_are fields))
     (starts_there (flat_map (λ f. (contribution_of f).starts) fields) least kinds both.0 (follows 9 both.1))
 
-slot_follows : (name : Option (List ℕ)) (fields : List ModuleField) (s : Slot) (kinds rest : List PartKind) → Follows kinds rest → Follows (kinds_of (in_slot name fields s) ++ kinds) (slot_kinds s ++ rest)
+slot_follows : (name : Option (List ℕ)) (fields : List ModuleField) (s : Slot) (kinds rest : List PartKind) → Follows kinds rest
+    → Follows (kinds_of (in_slot name fields s) ++ kinds) (slot_kinds s ++ rest)
 slot_follows name fields (slot.Custom p) kinds rest follows = customs_anywhere (customs_at p fields) kinds rest follows
 slot_follows name fields (slot.Section k) kinds rest follows = list_once (section_kind k) (entries (section_kind k) fields) kinds rest follows
 slot_follows name fields slot.Start kinds rest follows = starts_once fields kinds rest follows
@@ -120,7 +126,8 @@ kinds_both : (ps qs : List Part) → kinds_of (ps ++ qs) ≡ kinds_of ps ++ kind
 kinds_both [] qs = refl
 kinds_both (p ∷ ps) qs = ap (λ l. p.kind ∷ l) (kinds_both ps qs)
 
-slots_follow : (name : Option (List ℕ)) (fields : List ModuleField) (ss : List Slot) → Follows (kinds_of (flat_map (in_slot name fields) ss)) (flat_map slot_kinds ss)
+slots_follow : (name : Option (List ℕ)) (fields : List ModuleField) (ss : List Slot)
+    → Follows (kinds_of (flat_map (in_slot name fields) ss)) (flat_map slot_kinds ss)
 slots_follow name fields [] least h = refl
 slots_follow name fields (s ∷ ss) least h =
     subst (λ kinds. rises_from least kinds ≡ true) (sym (kinds_both (in_slot name fields s) (flat_map (in_slot name fields) ss)))

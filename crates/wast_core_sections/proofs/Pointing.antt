@@ -1,5 +1,6 @@
 -- Branch hints point at their instructions: the bytes of a module, split at an instruction.
-use Rattle.std.proofs.Common.{◌≡◌, ℕ, zero, suc, ◌+◌, not, List, [], ◌∷◌, ◌++◌, length, take, drop, Option, Some, refl, sym, ap, ◌∙◌, subst, arith, append_assoc}
+use Rattle.std.proofs.Common.{◌≡◌, ℕ, zero, suc, ◌+◌, not, List, [], ◌∷◌, ◌++◌, length, take, drop, Option, Some, refl, sym, ap, ◌∙◌, subst}
+use Rattle.std.proofs.Common.{arith, append_assoc}
 use Rattle.std.specs.Prelude.{slice_get, Contains}
 use Rattle.std.specs.List.{flat_map}
 use Rattle.std.proofs.lemmas.Bool.{ne_eqb}
@@ -31,7 +32,8 @@ use Rattle.wast_core_sections.proofs.Hinting.{hinted_if}
 has_some : (k : FuncKind) (h : BranchHint) → Contains (hints_of k) h → if_hinted k ≡ Some (as_hinted k)
 has_some k h c = let some = c.1 in hinted_if k (ap not (ne_eqb (length (hints_of k)) 0 (λ z. omega arith)))
 
-told_by_index : (before behind : List ModuleField) (f : Func) → if_hinted f.kind ≡ Some (as_hinted f.kind) → Contains (hinted_functions (before ++ field.Func f ∷ behind)) (length (flat_map functions_in before), as_hinted f.kind)
+told_by_index : (before behind : List ModuleField) (f : Func) → if_hinted f.kind ≡ Some (as_hinted f.kind)
+    → Contains (hinted_functions (before ++ field.Func f ∷ behind)) (length (flat_map functions_in before), as_hinted f.kind)
 told_by_index before behind f is =
     let first = flat_map functions_in before in
     let rest = flat_map functions_in behind in
@@ -45,30 +47,36 @@ told_by_index before behind f is =
 
 -- ---- The body, at an instruction.
 
-list_split : {A : Type 0} (f : A → List ℕ) (xs : List A) (n : ℕ) (x : A) → slice_get xs n ≡ Some x → flat_map f xs ≡ flat_map f (take n xs) ++ (f x ++ flat_map f (drop (suc n) xs))
+list_split : {A : Type 0} (f : A → List ℕ) (xs : List A) (n : ℕ) (x : A) → slice_get xs n ≡ Some x
+    → flat_map f xs ≡ flat_map f (take n xs) ++ (f x ++ flat_map f (drop (suc n) xs))
 list_split f [] n x h = absurd (none-some x h)
 list_split f (y ∷ ys) zero x h = ap (λ z. f z ++ flat_map f ys) (same_Some y x h)
-list_split f (y ∷ ys) (suc n) x h = ap (λ z. f y ++ z) (list_split f ys n x h) ∙ sym (append_assoc (f y) (flat_map f (take n ys)) (f x ++ flat_map f (drop (suc n) ys)))
+list_split f (y ∷ ys) (suc n) x h = ap (λ z. f y ++ z) (list_split f ys n x h)
+    ∙ sym (append_assoc (f y) (flat_map f (take n ys)) (f x ++ flat_map f (drop (suc n) ys)))
 
 content_regrouped : (l t i d e : List ℕ) → l ++ ((t ++ (i ++ d)) ++ e) ≡ (l ++ t) ++ (i ++ (d ++ e))
 content_regrouped l t i d e = simp append_assoc
 
-content_split : (b : Body) (n : ℕ) (i : Instr) → slice_get b.instrs n ≡ Some i → (body_content b).bytes ≡ bytes_before b n ++ ((instr i).bytes ++ (flat_map (λ x. (instr x).bytes) (drop (suc n) b.instrs) ++ 0x0b ∷ []))
+content_split : (b : Body) (n : ℕ) (i : Instr) → slice_get b.instrs n ≡ Some i
+    → (body_content b).bytes ≡ bytes_before b n ++ ((instr i).bytes ++ (flat_map (λ x. (instr x).bytes) (drop (suc n) b.instrs) ++ 0x0b ∷ []))
 content_split b n i h =
     ap (λ (z : List ℕ). locals b.locals ++ (z ++ 0x0b ∷ [])) (list_split (λ x. (instr x).bytes) b.instrs n i h)
-    ∙ content_regrouped (locals b.locals) (flat_map (λ x. (instr x).bytes) (take n b.instrs)) (instr i).bytes (flat_map (λ x. (instr x).bytes) (drop (suc n) b.instrs)) (0x0b ∷ [])
+    ∙ content_regrouped (locals b.locals) (flat_map (λ x. (instr x).bytes) (take n b.instrs)) (instr i).bytes
+    (flat_map (λ x. (instr x).bytes) (drop (suc n) b.instrs)) (0x0b ∷ [])
 
 -- ---- The code section, at a body.
 
 code_regrouped : (l n x s c y : List ℕ) → l ++ (n ++ (x ++ ((s ++ c) ++ y))) ≡ (l ++ (n ++ (x ++ s))) ++ (c ++ y)
 code_regrouped l n x s c y = simp append_assoc
 
-code_split : (all xs ys : List Body) (b : Body) → all ≡ xs ++ b ∷ ys → part (record { kind = Listed Code; items = all }) ≡ up_to_size all xs b ++ ((body_content b).bytes ++ flat_map body ys)
+code_split : (all xs ys : List Body) (b : Body) → all ≡ xs ++ b ∷ ys → part (record { kind = Listed Code; items = all }) ≡ up_to_size all xs b ++
+    ((body_content b).bytes ++ flat_map body ys)
 code_split all xs ys b e =
     let long = unsigned (length (vec body all)) in
     let many = unsigned (length all) in
     ap (λ (z : List ℕ). section_id Code ∷ (long ++ (many ++ z))) (ap (flat_map body) e ∙ flat_map-append body xs (b ∷ ys))
-    ∙ ap (λ (z : List ℕ). section_id Code ∷ z) (code_regrouped long many (flat_map body xs) (unsigned (length (body_content b).bytes)) (body_content b).bytes (flat_map body ys))
+    ∙ ap (λ (z : List ℕ). section_id Code ∷ z) (code_regrouped long many (flat_map body xs) (unsigned (length (body_content b).bytes))
+    (body_content b).bytes (flat_map body ys))
 
 one_section : (xs ys : List Body) (b : Body) → section_part Code (xs ++ b ∷ ys) ≡ record { kind = Listed Code; items = xs ++ b ∷ ys } ∷ []
 one_section [] ys b = refl
@@ -80,8 +88,12 @@ one_section (x ∷ xs) ys b = refl
 abbrev behind_code : List Slot
 behind_code = drop 35 order
 
-module_split : (name : Option (List ℕ)) (fields : List ModuleField) → section_part Code (entries Code fields) ≡ record { kind = Listed Code; items = entries Code fields } ∷ []
-    → flat_map part (parts name fields) ≡ flat_map part (flat_map (in_slot name fields) (until_code order)) ++ (part (record { kind = Listed Code; items = entries Code fields }) ++ flat_map part (flat_map (in_slot name fields) behind_code))
+module_split : (name : Option (List ℕ)) (fields : List ModuleField) → section_part Code (entries Code fields) ≡ record {
+  kind = Listed Code;
+  items = entries Code fields;
+} ∷ []
+    → flat_map part (parts name fields) ≡ flat_map part (flat_map (in_slot name fields) (until_code order)) ++
+    (part (record { kind = Listed Code; items = entries Code fields }) ++ flat_map part (flat_map (in_slot name fields) behind_code))
 module_split name fields one =
     let code : Part = record { kind = Listed Code; items = entries Code fields } in
     let first = flat_map (in_slot name fields) (until_code order) in
@@ -92,8 +104,10 @@ module_split name fields one =
 whole_regrouped : (h u s b i r y v : List ℕ) → h ++ (u ++ ((s ++ ((b ++ (i ++ r)) ++ y)) ++ v)) ≡ (h ++ (u ++ s)) ++ (b ++ (i ++ ((r ++ y) ++ v)))
 whole_regrouped h u s b i r y v = simp append_assoc
 
-spelled_at : (bytes : List ℕ) (name : Option (List ℕ)) (before behind : List ModuleField) (f : Func) (n : ℕ) (i : Instr) → let fields = before ++ field.Func f ∷ behind in
-    Reads bytes (parts name fields) → slice_get (as_body f.kind).instrs n ≡ Some i → IsSpelledAt bytes (up_to_body name fields before f) (length (bytes_before (as_body f.kind) n)) i
+spelled_at : (bytes : List ℕ) (name : Option (List ℕ)) (before behind : List ModuleField) (f : Func) (n : ℕ) (i : Instr)
+    → let fields = before ++ field.Func f ∷ behind in
+    Reads bytes (parts name fields) → slice_get (as_body f.kind).instrs n ≡ Some i
+    → IsSpelledAt bytes (up_to_body name fields before f) (length (bytes_before (as_body f.kind) n)) i
 spelled_at bytes name before behind f n i reads h =
     let fields = before ++ field.Func f ∷ behind in
     let b = as_body f.kind in
@@ -113,7 +127,8 @@ spelled_at bytes name before behind f n i reads h =
       spelled =
           reads.spelled
           ∙ (ap (λ (z : List ℕ). header ++ z) (module_split name fields one)
-          ∙ (ap (λ (z : List ℕ). header ++ (upto ++ (z ++ last))) (code_split all xs ys b bodies ∙ ap (λ (z : List ℕ). size ++ (z ++ flat_map body ys)) (content_split b n i h))
+          ∙ (ap (λ (z : List ℕ). header ++ (upto ++ (z ++ last))) (code_split all xs ys b bodies
+          ∙ ap (λ (z : List ℕ). size ++ (z ++ flat_map body ys)) (content_split b n i h))
           ∙ whole_regrouped header upto size (bytes_before b n) (instr i).bytes rest (flat_map body ys) last));
     }
 

@@ -19,7 +19,8 @@ apart n c small = ne_eqb n (12 + place_rank (custom_place c)) (λ same. omega (a
 
 -- A field has one entry in a section of its kind.
 pub entries_told : (k : SectionKind) (f : ModuleField) → length (entries_in k f) ≡ one_if (can_contribute k f)
-entries_told Types (field.Custom c) = sym (ap one_if (ap (λ b. b || (1 == 12 + place_rank (custom_place c))) (apart 0 c (omega arith)) ∙ apart 1 c (omega arith)))
+entries_told Types (field.Custom c) = sym (ap one_if (ap (λ b. b || (1 == 12 + place_rank (custom_place c))) (apart 0 c (omega arith))
+    ∙ apart 1 c (omega arith)))
 entries_told Imports (field.Custom c) = sym (ap one_if (apart 2 c (omega arith)))
 entries_told Functions (field.Custom c) = sym (ap one_if (apart 3 c (omega arith)))
 entries_told Tables (field.Custom c) = sym (ap one_if (apart 4 c (omega arith)))
@@ -44,7 +45,8 @@ pub no_custom_elsewhere : (place : CustomPlace) (f : ModuleField) → is_of (kin
 no_custom_elsewhere place (field.Custom c) h = by_test (stands_at place c) refl
   where
     by_test : (b : Bool) → stands_at place c ≡ b → (if stands_at place c then c ∷ [] else []) ≡ []
-    by_test true e = absurd (eqb-false (12 + place_rank place) (12 + place_rank (custom_place c)) h (ap (λ n. 12 + n) (eqb-true (place_rank place) (place_rank (custom_place c)) e)))
+    by_test true e = absurd (eqb-false (12 + place_rank place) (12 + place_rank (custom_place c)) h
+        (ap (λ n. 12 + n) (eqb-true (place_rank place) (place_rank (custom_place c)) e)))
     by_test false e = ap (λ t. if t then c ∷ [] else []) e
 no_custom_elsewhere place f h = refl
 

@@ -50,15 +50,19 @@ written_below n fields above =
     all_referable (is_item_below m) m (λ k s at lt. lt-ltb k m lt) n fields (omega arith) (each_below m (of_item m) (items fields) (omega (arith, above))) in
     let of_items : greatest_item (items (desugared_from n fields)) < m =
     greatest_below m (of_item m) (items (desugared_from n fields)) some
-    (same_of_items (list_all (is_item_below m)) (λ s xs h. ap (λ b. b && list_all (is_item_below m) xs) (lt-ltb 0 m some)) (λ x xs ys e. ap (λ b. is_item_below m x && b) e) (with_referred_ids n fields) ∙ given) in
+    (same_of_items (list_all (is_item_below m)) (λ s xs h. ap (λ b. b && list_all (is_item_below m) xs) (lt-ltb 0 m some))
+    (λ x xs ys e. ap (λ b. is_item_below m x && b) e) (with_referred_ids n fields) ∙ given) in
     let of_asks : greatest_asked (checks_of (in_module (desugared_from n fields))) < m =
     greatest_below m generation_in (checks_of (in_module (desugared_from n fields))) some
-    (written_pass (is_ask_below m) (λ c. lt-ltb 0 m some) (is_item_below m) (own_below m) n fields given (each_below m generation_in (checks_of (in_module fields)) (omega (arith, above)))) in
+    (written_pass (is_ask_below m) (λ c. lt-ltb 0 m some) (is_item_below m) (own_below m) n fields given
+    (each_below m generation_in (checks_of (in_module fields)) (omega (arith, above)))) in
     omega (arith, of_items, of_asks)
 
 -- The result by positions looks up no further id.
-pub written_out_below : (n : ℕ) (fields : List ModuleField) → greatest_asked (checks_of (in_module fields)) < n → greatest_asked (checks_of (in_module (desugared_by_position fields))) < n
+pub written_out_below : (n : ℕ) (fields : List ModuleField) → greatest_asked (checks_of (in_module fields)) < n
+    → greatest_asked (checks_of (in_module (desugared_by_position fields))) < n
 written_out_below n fields above =
     let some : 0 < n = omega (arith, above) in
     greatest_below n generation_in (checks_of (in_module (desugared_by_position fields))) some
-    (written_out_pass (is_ask_below n) (λ c. lt-ltb 0 n some) (λ s m span. lt-ltb 0 n some) fields (each_below n generation_in (checks_of (in_module fields)) above))
+    (written_out_pass (is_ask_below n) (λ c. lt-ltb 0 n some) (λ s m span. lt-ltb 0 n some) fields
+    (each_below n generation_in (checks_of (in_module fields)) above))

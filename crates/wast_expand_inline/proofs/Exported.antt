@@ -12,6 +12,7 @@ module _ (passes : ModuleField → Bool) where
   both_pass xs ys h k = list_all-append passes xs ys ∙ both_true h k
 
   pub behind_exports : {span : Span} {k : ExportKind} {i : Index} (names : List (Bor (List ℕ))) (rest : List ModuleField)
-      → ((name : Bor (List ℕ)) → passes (export_of span k i name) ≡ true) → list_all passes rest ≡ true → list_all passes (map (export_of span k i) names ++ rest) ≡ true
+      → ((name : Bor (List ℕ)) → passes (export_of span k i name) ≡ true) → list_all passes rest ≡ true
+      → list_all passes (map (export_of span k i) names ++ rest) ≡ true
   behind_exports [] rest each h = h
   behind_exports (name ∷ names) rest each h = both_true (each name) (behind_exports names rest each h)

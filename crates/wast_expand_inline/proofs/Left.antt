@@ -54,7 +54,8 @@ nothing_is_left n fields = fields_written by_id (with_referred_ids n fields)
 
 after_written : (before : List Item) (xs : List ModuleField) → is_written_out (written_after before xs) ≡ true
 after_written before [] = refl
-after_written before (x ∷ xs) = both_pass is_written_field (desugar_field (by_position before) x) (written_after (before ++ items_in x) xs) (field_written (by_position before) x) (after_written (before ++ items_in x) xs)
+after_written before (x ∷ xs) = both_pass is_written_field (desugar_field (by_position before) x) (written_after (before ++ items_in x) xs)
+    (field_written (by_position before) x) (after_written (before ++ items_in x) xs)
 
 pub nothing_is_left_by_position : NothingIsLeftByPosition
 nothing_is_left_by_position fields = after_written [] fields

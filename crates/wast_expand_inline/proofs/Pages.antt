@@ -1,5 +1,6 @@
 -- The number of bytes and pages.
-use Rattle.std.proofs.Common.{◌≡◌, ℕ, ◌+◌, ◌*◌, ◌/◌, ◌%◌, ◌<◌, ◌≤◌, ◌^◌, min, List, [], ◌∷◌, ◌++◌, length, length-append, append-nil, get_or, take, drop, IsTrue, not, sym, ap, ◌∙◌, subst, arith}
+use Rattle.std.proofs.Common.{◌≡◌, ℕ, ◌+◌, ◌*◌, ◌/◌, ◌%◌, ◌<◌, ◌≤◌, ◌^◌, min, List, [], ◌∷◌, ◌++◌, length, length-append, append-nil}
+use Rattle.std.proofs.Common.{get_or, take, drop, IsTrue, not, sym, ap, ◌∙◌, subst, arith}
 use Rattle.std.specs.Int.{div_ceil}
 use Rattle.std.proofs.lemmas.Bool.{le-ltb}
 use Rattle.std.proofs.lemmas.List.{take_more, take-append-drop}
@@ -22,7 +23,8 @@ one_page n e few large =
 
 module _ (pieces : List DataVal) (i : ℕ) (piece : DataVal) (below : i < length pieces) (is : piece ≡ get_or pieces i piece) where
   bytes_more : all_bytes (take (i + 1) pieces) ≡ all_bytes (take i pieces) ++ data_bytes piece
-  bytes_more = ap all_bytes (take_more pieces i piece below ∙ ap (λ y. take i pieces ++ y ∷ []) (sym is)) ∙ (flat_map-append data_bytes (take i pieces) (piece ∷ []) ∙ ap (λ ys. all_bytes (take i pieces) ++ ys) (append-nil (data_bytes piece)))
+  bytes_more = ap all_bytes (take_more pieces i piece below ∙ ap (λ y. take i pieces ++ y ∷ []) (sym is))
+      ∙ (flat_map-append data_bytes (take i pieces) (piece ∷ []) ∙ ap (λ ys. all_bytes (take i pieces) ++ ys) (append-nil (data_bytes piece)))
 
   bytes_all : all_bytes pieces ≡ all_bytes (take (i + 1) pieces) ++ all_bytes (drop (i + 1) pieces)
   bytes_all = sym (ap all_bytes (take-append-drop (i + 1) pieces)) ∙ flat_map-append data_bytes (take (i + 1) pieces) (drop (i + 1) pieces)
@@ -30,6 +32,8 @@ module _ (pieces : List DataVal) (i : ℕ) (piece : DataVal) (below : i < length
   -- if the bytes of the first pieces are too many, all are
   pub too_many : 2 ^ 32 ≤ length (all_bytes (take i pieces)) + length (data_bytes piece) → IsTrue (are_too_many pieces)
   too_many here =
-      let more : length (all_bytes (take (i + 1) pieces)) ≡ length (all_bytes (take i pieces)) + length (data_bytes piece) = ap length bytes_more ∙ length-append (all_bytes (take i pieces)) (data_bytes piece) in
-      let all : length (all_bytes pieces) ≡ length (all_bytes (take (i + 1) pieces)) + length (all_bytes (drop (i + 1) pieces)) = ap length bytes_all ∙ length-append (all_bytes (take (i + 1) pieces)) (all_bytes (drop (i + 1) pieces)) in
+      let more : length (all_bytes (take (i + 1) pieces)) ≡ length (all_bytes (take i pieces)) + length (data_bytes piece) = ap length bytes_more
+      ∙ length-append (all_bytes (take i pieces)) (data_bytes piece) in
+      let all : length (all_bytes pieces) ≡ length (all_bytes (take (i + 1) pieces)) + length (all_bytes (drop (i + 1) pieces)) = ap length bytes_all
+      ∙ length-append (all_bytes (take (i + 1) pieces)) (all_bytes (drop (i + 1) pieces)) in
       ap not (le-ltb (length (all_bytes pieces)) (2 ^ 32) (omega arith))

@@ -21,6 +21,7 @@ overflows_referable n (x ∷ xs) =
     ∙ ap (λ b. has_oversized_data x || b) (overflows_referable (n + one_if (wants_id x)) xs)
 
 -- the errors, once ids are generated
-pub refused : (n : ℕ) (xs ys : List ModuleField) (r : Result (List ModuleField) Error) → ys ≡ with_referred_ids n xs → IfErr r (IsRefusedWhere (list_any has_oversized_data ys)) → IfErr r (CannotBeWritten n xs)
+pub refused : (n : ℕ) (xs ys : List ModuleField) (r : Result (List ModuleField) Error) → ys ≡ with_referred_ids n xs
+    → IfErr r (IsRefusedWhere (list_any has_oversized_data ys)) → IfErr r (CannotBeWritten n xs)
 refused n xs ys (Ok out) is h = h
 refused n xs ys (Err e) is h = inr (subst (λ b. IsRefusedWhere b e) (ap (list_any has_oversized_data) is ∙ overflows_referable n xs) h)

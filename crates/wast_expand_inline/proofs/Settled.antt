@@ -38,18 +38,21 @@ module _ (k : IdContext) where
   own_settled s span (Some id) h = h
 
   -- each item has its own id
-  one_settled : (s : Space) (id : Option Mark) (fields : List (Option Mark)) (xs : List Item) → Knows k (record { space = s; id = id; fields = fields } ∷ xs) → is_settled_id (k.number s) id ≡ true
+  one_settled : (s : Space) (id : Option Mark) (fields : List (Option Mark)) (xs : List Item)
+      → Knows k (record { space = s; id = id; fields = fields } ∷ xs) → is_settled_id (k.number s) id ≡ true
   one_settled s None fields xs knows = refl
   one_settled s (Some (Written text, p)) fields xs knows = refl
   one_settled s (Some (Generated n, p)) fields xs knows =
       knows s (Generated n) (borne_among s (Generated n) (record { space = s; id = Some (Generated n, p); fields = fields } ∷ xs)
-      ∙ ap (λ b. b || list_any (λ (x : Item). same_space s x.space && is_called (Generated n) (name_if x.id)) xs) (both_true (eq-eqb (rank_of s) (rank_of s) refl) (eq-eqb n n refl)))
+      ∙ ap (λ b. b || list_any (λ (x : Item). same_space s x.space && is_called (Generated n) (name_if x.id)) xs)
+      (both_true (eq-eqb (rank_of s) (rank_of s) refl) (eq-eqb n n refl)))
 
   all_settled : (xs : List Item) → Knows k xs → list_all is_settled_item xs ≡ true
   all_settled [] knows = refl
   all_settled (x ∷ xs) knows =
       both_true (one_settled x.space x.id x.fields xs knows)
-      (all_settled xs (λ s q h. knows s q (borne_by_both s q (x ∷ []) xs ∙ (ap (λ b. is_borne q (names_in s (x ∷ [])) || b) h ∙ or-true (is_borne q (names_in s (x ∷ [])))))))
+      (all_settled xs (λ s q h. knows s q (borne_by_both s q (x ∷ []) xs
+      ∙ (ap (λ b. is_borne q (names_in s (x ∷ [])) || b) h ∙ or-true (is_borne q (names_in s (x ∷ [])))))))
 
   -- what was in the context of the known items still is
   still_kept : (xs : List Item) → Knows k xs → (asks : List Check) → are_kept (id_context xs) asks ≡ true → are_kept k asks ≡ true
@@ -79,15 +82,18 @@ module _ (n : ℕ) (fields : List ModuleField) where
   knows_referable : Knows new (items (with_referred_ids n fields))
   knows_referable s q h =
       borne_among s q (items (desugared_from n fields))
-      ∙ (same_of_items (list_any (bears s q)) (λ t xs h. ap (λ b. b || list_any (bears s q) xs) (and-false (same_space s t))) (λ x xs ys e. ap (λ b. bears s q x || b) e) (with_referred_ids n fields)
+      ∙ (same_of_items (list_any (bears s q)) (λ t xs h. ap (λ b. b || list_any (bears s q) xs) (and-false (same_space s t)))
+      (λ x xs ys e. ap (λ b. bears s q x || b) e) (with_referred_ids n fields)
       ∙ (sym (borne_among s q (items (with_referred_ids n fields))) ∙ h))
 
   knows_old : Knows new (items fields)
   knows_old s q h =
-      knows_referable s q (borne_among s q (items (with_referred_ids n fields)) ∙ any_referable (bears s q) (λ t. and-false (same_space s t)) n fields (sym (borne_among s q (items fields)) ∙ h))
+      knows_referable s q (borne_among s q (items (with_referred_ids n fields))
+      ∙ any_referable (bears s q) (λ t. and-false (same_space s t)) n fields (sym (borne_among s q (items fields)) ∙ h))
 
 pub written_well_formed : StaysWellFormed
 written_well_formed n fields h =
     let k : IdContext = new n fields in
-    written_pass (is_kept k) (λ c. refl) (is_settled_item k) (own_settled k) n fields (all_settled k (items (with_referred_ids n fields)) (knows_referable n fields))
+    written_pass (is_kept k) (λ c. refl) (is_settled_item k) (own_settled k) n fields
+    (all_settled k (items (with_referred_ids n fields)) (knows_referable n fields))
     (still_kept k (items fields) (knows_old n fields) (checks_of (in_module fields)) h)

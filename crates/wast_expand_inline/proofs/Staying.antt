@@ -7,7 +7,8 @@ use Rattle.wast_tree_nodes.specs.Items.{Item, items_in}
 use Rattle.wast_tree_nodes.specs.Profiles.{is_imported_func, is_imported_global, is_imported_tag}
 use Rattle.wast_tree_nodes.specs.WrittenOut.{exports_nothing, is_written_table, is_written_memory, is_written_field, is_written_out}
 use Rattle.wast_base.specs.Filling.{one_if, given_if, with_ids_from, missing_id_count}
-use Rattle.wast_expand_inline.specs.Tree.{Span, Index, InlineExport, Func, FuncKind, Table, TableKind, Memory, MemoryKind, Global, GlobalKind, Tag, TagKind, ExportKind, ModuleField}
+use Rattle.wast_expand_inline.specs.Tree.{Span, Index, InlineExport, Func, FuncKind, Table, TableKind, Memory, MemoryKind, Global}
+use Rattle.wast_expand_inline.specs.Tree.{GlobalKind, Tag, TagKind, ExportKind, ModuleField}
 use Rattle.wast_expand_inline.specs.Tree.func
 use Rattle.wast_expand_inline.specs.Tree.table
 use Rattle.wast_expand_inline.specs.Tree.memory
@@ -15,7 +16,8 @@ use Rattle.wast_expand_inline.specs.Tree.global
 use Rattle.wast_expand_inline.specs.Tree.tag_kind
 use Rattle.wast_expand_inline.specs.Tree.field
 use Rattle.wast_expand_inline.specs.Segments.{has_bytes, has_elements}
-use Rattle.wast_expand_inline.specs.WriteOut.{Reference, no_exports, exports_of, data_in, elem_in, func_alone, table_alone, memory_alone, global_alone, tag_alone, desugar_field}
+use Rattle.wast_expand_inline.specs.WriteOut.{Reference, no_exports, exports_of, data_in, elem_in, func_alone, table_alone, memory_alone}
+use Rattle.wast_expand_inline.specs.WriteOut.{global_alone, tag_alone, desugar_field}
 use Rattle.wast_expand_inline.specs.Referring.{by_id, by_position, wants_id, with_item_id}
 use Rattle.wast_expand_inline.specs.Written.{with_referred_ids, written_after}
 use Rattle.wast_expand_inline.specs.Laws.{StaysWritten, StaysByPosition, WantsNoReference}
@@ -34,19 +36,24 @@ func_stays : (f : Func) (k : FuncKind) → f.kind ≡ k → not (is_imported_fun
 func_stays f (func.Import source exact) e h = absurd cc
 func_stays f (func.Inline locals x) e h = ap (func_alone f) e ∙ sym (ap (λ (k : FuncKind). field.Func (record f { exports = no_exports; kind = k })) e)
 
-table_stays : (t : Table) (k : TableKind) (item : Index) → t.kind ≡ k → is_written_table k ≡ true → elem_in t.kind t.span item ++ table_alone t t.kind ∷ [] ≡ field.Table (record t { exports = no_exports }) ∷ []
+table_stays : (t : Table) (k : TableKind) (item : Index) → t.kind ≡ k → is_written_table k ≡ true
+    → elem_in t.kind t.span item ++ table_alone t t.kind ∷ [] ≡ field.Table (record t { exports = no_exports }) ∷ []
 table_stays t (table.Import source ty) item e h = absurd cc
 table_stays t (table.Normal ty init) item e h =
-    ap (λ (k : TableKind). elem_in k t.span item ++ table_alone t k ∷ []) e ∙ sym (ap (λ (k : TableKind). field.Table (record t { exports = no_exports; kind = k }) ∷ []) e)
+    ap (λ (k : TableKind). elem_in k t.span item ++ table_alone t k ∷ []) e
+    ∙ sym (ap (λ (k : TableKind). field.Table (record t { exports = no_exports; kind = k }) ∷ []) e)
 table_stays t (table.Inline ty is64 shared p) item e h = absurd cc
 
-memory_stays : (m : Memory) (k : MemoryKind) (item : Index) → m.kind ≡ k → is_written_memory k ≡ true → data_in m.kind m.span item ++ memory_alone m m.kind ∷ [] ≡ field.Memory (record m { exports = no_exports }) ∷ []
+memory_stays : (m : Memory) (k : MemoryKind) (item : Index) → m.kind ≡ k → is_written_memory k ≡ true
+    → data_in m.kind m.span item ++ memory_alone m m.kind ∷ [] ≡ field.Memory (record m { exports = no_exports }) ∷ []
 memory_stays m (memory.Import source ty) item e h = absurd cc
 memory_stays m (memory.Normal ty) item e h =
-    ap (λ (k : MemoryKind). data_in k m.span item ++ memory_alone m k ∷ []) e ∙ sym (ap (λ (k : MemoryKind). field.Memory (record m { exports = no_exports; kind = k }) ∷ []) e)
+    ap (λ (k : MemoryKind). data_in k m.span item ++ memory_alone m k ∷ []) e
+    ∙ sym (ap (λ (k : MemoryKind). field.Memory (record m { exports = no_exports; kind = k }) ∷ []) e)
 memory_stays m (memory.Inline is64 pieces exponent) item e h = absurd cc
 
-global_stays : (g : Global) (k : GlobalKind) → g.kind ≡ k → not (is_imported_global k) ≡ true → global_alone g g.kind ≡ field.Global (record g { exports = no_exports })
+global_stays : (g : Global) (k : GlobalKind) → g.kind ≡ k → not (is_imported_global k) ≡ true
+    → global_alone g g.kind ≡ field.Global (record g { exports = no_exports })
 global_stays g (global.Import source) e h = absurd cc
 global_stays g (global.Inline x) e h = ap (global_alone g) e ∙ sym (ap (λ (k : GlobalKind). field.Global (record g { exports = no_exports; kind = k })) e)
 
@@ -98,8 +105,10 @@ unexported nothing lacks h = ap (λ b. not b && lacks) h
 
 wants_none : (x : ModuleField) → is_written_field x ≡ true → wants_id x ≡ false
 wants_none (field.Func f) h = unexported (exports_nothing f.exports) (is_none f.id) (first_is _ (not (is_imported_func f.kind)) h)
-wants_none (field.Table t) h = neither (exports_nothing t.exports) (has_elements t.kind) (is_none t.id) (first_is _ (is_written_table t.kind) h) (no_elements t.kind (second_is (exports_nothing t.exports) _ h))
-wants_none (field.Memory m) h = neither (exports_nothing m.exports) (has_bytes m.kind) (is_none m.id) (first_is _ (is_written_memory m.kind) h) (no_bytes m.kind (second_is (exports_nothing m.exports) _ h))
+wants_none (field.Table t) h = neither (exports_nothing t.exports) (has_elements t.kind) (is_none t.id) (first_is _ (is_written_table t.kind) h)
+    (no_elements t.kind (second_is (exports_nothing t.exports) _ h))
+wants_none (field.Memory m) h = neither (exports_nothing m.exports) (has_bytes m.kind) (is_none m.id) (first_is _ (is_written_memory m.kind) h)
+    (no_bytes m.kind (second_is (exports_nothing m.exports) _ h))
 wants_none (field.Global g) h = unexported (exports_nothing g.exports) (is_none g.id) (first_is _ (not (is_imported_global g.kind)) h)
 wants_none (field.Tag t) h = unexported (exports_nothing t.exports) (is_none t.id) (first_is _ (not (is_imported_tag t.kind)) h)
 wants_none x h = refl
@@ -107,7 +116,8 @@ wants_none x h = refl
 pub wants_no_reference : WantsNoReference
 wants_no_reference [] h = refl
 wants_no_reference (x ∷ xs) h =
-    ap (λ b. one_if b + missing_id_count wants_id xs) (wants_none x (first_is _ (is_written_out xs) h)) ∙ ap (λ k. 0 + k) (wants_no_reference xs (second_is (is_written_field x) _ h))
+    ap (λ b. one_if b + missing_id_count wants_id xs) (wants_none x (first_is _ (is_written_out xs) h))
+    ∙ ap (λ k. 0 + k) (wants_no_reference xs (second_is (is_written_field x) _ h))
 
 none_given : (n : ℕ) (xs : List ModuleField) → is_written_out xs ≡ true → with_referred_ids n xs ≡ xs
 none_given n [] h = refl
@@ -118,7 +128,8 @@ none_given n (x ∷ xs) h =
 all_stay : (r : Reference) (xs : List ModuleField) → is_written_out xs ≡ true → flat_map (desugar_field r) xs ≡ xs
 all_stay r [] h = refl
 all_stay r (x ∷ xs) h =
-    ap (λ ys. ys ++ flat_map (desugar_field r) xs) (field_stays r x (first_is _ (is_written_out xs) h)) ∙ ap (λ ys. x ∷ ys) (all_stay r xs (second_is (is_written_field x) _ h))
+    ap (λ ys. ys ++ flat_map (desugar_field r) xs) (field_stays r x (first_is _ (is_written_out xs) h))
+    ∙ ap (λ ys. x ∷ ys) (all_stay r xs (second_is (is_written_field x) _ h))
 
 pub stays_written : StaysWritten
 stays_written n fields h = ap (flat_map (desugar_field by_id)) (none_given n fields h) ∙ all_stay by_id fields h

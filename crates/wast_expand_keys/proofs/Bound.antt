@@ -27,7 +27,8 @@ kept_or_new false (Some j) p i w h e = refl
 
 -- so a key keeps its index, and a new key gets the index
 pub put_once : (es fs : BoundSignatures) (k s : Signature) (i w : Index) → w ≡ unwrap_or (lookup (is_at (signature_cmp k)) es) i
-    → lookup (is_at (signature_cmp s)) fs ≡ cond (is_at (signature_cmp k) s) (Some w) (lookup (is_at (signature_cmp s)) es) → index_of fs s ≡ with_more (index_of es) ((k, i) ∷ []) s
+    → lookup (is_at (signature_cmp s)) fs ≡ cond (is_at (signature_cmp k) s) (Some w) (lookup (is_at (signature_cmp s)) es)
+    → index_of fs s ≡ with_more (index_of es) ((k, i) ∷ []) s
 put_once es fs k s i w is h =
     sym (found_in_order fs s) ∙ (h ∙ (ap (λ o. cond (is_at (signature_cmp k) s) (Some w) o) (found_in_order es s)
     ∙ (ap (λ b. cond b (Some w) (index_of es s)) (sym (signatures_tied k s) ∙ signatures_equiv.symm k s)

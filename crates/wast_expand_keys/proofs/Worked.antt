@@ -1,6 +1,8 @@
 -- Computes the example modules.
 use Rattle.std.proofs.Common.{refl}
-use Rattle.wast_expand_keys.specs.WorkedExpansions.{SameSignatures, OrderedSignatures, DistinctSignatures, SameReferences, Row2, Row7, Row8, Row23, Row37, EligibleTypes, Several, AfterStruct, ByIdAndNumber, Row65, UnknownIds, FirstOfTwo, UsesInOrder, IndirectCalls}
+use Rattle.wast_expand_keys.specs.WorkedExpansions.{SameSignatures, OrderedSignatures, DistinctSignatures, SameReferences, Row2, Row7, Row8}
+use Rattle.wast_expand_keys.specs.WorkedExpansions.{Row23, Row37, EligibleTypes, Several, AfterStruct, ByIdAndNumber, Row65, UnknownIds}
+use Rattle.wast_expand_keys.specs.WorkedExpansions.{FirstOfTwo, UsesInOrder, IndirectCalls}
 
 pub same_signatures : SameSignatures
 same_signatures = (refl, refl, refl, refl, refl)

@@ -1,5 +1,6 @@
 -- Types that are appended for one list of type uses after another.
-use Rattle.std.proofs.Common.{◌≡◌, ℕ, suc, ◌+◌, ◌≤◌, Bool, true, false, cond, ◌||◌, List, [], ◌∷◌, ◌++◌, map, length, length-append, append_assoc, append-nil, Option, Some, None, is_some, inl, inr, refl, sym, ap, ◌∙◌, subst, arith}
+use Rattle.std.proofs.Common.{◌≡◌, ℕ, suc, ◌+◌, ◌≤◌, Bool, true, false, cond, ◌||◌, List, [], ◌∷◌, ◌++◌, map, length, length-append}
+use Rattle.std.proofs.Common.{append_assoc, append-nil, Option, Some, None, is_some, inl, inr, refl, sym, ap, ◌∙◌, subst, arith}
 use mathlib.Core.Path.{fun_ext}
 use Rattle.std.proofs.Math.Bool.{or_assoc}
 use Rattle.std.specs.Map.{keys_of}
@@ -37,13 +38,15 @@ types_again (v ∷ vs) = ap (λ ws. v ∷ ws) (types_again vs)
 keys_of_implied : (k : TypeNames) (n : ℕ) (ss : List Signature) → keys_of (bindings k (implied_types n ss)) ≡ map (numbered_signature k) ss
 keys_of_implied k n [] = refl
 keys_of_implied k n (s ∷ ss) =
-    ap (λ (vs : List ValType). numbered_signature k (vs, s.1) ∷ keys_of (bindings k (implied_types (n + 1) ss))) (types_again s.0) ∙ ap (λ ts. numbered_signature k s ∷ ts) (keys_of_implied k (n + 1) ss)
+    ap (λ (vs : List ValType). numbered_signature k (vs, s.1) ∷ keys_of (bindings k (implied_types (n + 1) ss))) (types_again s.0)
+    ∙ ap (λ ts. numbered_signature k s ∷ ts) (keys_of_implied k (n + 1) ss)
 
 -- the indices of signatures once types with numbers are appended
 pub known_after : (find : LookUp) (k : TypeNames) (n : ℕ) (ss : List Signature) → map (numbered_signature k) ss ≡ ss → (t : Signature)
     → is_some (with_more find (bindings k (implied_types n ss)) t) ≡ (is_some (find t) || is_among ss t)
 known_after find k n ss same t =
-    either (find t) (index_of (bindings k (implied_types n ss)) t) (is_among ss t) (is_some-lookup (same_signature t) (bindings k (implied_types n ss)) ∙ ap (λ ts. is_among ts t) (keys_of_implied k n ss ∙ same))
+    either (find t) (index_of (bindings k (implied_types n ss)) t) (is_among ss t)
+    (is_some-lookup (same_signature t) (bindings k (implied_types n ss)) ∙ ap (λ ts. is_among ts t) (keys_of_implied k n ss ∙ same))
   where
     either : (o p : Option Index) (b : Bool) → is_some p ≡ b → is_some (option_or o p) ≡ (is_some o || b)
     either None p b h = h
@@ -54,7 +57,8 @@ or_false true = refl
 or_false false = refl
 
 -- the new signatures of two lists, one after another
-first_new-append : (known : Signature → Bool) (ss ts : List Signature) → first_new known (ss ++ ts) ≡ first_new known ss ++ first_new (λ t. known t || is_among (first_new known ss) t) ts
+first_new-append : (known : Signature → Bool) (ss ts : List Signature)
+    → first_new known (ss ++ ts) ≡ first_new known ss ++ first_new (λ t. known t || is_among (first_new known ss) t) ts
 first_new-append known [] ts = ap (λ (k : Signature → Bool). first_new k ts) (fun_ext (λ (t : Signature). or_false (known t)))
 first_new-append known (s ∷ ss) ts =
     new_case (known s) known s ss ts (first_new-append known ss ts) (first_new-append (λ t. known t || same_signature t s) ss ts)
@@ -62,14 +66,16 @@ first_new-append known (s ∷ ss) ts =
     new_case : (b : Bool) (known : Signature → Bool) (s : Signature) (ss ts : List Signature)
         → first_new known (ss ++ ts) ≡ first_new known ss ++ first_new (λ t. known t || is_among (first_new known ss) t) ts
         → first_new (λ t. known t || same_signature t s) (ss ++ ts)
-        ≡ first_new (λ t. known t || same_signature t s) ss ++ first_new (λ t. (known t || same_signature t s) || is_among (first_new (λ t. known t || same_signature t s) ss) t) ts
+        ≡ first_new (λ t. known t || same_signature t s) ss ++ first_new
+        (λ t. (known t || same_signature t s) || is_among (first_new (λ t. known t || same_signature t s) ss) t) ts
         → cond b (first_new known (ss ++ ts)) (s ∷ first_new (λ t. known t || same_signature t s) (ss ++ ts))
         ≡ cond b (first_new known ss) (s ∷ first_new (λ t. known t || same_signature t s) ss)
         ++ first_new (λ t. known t || is_among (cond b (first_new known ss) (s ∷ first_new (λ t. known t || same_signature t s) ss)) t) ts
     new_case true known s ss ts p q = p
     new_case false known s ss ts p q =
         let new : List Signature = first_new (λ t. known t || same_signature t s) ss in
-        ap (λ ws. s ∷ ws) (q ∙ ap (λ (k : Signature → Bool). new ++ first_new k ts) (fun_ext (λ (t : Signature). or_assoc (known t) (same_signature t s) (is_among new t))))
+        ap (λ ws. s ∷ ws) (q ∙ ap (λ (k : Signature → Bool). new ++ first_new k ts)
+        (fun_ext (λ (t : Signature). or_assoc (known t) (same_signature t s) (is_among new t))))
 
 add_zero : (n : ℕ) → n ≡ n + 0
 add_zero n = omega arith
@@ -79,7 +85,8 @@ one_more n m = omega arith
 
 implied_types-append : (n : ℕ) (ss ts : List Signature) → implied_types n (ss ++ ts) ≡ implied_types n ss ++ implied_types (n + length ss) ts
 implied_types-append n [] ts = ap (λ m. implied_types m ts) (add_zero n)
-implied_types-append n (s ∷ ss) ts = ap (λ ws. implied_type n s ∷ ws) (implied_types-append (n + 1) ss ts ∙ ap (λ m. implied_types (n + 1) ss ++ implied_types m ts) (one_more n (length ss)))
+implied_types-append n (s ∷ ss) ts = ap (λ ws. implied_type n s ∷ ws) (implied_types-append (n + 1) ss ts
+    ∙ ap (λ m. implied_types (n + 1) ss ++ implied_types m ts) (one_more n (length ss)))
 
 -- type uses that need nothing
 pub adds_none : (a : Binder) → AddsTypes a a []
@@ -113,7 +120,8 @@ module _ {a b : Binder} {ss : List Signature} (h : AddsTypes a b ss) where
       ap (first_new known) (map-append (numbered_signature k) ss ts)
       ∙ (first_new-append known (numbers ss) (numbers ts)
       ∙ (ap (λ (f : Signature → Bool). new_signatures a.cx ss ++ first_new f (numbers ts))
-      (fun_ext (λ (t : Signature). sym (known_after (index_of a.cx.bound) k a.gensym (new_signatures a.cx ss) (new_numbered k known ss) t) ∙ ap (λ (find : LookUp). is_some (find t)) (sym bound_then)))
+      (fun_ext (λ (t : Signature). sym (known_after (index_of a.cx.bound) k a.gensym (new_signatures a.cx ss) (new_numbered k known ss) t)
+      ∙ ap (λ (find : LookUp). is_some (find t)) (sym bound_then)))
       ∙ ap (λ (n : TypeNames). new_signatures a.cx ss ++ first_new (λ t. is_some (index_of b.cx.bound t)) (map (numbered_signature n) ts)) (sym names_then)))
 
   types_then : (ts : List Signature) → new_types a (ss ++ ts) ≡ new_types a ss ++ new_types b ts
@@ -128,7 +136,8 @@ module _ {a b : Binder} {ss : List Signature} (h : AddsTypes a b ss) where
 
   pub count_then : (ts : List Signature) → next_after a (ss ++ ts) ≡ next_after b ts
   count_then ts =
-      let l : length (new_signatures a.cx (ss ++ ts)) ≡ length (new_signatures a.cx ss) + length (new_signatures b.cx ts) = ap length (new_then ts) ∙ length-append (new_signatures a.cx ss) (new_signatures b.cx ts) in
+      let l : length (new_signatures a.cx (ss ++ ts)) ≡ length (new_signatures a.cx ss) + length (new_signatures b.cx ts) = ap length (new_then ts)
+      ∙ length-append (new_signatures a.cx ss) (new_signatures b.cx ts) in
       omega (arith, h.counter)
 
   -- type uses after type uses
@@ -138,7 +147,8 @@ module _ {a b : Binder} {ss : List Signature} (h : AddsTypes a b ss) where
     types = λ s. k.types s ∙ (ap (λ (find : LookUp). with_more find (new_bindings b ts) s) bound_then
         ∙ (with_more_twice (index_of a.cx.bound) (new_bindings a ss) (new_bindings b ts) s
         ∙ ap (λ more. with_more (index_of a.cx.bound) more s) (sym (bindings_then ts))));
-    fields = k.fields ∙ (ap (λ xs. xs ++ new_types b ts) h.fields ∙ (append_assoc a.implied (new_types a ss) (new_types b ts) ∙ ap (λ xs. a.implied ++ xs) (sym (types_then ts))));
+    fields = k.fields ∙ (ap (λ xs. xs ++ new_types b ts) h.fields ∙ (append_assoc a.implied (new_types a ss) (new_types b ts)
+        ∙ ap (λ xs. a.implied ++ xs) (sym (types_then ts))));
     counter = k.counter ∙ sym (count_then ts);
   }
 
@@ -146,7 +156,8 @@ module _ {a b : Binder} {ss : List Signature} (h : AddsTypes a b ss) where
   pub more_then : (more : BoundSignatures) → found_in b.cx more ≡ found_in a.cx (new_bindings a ss ++ more)
   more_then more = fun_ext (λ (s : Signature).
       ap (λ (k : TypeNames). with_more (index_of b.cx.bound) more (numbered_signature k s)) names_then
-      ∙ (ap (λ (find : LookUp). with_more find more (numbered_signature (numbers_in a.cx) s)) bound_then ∙ with_more_twice (index_of a.cx.bound) (new_bindings a ss) more (numbered_signature (numbers_in a.cx) s)))
+      ∙ (ap (λ (find : LookUp). with_more find more (numbered_signature (numbers_in a.cx) s)) bound_then
+      ∙ with_more_twice (index_of a.cx.bound) (new_bindings a ss) more (numbered_signature (numbers_in a.cx) s)))
 
 -- fewer type uses do not overflow the counter earlier
 pub first_after : (a : Binder) (ss ts : List Signature) → next_after a ss ≤ next_after a (ss ++ ts)
@@ -155,7 +166,8 @@ first_after a ss ts =
     let numbers : List Signature → List Signature = map (numbered_signature (numbers_in a.cx)) in
     let rest : List Signature = first_new (λ t. known t || is_among (first_new known (numbers ss)) t) (numbers ts) in
     let l : length (new_signatures a.cx (ss ++ ts)) ≡ length (new_signatures a.cx ss) + length rest =
-    ap length (ap (first_new known) (map-append (numbered_signature (numbers_in a.cx)) ss ts) ∙ first_new-append known (numbers ss) (numbers ts)) ∙ length-append (new_signatures a.cx ss) rest in
+    ap length (ap (first_new known) (map-append (numbered_signature (numbers_in a.cx)) ss ts) ∙ first_new-append known (numbers ss) (numbers ts))
+    ∙ length-append (new_signatures a.cx ss) rest in
     omega arith
 
 pub first_runs_out : (a : Binder) (ss ts : List Signature) (e : Error) → RunsOut (next_after a ss) e → RunsOut (next_after a (ss ++ ts)) e

@@ -1,5 +1,6 @@
 -- Proves TakesTheTypeAtItsIndex: a signature is resolved to the id of the type at its index.
-use Rattle.std.proofs.Common.{◌≡◌, ℕ, ◌+◌, Bool, true, false, cond, List, [], ◌∷◌, ◌++◌, map, length, length-append, append_assoc, Option, Some, None, is_none, refl, sym, ap, ◌∙◌, arith}
+use Rattle.std.proofs.Common.{◌≡◌, ℕ, ◌+◌, Bool, true, false, cond, List, [], ◌∷◌, ◌++◌, map, length, length-append, append_assoc, Option}
+use Rattle.std.proofs.Common.{Some, None, is_none, refl, sym, ap, ◌∙◌, arith}
 use Rattle.std.specs.List.{flat_map, position, position_from, slice_get}
 use Rattle.std.proofs.lemmas.Iterator.Adapters.{position_from-zero}
 use Rattle.wast_expand_types.specs.Tree.{Id, Index, ModuleField}
@@ -23,11 +24,14 @@ stands_next (b ∷ before) id rest = stands_next before id rest
 
 -- one more id before
 one_further : (before : List (Option Id)) (id : Option Id) (ids : List (Option Id)) (types : List (Option Signature)) (s : Signature)
-    → index_by_id_at (position_from (has_signature s) (length (before ++ id ∷ [])) types) ((before ++ id ∷ []) ++ ids) ≡ index_by_id_at (position_from (has_signature s) (length before + 1) types) (before ++ id ∷ ids)
-one_further before id ids types s = λ i. index_by_id_at (position_from (has_signature s) (length-append before (id ∷ []) i) types) (append_assoc before (id ∷ []) ids i)
+    → index_by_id_at (position_from (has_signature s) (length (before ++ id ∷ [])) types) ((before ++ id ∷ []) ++ ids) ≡ index_by_id_at
+    (position_from (has_signature s) (length before + 1) types) (before ++ id ∷ ids)
+one_further before id ids types s = λ i. index_by_id_at (position_from (has_signature s) (length-append before (id ∷ []) i) types)
+    (append_assoc before (id ∷ []) ids i)
 
 -- one type, before the rest
-type_placed : (o : Option Signature) (id : Option Id) (before ids : List (Option Id)) (rest : BoundSignatures) (types : List (Option Signature)) (s : Signature) (n : ℕ) → one_if (is_none id) + n ≡ 0
+type_placed : (o : Option Signature) (id : Option Id) (before ids : List (Option Id)) (rest : BoundSignatures) (types : List (Option Signature))
+    (s : Signature) (n : ℕ) → one_if (is_none id) + n ≡ 0
     → index_of rest s ≡ index_by_id_at (position_from (has_signature s) (length before + 1) types) (before ++ id ∷ ids)
     → index_of (binding_of o id ++ rest) s ≡ index_by_id_at (position_from (has_signature s) (length before) (o ∷ types)) (before ++ id ∷ ids)
 type_placed None id before ids rest types s n h r = r
@@ -35,7 +39,8 @@ type_placed (Some t) None before ids rest types s n h r = absurd (omega (arith, 
 type_placed (Some t) (Some id) before ids rest types s n h r = here (same_signature s t) r
   where
     here : (b : Bool) → index_of rest s ≡ index_by_id_at (position_from (has_signature s) (length before + 1) types) (before ++ Some id ∷ ids)
-        → cond b (Some (index.Id id)) (index_of rest s) ≡ index_by_id_at (cond b (Some (length before)) (position_from (has_signature s) (length before + 1) types)) (before ++ Some id ∷ ids)
+        → cond b (Some (index.Id id)) (index_of rest s) ≡ index_by_id_at
+        (cond b (Some (length before)) (position_from (has_signature s) (length before + 1) types)) (before ++ Some id ∷ ids)
     here true r = sym (ap index_by_id (stands_next before (Some id) ids))
     here false r = r
 
@@ -45,7 +50,8 @@ members_placed : (ms : List ty.«Type») (before ids : List (Option Id)) (types 
     → o ≡ index_by_id_at (position_from (has_signature s) (length before) (map (λ t. None) ms ++ types)) (before ++ (map (λ (t : ty.«Type»). t.id) ms ++ ids))
 members_placed [] before ids types s o rest = rest before
 members_placed (m ∷ ms) before ids types s o rest =
-    members_placed ms (before ++ m.id ∷ []) ids types s o rest ∙ one_further before m.id (map (λ (t : ty.«Type»). t.id) ms ++ ids) (map (λ t. None) ms ++ types) s
+    members_placed ms (before ++ m.id ∷ []) ids types s o rest
+    ∙ one_further before m.id (map (λ (t : ty.«Type»). t.id) ms ++ ids) (map (λ t. None) ms ++ types) s
 
 placed : (k : TypeNames) (before : List (Option Id)) (xs : List ModuleField) (s : Signature) → missing_id_count lacks_id xs ≡ 0
     → index_of (bindings k xs) s ≡ index_by_id_at (position_from (has_signature s) (length before) (flat_map (types_in k) xs)) (before ++ type_ids xs)
@@ -65,4 +71,5 @@ takes_the_type_at_its_index n fields s =
     let t : Signature = numbered_signature k s in
     let xs : List ModuleField = fields_with_types n fields in
     placed k [] xs t (none_lacks_after n (n + missing_id_count lacks_id fields) (implied_signatures fields) fields)
-    ∙ ap (λ i. index_by_id_at i (type_ids xs)) (sym (position_from-zero (has_signature t) (flat_map (types_in k) xs)) ∙ ap (λ ts. position (has_signature t) ts) (types_typed n fields))
+    ∙ ap (λ i. index_by_id_at i (type_ids xs)) (sym (position_from-zero (has_signature t) (flat_map (types_in k) xs))
+    ∙ ap (λ ts. position (has_signature t) ts) (types_typed n fields))

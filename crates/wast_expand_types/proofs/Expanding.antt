@@ -1,5 +1,6 @@
 -- The steps of the pass, one after another.
-use Rattle.std.proofs.Common.{◌≡◌, ℕ, ◌+◌, ◌<◌, Bool, true, false, List, [], ◌∷◌, ◌++◌, length, get_or, take, map, append-nil, Option, Some, None, is_none, is_some, refl, sym, ap, ◌∙◌, subst, arith}
+use Rattle.std.proofs.Common.{◌≡◌, ℕ, ◌+◌, ◌<◌, Bool, true, false, List, [], ◌∷◌, ◌++◌, length, get_or, take, map, append-nil, Option, Some}
+use Rattle.std.proofs.Common.{None, is_none, is_some, refl, sym, ap, ◌∙◌, subst, arith}
 use mathlib.Core.Path.{fun_ext}
 use Rattle.std.specs.List.{flat_map}
 use Rattle.std.specs.Map.{keys_of}
@@ -18,7 +19,8 @@ use Rattle.wast_expand_keys.specs.EligibleTypes.{taken_by}
 use Rattle.wast_expand_keys.specs.ImpliedTypes.{eligible_in, eligible_signatures, is_among, first_new, implied_signatures}
 use Rattle.wast_base.specs.Filling.{one_if, given_if, with_ids_from, missing_id_count}
 use Rattle.wast_expand_keys.specs.Expanders.{BoundSignatures, LookUp, Bound, numbers_in, index_of, with_more, found_in, Extends}
-use Rattle.wast_expand_keys.specs.Expanded.{lacks_id, with_type_id, implied_types, binding_of, bindings_in, bindings, found_for, bound_field, expanded_fields, type_id_count}
+use Rattle.wast_expand_keys.specs.Expanded.{lacks_id, with_type_id, implied_types, binding_of, bindings_in, bindings, found_for}
+use Rattle.wast_expand_keys.specs.Expanded.{bound_field, expanded_fields, type_id_count}
 use Rattle.wast_expand_types.specs.Binding.{new_signatures, new_types, new_bindings, next_after, AddsTypes}
 use Rattle.wast_expand_types.specs.declared.binder.Binder.{Binder}
 use Rattle.wast_expand_keys.proofs.Bound.{lookup-append}
@@ -31,8 +33,10 @@ pub extends_more : (k : TypeNames) (old new later : BoundSignatures) (xs : List 
     → Extends old new (bindings k (take i xs)) → Extends new later (bindings_in k x) → Extends old later (bindings k (take (i + 1) xs))
 extends_more k old new later xs i x lt is h g =
     let more : bindings k (take (i + 1) xs) ≡ bindings k (take i xs) ++ bindings_in k x =
-    ap (bindings k) (take_more xs i x lt ∙ ap (λ y. take i xs ++ y ∷ []) (sym is)) ∙ (flat_map-append (bindings_in k) (take i xs) (x ∷ []) ∙ ap (λ ys. bindings k (take i xs) ++ ys) (append-nil (bindings_in k x))) in
-    λ s. g s ∙ (ap (λ (find : LookUp). with_more find (bindings_in k x) s) (fun_ext h) ∙ (with_more_twice (index_of old) (bindings k (take i xs)) (bindings_in k x) s ∙ ap (λ bs. with_more (index_of old) bs s) (sym more)))
+    ap (bindings k) (take_more xs i x lt ∙ ap (λ y. take i xs ++ y ∷ []) (sym is))
+    ∙ (flat_map-append (bindings_in k) (take i xs) (x ∷ []) ∙ ap (λ ys. bindings k (take i xs) ++ ys) (append-nil (bindings_in k x))) in
+    λ s. g s ∙ (ap (λ (find : LookUp). with_more find (bindings_in k x) s) (fun_ext h)
+    ∙ (with_more_twice (index_of old) (bindings k (take i xs)) (bindings_in k x) s ∙ ap (λ bs. with_more (index_of old) bs s) (sym more)))
 
 needed_given : (b : Bool) (n : ℕ) (x : ModuleField) → needed_in (in_field (given_if b with_type_id n x)) ≡ needed_in (in_field x)
 needed_given false n x = refl
@@ -72,11 +76,14 @@ module _ (k : TypeNames) where
   keys_of_filled n (x ∷ xs) =
       let rest : List ModuleField = with_ids_from lacks_id with_type_id (n + one_if (lacks_id x)) xs in
       keys-append (bindings_in k (given_if (lacks_id x) with_type_id n x)) (bindings k rest)
-      ∙ (ap (λ ks. ks ++ keys_of (bindings k rest)) (keys_of_type n x (lacks_id x) refl) ∙ ap (λ ks. eligible_in k x ++ ks) (keys_of_filled (n + one_if (lacks_id x)) xs))
+      ∙ (ap (λ ks. ks ++ keys_of (bindings k rest)) (keys_of_type n x (lacks_id x) refl)
+      ∙ ap (λ ks. eligible_in k x ++ ks) (keys_of_filled (n + one_if (lacks_id x)) xs))
 
   -- a signature that an eligible type has
-  pub eligible_known : (n : ℕ) (xs : List ModuleField) (s : Signature) → is_some (index_of (bindings k (with_ids_from lacks_id with_type_id n xs)) s) ≡ is_among (flat_map (eligible_in k) xs) s
-  eligible_known n xs s = is_some-lookup (same_signature s) (bindings k (with_ids_from lacks_id with_type_id n xs)) ∙ ap (λ ks. is_among ks s) (keys_of_filled n xs)
+  pub eligible_known : (n : ℕ) (xs : List ModuleField) (s : Signature)
+      → is_some (index_of (bindings k (with_ids_from lacks_id with_type_id n xs)) s) ≡ is_among (flat_map (eligible_in k) xs) s
+  eligible_known n xs s = is_some-lookup (same_signature s) (bindings k (with_ids_from lacks_id with_type_id n xs))
+      ∙ ap (λ ks. is_among ks s) (keys_of_filled n xs)
 
 bound_implied : (find : LookUp) (n : ℕ) (ss : List Signature) → map (bound_field find) (implied_types n ss) ≡ implied_types n ss
 bound_implied find n [] = refl
@@ -84,8 +91,10 @@ bound_implied find n (s ∷ ss) = λ i. ty_stays find (made_type n s) i ∷ boun
 
 -- The types of fs get their ids and are added. seen is what is read of the list, old has the ids of the types of fs and
 -- no signatures, and no type is appended yet.
-module _ (n : ℕ) (fs named seen : List ModuleField) (old : Bound) (a : Binder) (named_is : named ≡ with_ids_from lacks_id with_type_id n fs) (next_is : a.gensym ≡ n + missing_id_count lacks_id fs)
-    (seen_is : seen ≡ named) (knows : (q : Name) → numbers_in old q ≡ type_names fs q) (old_is : old.bound ≡ []) (none_is : a.implied ≡ []) (same : a.cx.names ≡ old.names)
+module _ (n : ℕ) (fs named seen : List ModuleField) (old : Bound) (a : Binder) (named_is : named ≡ with_ids_from lacks_id with_type_id n fs)
+    (next_is : a.gensym ≡ n + missing_id_count lacks_id fs)
+    (seen_is : seen ≡ named) (knows : (q : Name) → numbers_in old q ≡ type_names fs q) (old_is : old.bound ≡ []) (none_is : a.implied ≡ [])
+    (same : a.cx.names ≡ old.names)
     (types : Extends old.bound a.cx.bound (bindings (numbers_in old) seen)) where
   abbrev k : TypeNames
   k = type_names fs
@@ -98,7 +107,8 @@ module _ (n : ℕ) (fs named seen : List ModuleField) (old : Bound) (a : Binder)
 
   cx_is : Extends [] a.cx.bound (bindings k named)
   cx_is = subst (λ (f : TypeNames). Extends [] a.cx.bound (bindings f named)) old_names
-      (subst (λ bs. Extends bs a.cx.bound (bindings (numbers_in old) named)) old_is (subst (λ xs. Extends old.bound a.cx.bound (bindings (numbers_in old) xs)) seen_is types))
+      (subst (λ bs. Extends bs a.cx.bound (bindings (numbers_in old) named)) old_is
+      (subst (λ xs. Extends old.bound a.cx.bound (bindings (numbers_in old) xs)) seen_is types))
 
   finds : index_of a.cx.bound ≡ index_of (bindings k named)
   finds = fun_ext cx_is
@@ -134,11 +144,16 @@ module _ (n : ℕ) (fs named seen : List ModuleField) (old : Bound) (a : Binder)
       ∙ (sym (lookup-append (same_signature t) (bindings k named) (bindings k new))
       ∙ (ap (λ bs. index_of bs t) (sym (flat_map-append (bindings_in k) named new)) ∙ ap (λ xs. index_of (bindings k (xs ++ new)) t) named_is)))))
 
-  pub lists : {b : Binder} {uses out : List ModuleField} → AddsTypes a b (flat_map (λ x. needed_in (in_field x)) named) → ((more : BoundSignatures) → uses ≡ map (bound_field (found_in b.cx more)) named) → out ≡ uses ++ b.implied → out ≡ expanded_fields n fs
+  pub lists : {b : Binder} {uses out : List ModuleField} → AddsTypes a b (flat_map (λ x. needed_in (in_field x)) named)
+      → ((more : BoundSignatures) → uses ≡ map (bound_field (found_in b.cx more)) named) → out ≡ uses ++ b.implied → out ≡ expanded_fields n fs
   lists {b} {uses} {out} each bound out_is =
       let adds : AddsTypes a b (needed_signatures named) = adds_as (sym in_each) each in
       let new : List ModuleField = implied_types (n + missing_id_count lacks_id fs) (implied_signatures fs) in
-      let found : found_in b.cx [] ≡ found_for fs n = more_then adds [] ∙ (ap (λ bs. found_in a.cx bs) (append-nil (new_bindings a (needed_signatures named))) ∙ finds_all) in
-      out_is ∙ (ap (λ us. us ++ b.implied) (bound [] ∙ (ap (λ (find : LookUp). map (bound_field find) named) found ∙ ap (map (bound_field (found_for fs n))) named_is))
-      ∙ (ap (λ is. map (bound_field (found_for fs n)) (with_ids_from lacks_id with_type_id n fs) ++ is) (adds.fields ∙ (ap (λ xs. xs ++ new_types a (needed_signatures named)) none_is ∙ (types_are ∙ sym (bound_implied (found_for fs n) (n + missing_id_count lacks_id fs) (implied_signatures fs)))))
+      let found : found_in b.cx [] ≡ found_for fs n = more_then adds []
+      ∙ (ap (λ bs. found_in a.cx bs) (append-nil (new_bindings a (needed_signatures named))) ∙ finds_all) in
+      out_is ∙ (ap (λ us. us ++ b.implied) (bound [] ∙ (ap (λ (find : LookUp). map (bound_field find) named) found
+      ∙ ap (map (bound_field (found_for fs n))) named_is))
+      ∙ (ap (λ is. map (bound_field (found_for fs n)) (with_ids_from lacks_id with_type_id n fs) ++ is) (adds.fields
+      ∙ (ap (λ xs. xs ++ new_types a (needed_signatures named)) none_is
+      ∙ (types_are ∙ sym (bound_implied (found_for fs n) (n + missing_id_count lacks_id fs) (implied_signatures fs)))))
       ∙ sym (map-append (bound_field (found_for fs n)) (with_ids_from lacks_id with_type_id n fs) new)))

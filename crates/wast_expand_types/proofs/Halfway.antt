@@ -1,5 +1,6 @@
 -- The loop invariant for resolving the parts of a list one after another.
-use Rattle.std.proofs.Common.{◌≡◌, ℕ, suc, ◌+◌, ◌<◌, ◌≤◌, List, [], ◌∷◌, ◌++◌, sym, ◌∙◌, ap, length, map, get_or, drop, take, arith, add-one, subst, append_assoc}
+use Rattle.std.proofs.Common.{◌≡◌, ℕ, suc, ◌+◌, ◌<◌, ◌≤◌, List, [], ◌∷◌, ◌++◌, sym, ◌∙◌, ap, length, map, get_or, drop, take, arith}
+use Rattle.std.proofs.Common.{add-one, subst, append_assoc}
 use Rattle.std.proofs.Math.ListN.{set, length-set}
 use Rattle.std.proofs.Math.Seq.{drop-cons, take-suc}
 use Rattle.std.specs.Prelude.{flat_map}
@@ -20,7 +21,8 @@ pub record IsHalfway {X : Type 0} (needed : X → List Signature) (bound : LookU
   pub adds : AddsTypes a b (flat_map needed (take i olds))
   pub become : (more : BoundSignatures) → take i nows ≡ map (bound (found_in b.cx more)) (take i olds)
 
-module _ {X : Type 0} {needed : X → List Signature} {bound : LookUp → X → X} {olds nows : List X} {i : ℕ} {a b : Binder} (h : IsHalfway needed bound olds nows i a b) where
+module _ {X : Type 0} {needed : X → List Signature} {bound : LookUp → X → X} {olds nows : List X} {i : ℕ} {a b : Binder}
+    (h : IsHalfway needed bound olds nows i a b) where
   same_item : (d : X) → i < length nows → drop i olds ≡ get_or nows i d ∷ drop (suc i) olds
   same_item d lt =
       let now : drop i nows ≡ get_or nows i d ∷ drop (suc i) nows = drop-cons nows i d lt in
@@ -39,15 +41,18 @@ module _ {X : Type 0} {needed : X → List Signature} {bound : LookUp → X → 
         ap (λ n. take n olds) (add-one i) ∙ (take-suc olds i x lt ∙ ap (λ z. take i olds ++ z ∷ []) at)
 
     needed_more : flat_map needed (take (i + 1) olds) ≡ flat_map needed (take i olds) ++ needed x
-    needed_more = ap (flat_map needed) more_taken ∙ (flat_map-append needed (take i olds) (x ∷ []) ∙ ap (λ ss. flat_map needed (take i olds) ++ ss) (append-nil (needed x)))
+    needed_more = ap (flat_map needed) more_taken
+        ∙ (flat_map-append needed (take i olds) (x ∷ []) ∙ ap (λ ss. flat_map needed (take i olds) ++ ss) (append-nil (needed x)))
 
     needed_all : flat_map needed olds ≡ (flat_map needed (take i olds) ++ needed x) ++ flat_map needed (drop (suc i) olds)
     needed_all =
         ap (flat_map needed) (sym (take-append-drop i olds)) ∙ (flat_map-append needed (take i olds) (drop i olds)
-        ∙ (ap (λ zs. flat_map needed (take i olds) ++ flat_map needed zs) rest ∙ sym (append_assoc (flat_map needed (take i olds)) (needed x) (flat_map needed (drop (suc i) olds)))))
+        ∙ (ap (λ zs. flat_map needed (take i olds) ++ flat_map needed zs) rest
+        ∙ sym (append_assoc (flat_map needed (take i olds)) (needed x) (flat_map needed (drop (suc i) olds)))))
 
     -- one more part
-    pub goes_on : {y : X} {c : Binder} → AddsTypes b c (needed x) → ((more : BoundSignatures) → y ≡ bound (found_in c.cx more) x) → IsHalfway needed bound olds (set nows i y) (i + 1) a c
+    pub goes_on : {y : X} {c : Binder} → AddsTypes b c (needed x) → ((more : BoundSignatures) → y ≡ bound (found_in c.cx more) x)
+        → IsHalfway needed bound olds (set nows i y) (i + 1) a c
     goes_on {y} {c} k new =
         let lt2 : i < length nows = omega (arith, h.len) in
         record {
@@ -56,24 +61,29 @@ module _ {X : Type 0} {needed : X → List Signature} {bound : LookUp → X → 
           adds = subst (λ ss. AddsTypes a c ss) (sym needed_more) (adds_both h.adds k);
           become = λ more.
               let find : LookUp = found_in c.cx more in
-              let before : take i nows ≡ map (bound find) (take i olds) = h.become (new_bindings b (needed x) ++ more) ∙ ap (λ (f : LookUp). map (bound f) (take i olds)) (sym (more_then k more)) in
-              take_more_set nows i y lt2 ∙ (ap (λ zs. zs ++ y ∷ []) before ∙ (ap (λ z. map (bound find) (take i olds) ++ z ∷ []) (new more) ∙ (sym (map-append (bound find) (take i olds) (x ∷ [])) ∙ ap (map (bound find)) (sym more_taken))));
+              let before : take i nows ≡ map (bound find) (take i olds) = h.become (new_bindings b (needed x) ++ more)
+              ∙ ap (λ (f : LookUp). map (bound f) (take i olds)) (sym (more_then k more)) in
+              take_more_set nows i y lt2 ∙ (ap (λ zs. zs ++ y ∷ []) before ∙ (ap (λ z. map (bound find) (take i olds) ++ z ∷ []) (new more)
+              ∙ (sym (map-append (bound find) (take i olds) (x ∷ [])) ∙ ap (map (bound find)) (sym more_taken))));
         }
 
     -- a part with nothing to resolve
     pub passes_by : needed x ≡ [] → ((find : LookUp) → bound find x ≡ x) → IsHalfway needed bound olds nows (i + 1) a b
     passes_by none stays =
         let back : set nows i x ≡ nows = ap (set nows i) is ∙ set-get_or nows i x in
-        subst (λ ys. IsHalfway needed bound olds ys (i + 1) a b) back (goes_on (subst (λ ss. AddsTypes b b ss) (sym none) (adds_none b)) (λ more. sym (stays (found_in b.cx more))))
+        subst (λ ys. IsHalfway needed bound olds ys (i + 1) a b) back (goes_on (subst (λ ss. AddsTypes b b ss) (sym none) (adds_none b))
+        (λ more. sym (stays (found_in b.cx more))))
 
     -- the counter overflows in a part
     pub stops : (e : Error) → RunsOut (next_after b (needed x)) e → RunsOut (next_after a (flat_map needed olds)) e
     stops e out =
         let here : next_after a (flat_map needed (take i olds) ++ needed x) ≡ next_after b (needed x) = count_then h.adds (needed x) in
-        let all : next_after a (flat_map needed olds) ≡ next_after a ((flat_map needed (take i olds) ++ needed x) ++ flat_map needed (drop (suc i) olds)) = ap (next_after a) needed_all in
+        let all : next_after a (flat_map needed olds) ≡ next_after a ((flat_map needed (take i olds) ++ needed x) ++ flat_map needed
+        (drop (suc i) olds)) = ap (next_after a) needed_all in
         less_runs_out _ _ e (omega (arith, here, all, first_after a (flat_map needed (take i olds) ++ needed x) (flat_map needed (drop (suc i) olds)))) out
 
 -- all parts are resolved
-pub all_bound : {X : Type 0} {needed : X → List Signature} {bound : LookUp → X → X} {olds nows : List X} {i : ℕ} {a b : Binder} → IsHalfway needed bound olds nows i a b → length olds ≤ i → (more : BoundSignatures) → nows ≡ map (bound (found_in b.cx more)) olds
+pub all_bound : {X : Type 0} {needed : X → List Signature} {bound : LookUp → X → X} {olds nows : List X} {i : ℕ} {a b : Binder}
+    → IsHalfway needed bound olds nows i a b → length olds ≤ i → (more : BoundSignatures) → nows ≡ map (bound (found_in b.cx more)) olds
 all_bound {X} {needed} {bound} {olds} {nows} {i} {a} {b} h le more =
     sym (take_all i nows (omega (arith, h.len, le))) ∙ (h.become more ∙ ap (map (bound (found_in b.cx more))) (take_all i olds le))

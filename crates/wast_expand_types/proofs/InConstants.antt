@@ -2,7 +2,8 @@
 use Rattle.std.specs.Prelude.{option_map}
 use Rattle.std.proofs.Common.{◌≡◌, Bool, List, [], ◌∷◌, ◌++◌, map, append-nil, Option, Some, None, refl, ap, ◌∙◌}
 use Rattle.std.specs.List.{flat_map}
-use Rattle.wast_tree_nodes.specs.Sites.{Check, Site, Asked, check_sites, at_index, if_there, in_ref, in_table_type, in_global_type, in_constant, in_payload, in_table_kind, in_global_kind, in_global, in_elem_kind, in_elem}
+use Rattle.wast_tree_nodes.specs.Sites.{Check, Site, Asked, check_sites, at_index, if_there, in_ref, in_table_type, in_global_type}
+use Rattle.wast_tree_nodes.specs.Sites.{in_constant, in_payload, in_table_kind, in_global_kind, in_global, in_elem_kind, in_elem}
 use Rattle.wast_expand_types.specs.Tree.{Index, RefType, TableType, GlobalType, InlineImport, Expression, Global, ElemPayload, Elem}
 use Rattle.wast_expand_types.specs.Tree.space
 use Rattle.wast_expand_types.specs.Tree.table
@@ -65,10 +66,12 @@ module _ (find : LookUp) where
   pub import_bound : (import : InlineImport) (ty : TableType) → mapped_table_kind (binding_change find) (table.Import import ty) ≡ table.Import import ty
   import_bound import ty = ap (λ (t : TableType). table.Import import t) (table_type_at ty).still
 
-  pub normal_bound : (ty : TableType) (init : Option Expression) → mapped_table_kind (binding_change find) (table.Normal ty init) ≡ table.Normal ty (option_map (mapped_constant (binding_change find)) init)
+  pub normal_bound : (ty : TableType) (init : Option Expression) → mapped_table_kind (binding_change find) (table.Normal ty init) ≡ table.Normal ty
+      (option_map (mapped_constant (binding_change find)) init)
   normal_bound ty init = ap (λ (t : TableType). table.Normal t (option_map (mapped_constant (binding_change find)) init)) (table_type_at ty).still
 
-  pub inline_bound : (ty : RefType) (is64 shared : Bool) (p : ElemPayload) → mapped_table_kind (binding_change find) (table.Inline ty is64 shared p) ≡ table.Inline ty is64 shared (mapped_payload (binding_change find) p)
+  pub inline_bound : (ty : RefType) (is64 shared : Bool) (p : ElemPayload)
+      → mapped_table_kind (binding_change find) (table.Inline ty is64 shared p) ≡ table.Inline ty is64 shared (mapped_payload (binding_change find) p)
   inline_bound ty is64 shared p = ap (λ (r : RefType). table.Inline r is64 shared (mapped_payload (binding_change find) p)) (ref_at ty).still
 
   pub global_bound : (g : Global) → mapped_global (binding_change find) g ≡ record g { kind = mapped_global_kind (binding_change find) g.kind }
@@ -77,8 +80,11 @@ module _ (find : LookUp) where
   pub functions_bound : (is : List Index) → mapped_payload (binding_change find) (payload.Indices is) ≡ payload.Indices is
   functions_bound is = ap payload.Indices (list_at (index_in space.Func) is).still
 
-  pub exprs_bound : (ty : RefType) (es : List Expression) → mapped_payload (binding_change find) (payload.Exprs ty es) ≡ payload.Exprs ty (map (mapped_constant (binding_change find)) es)
+  pub exprs_bound : (ty : RefType) (es : List Expression) → mapped_payload (binding_change find) (payload.Exprs ty es) ≡ payload.Exprs ty
+      (map (mapped_constant (binding_change find)) es)
   exprs_bound ty es = ap (λ (r : RefType). payload.Exprs r (map (mapped_constant (binding_change find)) es)) (ref_at ty).still
 
-  pub active_bound : (table : Option Index) (offset : Expression) → mapped_elem_kind (binding_change find) (elem.Active table offset) ≡ elem.Active table (mapped_constant (binding_change find) offset)
-  active_bound table offset = ap (λ (o : Option Index). elem.Active o (mapped_constant (binding_change find) offset)) (option_at (index_in space.Table) table).still
+  pub active_bound : (table : Option Index) (offset : Expression)
+      → mapped_elem_kind (binding_change find) (elem.Active table offset) ≡ elem.Active table (mapped_constant (binding_change find) offset)
+  active_bound table offset = ap (λ (o : Option Index). elem.Active o (mapped_constant (binding_change find) offset))
+      (option_at (index_in space.Table) table).still

@@ -1,5 +1,6 @@
 -- Types get ids while the ids that the source has are collected.
-use Rattle.std.proofs.Common.{◌≡◌, ℕ, ◌+◌, ◌<◌, ◌≤◌, List, [], ◌∷◌, ◌++◌, length, get_or, set, take, drop, append_assoc, length-append, Option, inl, inr, refl, sym, ap, ◌∙◌, arith}
+use Rattle.std.proofs.Common.{◌≡◌, ℕ, ◌+◌, ◌<◌, ◌≤◌, List, [], ◌∷◌, ◌++◌, length, get_or, set, take, drop, append_assoc, length-append}
+use Rattle.std.proofs.Common.{Option, inl, inr, refl, sym, ap, ◌∙◌, arith}
 use Rattle.std.proofs.lemmas.Grind.{take-set_at}
 use Rattle.std.proofs.lemmas.List.{drop_more, drop-set-lt}
 use Rattle.std.proofs.lemmas.List.Concat.{flat_map-append}
@@ -24,7 +25,8 @@ later m n names more e le long (inr many) = inr (many.0, omega (arith, many.1, l
 
 -- The field x is at i in ys, the fields before it have ids, and xs are the fields as they were.
 module _ (old new : List (Option Name)) (xs ys : List ModuleField) (m n i : ℕ) (x : ModuleField) (lt : i < length ys) (is : x ≡ get_or ys i x)
-    (counted : m + missing_id_count lacks_id (drop i ys) ≡ n + missing_id_count lacks_id xs) (gathered : new ++ in_fields (drop i ys) ≡ old ++ in_fields xs) where
+    (counted : m + missing_id_count lacks_id (drop i ys) ≡ n + missing_id_count lacks_id xs)
+    (gathered : new ++ in_fields (drop i ys) ≡ old ++ in_fields xs) where
   abbrev rest : List ModuleField
   rest = drop (i + 1) ys
 
@@ -39,11 +41,13 @@ module _ (old new : List (Option Name)) (xs ys : List ModuleField) (m n i : ℕ)
   ids : m + (one_if (lacks_id x) + missing_id_count lacks_id rest) ≡ n + missing_id_count lacks_id xs
   ids = ap (λ zs. m + missing_id_count lacks_id zs) (sym here) ∙ counted
 
-  pub stops_in_field : (e : Error) → StopsNaming (m + one_if (lacks_id x)) (new ++ names_in space.Ty (items_in x)) e → StopsNaming (n + missing_id_count lacks_id xs) (old ++ in_fields xs) e
+  pub stops_in_field : (e : Error) → StopsNaming (m + one_if (lacks_id x)) (new ++ names_in space.Ty (items_in x)) e
+      → StopsNaming (n + missing_id_count lacks_id xs) (old ++ in_fields xs) e
   stops_in_field e h =
       let names : length (new ++ names_in space.Ty (items_in x)) + length (in_fields rest) ≡ length (old ++ in_fields xs) =
       sym (length-append (new ++ names_in space.Ty (items_in x)) (in_fields rest)) ∙ ap length one_gathered in
-      later (m + one_if (lacks_id x)) (n + missing_id_count lacks_id xs) (new ++ names_in space.Ty (items_in x)) (old ++ in_fields xs) e (omega (arith, ids)) (omega (arith, names)) h
+      later (m + one_if (lacks_id x)) (n + missing_id_count lacks_id xs) (new ++ names_in space.Ty (items_in x)) (old ++ in_fields xs) e
+      (omega (arith, ids)) (omega (arith, names)) h
 
   -- The field is v once it has its id, k is the counter then, and got are all ids up to it.
   module _ (v : ModuleField) (k : ℕ) (got : List (Option Name)) where
@@ -54,9 +58,11 @@ module _ (old new : List (Option Name)) (xs ys : List ModuleField) (m n i : ℕ)
     names_next e = (λ j. e j ++ in_fields (left j)) ∙ one_gathered
 
     pub counted_next : k ≡ m + one_if (lacks_id x) → k + missing_id_count lacks_id (drop (i + 1) (set ys i v)) ≡ n + missing_id_count lacks_id xs
-    counted_next e = let same : missing_id_count lacks_id (drop (i + 1) (set ys i v)) ≡ missing_id_count lacks_id rest = ap (missing_id_count lacks_id) left in omega (arith, e, same, ids)
+    counted_next e = let same : missing_id_count lacks_id (drop (i + 1) (set ys i v)) ≡ missing_id_count lacks_id rest = ap
+        (missing_id_count lacks_id) left in omega (arith, e, same, ids)
 
-    pub fields_next : {all : List ModuleField} → v ≡ given_if (lacks_id x) with_type_id m x → k ≡ m + one_if (lacks_id x) → take i ys ++ with_ids_from lacks_id with_type_id m (drop i ys) ≡ all
+    pub fields_next : {all : List ModuleField} → v ≡ given_if (lacks_id x) with_type_id m x → k ≡ m + one_if (lacks_id x)
+        → take i ys ++ with_ids_from lacks_id with_type_id m (drop i ys) ≡ all
         → take (i + 1) (set ys i v) ++ with_ids_from lacks_id with_type_id k (drop (i + 1) (set ys i v)) ≡ all
     fields_next {all} named e h =
         let more : List ModuleField = with_ids_from lacks_id with_type_id (m + one_if (lacks_id x)) rest in

@@ -7,8 +7,14 @@ use Rattle.wast_base.specs.Ids.{Name, Mark, mark_of_option, gensym_id}
 use Rattle.wast_base.specs.Spaces.{name_if}
 use Rattle.wast_base.specs.Blocks.{Blocks, is_balanced}
 use Rattle.wast_tree_nodes.specs.Instrs.{block_effects}
-use Rattle.wast_tree_nodes.specs.Sites.{Check, Clause, OfItem, OfBlock, Site, Asked, Begins, BodyContext, constant_context, check_sites, at_label, in_index, in_caught, in_catch, in_handle, in_handlers, in_cast, in_ref, uncovered_check, in_block, in_try_table, in_br_table, in_pair, in_type, in_rec, in_instr, context_after, in_instrs, in_expression, in_constant, in_local, param_marks, local_marks, declaration_sites, body_here, in_func_kind, in_use, in_func, in_sig, in_subsection, in_field}
-use Rattle.wast_expand_types.specs.Tree.{Index, RefType, Handle, ResumeTable, BlockType, BrTableIndices, TryTable, TryTableCatch, FunctionType, TypeUse, SelectTypes, Instruction, Expression, Local, FuncKind, Func, Custom, Rec, ItemSig}
+use Rattle.wast_tree_nodes.specs.Sites.{Check, Clause, OfItem, OfBlock, Site, Asked, Begins, BodyContext, constant_context, check_sites}
+use Rattle.wast_tree_nodes.specs.Sites.{at_label, in_index, in_caught, in_catch, in_handle, in_handlers, in_cast, in_ref, uncovered_check}
+use Rattle.wast_tree_nodes.specs.Sites.{in_block, in_try_table, in_br_table, in_pair, in_type, in_rec, in_instr, context_after, in_instrs}
+use Rattle.wast_tree_nodes.specs.Sites.{in_expression, in_constant, in_local, param_marks, local_marks, declaration_sites, body_here}
+use Rattle.wast_tree_nodes.specs.Sites.{in_func_kind, in_use, in_func, in_sig, in_subsection, in_field}
+use Rattle.wast_expand_types.specs.Tree.{Index, RefType, Handle, ResumeTable, BlockType, BrTableIndices, TryTable, TryTableCatch}
+use Rattle.wast_expand_types.specs.Tree.{FunctionType, TypeUse, SelectTypes, Instruction, Expression, Local, FuncKind, Func, Custom, Rec}
+use Rattle.wast_expand_types.specs.Tree.{ItemSig}
 use Rattle.wast_expand_types.specs.Tree.form
 use Rattle.wast_expand_types.specs.Tree.custom
 use Rattle.wast_expand_types.specs.Tree.handle
@@ -17,7 +23,8 @@ use Rattle.wast_expand_types.specs.Tree.ty
 use Rattle.wast_expand_types.specs.Tree.instr
 use Rattle.wast_expand_types.specs.Tree.func
 use Rattle.wast_expand_types.specs.Tree.field
-use Rattle.wast_tree_map.specs.Mapped.{mapped_select, mapped_catch, mapped_instr, mapped_instrs, mapped_expression, mapped_constant, mapped_local, mapped_func_kind, mapped_handle, mapped_handlers}
+use Rattle.wast_tree_map.specs.Mapped.{mapped_select, mapped_catch, mapped_instr, mapped_instrs, mapped_expression, mapped_constant}
+use Rattle.wast_tree_map.specs.Mapped.{mapped_local, mapped_func_kind, mapped_handle, mapped_handlers}
 use Rattle.wast_tree_map.proofs.Types.{val_at}
 use Rattle.wast_tree_map.proofs.Fields.{select_at, caught_at}
 use Rattle.wast_expand_keys.specs.Signatures.{Signature, signature_of}
@@ -51,7 +58,8 @@ pub needed_besides : (xs : List Site) (asks : List Check) → needed_in (xs ++ c
 needed_besides xs asks = needed_both xs (check_sites asks) ∙ (ap (λ ss. needed_in xs ++ ss) (needed_asking asks) ∙ append-nil (needed_in xs))
 
 -- Each item of a group needs what it needs alone.
-pub needed_group : {A : Type 0} (items : List (A × ItemSig)) → needed_in (flat_map (λ p. in_sig p.1) items ++ check_sites (uncovered_check form.CompactImports)) ≡ flat_map (λ p. needed_in (in_sig p.1)) items
+pub needed_group : {A : Type 0} (items : List (A × ItemSig))
+    → needed_in (flat_map (λ p. in_sig p.1) items ++ check_sites (uncovered_check form.CompactImports)) ≡ flat_map (λ p. needed_in (in_sig p.1)) items
 needed_group items = needed_besides (flat_map (λ p. in_sig p.1) items) (uncovered_check form.CompactImports) ∙ needed_each (λ p. in_sig p.1) items
 
 -- Labels need no type.
@@ -59,7 +67,8 @@ needed_label : (blocks : Blocks) (l : Index) → needed_in (at_label blocks l) �
 needed_label blocks l = refl
 
 needed_catch : (blocks : Blocks) (c : TryTableCatch) → needed_in (in_catch blocks c) ≡ []
-needed_catch blocks c = needed_both (check_sites (in_caught c.kind)) (at_label blocks c.label) ∙ (append-nil (needed_in (check_sites (in_caught c.kind))) ∙ needed_asking (in_caught c.kind))
+needed_catch blocks c = needed_both (check_sites (in_caught c.kind)) (at_label blocks c.label)
+    ∙ (append-nil (needed_in (check_sites (in_caught c.kind))) ∙ needed_asking (in_caught c.kind))
 
 pub needed_br_table : (blocks : Blocks) (t : BrTableIndices) → needed_in (in_br_table blocks t) ≡ []
 needed_br_table blocks t =
@@ -73,10 +82,12 @@ needed_handle blocks (handle.OnSwitch e) = refl
 pub needed_handlers : (blocks : Blocks) (t : ResumeTable) → needed_in (in_handlers blocks t) ≡ []
 needed_handlers blocks t =
     needed_both (flat_map (in_handle blocks) t.handlers) (check_sites (uncovered_check form.StackSwitching))
-    ∙ (append-nil (needed_in (flat_map (in_handle blocks) t.handlers)) ∙ (needed_each (in_handle blocks) t.handlers ∙ each_none (needed_handle blocks) t.handlers))
+    ∙ (append-nil (needed_in (flat_map (in_handle blocks) t.handlers))
+    ∙ (needed_each (in_handle blocks) t.handlers ∙ each_none (needed_handle blocks) t.handlers))
 
 pub needed_resume : (blocks : Blocks) (asks : List Check) (t : ResumeTable) → needed_in (check_sites asks ++ in_handlers blocks t) ≡ []
-needed_resume blocks asks t = needed_both (check_sites asks) (in_handlers blocks t) ∙ (ap (λ ss. ss ++ needed_in (in_handlers blocks t)) (needed_asking asks) ∙ needed_handlers blocks t)
+needed_resume blocks asks t = needed_both (check_sites asks) (in_handlers blocks t)
+    ∙ (ap (λ ss. ss ++ needed_in (in_handlers blocks t)) (needed_asking asks) ∙ needed_handlers blocks t)
 
 pub needed_cast : (blocks : Blocks) (l : Index) (to from : RefType) → needed_in (in_cast blocks l to from) ≡ []
 needed_cast blocks l to from = needed_asking (in_ref to ++ in_ref from)
@@ -98,25 +109,31 @@ needed_try_table blocks t =
 instr_anywhere : (h : BodyContext) (i : Instruction) → needed_in (in_instr h i) ≡ needed_in (in_instr constant_context i)
 instr_anywhere h (instr.try_table t) = needed_try_table h.blocks t ∙ sym (needed_try_table [] t)
 instr_anywhere h (instr.br_table t) = needed_br_table h.blocks t ∙ sym (needed_br_table [] t)
-instr_anywhere h (instr.resume a) = needed_resume h.blocks (in_index space.Ty a.type_index) a.table ∙ sym (needed_resume [] (in_index space.Ty a.type_index) a.table)
-instr_anywhere h (instr.resume_throw_ref a) = needed_resume h.blocks (in_index space.Ty a.type_index) a.table ∙ sym (needed_resume [] (in_index space.Ty a.type_index) a.table)
-instr_anywhere h (instr.resume_throw a) = needed_resume h.blocks (in_pair space.Ty a.type_index space.Tag a.tag_index) a.table ∙ sym (needed_resume [] (in_pair space.Ty a.type_index space.Tag a.tag_index) a.table)
+instr_anywhere h (instr.resume a) = needed_resume h.blocks (in_index space.Ty a.type_index) a.table
+    ∙ sym (needed_resume [] (in_index space.Ty a.type_index) a.table)
+instr_anywhere h (instr.resume_throw_ref a) = needed_resume h.blocks (in_index space.Ty a.type_index) a.table
+    ∙ sym (needed_resume [] (in_index space.Ty a.type_index) a.table)
+instr_anywhere h (instr.resume_throw a) = needed_resume h.blocks (in_pair space.Ty a.type_index space.Tag a.tag_index) a.table
+    ∙ sym (needed_resume [] (in_pair space.Ty a.type_index space.Tag a.tag_index) a.table)
 instr_anywhere h i = refl
 
 instrs_anywhere : (h : BodyContext) (is : List Instruction) → needed_in (in_instrs h is) ≡ flat_map (λ i. needed_in (in_instr constant_context i)) is
 instrs_anywhere h [] = refl
 instrs_anywhere h (i ∷ is) =
     needed_both (in_instr h i) (in_instrs (context_after h i) is)
-    ∙ (ap (λ ss. ss ++ needed_in (in_instrs (context_after h i) is)) (instr_anywhere h i) ∙ ap (λ ss. needed_in (in_instr constant_context i) ++ ss) (instrs_anywhere (context_after h i) is))
+    ∙ (ap (λ ss. ss ++ needed_in (in_instrs (context_after h i) is)) (instr_anywhere h i)
+    ∙ ap (λ ss. needed_in (in_instr constant_context i) ++ ss) (instrs_anywhere (context_after h i) is))
 
 pub needed_body : (h : BodyContext) (e : Expression) → needed_in (in_expression h e) ≡ flat_map (λ i. needed_in (in_instr constant_context i)) e.instrs
 needed_body h e = needed_both (in_instrs h e.instrs) _ ∙ (append-nil (needed_in (in_instrs h e.instrs)) ∙ instrs_anywhere h e.instrs)
 
 pub needed_constant : (e : Expression) → needed_in (in_constant e) ≡ flat_map (λ i. needed_in (in_instr constant_context i)) e.instrs
-needed_constant e = needed_both (in_instrs constant_context e.instrs) (Asked (Clause 5 (is_balanced (block_effects e.instrs))) ∷ []) ∙ (append-nil (needed_in (in_instrs constant_context e.instrs)) ∙ instrs_anywhere constant_context e.instrs)
+needed_constant e = needed_both (in_instrs constant_context e.instrs) (Asked (Clause 5 (is_balanced (block_effects e.instrs))) ∷ [])
+    ∙ (append-nil (needed_in (in_instrs constant_context e.instrs)) ∙ instrs_anywhere constant_context e.instrs)
 
 -- only a body needs types
-pub needed_inline : (u : TypeUse FunctionType) (locals : List Local) (e : Expression) → needed_in (in_func_kind u (func.Inline locals e)) ≡ needed_in (in_constant e)
+pub needed_inline : (u : TypeUse FunctionType) (locals : List Local) (e : Expression)
+    → needed_in (in_func_kind u (func.Inline locals e)) ≡ needed_in (in_constant e)
 needed_inline u locals e =
     let marks = param_marks u.inline ++ local_marks locals in
     let types = check_sites (flat_map in_local locals) in
@@ -153,7 +170,8 @@ module _ (find : LookUp) where
   bound_anywhere h (instr.call f) = refl
   bound_anywhere h i = refl
 
-  pub bound_instrs : (h : BodyContext) (is : List Instruction) → mapped_instrs (binding_change find) h is ≡ map (mapped_instr (binding_change find) constant_context) is
+  pub bound_instrs : (h : BodyContext) (is : List Instruction)
+      → mapped_instrs (binding_change find) h is ≡ map (mapped_instr (binding_change find) constant_context) is
   bound_instrs h [] = refl
   bound_instrs h (i ∷ is) = λ t. bound_anywhere h i t ∷ bound_instrs (context_after h i) is t
 
@@ -164,10 +182,12 @@ module _ (find : LookUp) where
   locals_stay [] = refl
   locals_stay (l ∷ ls) = λ t. record l { ty = (val_at l.ty).still t } ∷ locals_stay ls t
 
-  pub inline_bound : (u : TypeUse FunctionType) (locals : List Local) (e : Expression) → mapped_func_kind (binding_change find) u (func.Inline locals e) ≡ func.Inline locals (mapped_constant (binding_change find) e)
+  pub inline_bound : (u : TypeUse FunctionType) (locals : List Local) (e : Expression)
+      → mapped_func_kind (binding_change find) u (func.Inline locals e) ≡ func.Inline locals (mapped_constant (binding_change find) e)
   inline_bound u locals e = λ t. func.Inline (locals_stay locals t) (bound_body (body_here u (param_marks u.inline ++ local_marks locals)) e t)
 
-  pub bound_kind_anywhere : (u : TypeUse FunctionType) (k : FuncKind) → mapped_func_kind (binding_change find) u k ≡ mapped_func_kind (binding_change find) no_use k
+  pub bound_kind_anywhere : (u : TypeUse FunctionType) (k : FuncKind)
+      → mapped_func_kind (binding_change find) u k ≡ mapped_func_kind (binding_change find) no_use k
   bound_kind_anywhere u (func.Import import exact) = refl
   bound_kind_anywhere u (func.Inline locals e) = inline_bound u locals e ∙ sym (inline_bound no_use locals e)
 

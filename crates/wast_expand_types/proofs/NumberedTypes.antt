@@ -18,9 +18,11 @@ module _ (k : TypeNames) where
   pub twice : (s : Signature) → numbered_signature k (numbered_signature k s) ≡ numbered_signature k s
   twice s = λ i. (values_twice s.0 i, values_twice s.1 i)
 
-  pub new_numbered : (known : Signature → Bool) (ss : List Signature) → map (numbered_signature k) (first_new known (map (numbered_signature k) ss)) ≡ first_new known (map (numbered_signature k) ss)
+  pub new_numbered : (known : Signature → Bool) (ss : List Signature)
+      → map (numbered_signature k) (first_new known (map (numbered_signature k) ss)) ≡ first_new known (map (numbered_signature k) ss)
   new_numbered known [] = refl
-  new_numbered known (s ∷ ss) = by (known (numbered_signature k s)) (new_numbered known ss) (new_numbered (λ t. known t || same_signature t (numbered_signature k s)) ss)
+  new_numbered known (s ∷ ss) = by (known (numbered_signature k s)) (new_numbered known ss)
+      (new_numbered (λ t. known t || same_signature t (numbered_signature k s)) ss)
     where
       by : {xs ys : List Signature} (b : Bool) → map (numbered_signature k) xs ≡ xs → map (numbered_signature k) ys ≡ ys
           → map (numbered_signature k) (cond b xs (numbered_signature k s ∷ ys)) ≡ cond b xs (numbered_signature k s ∷ ys)

@@ -1,5 +1,6 @@
 -- A signature has an index exactly if it has a position in the type space.
-use Rattle.std.proofs.Common.{◌≡◌, ℕ, ◌+◌, Bool, true, false, cond, ◌||◌, List, [], ◌∷◌, ◌++◌, map, Option, Some, None, is_none, is_some, refl, sym, ap, ◌∙◌, arith}
+use Rattle.std.proofs.Common.{◌≡◌, ℕ, ◌+◌, Bool, true, false, cond, ◌||◌, List, [], ◌∷◌, ◌++◌, map, Option, Some, None, is_none, is_some}
+use Rattle.std.proofs.Common.{refl, sym, ap, ◌∙◌, arith}
 use Rattle.std.specs.List.{flat_map, position, list_any}
 use Rattle.std.proofs.lemmas.Iterator.Adapters.{position_from-zero}
 use Rattle.wast_base.proofs.ListTests.{found_from}
@@ -40,9 +41,11 @@ module _ (s : Signature) where
   members_there [] types = refl
   members_there (m ∷ ms) types = members_there ms types
 
-  there : (k : TypeNames) (xs : List ModuleField) → missing_id_count lacks_id xs ≡ 0 → is_some (index_of (bindings k xs) s) ≡ is_there (flat_map (types_in k) xs)
+  there : (k : TypeNames) (xs : List ModuleField) → missing_id_count lacks_id xs ≡ 0
+      → is_some (index_of (bindings k xs) s) ≡ is_there (flat_map (types_in k) xs)
   there k [] h = refl
-  there k (field.Ty t ∷ xs) h = type_there (taken_by k t.def) t.id (bindings k xs) (flat_map (types_in k) xs) (missing_id_count lacks_id xs) h (there k xs (omega (arith, h)))
+  there k (field.Ty t ∷ xs) h = type_there (taken_by k t.def) t.id (bindings k xs) (flat_map (types_in k) xs) (missing_id_count lacks_id xs) h
+      (there k xs (omega (arith, h)))
   there k (field.Rec r ∷ xs) h = there k xs (omega (arith, h)) ∙ sym (members_there r.types (flat_map (types_in k) xs))
   there k (x ∷ xs) h = there k xs (omega (arith, h))
 

@@ -4,7 +4,8 @@ use Rattle.std.proofs.Common.{◌≡◌, List, [], ◌∷◌, ◌++◌, map, ref
 use Rattle.std.specs.List.{list_all}
 use Rattle.std.specs.Cmp.{first_so, second_so}
 use Rattle.std.proofs.lemmas.List.Folds.{list_all-append}
-use Rattle.wast_tree_nodes.specs.Sites.{Where, OfItem, OfCall, OfBlock, Check, ItemIndex, Site, Asked, Used, LocalAt, FieldAt, LabelAt, check_sites, in_type, in_rec, in_field, in_module}
+use Rattle.wast_tree_nodes.specs.Sites.{Where, OfItem, OfCall, OfBlock, Check, ItemIndex, Site, Asked, Used, LocalAt, FieldAt, LabelAt}
+use Rattle.wast_tree_nodes.specs.Sites.{check_sites, in_type, in_rec, in_field, in_module}
 use Rattle.wast_tree_nodes.specs.Types.{is_short}
 use Rattle.wast_expand_types.specs.Tree.{Index, FunctionType, Rec, ModuleField}
 use Rattle.wast_expand_types.specs.Tree.ty
@@ -83,7 +84,9 @@ module _ (find : LookUp) where
   field_stays : (x : ModuleField) → needed_in (in_field x) ≡ [] → list_all says (in_field x) ≡ true → bound_field find x ≡ x
   field_stays x h e =
       let a = field_at x in
-      sym (ap (bound_field find) a.still) ∙ (joins_at x a no_change (binding_change find) no_change (record { keeps = same_keeps; ids = λ o. refl; owns = λ o. refl }) (sites_stay (in_field x) h e) ∙ a.still)
+      sym (ap (bound_field find) a.still)
+      ∙ (joins_at x a no_change (binding_change find) no_change (record { keeps = same_keeps; ids = λ o. refl; owns = λ o. refl })
+      (sites_stay (in_field x) h e) ∙ a.still)
 
   pub ty_stays : (t : ty.«Type») → bound_field find (field.Ty t) ≡ field.Ty t
   ty_stays t = field_stays (field.Ty t) (ty_none t) (asking_says (in_type t))
@@ -104,7 +107,8 @@ module _ (find : LookUp) where
   some_bound w inline (Some j) h = refl
   some_bound w inline None h = absurd cc
 
-  index_bound : (w : Where) (i : Option Index) (inline : Option FunctionType) → found (needed_without w i inline) ≡ true → needed_without w (bound_index find w i inline) (bound_inline w i inline) ≡ []
+  index_bound : (w : Where) (i : Option Index) (inline : Option FunctionType) → found (needed_without w i inline) ≡ true
+      → needed_without w (bound_index find w i inline) (bound_inline w i inline) ≡ []
   index_bound OfItem (Some j) inline h = refl
   index_bound OfCall (Some j) inline h = refl
   index_bound OfBlock (Some j) inline h = refl
@@ -113,7 +117,8 @@ module _ (find : LookUp) where
   index_bound OfBlock None None h = refl
   index_bound OfBlock None (Some t) h = by_length (is_short t) refl h
     where
-      by_length : (b : Bool) → is_short t ≡ b → found (needed_if (not b) (signature_of t)) ≡ true → needed_without OfBlock (bound_if (not b) (find (signature_of t))) (Some t) ≡ []
+      by_length : (b : Bool) → is_short t ≡ b → found (needed_if (not b) (signature_of t)) ≡ true
+          → needed_without OfBlock (bound_if (not b) (find (signature_of t))) (Some t) ≡ []
       by_length true e h = ap (λ c. needed_if (not c) (signature_of t)) e
       by_length false e h = some_bound OfBlock (Some t) (find (signature_of t)) h
 
@@ -125,7 +130,9 @@ module _ (find : LookUp) where
   sites_bound [] h = refl
   sites_bound (s ∷ ss) h =
       let both : found (needed_at s) && found (needed_in ss) ≡ true = sym (list_all-append (λ s. is_some (find s)) (needed_at s) (needed_in ss)) ∙ h in
-      ap (λ zs. zs ++ needed_in (map (mapped_site (binding_change find)) ss)) (site_bound s (first_so (found (needed_at s)) (found (needed_in ss)) both)) ∙ sites_bound ss (second_so (found (needed_at s)) (found (needed_in ss)) both)
+      ap (λ zs. zs ++ needed_in (map (mapped_site (binding_change find)) ss))
+      (site_bound s (first_so (found (needed_at s)) (found (needed_in ss)) both))
+      ∙ sites_bound ss (second_so (found (needed_at s)) (found (needed_in ss)) both)
 
   pub fields_bound : (xs : List ModuleField) → found (needed_signatures xs) ≡ true → needed_signatures (map (bound_field find) xs) ≡ []
   fields_bound xs h = ap needed_in (stands (binding_change find) (binding_keeps find) xs) ∙ sites_bound (in_module xs) h

@@ -1,5 +1,6 @@
 -- The ids of types among the items of a list, and how they are collected.
-use Rattle.std.proofs.Common.{◌≡◌, ℕ, ◌+◌, ◌<◌, ◌≤◌, List, [], ◌∷◌, ◌++◌, length, get_or, take, drop, map, append_assoc, length-append, Option, inl, inr, refl, sym, ap, ◌∙◌, arith}
+use Rattle.std.proofs.Common.{◌≡◌, ℕ, ◌+◌, ◌<◌, ◌≤◌, List, [], ◌∷◌, ◌++◌, length, get_or, take, drop, map, append_assoc, length-append}
+use Rattle.std.proofs.Common.{Option, inl, inr, refl, sym, ap, ◌∙◌, arith}
 use Rattle.std.specs.List.{flat_map}
 use Rattle.std.proofs.lemmas.List.{take_more, take-append-drop, map-append}
 use Rattle.std.proofs.lemmas.List.Concat.{flat_map-append}
@@ -31,7 +32,8 @@ kind_names x id = refl
 
 sig_names : {A : Type 0} (sig : A → ItemSig) (xs : List A) → names_in space.Ty (flat_map (λ x. item_of_sig (sig x) ∷ []) xs) ≡ []
 sig_names sig [] = refl
-sig_names sig (x ∷ xs) = ap (λ ns. ns ++ names_in space.Ty (flat_map (λ x. item_of_sig (sig x) ∷ []) xs)) (kind_names (sig x).kind (sig x).id) ∙ sig_names sig xs
+sig_names sig (x ∷ xs) = ap (λ ns. ns ++ names_in space.Ty (flat_map (λ x. item_of_sig (sig x) ∷ []) xs)) (kind_names (sig x).kind (sig x).id)
+    ∙ sig_names sig xs
 
 pub import_names : (i : ImportItems) → names_in space.Ty (items_of_import i) ≡ []
 import_names (import_items.Single source name sig) = ap (λ ns. ns ++ []) (kind_names sig.kind sig.id)
@@ -54,7 +56,8 @@ pub names_of_types : (xs : List ModuleField) → names_in space.Ty (items xs) �
 names_of_types [] = refl
 names_of_types (x ∷ xs) =
     flat_map-append (name_in space.Ty) (items_in x) (items xs)
-    ∙ (ap (λ ns. ns ++ names_in space.Ty (items xs)) (field_names x) ∙ (ap (λ ns. names_by (ids_in x) ++ ns) (names_of_types xs) ∙ sym (map-append (λ id. name_if (mark_of_option id)) (ids_in x) (type_ids xs))))
+    ∙ (ap (λ ns. ns ++ names_in space.Ty (items xs)) (field_names x) ∙ (ap (λ ns. names_by (ids_in x) ++ ns) (names_of_types xs)
+    ∙ sym (map-append (λ id. name_if (mark_of_option id)) (ids_in x) (type_ids xs))))
 
 -- the names of the types in a list of fields, and in a list of types
 abbrev pub in_fields : List ModuleField → List (Option Name)
@@ -67,14 +70,16 @@ pub fields_join : (xs ys : List ModuleField) → in_fields (xs ++ ys) ≡ in_fie
 fields_join xs ys = ap (names_in space.Ty) (flat_map-append items_in xs ys) ∙ flat_map-append (name_in space.Ty) (items xs) (items ys)
 
 pub types_join : (xs ys : List ty.«Type») → in_types (xs ++ ys) ≡ in_types xs ++ in_types ys
-types_join xs ys = ap (names_in space.Ty) (flat_map-append items_of_type xs ys) ∙ flat_map-append (name_in space.Ty) (flat_map items_of_type xs) (flat_map items_of_type ys)
+types_join xs ys = ap (names_in space.Ty) (flat_map-append items_of_type xs ys)
+    ∙ flat_map-append (name_in space.Ty) (flat_map items_of_type xs) (flat_map items_of_type ys)
 
 stops_later : (names more : List (Option Name)) (e : Error) → length names ≤ length more → StopsGathering names e → StopsGathering more e
 stops_later names more e le (inl m) = inl m
 stops_later names more e le (inr r) = inr (r.0, omega (arith, r.1, le))
 
 -- what is collected from a list, one part after another
-module _ {A : Type 0} (F : List A → List (Option Name)) (joins : (xs ys : List A) → F (xs ++ ys) ≡ F xs ++ F ys) (old new : List (Option Name)) (xs : List A) (i : ℕ) (x : A) (lt : i < length xs) (is : x ≡ get_or xs i x)
+module _ {A : Type 0} (F : List A → List (Option Name)) (joins : (xs ys : List A) → F (xs ++ ys) ≡ F xs ++ F ys) (old new : List (Option Name))
+    (xs : List A) (i : ℕ) (x : A) (lt : i < length xs) (is : x ≡ get_or xs i x)
     (so_far : new ≡ old ++ F (take i xs)) where
   one_taken : F (take (i + 1) xs) ≡ F (take i xs) ++ F (x ∷ [])
   one_taken = ap F (take_more xs i x lt ∙ ap (λ y. take i xs ++ y ∷ []) (sym is)) ∙ joins (take i xs) (x ∷ [])
@@ -86,6 +91,7 @@ module _ {A : Type 0} (F : List A → List (Option Name)) (joins : (xs ys : List
   stops_in_one e h =
       let all : F xs ≡ F (take (i + 1) xs) ++ F (drop (i + 1) xs) = ap F (sym (take-append-drop (i + 1) xs)) ∙ joins (take (i + 1) xs) (drop (i + 1) xs) in
       let whole : length (old ++ F xs) ≡ length (old ++ F (take (i + 1) xs)) + length (F (drop (i + 1) xs)) =
-      ap (λ ns. length (old ++ ns)) all ∙ (ap length (sym (append_assoc old (F (take (i + 1) xs)) (F (drop (i + 1) xs)))) ∙ length-append (old ++ F (take (i + 1) xs)) (F (drop (i + 1) xs))) in
+      ap (λ ns. length (old ++ ns)) all ∙ (ap length (sym (append_assoc old (F (take (i + 1) xs)) (F (drop (i + 1) xs))))
+      ∙ length-append (old ++ F (take (i + 1) xs)) (F (drop (i + 1) xs))) in
       let here : length (new ++ F (x ∷ [])) ≡ length (old ++ F (take (i + 1) xs)) = ap length gathers_one in
       stops_later (new ++ F (x ∷ [])) (old ++ F xs) e (omega (arith, whole, here)) h

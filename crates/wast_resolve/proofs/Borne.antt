@@ -37,13 +37,15 @@ module _ (s : Space) (q : Name) where
   still_bear n (Given t p fields ∷ cs) h =
       let bore = bears (record { space = t; id = None; fields = fields }) in
       let bears_now = bears (record { space = t; id = Some (Generated n, p); fields = fields }) in
-      either_stays bore (bear (olds cs)) bears_now (bear (news (n + 1) cs)) (λ e. absurd (true≢false (sym e ∙ and-false (same_space s t)))) (still_bear (n + 1) cs) h
+      either_stays bore (bear (olds cs)) bears_now (bear (news (n + 1) cs)) (λ e. absurd (true≢false (sym e ∙ and-false (same_space s t))))
+      (still_bear (n + 1) cs) h
 
   expanded_bear : (n : ℕ) (fields : List ModuleField) → is_known fields ≡ true → is_known (expanded_fields n fields) ≡ true
   expanded_bear n fields h =
       borne_among s q (items (expanded_fields n fields))
       ∙ (ap bear (new_items n fields)
-      ∙ still_bear n (changes fields) (ap bear (sym (old_items fields)) ∙ (sym (borne_among s q (items (fields_with_implied_types fields))) ∙ (completed_borne q s fields ∙ h))))
+      ∙ still_bear n (changes fields) (ap bear (sym (old_items fields)) ∙ (sym (borne_among s q (items (fields_with_implied_types fields)))
+      ∙ (completed_borne q s fields ∙ h))))
 
   written_bear : (n : ℕ) (fields : List ModuleField) → is_known fields ≡ true → is_known (desugared_from n fields) ≡ true
   written_bear n fields h =

@@ -39,10 +39,20 @@ split f (a ∷ us) bs (c ∷ cs) ds n h =
 pub both_typed : (us bs : List Check) → map as_type us ≡ us → map as_type bs ≡ bs → map as_type (us ++ bs) ≡ us ++ bs
 both_typed us bs p q = map-append as_type us bs ∙ (ap (λ zs. zs ++ map as_type bs) p ∙ ap (λ zs. us ++ zs) q)
 
-both_many : (us bs cs ds : List Check) → length (indices_of cs) ≡ length (indices_of us) → length (indices_of ds) ≡ length (indices_of bs) → length (indices_of (cs ++ ds)) ≡ length (indices_of (us ++ bs))
-both_many us bs cs ds p q = rw (indices-append cs ds, indices-append us bs, length-append (indices_of cs) (indices_of ds), length-append (indices_of us) (indices_of bs), p, q) refl
+both_many : (us bs cs ds : List Check) → length (indices_of cs) ≡ length (indices_of us) → length (indices_of ds) ≡ length (indices_of bs)
+    → length (indices_of (cs ++ ds)) ≡ length (indices_of (us ++ bs))
+both_many us bs cs ds p q = rw (
+  indices-append cs ds,
+  indices-append us bs,
+  length-append (indices_of cs) (indices_of ds),
+  length-append
+      (indices_of us) (indices_of bs),
+  p,
+  q,
+) refl
 
-both_changed : (f : Index → Index) (us bs cs ds : List Check) → length (indices_of cs) ≡ length (indices_of us) → indices_of (cs ++ ds) ≡ map f (indices_of (us ++ bs))
+both_changed : (f : Index → Index) (us bs cs ds : List Check) → length (indices_of cs) ≡ length (indices_of us)
+    → indices_of (cs ++ ds) ≡ map f (indices_of (us ++ bs))
     → (indices_of cs ≡ map f (indices_of us)) × (indices_of ds ≡ map f (indices_of bs))
 both_changed f us bs cs ds n h =
     split f (indices_of us) (indices_of bs) (indices_of cs) (indices_of ds) n (sym (indices-append cs ds) ∙ (h ∙ ap (map f) (indices-append us bs)))
@@ -71,7 +81,8 @@ descriptor_part = record { typed = λ x. refl; many = λ x y h. refl; same = λ 
 pub form_part : {T : Type 0} (form : Form) (holds : T → Bool) → IsTypePart (λ x. Covered form (holds x) ∷ []) (λ f x. x)
 form_part form holds = record { typed = λ x. refl; many = λ x y h. refl; same = λ f x y h k. h }
 
-pub both_part : {A B : Type 0} {p : A → List Check} {v : Indices → A → A} {q : B → List Check} {w : Indices → B → B} → IsTypePart p v → IsTypePart q w → IsTypePart {T = A × B} (λ x. p x.0 ++ q x.1) (λ f x. (v f x.0, w f x.1))
+pub both_part : {A B : Type 0} {p : A → List Check} {v : Indices → A → A} {q : B → List Check} {w : Indices → B → B} → IsTypePart p v
+    → IsTypePart q w → IsTypePart {T = A × B} (λ x. p x.0 ++ q x.1) (λ f x. (v f x.0, w f x.1))
 both_part {A} {B} {p} {v} {q} {w} a b = record {
   typed = λ x. both_typed (p x.0) (q x.1) (a.typed x.0) (b.typed x.1);
   many = λ x y h. both_many (p x.0) (q x.1) (p y.0) (q y.1) (a.many x.0 y.0 (ap (λ z. z.0) h)) (b.many x.1 y.1 (ap (λ z. z.1) h));
@@ -81,7 +92,8 @@ both_part {A} {B} {p} {v} {q} {w} a b = record {
 }
 
 -- a part that is determined by another
-pub part_as : {T U : Type 0} {p : U → List Check} {v : Indices → U → U} (to : T → U) (w : Indices → T → T) → IsTypePart p v → ((f : Indices) (x : T) → to (w f x) ≡ v f (to x)) → ((x y : T) → to x ≡ to y → x ≡ y)
+pub part_as : {T U : Type 0} {p : U → List Check} {v : Indices → U → U} (to : T → U) (w : Indices → T → T) → IsTypePart p v
+    → ((f : Indices) (x : T) → to (w f x) ≡ v f (to x)) → ((x y : T) → to x ≡ to y → x ≡ y)
     → IsTypePart (λ x. p (to x)) w
 part_as to w a moves one = record {
   typed = λ x. a.typed (to x);
@@ -102,14 +114,16 @@ module _ {T : Type 0} {p : T → List Check} {v : Indices → T → T} (a : IsTy
       let head : v blank y ≡ v blank x = cc in
       let tail : map (v blank) ys ≡ map (v blank) xs = cc in both_many (p x) (flat_map p xs) (p y) (flat_map p ys) (a.many x y head) (list_many xs ys tail)
 
-  list_same : (f : Indices) (xs ys : List T) → map (v blank) ys ≡ map (v blank) xs → indices_of (flat_map p ys) ≡ map (f space.Ty) (indices_of (flat_map p xs)) → ys ≡ map (v f) xs
+  list_same : (f : Indices) (xs ys : List T) → map (v blank) ys ≡ map (v blank) xs
+      → indices_of (flat_map p ys) ≡ map (f space.Ty) (indices_of (flat_map p xs)) → ys ≡ map (v f) xs
   list_same f [] [] h k = refl
   list_same f [] (y ∷ ys) h k = absurd (cc h)
   list_same f (x ∷ xs) [] h k = absurd (cc h)
   list_same f (x ∷ xs) (y ∷ ys) h k =
       let head : v blank y ≡ v blank x = cc in
       let tail : map (v blank) ys ≡ map (v blank) xs = cc in
-      let s = both_changed (f space.Ty) (p x) (flat_map p xs) (p y) (flat_map p ys) (a.many x y head) k in λ i. a.same f x y head s.0 i ∷ list_same f xs ys tail s.1 i
+      let s = both_changed (f space.Ty) (p x) (flat_map p xs) (p y) (flat_map p ys) (a.many x y head) k
+      in λ i. a.same f x y head s.0 i ∷ list_same f xs ys tail s.1 i
 
   pub list_part : IsTypePart (flat_map p) (λ f xs. map (v f) xs)
   list_part = record { typed = list_typed; many = list_many; same = list_same }
@@ -124,7 +138,8 @@ module _ {T : Type 0} {p : T → List Check} {v : Indices → T → T} (a : IsTy
   option_many (Some x) None h = absurd (cc h)
   option_many (Some x) (Some y) h = let s : v blank y ≡ v blank x = cc in a.many x y s
 
-  option_same : (f : Indices) (x y : Option T) → option_map (v blank) y ≡ option_map (v blank) x → indices_of (if_there p y) ≡ map (f space.Ty) (indices_of (if_there p x)) → y ≡ option_map (v f) x
+  option_same : (f : Indices) (x y : Option T) → option_map (v blank) y ≡ option_map (v blank) x
+      → indices_of (if_there p y) ≡ map (f space.Ty) (indices_of (if_there p x)) → y ≡ option_map (v f) x
   option_same f None None h k = refl
   option_same f None (Some y) h k = absurd (cc h)
   option_same f (Some x) None h k = absurd (cc h)

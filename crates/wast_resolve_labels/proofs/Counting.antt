@@ -1,5 +1,6 @@
 -- Opening and closing blocks has the same result as counting openers and closers.
-use Rattle.std.proofs.Common.{◌≡◌, ℕ, zero, suc, ◌+◌, ◌-◌, ◌≤◌, List, [], ◌∷◌, ◌++◌, Option, Bool, cond, true, false, refl, ap, sym, ◌∙◌, length, take, arith, eqb, inl, inr, append_assoc, append-nil, length-append}
+use Rattle.std.proofs.Common.{◌≡◌, ℕ, zero, suc, ◌+◌, ◌-◌, ◌≤◌, List, [], ◌∷◌, ◌++◌, Option, Bool, cond, true, false, refl, ap, sym, ◌∙◌}
+use Rattle.std.proofs.Common.{length, take, arith, eqb, inl, inr, append_assoc, append-nil, length-append}
 use Rattle.std.proofs.lemmas.Bool.{cases_eq, eq-eqb, ne_eqb, false_from_ne_true}
 use Rattle.wast_base.specs.Blocks.{Blocks, without_innermost, BlockEffect, Opens, Closes, Stays, openers, closers, stays_open}
 use Rattle.wast_base.specs.Ids.{Name}
@@ -50,7 +51,8 @@ none : Blocks → ℕ
 none [] = 1
 none (l ∷ ls) = 0
 
-kept_closed : (l : Option Name) (ls : Blocks) (s : ℕ) → cond (eqb (s + none ls) 0) (without_innermost ls ++ l ∷ []) (without_innermost ls) ≡ without_innermost (cond (eqb s 0) (ls ++ l ∷ []) ls)
+kept_closed : (l : Option Name) (ls : Blocks) (s : ℕ)
+    → cond (eqb (s + none ls) 0) (without_innermost ls ++ l ∷ []) (without_innermost ls) ≡ without_innermost (cond (eqb s 0) (ls ++ l ∷ []) ls)
 unfolding none
 kept_closed l [] zero = refl
 kept_closed l (m ∷ ls) zero = refl

@@ -1,5 +1,6 @@
 -- Indexing a block and removing it keep the index correct, and depths follow from the index.
-use Rattle.std.proofs.Common.{◌≡◌, ℕ, suc, ◌+◌, ◌-◌, ◌<◌, ◌≤◌, List, [], ◌∷◌, ◌++◌, length, map, reverse, get_or, take, drop, Option, Some, None, IsSome, is_some, option_map, cond, Bool, true, false, refl, sym, ap, ◌∙◌, subst, arith, inl, inr}
+use Rattle.std.proofs.Common.{◌≡◌, ℕ, suc, ◌+◌, ◌-◌, ◌<◌, ◌≤◌, List, [], ◌∷◌, ◌++◌, length, map, reverse, get_or, take, drop, Option, Some}
+use Rattle.std.proofs.Common.{None, IsSome, is_some, option_map, cond, Bool, true, false, refl, sym, ap, ◌∙◌, subst, arith, inl, inr}
 use Rattle.std.specs.BTreeMap.{BTreeMap, get, Updates}
 use Rattle.std.specs.Cmp.{both_ways}
 use Rattle.std.specs.List.{position}
@@ -26,7 +27,8 @@ abbrev pub IsCount : Name → Blocks → Option ℕ → Type 0
 IsCount q ls None = label_depth q ls ≡ None
 IsCount q ls (Some p) = (p < length ls) × (label_depth q ls ≡ Some (length ls - 1 - p))
 
-one_further : (q : Name) (l : Option Name) (ls : Blocks) (b : Bool) → is_called q l ≡ b → (o : Option ℕ) → IsCount q ls o → IsCount q (l ∷ ls) (cond b (Some (length ls)) o)
+one_further : (q : Name) (l : Option Name) (ls : Blocks) (b : Bool) → is_called q l ≡ b → (o : Option ℕ) → IsCount q ls o
+    → IsCount q (l ∷ ls) (cond b (Some (length ls)) o)
 one_further q l ls true e o h =
     let none : 0 ≡ suc (length ls) - 1 - length ls = omega arith in
     (omega arith, position_head (is_called q) true l ls e ∙ ap Some none)
@@ -69,7 +71,8 @@ module _ (m n : BTreeMap Id ℕ) (id : Id) (w : Option ℕ) (updates : Updates b
   -- The position of the next block further out is stored again.
   fewer_places : (ls : Blocks) → w ≡ innermost_of (name_of id) ls → HasPlaces m (Some (name_of id) ∷ ls) → HasPlaces n ls
   fewer_places ls is h q = elim (cases_Bool (same_name (name_of q) (name_of id))) [
-    | inl e ↦ kept_now q ∙ ap (λ b. cond b w (get by_name.ghosts.cmp m q)) e ∙ is ∙ ap (λ x. innermost_of x ls) (sym (same_name_equal (name_of q) (name_of id) e))
+    | inl e ↦ kept_now q ∙ ap (λ b. cond b w (get by_name.ghosts.cmp m q)) e ∙ is
+        ∙ ap (λ x. innermost_of x ls) (sym (same_name_equal (name_of q) (name_of id) e))
     | inr e ↦
         kept_now q ∙ ap (λ b. cond b w (get by_name.ghosts.cmp m q)) e ∙ h q
         ∙ ap (λ b. cond b (Some (length ls)) (innermost_of (name_of q) ls)) e
@@ -85,7 +88,8 @@ pub record IsSought (q : Name) (ls : Blocks) (steps : ℕ) : Type 0 where
   pub others : (k : ℕ) → k < steps → is_called q (get_or ls k None) ≡ false
 
 -- A block by its distance from the innermost, in a list with the outermost first.
-there : (ids : List (Option Id)) (steps : ℕ) (d : Option Id) → steps < length ids → get_or (labels_of ids) steps None ≡ label_of (get_or ids (length ids - 1 - steps) d)
+there : (ids : List (Option Id)) (steps : ℕ) (d : Option Id) → steps < length ids
+    → get_or (labels_of ids) steps None ≡ label_of (get_or ids (length ids - 1 - steps) d)
 there ids steps d lt =
     let long = length-map ids label_of in
     let last : length (map label_of ids) - 1 - steps ≡ length ids - 1 - steps = omega (arith, long) in
@@ -97,7 +101,8 @@ as_many ids = length-reverse (map label_of ids) ∙ length-map ids label_of
 
 module _ (q : Name) (ids : List (Option Id)) (steps : ℕ) (d : Option Id) (h : IsSought q (labels_of ids) steps) (lt : steps < length ids) where
   pub sought_here : is_called q (label_of (get_or ids (length ids - 1 - steps) d)) ≡ true → label_depth q (labels_of ids) ≡ Some steps
-  sought_here here = first_place (is_called q) (labels_of ids) steps None (omega (arith, lt, as_many ids)) (ap (is_called q) (there ids steps d lt) ∙ here) h.others
+  sought_here here = first_place (is_called q) (labels_of ids) steps None (omega (arith, lt, as_many ids)) (ap (is_called q) (there ids steps d lt)
+      ∙ here) h.others
 
   pub sought_on : is_called q (label_of (get_or ids (length ids - 1 - steps) d)) ≡ false → IsSought q (labels_of ids) (steps + 1)
   sought_on other = record {
@@ -115,14 +120,16 @@ sought_all q ids steps h le = no_place (is_called q) (labels_of ids) None (λ k 
 
 -- The same for a label that exists, and for the chain of blocks.
 module _ (m n : BTreeMap Id ℕ) (id : Id) (label : Option Id) (is : label ≡ Some id) where
-  pub keeps : (place : ℕ) (old : Option ℕ) → old ≡ get by_name.ghosts.cmp m id → Updates by_name.ghosts.cmp m n id (Some place) → (ls : Blocks) → length ls ≡ place → HasPlaces m ls
+  pub keeps : (place : ℕ) (old : Option ℕ) → old ≡ get by_name.ghosts.cmp m id → Updates by_name.ghosts.cmp m n id (Some place) → (ls : Blocks)
+      → length ls ≡ place → HasPlaces m ls
       → HasPlaces n (label_of label ∷ ls) × (old ≡ innermost_if (label_of label) ls)
   keeps place old was updates ls long h =
       subst (λ (l : Option Id). HasPlaces n (label_of l ∷ ls) × (old ≡ innermost_if (label_of l) ls)) (sym is)
       (more_places m n id (Some place) updates ls (ap Some (sym long)) h, was ∙ h id)
 
   -- The label of the closed block is in the index, whatever its position is then.
-  pub forgets : (further : Option ℕ) → (IsSome (get by_name.ghosts.cmp m id) → Updates by_name.ghosts.cmp m n id further) → (os ps : List (Option ℕ)) → ps ≡ os ++ further ∷ [] → (ls : Blocks)
+  pub forgets : (further : Option ℕ) → (IsSome (get by_name.ghosts.cmp m id) → Updates by_name.ghosts.cmp m n id further) → (os ps : List (Option ℕ))
+      → ps ≡ os ++ further ∷ [] → (ls : Blocks)
       → IsIndexed m ps (label_of label ∷ ls) → IsIndexed n os ls
   forgets further put os ps less ls h =
       let chained = subst (λ (qs : List (Option ℕ)). AreChained qs (label_of label ∷ ls)) (ap reverse less ∙ reverse-append os (further ∷ [])) h.chained in
@@ -135,7 +142,8 @@ module _ (m n : BTreeMap Id ℕ) (id : Id) (label : Option Id) (is : label ≡ S
 
 -- The first of two lists with an element that passes.
 module _ {X : Type 0} (p : X → Bool) (ys : List X) where
-  found_later : (xs : List X) (o : Option ℕ) → position p xs ≡ o → (n : ℕ) → option_map suc o ≡ Some n → ((m : ℕ) → position p xs ≡ Some m → position p (xs ++ ys) ≡ Some m) → option_map suc (position p (xs ++ ys)) ≡ Some n
+  found_later : (xs : List X) (o : Option ℕ) → position p xs ≡ o → (n : ℕ) → option_map suc o ≡ Some n
+      → ((m : ℕ) → position p xs ≡ Some m → position p (xs ++ ys) ≡ Some m) → option_map suc (position p (xs ++ ys)) ≡ Some n
   found_later xs None e n h more = absurd (cc (h))
   found_later xs (Some m) e n h more = ap (option_map suc) (more m e) ∙ h
 
@@ -168,22 +176,27 @@ module _ {X : Type 0} (p : X → Bool) (ys : List X) where
   ]
 
 -- The depth of a label that one of the innermost blocks has.
-pub found_nearest : (id : Id) (ids xs nearest : List (Option Id)) (k : ℕ) → xs ≡ ids → nearest ≡ drop k xs → (o : Option ℕ) → o ≡ label_depth (name_of id) (labels_of nearest) → (steps : ℕ) → o ≡ Some steps → label_depth (name_of id) (labels_of ids) ≡ Some steps
+pub found_nearest : (id : Id) (ids xs nearest : List (Option Id)) (k : ℕ) → xs ≡ ids → nearest ≡ drop k xs → (o : Option ℕ)
+    → o ≡ label_depth (name_of id) (labels_of nearest) → (steps : ℕ) → o ≡ Some steps → label_depth (name_of id) (labels_of ids) ≡ Some steps
 found_nearest id ids xs nearest k same back o is steps here =
     let split : ids ≡ take k xs ++ nearest = sym same ∙ (sym (take-append-drop k xs) ∙ ap (λ ys. take k xs ++ ys) (sym back)) in
-    let parted : labels_of ids ≡ labels_of nearest ++ labels_of (take k xs) = ap labels_of split ∙ (ap reverse (map-append label_of (take k xs) nearest) ∙ reverse-append (map label_of (take k xs)) (map label_of nearest)) in
+    let parted : labels_of ids ≡ labels_of nearest ++ labels_of (take k xs) = ap labels_of split
+    ∙ (ap reverse (map-append label_of (take k xs) nearest) ∙ reverse-append (map label_of (take k xs)) (map label_of nearest)) in
     ap (label_depth (name_of id)) parted ∙ found_first (is_called (name_of id)) (labels_of (take k xs)) (labels_of nearest) steps (sym is ∙ here)
 
 -- The depth of a label, from the blocks that are not indexed and those that are.
-module _ (id : Id) (m : BTreeMap Id ℕ) (outer : List (Option ℕ)) (ids xs further near : List (Option Id)) (k : ℕ) (h : IsIndexOf ids m outer) (same : xs ≡ ids) (long : k ≡ length outer) (front : further ≡ take k xs) (back : near ≡ drop k xs) where
+module _ (id : Id) (m : BTreeMap Id ℕ) (outer : List (Option ℕ)) (ids xs further near : List (Option Id)) (k : ℕ) (h : IsIndexOf ids m outer)
+    (same : xs ≡ ids) (long : k ≡ length outer) (front : further ≡ take k xs) (back : near ≡ drop k xs) where
   split : ids ≡ further ++ near
   split = sym same ∙ (sym (take-append-drop k xs) ∙ sym (λ i. front i ++ back i))
 
   parted : labels_of ids ≡ labels_of near ++ labels_of further
   parted = ap labels_of split ∙ (ap reverse (map-append label_of further near) ∙ reverse-append (map label_of further) (map label_of near))
 
-  pub found_near : (o : Option ℕ) → o ≡ label_depth (name_of id) (labels_of near) → (steps : ℕ) → o ≡ Some steps → label_depth (name_of id) (labels_of ids) ≡ Some steps
-  found_near o is steps here = ap (label_depth (name_of id)) parted ∙ found_first (is_called (name_of id)) (labels_of further) (labels_of near) steps (sym is ∙ here)
+  pub found_near : (o : Option ℕ) → o ≡ label_depth (name_of id) (labels_of near) → (steps : ℕ) → o ≡ Some steps
+      → label_depth (name_of id) (labels_of ids) ≡ Some steps
+  found_near o is steps here = ap (label_depth (name_of id)) parted
+      ∙ found_first (is_called (name_of id)) (labels_of further) (labels_of near) steps (sym is ∙ here)
 
   module _ (n o : Option ℕ) (near_is : n ≡ label_depth (name_of id) (labels_of near)) (none : n ≡ None) (further_is : o ≡ get by_name.ghosts.cmp m id) where
     over : label_depth (name_of id) (labels_of ids) ≡ option_map (λ n. length (labels_of near) + n) (label_depth (name_of id) (labels_of further))
@@ -192,7 +205,9 @@ module _ (id : Id) (m : BTreeMap Id ℕ) (outer : List (Option ℕ)) (ids xs fur
     count : IsCount (name_of id) (labels_of further) o
     count =
         let part : further ≡ take (length outer) ids = front ∙ (λ i. take (long i) (same i)) in
-        subst (IsCount (name_of id) (labels_of further)) (sym (further_is ∙ (h.indexed.innermost id ∙ ap (λ ys. innermost_of (name_of id) (labels_of ys)) (sym part)))) (counted (name_of id) (labels_of further))
+        subst (IsCount (name_of id) (labels_of further))
+        (sym (further_is ∙ (h.indexed.innermost id ∙ ap (λ ys. innermost_of (name_of id) (labels_of ys)) (sym part))))
+        (counted (name_of id) (labels_of further))
 
     pub found_nowhere : o ≡ None → label_depth (name_of id) (labels_of ids) ≡ None
     found_nowhere gone = over ∙ ap (option_map (λ n. length (labels_of near) + n)) (subst (IsCount (name_of id) (labels_of further)) gone count)
@@ -205,5 +220,6 @@ module _ (id : Id) (m : BTreeMap Id ℕ) (outer : List (Option ℕ)) (ids xs fur
     pub found_further : (place : ℕ) → o ≡ Some place → label_depth (name_of id) (labels_of ids) ≡ Some (length ids - 1 - place)
     found_further place there =
         let c = subst (IsCount (name_of id) (labels_of further)) there count in
-        let n : length (labels_of near) + (length (labels_of further) - 1 - place) ≡ length ids - 1 - place = omega (arith, c.0, as_many further, as_many near, ap length split, length-append further near) in
+        let n : length (labels_of near) + (length (labels_of further) - 1 - place) ≡ length ids - 1 - place = omega
+        (arith, c.0, as_many further, as_many near, ap length split, length-append further near) in
         over ∙ (ap (option_map (λ n. length (labels_of near) + n)) c.1 ∙ ap Some n)

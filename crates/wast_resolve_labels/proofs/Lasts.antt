@@ -1,5 +1,6 @@
 -- The last unclosed opener, and the last one with a label.
-use Rattle.std.proofs.Common.{◌≡◌, ℕ, zero, suc, ◌+◌, List, [], ◌∷◌, ◌++◌, Option, Some, None, option_map, Bool, true, false, cond, refl, ap, sym, ◌∙◌, length, drop, arith, length-append}
+use Rattle.std.proofs.Common.{◌≡◌, ℕ, zero, suc, ◌+◌, List, [], ◌∷◌, ◌++◌, Option, Some, None, option_map, Bool, true, false, cond, refl}
+use Rattle.std.proofs.Common.{ap, sym, ◌∙◌, length, drop, arith, length-append}
 use Rattle.std.proofs.lemmas.Bool.{false_from_ne_true}
 use Rattle.wast_base.specs.Blocks.{Blocks, BlockEffect, Opens, Closes, Stays, stays_open}
 use Rattle.wast_base.specs.Ids.{Name}
@@ -48,11 +49,13 @@ not_added ts l h = ap (λ b. cond b (open_blocks ts ++ l ∷ []) (open_blocks ts
 none_open : (ts : List BlockEffect) → ((at : ℕ) (l : Option Name) → IsOpen ts l at → ⊥) → open_blocks ts ≡ []
 none_open [] h = refl
 none_open (Opens l ∷ ts) h =
-    not_added ts l (false_from_ne_true (stays_open ts) (λ e. h zero l (here_open ts l e))) ∙ none_open ts (λ at m o. h (suc at) m (one_behind (Opens l) ts m at o))
+    not_added ts l (false_from_ne_true (stays_open ts) (λ e. h zero l (here_open ts l e)))
+    ∙ none_open ts (λ at m o. h (suc at) m (one_behind (Opens l) ts m at o))
 none_open (Closes ∷ ts) h = none_open ts (λ at m o. h (suc at) m (one_behind Closes ts m at o))
 none_open (Stays ∷ ts) h = none_open ts (λ at m o. h (suc at) m (one_behind Stays ts m at o))
 
-pub expects_any : (ts : List BlockEffect) (label : Name) → ((at : ℕ) (l : Option Name) → IsOpen ts l at → ⊥) → is_expected_label (Some label) (open_blocks ts) ≡ true
+pub expects_any : (ts : List BlockEffect) (label : Name) → ((at : ℕ) (l : Option Name) → IsOpen ts l at → ⊥)
+    → is_expected_label (Some label) (open_blocks ts) ≡ true
 expects_any ts label h = ap (is_expected_label (Some label)) (none_open ts h)
 
 -- The block of the last opener is the first.
@@ -63,7 +66,8 @@ still_first : (b : Bool) (l m : Option Name) (ls : Blocks) → BeginsWith l ls �
 still_first true l m ls h = (h.0 ++ m ∷ [], ap (λ xs. xs ++ m ∷ []) h.1)
 still_first false l m ls h = h
 
-last_opened_is_first : (t : BlockEffect) (ts : List BlockEffect) (own : Option Name) → t ≡ Opens own → stays_open ts ≡ true → ((at : ℕ) (l : Option Name) → IsOpen ts l at → ⊥) → BeginsWith own (open_blocks (t ∷ ts))
+last_opened_is_first : (t : BlockEffect) (ts : List BlockEffect) (own : Option Name) → t ≡ Opens own → stays_open ts ≡ true
+    → ((at : ℕ) (l : Option Name) → IsOpen ts l at → ⊥) → BeginsWith own (open_blocks (t ∷ ts))
 last_opened_is_first t ts own e h never = ([], ap (λ u. open_blocks (u ∷ ts)) e ∙ added ts own h ∙ ap (λ ls. ls ++ own ∷ []) (none_open ts never))
 
 last_is_first : (ts : List BlockEffect) (own : Option Name) (at : ℕ) → IsLastOpen ts own at → BeginsWith own (open_blocks ts)
@@ -74,14 +78,18 @@ last_is_first (Opens l ∷ ts) own (suc at) h = still_first (stays_open ts) own 
 last_is_first (Closes ∷ ts) own (suc at) h = last_is_first ts own at (last_behind Closes ts own at h)
 last_is_first (Stays ∷ ts) own (suc at) h = last_is_first ts own at (last_behind Stays ts own at h)
 
-pub expects_the_last : (ts : List BlockEffect) (own : Option Name) (at : ℕ) (label : Name) → IsLastOpen ts own at → is_expected_label (Some label) (open_blocks ts) ≡ is_called label own
+pub expects_the_last : (ts : List BlockEffect) (own : Option Name) (at : ℕ) (label : Name) → IsLastOpen ts own at
+    → is_expected_label (Some label) (open_blocks ts) ≡ is_called label own
 expects_the_last ts own at label h = ap (is_expected_label (Some label)) (last_is_first ts own at h).1
 
 -- The depth of a label if one more block is last.
-denotes_head : (q : Name) (b : Bool) (l : Option Name) (ls : Blocks) → is_called q l ≡ b → label_depth q (l ∷ ls) ≡ cond b (Some 0) (option_map suc (label_depth q ls))
+denotes_head : (q : Name) (b : Bool) (l : Option Name) (ls : Blocks) → is_called q l ≡ b
+    → label_depth q (l ∷ ls) ≡ cond b (Some 0) (option_map suc (label_depth q ls))
 denotes_head q b l ls h = position_head (is_called q) b l ls h
 
-found_further : (q : Name) (b : Bool) (l m : Option Name) (ls : Blocks) (n : ℕ) → is_called q l ≡ b → ((k : ℕ) → label_depth q ls ≡ Some k → label_depth q (ls ++ m ∷ []) ≡ Some k) → label_depth q (l ∷ ls) ≡ Some n → label_depth q (l ∷ (ls ++ m ∷ [])) ≡ Some n
+found_further : (q : Name) (b : Bool) (l m : Option Name) (ls : Blocks) (n : ℕ) → is_called q l ≡ b
+    → ((k : ℕ) → label_depth q ls ≡ Some k → label_depth q (ls ++ m ∷ []) ≡ Some k) → label_depth q (l ∷ ls) ≡ Some n
+    → label_depth q (l ∷ (ls ++ m ∷ [])) ≡ Some n
 found_further q true l m ls n e f h = denotes_head q true l (ls ++ m ∷ []) e ∙ sym (denotes_head q true l ls e) ∙ h
 found_further q false l m ls n e f h = by_rest (label_depth q ls) refl
   where
@@ -125,7 +133,8 @@ as_many (Closes ∷ ts) = as_many ts
 as_many (Stays ∷ ts) = as_many ts
 
 -- A label that no enclosing block has.
-none_added : (q : Name) (b : Bool) (l : Option Name) (ls : Blocks) → (b ≡ true → is_called q l ≡ false) → label_depth q ls ≡ None → label_depth q (cond b (ls ++ l ∷ []) ls) ≡ None
+none_added : (q : Name) (b : Bool) (l : Option Name) (ls : Blocks) → (b ≡ true → is_called q l ≡ false) → label_depth q ls ≡ None
+    → label_depth q (cond b (ls ++ l ∷ []) ls) ≡ None
 none_added q true l ls f h = still_none q l ls (f refl) h
 none_added q false l ls f h = h
 
@@ -133,7 +142,8 @@ pub denotes_nothing : (ts : List BlockEffect) (label : Name) → ((at : ℕ) →
 denotes_nothing [] q never = refl
 denotes_nothing (Opens l ∷ ts) q never =
     none_added q (stays_open ts) l (open_blocks ts) (λ e. false_from_ne_true (is_called q l) (λ same.
-    never zero record { opener = ap (λ m. Some (Opens m)) (called_is q l same); stays = e })) (denotes_nothing ts q (λ at o. never (suc at) (one_behind (Opens l) ts (Some q) at o)))
+    never zero record { opener = ap (λ m. Some (Opens m)) (called_is q l same); stays = e }))
+    (denotes_nothing ts q (λ at o. never (suc at) (one_behind (Opens l) ts (Some q) at o)))
 denotes_nothing (Closes ∷ ts) q never = denotes_nothing ts q (λ at o. never (suc at) (one_behind Closes ts (Some q) at o))
 denotes_nothing (Stays ∷ ts) q never = denotes_nothing ts q (λ at o. never (suc at) (one_behind Stays ts (Some q) at o))
 
@@ -142,13 +152,17 @@ found_added : (q : Name) (b : Bool) (l : Option Name) (ls : Blocks) (n : ℕ) �
 found_added q true l ls n h = still_found q l ls n h
 found_added q false l ls n h = h
 
-found_here : (t : BlockEffect) (ts : List BlockEffect) (q : Name) → t ≡ Opens (Some q) → stays_open ts ≡ true → ((at : ℕ) → IsOpen ts (Some q) at → ⊥) → label_depth q (open_blocks (t ∷ ts)) ≡ Some (open_count ts)
+found_here : (t : BlockEffect) (ts : List BlockEffect) (q : Name) → t ≡ Opens (Some q) → stays_open ts ≡ true
+    → ((at : ℕ) → IsOpen ts (Some q) at → ⊥) → label_depth q (open_blocks (t ∷ ts)) ≡ Some (open_count ts)
 found_here t ts q e h never =
-    ap (λ u. label_depth q (open_blocks (u ∷ ts))) e ∙ ap (label_depth q) (added ts (Some q) h) ∙ found_last q (Some q) (open_blocks ts) (same_name_itself q) (denotes_nothing ts q never) ∙ ap Some (as_many ts)
+    ap (λ u. label_depth q (open_blocks (u ∷ ts))) e ∙ ap (label_depth q) (added ts (Some q) h)
+    ∙ found_last q (Some q) (open_blocks ts) (same_name_itself q) (denotes_nothing ts q never) ∙ ap Some (as_many ts)
 
-pub denotes_the_last : (ts : List BlockEffect) (label : Name) (at : ℕ) → IsLastOf ts label at → label_depth label (open_blocks ts) ≡ Some (open_count (drop (suc at) ts))
+pub denotes_the_last : (ts : List BlockEffect) (label : Name) (at : ℕ) → IsLastOf ts label at
+    → label_depth label (open_blocks ts) ≡ Some (open_count (drop (suc at) ts))
 denotes_the_last [] q at h = absurd (cc (h.is_open.opener))
-denotes_the_last (t ∷ ts) q zero h = found_here t ts q (opens_with t ts (Some q) h.is_open) h.is_open.stays (λ r o. h.last (suc r) (omega arith) (one_behind t ts (Some q) r o))
+denotes_the_last (t ∷ ts) q zero h = found_here t ts q (opens_with t ts (Some q) h.is_open) h.is_open.stays
+    (λ r o. h.last (suc r) (omega arith) (one_behind t ts (Some q) r o))
 denotes_the_last (Opens l ∷ ts) q (suc at) h =
     found_added q (stays_open ts) l (open_blocks ts) (open_count (drop (suc at) ts)) (denotes_the_last ts q at (last_of_behind (Opens l) ts q at h))
 denotes_the_last (Closes ∷ ts) q (suc at) h = denotes_the_last ts q at (last_of_behind Closes ts q at h)

@@ -1,7 +1,8 @@
 -- If two scopes have the same types and the same numbers for names that pass a test, sites that pass it have the same
 -- checks, and functions the same sizes.
 use Rattle.std.specs.Prelude.{cond, ◌&&◌}
-use Rattle.std.proofs.Common.{◌≡◌, ℕ, zero, suc, ◌+◌, ◌<◌, length, Bool, true, not, List, [], ◌∷◌, ◌++◌, map, Option, Some, None, is_some, refl, sym, ap, ◌∙◌, append-nil, false}
+use Rattle.std.proofs.Common.{◌≡◌, ℕ, zero, suc, ◌+◌, ◌<◌, length, Bool, true, not, List, [], ◌∷◌, ◌++◌, map, Option, Some, None, is_some}
+use Rattle.std.proofs.Common.{refl, sym, ap, ◌∙◌, append-nil, false}
 use Rattle.std.specs.Prelude.{codes}
 use Rattle.std.specs.Cmp.{first_so, second_so}
 use Rattle.std.specs.List.{flat_map, list_all, slice_get}
@@ -12,7 +13,9 @@ use Rattle.wast_base.specs.Spaces.{word_of}
 use Rattle.wast_tree_nodes.specs.Items.{items}
 use Rattle.wast_tree_nodes.specs.Known.{id_context}
 use Rattle.wast_tree_nodes.specs.Types.{types_of}
-use Rattle.wast_tree_nodes.specs.Sites.{Check, ItemIndex, InnerIndex, Covered, Site, Asked, Used, LocalAt, FieldAt, if_there, in_index, in_signature, in_inner, in_descriptor, in_type, in_rec, in_type_use, in_func_kind, asked_in, in_field, in_module, checks_of}
+use Rattle.wast_tree_nodes.specs.Sites.{Check, ItemIndex, InnerIndex, Covered, Site, Asked, Used, LocalAt, FieldAt, if_there, in_index}
+use Rattle.wast_tree_nodes.specs.Sites.{in_signature, in_inner, in_descriptor, in_type, in_rec, in_type_use, in_func_kind, asked_in}
+use Rattle.wast_tree_nodes.specs.Sites.{in_field, in_module, checks_of}
 use Rattle.wast_tree_nodes.proofs.Asking.{asked_both, asked_asking}
 use Rattle.wast_expand_keys.specs.Signatures.{signature_of}
 use Rattle.wast_resolve_laws.specs.Tree.{Index, Space, FunctionType, InnerTypeKind, ModuleField}
@@ -22,9 +25,11 @@ use Rattle.wast_resolve_laws.specs.Tree.inner
 use Rattle.wast_resolve_laws.specs.Tree.ty
 use Rattle.wast_resolve_laws.specs.Tree.field
 use Rattle.wast_resolve_laws.specs.Tree.form
-use Rattle.wast_resolve_rules.specs.Scopes.{Shape, Function, Struct, Other, Scope, module_scope, shape_of, shapes_in, shapes_of_types, denoted, type_at, unsaid_params}
+use Rattle.wast_resolve_rules.specs.Scopes.{Shape, Function, Struct, Other, Scope, module_scope, shape_of, shapes_in, shapes_of_types}
+use Rattle.wast_resolve_rules.specs.Scopes.{denoted, type_at, unsaid_params}
 use Rattle.wast_resolve_rules.specs.Matches.{same_number, same_type, signatures_match}
-use Rattle.wast_resolve_rules.specs.Demands.{unknown_demand, ask_demand, ask_demands, match_with, match_demands, match_if, field_at, site_demand, site_demands, declared_ids, body_counts_in, body_counts, open_counts}
+use Rattle.wast_resolve_rules.specs.Demands.{unknown_demand, ask_demand, ask_demands, match_with, match_demands, match_if, field_at}
+use Rattle.wast_resolve_rules.specs.Demands.{site_demand, site_demands, declared_ids, body_counts_in, body_counts, open_counts}
 use Rattle.wast_resolve_laws.proofs.CompletedAsks.{pass, value_passes, first_part, second_part, signature_needs, is_below}
 use Rattle.wast_resolve_laws.proofs.ImpliedSignatures.{both_so, values_pass}
 use Rattle.wast_resolve_laws.proofs.SameTypes.{signatures_alike}
@@ -62,7 +67,8 @@ module _ (ok : Check → Bool) where
   members_pass : (ms : List ty.«Type») → pass ok (flat_map in_type ms) ≡ true → list_all type_passes (map (λ t. shape_of t.def.kind) ms) ≡ true
   members_pass [] h = refl
   members_pass (m ∷ ms) h =
-      both_so (type_passes (shape_of m.def.kind)) (list_all type_passes (map (λ t. shape_of t.def.kind) ms)) (type_type_passes m (first_part ok (in_type m) (flat_map in_type ms) h)) (members_pass ms (second_part ok (in_type m) (flat_map in_type ms) h))
+      both_so (type_passes (shape_of m.def.kind)) (list_all type_passes (map (λ t. shape_of t.def.kind) ms))
+      (type_type_passes m (first_part ok (in_type m) (flat_map in_type ms) h)) (members_pass ms (second_part ok (in_type m) (flat_map in_type ms) h))
 
   -- the types of a field, one after another
   members_asked : (x : ModuleField) → pass ok (checks_of (in_field x)) ≡ true → pass ok (flat_map in_type (types_of x)) ≡ true
@@ -75,7 +81,8 @@ module _ (ok : Check → Bool) where
   all_types (x ∷ xs) h =
       let both = sym (ap (pass ok) (asked_both (in_field x) (in_module xs))) ∙ h in
       list_all-append type_passes (shapes_in x) (shapes_of_types xs)
-      ∙ both_so (list_all type_passes (shapes_in x)) (list_all type_passes (shapes_of_types xs)) (members_pass (types_of x) (members_asked x (first_part ok (checks_of (in_field x)) (checks_of (in_module xs)) both)))
+      ∙ both_so (list_all type_passes (shapes_in x)) (list_all type_passes (shapes_of_types xs))
+      (members_pass (types_of x) (members_asked x (first_part ok (checks_of (in_field x)) (checks_of (in_module xs)) both)))
       (all_types xs (second_part ok (checks_of (in_field x)) (checks_of (in_module xs)) both))
 
   module _ (c d : Scope) (types : c.types ≡ d.types) (they_pass : list_all type_passes d.types ≡ true)
@@ -88,11 +95,13 @@ module _ (ok : Check → Bool) where
     asks_alike : (asks : List Check) → pass ok asks ≡ true → ask_demands c.known asks ≡ ask_demands d.known asks
     asks_alike [] h = refl
     asks_alike (a ∷ asks) h =
-        ap (λ ds. ds ++ ask_demands c.known asks) (ask_alike a (first_so (ok a) (pass ok asks) h)) ∙ ap (λ ds. ask_demand d.known a ++ ds) (asks_alike asks (second_so (ok a) (pass ok asks) h))
+        ap (λ ds. ds ++ ask_demands c.known asks) (ask_alike a (first_so (ok a) (pass ok asks) h))
+        ∙ ap (λ ds. ask_demand d.known a ++ ds) (asks_alike asks (second_so (ok a) (pass ok asks) h))
 
     type_alike : (i j : Index) → ok (ItemIndex space.Ty i) ≡ true → ok (ItemIndex space.Ty j) ≡ true → same_type c.known i j ≡ same_type d.known i j
     type_alike i j h k =
-        ap (λ o. same_number o (denoted (c.known.number space.Ty) j)) (numbers space.Ty i h) ∙ ap (λ o. same_number (denoted (d.known.number space.Ty) i) o) (numbers space.Ty j k)
+        ap (λ o. same_number o (denoted (c.known.number space.Ty) j)) (numbers space.Ty i h)
+        ∙ ap (λ o. same_number (denoted (d.known.number space.Ty) i) o) (numbers space.Ty j k)
 
     -- the checks at a position pass
     abbrev found_passes : Option Shape → Bool
@@ -114,24 +123,29 @@ module _ (ok : Check → Bool) where
     with_alike t i h (Some (Struct number)) k = refl
     with_alike t i h (Some Other) k = refl
     with_alike t i h (Some (Function s)) k =
-        ap (λ b. match_with (λ u. b) (span_of_index i) (Some (Function s))) (signatures_alike ok (same_type c.known) (same_type d.known) type_alike (signature_of t) s h k)
+        ap (λ b. match_with (λ u. b) (span_of_index i) (Some (Function s))) (signatures_alike ok (same_type c.known) (same_type d.known) type_alike
+        (signature_of t) s h k)
 
-    match_alike : (i : Index) (t : FunctionType) → ok (ItemIndex space.Ty i) ≡ true → pass ok (in_signature t) ≡ true → match_demands c i t ≡ match_demands d i t
+    match_alike : (i : Index) (t : FunctionType) → ok (ItemIndex space.Ty i) ≡ true → pass ok (in_signature t) ≡ true
+        → match_demands c i t ≡ match_demands d i t
     match_alike i t h k =
         ap (λ o. match_with (signatures_match c.known t) (span_of_index i) (type_at c.types o)) (numbers space.Ty i h)
         ∙ (ap (λ ts. match_with (signatures_match c.known t) (span_of_index i) (type_at ts (denoted (d.known.number space.Ty) i))) types
         ∙ with_alike t i (signature_needs ok t k) (type_at d.types (denoted (d.known.number space.Ty) i)) (at_passes (denoted (d.known.number space.Ty) i)))
 
-    if_alike : (i : Option Index) (t : Option FunctionType) → pass ok (if_there (in_index space.Ty) i ++ if_there in_signature t) ≡ true → match_if c i t ≡ match_if d i t
+    if_alike : (i : Option Index) (t : Option FunctionType) → pass ok (if_there (in_index space.Ty) i ++ if_there in_signature t) ≡ true
+        → match_if c i t ≡ match_if d i t
     if_alike None None h = refl
     if_alike None (Some t) h = refl
     if_alike (Some i) None h = refl
-    if_alike (Some i) (Some t) h = match_alike i t (first_so (ok (ItemIndex space.Ty i)) (pass ok (in_signature t)) h) (second_so (ok (ItemIndex space.Ty i)) (pass ok (in_signature t)) h)
+    if_alike (Some i) (Some t) h = match_alike i t (first_so (ok (ItemIndex space.Ty i)) (pass ok (in_signature t)) h)
+        (second_so (ok (ItemIndex space.Ty i)) (pass ok (in_signature t)) h)
 
     site_alike : (s : Site) → pass ok (asked_in s) ≡ true → site_demand c s ≡ site_demand d s
     site_alike (Asked a) h = ask_alike a (first_so (ok a) true h)
     site_alike (Used w u) h =
-        ap (λ ds. ds ++ match_if c u.index u.inline) (asks_alike (in_type_use u) h) ∙ ap (λ ds. ask_demands d.known (in_type_use u) ++ ds) (if_alike u.index u.inline h)
+        ap (λ ds. ds ++ match_if c u.index u.inline) (asks_alike (in_type_use u) h)
+        ∙ ap (λ ds. ask_demands d.known (in_type_use u) ++ ds) (if_alike u.index u.inline h)
     site_alike (FieldAt owner i) h =
         let owned = first_so (ok (ItemIndex space.Ty owner)) (ok (InnerIndex i) && true) h in
         ap (λ ds. ds ++ field_at c.types (denoted (c.known.number space.Ty) owner) i) (ask_alike (ItemIndex space.Ty owner) owned)
@@ -143,10 +157,12 @@ module _ (ok : Check → Bool) where
     sites_alike : (ss : List Site) → pass ok (checks_of ss) ≡ true → site_demands c ss ≡ site_demands d ss
     sites_alike [] h = refl
     sites_alike (s ∷ ss) h =
-        ap (λ ds. ds ++ site_demands c ss) (site_alike s (first_part ok (asked_in s) (checks_of ss) h)) ∙ ap (λ ds. site_demand d s ++ ds) (sites_alike ss (second_part ok (asked_in s) (checks_of ss) h))
+        ap (λ ds. ds ++ site_demands c ss) (site_alike s (first_part ok (asked_in s) (checks_of ss) h))
+        ∙ ap (λ ds. site_demand d s ++ ds) (sites_alike ss (second_part ok (asked_in s) (checks_of ss) h))
 
     -- and functions have as many parameters and locals
-    unsaid_same : (i : Option Index) (t : Option FunctionType) → pass ok (if_there (in_index space.Ty) i ++ if_there in_signature t) ≡ true → unsaid_params c i t ≡ unsaid_params d i t
+    unsaid_same : (i : Option Index) (t : Option FunctionType) → pass ok (if_there (in_index space.Ty) i ++ if_there in_signature t) ≡ true
+        → unsaid_params c i t ≡ unsaid_params d i t
     unsaid_same i (Some t) h = refl
     unsaid_same None None h = refl
     unsaid_same (Some i) None h = unsaid_denoted c d types i i (numbers space.Ty i (first_so (ok (ItemIndex space.Ty i)) true h))
@@ -166,12 +182,15 @@ module _ (ok : Check → Bool) where
 
 -- If two lists have the same types, and old names have the same numbers in both, sites with old names alone have the
 -- same checks, and functions as many parameters.
-module _ (n : ℕ) (xs ys : List ModuleField) (types : shapes_of_types xs ≡ shapes_of_types ys) (old : (s : Space) (q : Name) → generation_of q < n → (id_context (items xs)).number s q ≡ (id_context (items ys)).number s q) where
-  denoted_alike : (s : Space) (i : Index) → is_below n (ItemIndex s i) ≡ true → denoted ((id_context (items xs)).number s) i ≡ denoted ((id_context (items ys)).number s) i
+module _ (n : ℕ) (xs ys : List ModuleField) (types : shapes_of_types xs ≡ shapes_of_types ys) (old : (s : Space) (q : Name) → generation_of q < n
+    → (id_context (items xs)).number s q ≡ (id_context (items ys)).number s q) where
+  denoted_alike : (s : Space) (i : Index) → is_below n (ItemIndex s i) ≡ true
+      → denoted ((id_context (items xs)).number s) i ≡ denoted ((id_context (items ys)).number s) i
   denoted_alike s (index.Num m p) h = refl
   denoted_alike s (index.Id id) h = old s (name_of id) (ltb-true (generation_of (name_of id)) n h)
 
-  pub old_uses : pass (is_below n) (checks_of (in_module ys)) ≡ true → site_demands (module_scope xs) (in_module ys) ≡ site_demands (module_scope ys) (in_module ys)
+  pub old_uses : pass (is_below n) (checks_of (in_module ys)) ≡ true → site_demands (module_scope xs) (in_module ys) ≡ site_demands (module_scope ys)
+      (in_module ys)
   old_uses below = sites_alike (is_below n) (module_scope xs) (module_scope ys) types (all_types (is_below n) ys below) denoted_alike (in_module ys) below
 
   pub old_bodies : pass (is_below n) (checks_of (in_module ys)) ≡ true → flat_map (body_counts_in (module_scope xs)) ys ≡ body_counts ys

@@ -10,7 +10,8 @@ use Rattle.wast_base.specs.Ids.{Name, name_of, mark_of, is_number, Mark}
 use Rattle.wast_base.specs.Faults.{Cause}
 use Rattle.wast_base.specs.Spaces.{is_settled_index}
 use Rattle.wast_tree_nodes.specs.Items.{items}
-use Rattle.wast_tree_nodes.specs.Sites.{Check, ItemIndex, InnerIndex, PlainId, Clause, Covered, Site, Asked, Used, Declared, LocalAt, FieldAt, LabelAt, Repeated, Begins, Ends, in_type_use, mark_asked, asked_in, checks_of, in_module}
+use Rattle.wast_tree_nodes.specs.Sites.{Check, ItemIndex, InnerIndex, PlainId, Clause, Covered, Site, Asked, Used, Declared, LocalAt}
+use Rattle.wast_tree_nodes.specs.Sites.{FieldAt, LabelAt, Repeated, Begins, Ends, in_type_use, mark_asked, asked_in, checks_of, in_module}
 use Rattle.wast_tree_nodes.specs.Known.{IdContext, id_context}
 use Rattle.wast_tree_nodes.specs.Generations.{generation_at, generation_in, greatest_item, greatest_asked, greatest_generation}
 use Rattle.wast_tree_nodes.specs.WellFormed.{is_written_index, is_kept, are_kept, is_well_formed}
@@ -23,7 +24,8 @@ use Rattle.wast_resolve_laws.specs.Tree.{Id, Span, Index, ModuleField}
 use Rattle.wast_resolve_laws.specs.Tree.index
 use Rattle.wast_resolve_laws.specs.Tree.space
 use Rattle.wast_resolve_rules.specs.Scopes.{Shape, Function, Struct, Other, Scope, module_scope, denoted, type_at, field_in, local_number, field_number}
-use Rattle.wast_resolve_rules.specs.Demands.{first_unmet, known_index, ask_demand, ask_demands, match_if, named_field, field_at, site_demand, site_demands, item_demands, name_demands}
+use Rattle.wast_resolve_rules.specs.Demands.{first_unmet, known_index, ask_demand, ask_demands, match_if, named_field, field_at}
+use Rattle.wast_resolve_rules.specs.Demands.{site_demand, site_demands, item_demands, name_demands}
 use Rattle.wast_resolve_rules.specs.Resolved.{numbered_at, numbered_by, resolved_index, numbering_change, resolved_fields}
 use Rattle.wast_resolve_laws.proofs.Bodies.{IsOuter, all_outer}
 use Rattle.wast_resolve_laws.proofs.OwnLocals.{outer, outer_use}
@@ -33,7 +35,8 @@ use Rattle.wast_resolve_rules.proofs.Numbering.{numbering_keeps}
 use Rattle.wast_resolve_rules.proofs.Unmet.{met_parts}
 
 -- an index whose check passes becomes a number
-met_index : (f : Cause) (s : Span) (id : Id) (o : Option ℕ) → first_unmet (record { fault = f; place = s; met = is_some o } ∷ []) ≡ None → is_number (numbered_by o id) ≡ true
+met_index : (f : Cause) (s : Span) (id : Id) (o : Option ℕ) → first_unmet (record { fault = f; place = s; met = is_some o } ∷ []) ≡ None
+    → is_number (numbered_by o id) ≡ true
 met_index f s id None h = cc
 met_index f s id (Some n) h = refl
 
@@ -50,7 +53,8 @@ known_denotes number word (index.Id id) h = by_number _ _ (number (name_of id)) 
     by_number f s (Some n) h = refl
 
 -- so does that of a field, if that of its type has a number
-met_field : (types : List Shape) (o : Option ℕ) (i : Index) → is_some o ≡ true → first_unmet (field_at types o i) ≡ None → is_number (resolved_index (field_in (type_at types o)) i) ≡ true
+met_field : (types : List Shape) (o : Option ℕ) (i : Index) → is_some o ≡ true → first_unmet (field_at types o i) ≡ None
+    → is_number (resolved_index (field_in (type_at types o)) i) ≡ true
 met_field types None i some h = absurd (cc some)
 met_field types (Some n) (index.Num m span) some h = refl
 met_field types (Some n) (index.Id id) some h = by_shape (slice_get types n) h
@@ -138,14 +142,18 @@ module _ (c : Scope) where
 
     site_under : (s : Site) → list_all is_under (asked_in s) ≡ true → list_all is_under (numbered_in c s) ≡ true
     site_under (Asked a) h = ap (λ b. b && true) (ask_under a (first_so (is_under a) true h))
-    site_under (Used w u) h = list_all-map is_under numbered_ask (in_type_use u) ∙ all_pass is_under (λ a. is_under (numbered_ask a)) ask_under (in_type_use u) h
+    site_under (Used w u) h = list_all-map is_under numbered_ask (in_type_use u)
+        ∙ all_pass is_under (λ a. is_under (numbered_ask a)) ask_under (in_type_use u) h
     site_under (LocalAt locals i) h =
-        ap (λ b. b && true) (under (InnerIndex i) (InnerIndex (resolved_index (local_number c locals) i)) (below_index (local_number c locals) i) (first_so (is_under (InnerIndex i)) true h))
+        ap (λ b. b && true) (under (InnerIndex i) (InnerIndex (resolved_index (local_number c locals) i)) (below_index (local_number c locals) i)
+        (first_so (is_under (InnerIndex i)) true h))
     site_under (FieldAt owner i) h =
         let j : Index = resolved_index (field_number c owner) i in
         let both = is_under (InnerIndex i) && true in
-        both_so (is_under (numbered_ask (ItemIndex space.Ty owner))) (is_under (InnerIndex j) && true) (ask_under (ItemIndex space.Ty owner) (first_so (is_under (ItemIndex space.Ty owner)) both h))
-        (ap (λ b. b && true) (under (InnerIndex i) (InnerIndex j) (below_index (field_number c owner) i) (first_so (is_under (InnerIndex i)) true (second_so (is_under (ItemIndex space.Ty owner)) both h))))
+        both_so (is_under (numbered_ask (ItemIndex space.Ty owner))) (is_under (InnerIndex j) && true)
+        (ask_under (ItemIndex space.Ty owner) (first_so (is_under (ItemIndex space.Ty owner)) both h))
+        (ap (λ b. b && true) (under (InnerIndex i) (InnerIndex j) (below_index (field_number c owner) i)
+        (first_so (is_under (InnerIndex i)) true (second_so (is_under (ItemIndex space.Ty owner)) both h))))
     site_under (LabelAt blocks i) h =
         let number : Name → Option ℕ = λ name. label_depth name blocks in
         ap (λ b. b && true) (under (InnerIndex i) (InnerIndex (resolved_index number i)) (below_index number i) (first_so (is_under (InnerIndex i)) true h))
@@ -153,7 +161,8 @@ module _ (c : Scope) where
 
     sites_under : (ss : List Site) → list_all is_under (checks_of ss) ≡ true → list_all is_under (flat_map (numbered_in c) ss) ≡ true
     sites_under ss h =
-        all_parts is_under (numbered_in c) ss ∙ all_pass (λ s. list_all is_under (asked_in s)) (λ s. list_all is_under (numbered_in c s)) site_under ss (sym (all_parts is_under asked_in ss) ∙ h)
+        all_parts is_under (numbered_in c) ss
+        ∙ all_pass (λ s. list_all is_under (asked_in s)) (λ s. list_all is_under (numbered_in c s)) site_under ss (sym (all_parts is_under asked_in ss) ∙ h)
 
   pub items_stay : (fields : List ModuleField) → items (map (mapped_field (numbering_change c)) fields) ≡ items fields
   items_stay fields = items_alone (numbering_change c) (λ o. refl) (numbering_keeps c) fields
@@ -184,7 +193,8 @@ module _ (c : Scope) where
         let owned = numbered_ask (ItemIndex space.Ty owner) in
         let j : Index = resolved_index (field_number c owner) i in
         both_so (is_kept l owned) (is_written_index j && true)
-        (kept_ask (ItemIndex space.Ty owner) (first_so (is_kept c.known (ItemIndex space.Ty owner)) (is_written_index i && true) h) (first_so (is_numbered owned) (is_number j && true) n))
+        (kept_ask (ItemIndex space.Ty owner) (first_so (is_kept c.known (ItemIndex space.Ty owner)) (is_written_index i && true) h)
+        (first_so (is_numbered owned) (is_number j && true) n))
         (ap (λ b. b && true) (number_written j (first_so (is_number j) true (second_so (is_numbered owned) (is_number j && true) n))))
     site_kept (LabelAt blocks i) h n =
         let j : Index = resolved_index (λ name. label_depth name blocks) i in
@@ -194,7 +204,8 @@ module _ (c : Scope) where
     site_kept (Declared before m) h n = refl
     site_kept Ends h n = refl
 
-    sites_kept : (ss : List Site) → are_kept c.known (checks_of ss) ≡ true → are_numbered (flat_map (numbered_in c) ss) ≡ true → are_kept l (flat_map (numbered_in c) ss) ≡ true
+    sites_kept : (ss : List Site) → are_kept c.known (checks_of ss) ≡ true → are_numbered (flat_map (numbered_in c) ss) ≡ true
+        → are_kept l (flat_map (numbered_in c) ss) ≡ true
     sites_kept [] h n = refl
     sites_kept (s ∷ ss) h n =
         let now = numbered_in c s in
@@ -203,11 +214,14 @@ module _ (c : Scope) where
         let numbers = sym (list_all-append is_numbered now behind) ∙ n in
         list_all-append (is_kept l) now behind
         ∙ both_so (are_kept l now) (are_kept l behind)
-        (site_kept s (first_so (are_kept c.known (asked_in s)) (are_kept c.known (checks_of ss)) kept) (first_so (are_numbered now) (are_numbered behind) numbers))
-        (sites_kept ss (second_so (are_kept c.known (asked_in s)) (are_kept c.known (checks_of ss)) kept) (second_so (are_numbered now) (are_numbered behind) numbers))
+        (site_kept s (first_so (are_kept c.known (asked_in s)) (are_kept c.known (checks_of ss)) kept)
+        (first_so (are_numbered now) (are_numbered behind) numbers))
+        (sites_kept ss (second_so (are_kept c.known (asked_in s)) (are_kept c.known (checks_of ss)) kept)
+        (second_so (are_numbered now) (are_numbered behind) numbers))
 
 -- So the checks after numbering are of numbers.
-asks_numbered : (fields : List ModuleField) → first_unmet (name_demands fields) ≡ None → are_numbered (flat_map (numbered_in (module_scope fields)) (in_module fields)) ≡ true
+asks_numbered : (fields : List ModuleField) → first_unmet (name_demands fields) ≡ None
+    → are_numbered (flat_map (numbered_in (module_scope fields)) (in_module fields)) ≡ true
 asks_numbered fields met =
     let c = module_scope fields in
     sites_numbered c (in_module fields) (all_outer fields) (met_parts (item_demands (items fields)) (site_demands c (in_module fields)) met).1
@@ -215,7 +229,8 @@ asks_numbered fields met =
 pub all_numbered : (fields : List ModuleField) → first_unmet (name_demands fields) ≡ None → has_numbers (resolved_fields fields) ≡ true
 all_numbered fields met = asked_passes (module_scope fields) is_numbered fields (asks_numbered fields met)
 
-pub still_well_formed : (fields : List ModuleField) → is_well_formed fields ≡ true → first_unmet (name_demands fields) ≡ None → is_well_formed (resolved_fields fields) ≡ true
+pub still_well_formed : (fields : List ModuleField) → is_well_formed fields ≡ true → first_unmet (name_demands fields) ≡ None
+    → is_well_formed (resolved_fields fields) ≡ true
 still_well_formed fields h met =
     let l = id_context (items (resolved_fields fields)) in
     asked_passes (module_scope fields) (is_kept l) fields (sites_kept (module_scope fields) l (in_module fields) h (asks_numbered fields met))
@@ -227,5 +242,6 @@ still_below fields =
     let g : ℕ = greatest_asked (checks_of (in_module fields)) in
     let each = each_below (suc g) generation_in (checks_of (in_module fields)) (omega arith) in
     let a : greatest_asked (checks_of (in_module (resolved_fields fields))) < suc g =
-    greatest_below (suc g) generation_in (checks_of (in_module (resolved_fields fields))) (omega arith) (asked_passes c (λ x. nat_lt (generation_in x) (suc g)) fields (sites_under c (suc g) (in_module fields) each)) in
+    greatest_below (suc g) generation_in (checks_of (in_module (resolved_fields fields))) (omega arith)
+    (asked_passes c (λ x. nat_lt (generation_in x) (suc g)) fields (sites_under c (suc g) (in_module fields) each)) in
     omega (arith, i, a)

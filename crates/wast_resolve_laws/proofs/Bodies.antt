@@ -6,11 +6,18 @@ use Rattle.std.specs.List.{flat_map}
 use Rattle.wast_base.specs.Ids.{Name, Mark}
 use Rattle.wast_base.specs.Spaces.{name_if}
 use Rattle.wast_tree_nodes.specs.Clauses.{is_segment_type_allowed}
-use Rattle.wast_tree_nodes.specs.Sites.{Check, Clause, Covered, Site, Asked, Declared, LocalAt, OfItem, check_sites, if_there, at_index, in_ref, in_val, in_id, in_type, in_type_use, in_use, in_expression, in_constant, in_local, declaration_sites, param_marks, local_marks, body_here, in_func_kind, in_tag_type, in_item_kind, in_sig, in_shared_id, in_import, uncovered_check, in_payload, in_table_kind, in_memory_kind, in_global_kind, in_elem_kind, in_data_kind, in_subsection, in_custom, in_field, in_module, checks_of}
+use Rattle.wast_tree_nodes.specs.Sites.{Check, Clause, Covered, Site, Asked, Declared, LocalAt, OfItem, check_sites, if_there, at_index}
+use Rattle.wast_tree_nodes.specs.Sites.{in_ref, in_val, in_id, in_type, in_type_use, in_use, in_expression, in_constant, in_local}
+use Rattle.wast_tree_nodes.specs.Sites.{declaration_sites, param_marks, local_marks, body_here, in_func_kind, in_tag_type, in_item_kind}
+use Rattle.wast_tree_nodes.specs.Sites.{in_sig, in_shared_id, in_import, uncovered_check, in_payload, in_table_kind, in_memory_kind}
+use Rattle.wast_tree_nodes.specs.Sites.{in_global_kind, in_elem_kind, in_data_kind, in_subsection, in_custom, in_field, in_module}
+use Rattle.wast_tree_nodes.specs.Sites.{checks_of}
 use Rattle.wast_tree_nodes.proofs.Asking.{asked_both}
 use Rattle.wast_tree_map.specs.Mapped.{Each}
 use Rattle.wast_tree_map.proofs.Ways.{each_first, each_rest}
-use Rattle.wast_resolve_laws.specs.Tree.{Id, Index, FunctionType, TypeUse, Expression, Local, FuncKind, TagType, ItemKind, ImportItems, TableKind, MemoryKind, GlobalKind, ElemKind, ElemPayload, DataKind, Custom, Dylink0Subsection, ModuleField}
+use Rattle.wast_resolve_laws.specs.Tree.{Id, Index, FunctionType, TypeUse, Expression, Local, FuncKind, TagType, ItemKind, ImportItems}
+use Rattle.wast_resolve_laws.specs.Tree.{TableKind, MemoryKind, GlobalKind, ElemKind, ElemPayload, DataKind, Custom, Dylink0Subsection}
+use Rattle.wast_resolve_laws.specs.Tree.{ModuleField}
 use Rattle.wast_resolve_laws.specs.Tree.space
 use Rattle.wast_resolve_laws.specs.Tree.form
 use Rattle.wast_resolve_laws.specs.Tree.func
@@ -46,7 +53,8 @@ kind_fixed u (func.Import import exact) = refl
 kind_fixed u (func.Inline locals e) =
     let marks = param_marks u.inline ++ local_marks locals in
     let body = in_expression (body_here u marks) e in
-    fixed_both (Some u) (check_sites (flat_map in_local locals)) (declaration_sites [] marks ++ body) (fixed_asks (Some u) (flat_map in_local locals) (locals_typed locals))
+    fixed_both (Some u) (check_sites (flat_map in_local locals)) (declaration_sites [] marks ++ body)
+    (fixed_asks (Some u) (flat_map in_local locals) (locals_typed locals))
     (fixed_both (Some u) (declaration_sites [] marks) body (declaring_fixed (Some u) [] marks) (expression_fixed (body_here u marks) e))
 
 tag_fixed : (t : TagType) → Fixed None (in_tag_type t)
@@ -66,13 +74,17 @@ shared_fixed (name ∷ names) id = refl
 import_fixed : (i : ImportItems) → Fixed None (in_import i)
 import_fixed (import_items.Single source name sig) = item_kind_fixed sig.kind
 import_fixed (import_items.Group1 source items) =
-    fixed_both None (flat_map (λ p. in_sig p.1) items) (check_sites (uncovered_check form.CompactImports)) (fixed_each None (λ p. in_sig p.1) (λ p. item_kind_fixed p.1.kind) items) refl
-import_fixed (import_items.Group2 source sig names) = fixed_both None (in_sig sig) (check_sites (in_shared_id names sig.id ++ uncovered_check form.CompactImports)) (item_kind_fixed sig.kind) (shared_fixed names sig.id)
+    fixed_both None (flat_map (λ p. in_sig p.1) items) (check_sites (uncovered_check form.CompactImports))
+    (fixed_each None (λ p. in_sig p.1) (λ p. item_kind_fixed p.1.kind) items) refl
+import_fixed (import_items.Group2 source sig names) =
+    fixed_both None (in_sig sig) (check_sites (in_shared_id names sig.id ++ uncovered_check form.CompactImports)) (item_kind_fixed sig.kind)
+    (shared_fixed names sig.id)
 
 payload_fixed : (p : ElemPayload) → Fixed None (in_payload p)
 payload_fixed (payload.Indices is) = fixed_each None (at_index space.Func) (λ i. refl) is
 payload_fixed (payload.Exprs ty es) =
-    fixed_both None (flat_map in_constant es) (check_sites (in_ref ty)) (fixed_each None in_constant constant_fixed es) (fixed_asks None (in_ref ty) (ref_part.typed ty))
+    fixed_both None (flat_map in_constant es) (check_sites (in_ref ty)) (fixed_each None in_constant constant_fixed es)
+    (fixed_asks None (in_ref ty) (ref_part.typed ty))
 
 init_fixed : (init : Option Expression) → Fixed None (if_there in_constant init)
 init_fixed None = refl
@@ -81,11 +93,13 @@ init_fixed (Some e) = constant_fixed e
 table_fixed : (k : TableKind) → Fixed None (in_table_kind k)
 table_fixed (table.Import import ty) = fixed_form None (in_ref ty.elem) (Covered form.Shared (not ty.shared)) (ref_part.typed ty.elem) refl
 table_fixed (table.Normal ty init) =
-    fixed_both None (check_sites (in_ref ty.elem ++ Covered form.Shared (not ty.shared) ∷ [])) (if_there in_constant init) (fixed_form None (in_ref ty.elem) (Covered form.Shared (not ty.shared)) (ref_part.typed ty.elem) refl)
+    fixed_both None (check_sites (in_ref ty.elem ++ Covered form.Shared (not ty.shared) ∷ [])) (if_there in_constant init)
+    (fixed_form None (in_ref ty.elem) (Covered form.Shared (not ty.shared)) (ref_part.typed ty.elem) refl)
     (init_fixed init)
 table_fixed (table.Inline ty is64 shared elements) =
     let form = Asked (Covered form.Shared (not shared)) ∷ [] in
-    fixed_both None (check_sites (in_ref ty)) (in_payload elements ++ form) (fixed_asks None (in_ref ty) (ref_part.typed ty)) (fixed_both None (in_payload elements) form (payload_fixed elements) refl)
+    fixed_both None (check_sites (in_ref ty)) (in_payload elements ++ form) (fixed_asks None (in_ref ty) (ref_part.typed ty))
+    (fixed_both None (in_payload elements) form (payload_fixed elements) refl)
 
 memory_fixed : (k : MemoryKind) → Fixed None (in_memory_kind k)
 memory_fixed (memory.Import import ty) = refl
@@ -102,7 +116,8 @@ chosen_fixed (Some i) = refl
 elem_fixed : (k : ElemKind) → Fixed None (in_elem_kind k)
 elem_fixed elem.Passive = refl
 elem_fixed elem.Declared = refl
-elem_fixed (elem.Active table offset) = fixed_both None (if_there (at_index space.Table) table) (in_constant offset) (chosen_fixed table) (constant_fixed offset)
+elem_fixed (elem.Active table offset) = fixed_both None (if_there (at_index space.Table) table) (in_constant offset) (chosen_fixed table)
+    (constant_fixed offset)
 
 data_fixed : (k : DataKind) → Fixed None (in_data_kind k)
 data_fixed data_kind.Passive = refl
@@ -131,13 +146,15 @@ field_fixed (field.Func f) = fixed_both (Some f.ty) (in_use OfItem f.ty) (in_fun
 field_fixed (field.Table t) = table_fixed t.kind
 field_fixed (field.Memory m) = memory_fixed m.kind
 field_fixed (field.Global g) =
-    fixed_both None (check_sites (in_val g.ty.ty ++ Covered form.Shared (not g.ty.shared) ∷ [])) (in_global_kind g.kind) (fixed_form None (in_val g.ty.ty) (Covered form.Shared (not g.ty.shared)) (val_part.typed g.ty.ty) refl)
+    fixed_both None (check_sites (in_val g.ty.ty ++ Covered form.Shared (not g.ty.shared) ∷ [])) (in_global_kind g.kind)
+    (fixed_form None (in_val g.ty.ty) (Covered form.Shared (not g.ty.shared)) (val_part.typed g.ty.ty) refl)
     (global_fixed g.kind)
 field_fixed (field.Export e) = refl
 field_fixed (field.Start i) = refl
 field_fixed (field.Elem e) =
     let suited = Asked (Clause 4 (is_segment_type_allowed e.kind e.payload)) ∷ [] in
-    fixed_both None (in_elem_kind e.kind) (in_payload e.payload ++ suited) (elem_fixed e.kind) (fixed_both None (in_payload e.payload) suited (payload_fixed e.payload) refl)
+    fixed_both None (in_elem_kind e.kind) (in_payload e.payload ++ suited) (elem_fixed e.kind)
+    (fixed_both None (in_payload e.payload) suited (payload_fixed e.payload) refl)
 field_fixed (field.Data d) = data_fixed d.kind
 field_fixed (field.Tag t) = tag_fixed t.ty
 field_fixed (field.Custom c) = custom_fixed c
@@ -201,5 +218,6 @@ module _ (p : Check → Type 0) where
   all_stand [] h = tt
   all_stand (x ∷ xs) h =
       let both : Each p (checks_of (in_field x) ++ checks_of (in_module xs)) = subst (Each p) (asked_both (in_field x) (in_module xs)) h in
-      each_both Stands (in_field x) (in_module xs) (each_stands (owner_of x) (owner_stands x (each_first p (checks_of (in_field x)) (checks_of (in_module xs)) both)) (in_field x) (field_fixed x))
+      each_both Stands (in_field x) (in_module xs)
+      (each_stands (owner_of x) (owner_stands x (each_first p (checks_of (in_field x)) (checks_of (in_module xs)) both)) (in_field x) (field_fixed x))
       (all_stand xs (each_rest p (checks_of (in_field x)) (checks_of (in_module xs)) both))

@@ -1,5 +1,6 @@
 -- The ids of source types have the same numbers in the expanded fields.
-use Rattle.std.proofs.Common.{◌≡◌, ℕ, suc, ◌<◌, ◌≤◌, Bool, true, false, ◌&&◌, ◌||◌, List, [], ◌∷◌, ◌++◌, map, Option, Some, None, option_map, is_some, refl, sym, ap, ◌∙◌, arith}
+use Rattle.std.proofs.Common.{◌≡◌, ℕ, suc, ◌<◌, ◌≤◌, Bool, true, false, ◌&&◌, ◌||◌, List, [], ◌∷◌, ◌++◌, map, Option, Some, None}
+use Rattle.std.proofs.Common.{option_map, is_some, refl, sym, ap, ◌∙◌, arith}
 use Rattle.std.specs.Cmp.{second_so}
 use Rattle.std.specs.List.{list_any, position}
 use Rattle.wast_base.specs.Ids.{Name, Mark, generation_of}
@@ -24,7 +25,8 @@ still_there : {A : Type 0} (p : A → Bool) (xs ys : List A) (i : ℕ) → posit
 still_there p [] ys i e = absurd (cc e)
 still_there {A} p (x ∷ xs) ys i e = by_test (p x) refl (still_there p xs ys)
   where
-    shifted : (o : Option ℕ) → position p xs ≡ o → ((j : ℕ) → position p xs ≡ Some j → position p (xs ++ ys) ≡ Some j) → option_map suc o ≡ Some i → option_map suc (position p (xs ++ ys)) ≡ Some i
+    shifted : (o : Option ℕ) → position p xs ≡ o → ((j : ℕ) → position p xs ≡ Some j → position p (xs ++ ys) ≡ Some j) → option_map suc o ≡ Some i
+        → option_map suc (position p (xs ++ ys)) ≡ Some i
     shifted None at rest f = absurd (cc f)
     shifted (Some j) at rest f = ap (option_map suc) (rest j at) ∙ f
 
@@ -41,16 +43,20 @@ called_below q (Some m) h = let e : generation_of m.0 ≡ generation_of q = ap n
     named None = 0
     named (Some n) = generation_of n
 
-borne_below : (q : Name) (xs : List Item) → list_any (λ (x : Item). same_space space.Ty x.space && is_called q (name_if x.id)) xs ≡ true → generation_of q ≤ greatest_item xs
+borne_below : (q : Name) (xs : List Item) → list_any (λ (x : Item). same_space space.Ty x.space && is_called q (name_if x.id)) xs ≡ true
+    → generation_of q ≤ greatest_item xs
 borne_below q [] h = absurd (cc h)
 borne_below q (x ∷ xs) h = by_test (same_space space.Ty x.space && is_called q (name_if x.id)) refl h (borne_below q xs)
   where
-    by_test : (b : Bool) → same_space space.Ty x.space && is_called q (name_if x.id) ≡ b → (b || list_any (λ (x : Item). same_space space.Ty x.space && is_called q (name_if x.id)) xs) ≡ true
-        → (list_any (λ (x : Item). same_space space.Ty x.space && is_called q (name_if x.id)) xs ≡ true → generation_of q ≤ greatest_item xs) → generation_of q ≤ greatest_item (x ∷ xs)
+    by_test : (b : Bool) → same_space space.Ty x.space && is_called q (name_if x.id) ≡ b
+        → (b || list_any (λ (x : Item). same_space space.Ty x.space && is_called q (name_if x.id)) xs) ≡ true
+        → (list_any (λ (x : Item). same_space space.Ty x.space && is_called q (name_if x.id)) xs ≡ true → generation_of q ≤ greatest_item xs)
+        → generation_of q ≤ greatest_item (x ∷ xs)
     by_test true e h rest = let l = called_below q x.id (second_so (same_space space.Ty x.space) (is_called q (name_if x.id)) e) in omega (arith, l)
     by_test false e h rest = let l = rest h in omega (arith, l)
 
-pub names_continue : (n : ℕ) (fields : List ModuleField) → greatest_item (items fields) < n → Continues (type_names fields) (id_context (items (expanded_fields n fields)))
+pub names_continue : (n : ℕ) (fields : List ModuleField) → greatest_item (items fields) < n
+    → Continues (type_names fields) (id_context (items (expanded_fields n fields)))
 names_continue n fields above q p at =
     let own = names_in space.Ty (items fields) in
     let new = map unnamed_type (implied_signatures fields) in

@@ -11,14 +11,16 @@ use Rattle.wast_tree_nodes.specs.Items.{Item, item, items_in, items}
 use Rattle.wast_tree_nodes.specs.Known.{names_in}
 use Rattle.wast_tree_nodes.specs.Sites.{in_module}
 use Rattle.wast_tree_nodes.proofs.Bearing.{borne_by_both}
-use Rattle.wast_expand_inline.specs.WriteOut.{Reference, export_of, elem_in, data_in, func_alone, table_alone, memory_alone, global_alone, tag_alone, desugar_field}
+use Rattle.wast_expand_inline.specs.WriteOut.{Reference, export_of, elem_in, data_in, func_alone, table_alone, memory_alone, global_alone}
+use Rattle.wast_expand_inline.specs.WriteOut.{tag_alone, desugar_field}
 use Rattle.wast_expand_inline.specs.Referring.{by_position}
 use Rattle.wast_expand_inline.specs.Written.{written_after, desugared_by_position}
 use Rattle.wast_expand_inline.proofs.WrittenItems.{same_after}
 use Rattle.wast_expand_keys.specs.Signatures.{Signature}
 use Rattle.wast_expand_keys.specs.ImpliedTypes.{implied_signatures}
 use Rattle.wast_expand_keys.specs.Expanded.{unnamed_type}
-use Rattle.wast_resolve_laws.specs.Tree.{Span, Index, Space, ExportKind, FuncKind, Func, TableKind, Table, MemoryKind, Memory, GlobalKind, Global, TagKind, Tag, ModuleField}
+use Rattle.wast_resolve_laws.specs.Tree.{Span, Index, Space, ExportKind, FuncKind, Func, TableKind, Table, MemoryKind, Memory, GlobalKind}
+use Rattle.wast_resolve_laws.specs.Tree.{Global, TagKind, Tag, ModuleField}
 use Rattle.wast_resolve_laws.specs.Tree.space
 use Rattle.wast_resolve_laws.specs.Tree.export
 use Rattle.wast_resolve_laws.specs.Tree.func
@@ -31,7 +33,8 @@ use Rattle.wast_tree_nodes.specs.Profiles.{is_imported_func, is_imported_table, 
 use Rattle.wast_resolve_rules.specs.ImportOrder.{imported_at, import_place, unless_import, defines, nothing_defined}
 use Rattle.wast_resolve_rules.specs.Scopes.{module_scope}
 use Rattle.wast_resolve_rules.specs.Explicit.{explicit_fields}
-use Rattle.wast_resolve_rules.specs.Demands.{Demand, one_demand, first_unmet, each_after, own_demand, field_demands, item_demand, item_demands, site_demands, order_demands, demands}
+use Rattle.wast_resolve_rules.specs.Demands.{Demand, one_demand, first_unmet, each_after, own_demand, field_demands, item_demand}
+use Rattle.wast_resolve_rules.specs.Demands.{item_demands, site_demands, order_demands, demands}
 use Rattle.wast_resolve_rules.specs.Early.{early_demands}
 use Rattle.wast_resolve_laws.specs.Laws.{EarlyStays, EarlyIsFirst, SitesComeAfter}
 use Rattle.wast_resolve_laws.proofs.OrderKept.{completed_orders}
@@ -44,24 +47,29 @@ orders_at place s last ys = nothing_defined last place ++ orders_from (option_or
 
 module _ (last : Option Space) (ys : List ModuleField) where
   -- exports have no such check
-  exported : (span : Span) (k : ExportKind) (i : Index) (names : List (Bor (List ℕ))) → orders_from last (map (export_of span k i) names ++ ys) ≡ orders_from last ys
+  exported : (span : Span) (k : ExportKind) (i : Index) (names : List (Bor (List ℕ)))
+      → orders_from last (map (export_of span k i) names ++ ys) ≡ orders_from last ys
   exported span k i [] = refl
   exported span k i (name ∷ names) = exported span k i names
 
   -- neither have segments
-  func_orders : (f : Func) (k : FuncKind) → orders_from last (func_alone f k ∷ ys) ≡ orders_at (imported_at f.span (Some (is_imported_func k))) space.Func last ys
+  func_orders : (f : Func) (k : FuncKind)
+      → orders_from last (func_alone f k ∷ ys) ≡ orders_at (imported_at f.span (Some (is_imported_func k))) space.Func last ys
   func_orders f (func.Import source exact) = refl
   func_orders f (func.Inline locals e) = refl
 
-  table_orders : (t : Table) (k : TableKind) (i : Index) → orders_from last ((elem_in k t.span i ++ table_alone t k ∷ []) ++ ys) ≡ orders_at (imported_at t.span (Some (is_imported_table k))) space.Table last ys
+  table_orders : (t : Table) (k : TableKind) (i : Index) → orders_from last ((elem_in k t.span i ++ table_alone t k ∷ []) ++ ys) ≡ orders_at
+      (imported_at t.span (Some (is_imported_table k))) space.Table last ys
   table_orders t (table.Import source ty) i = refl
   table_orders t x i = refl
 
-  memory_orders : (m : Memory) (k : MemoryKind) (i : Index) → orders_from last ((data_in k m.span i ++ memory_alone m k ∷ []) ++ ys) ≡ orders_at (imported_at m.span (Some (is_imported_memory k))) space.Memory last ys
+  memory_orders : (m : Memory) (k : MemoryKind) (i : Index) → orders_from last ((data_in k m.span i ++ memory_alone m k ∷ []) ++ ys) ≡ orders_at
+      (imported_at m.span (Some (is_imported_memory k))) space.Memory last ys
   memory_orders m (memory.Import source ty) i = refl
   memory_orders m x i = refl
 
-  global_orders : (g : Global) (k : GlobalKind) → orders_from last (global_alone g k ∷ ys) ≡ orders_at (imported_at g.span (Some (is_imported_global k))) space.Global last ys
+  global_orders : (g : Global) (k : GlobalKind)
+      → orders_from last (global_alone g k ∷ ys) ≡ orders_at (imported_at g.span (Some (is_imported_global k))) space.Global last ys
   global_orders g (global.Import source) = refl
   global_orders g (global.Inline e) = refl
 
@@ -74,7 +82,8 @@ module _ (last : Option Space) (span : Span) (k : ExportKind) (i : Index) (names
   behind_exports : orders_from last ((map (export_of span k i) names ++ xs) ++ ys) ≡ orders_from last (xs ++ ys)
   behind_exports = ap (orders_from last) (append_assoc (map (export_of span k i) names) xs ys) ∙ exported last (xs ++ ys) span k i names
 
-field_orders : (r : Reference) (x : ModuleField) (last : Option Space) (ys : List ModuleField) → orders_from last (desugar_field r x ++ ys) ≡ nothing_defined last (import_place x) ++ orders_from (option_or (defines x) last) ys
+field_orders : (r : Reference) (x : ModuleField) (last : Option Space) (ys : List ModuleField)
+    → orders_from last (desugar_field r x ++ ys) ≡ nothing_defined last (import_place x) ++ orders_from (option_or (defines x) last) ys
 field_orders r (field.Func f) last ys = behind_exports last f.span export.Func _ f.exports.names (func_alone f f.kind ∷ []) ys ∙ func_orders last ys f f.kind
 field_orders r (field.Table t) last ys =
     let i : Index = r space.Table t.span t.id in
@@ -82,7 +91,8 @@ field_orders r (field.Table t) last ys =
 field_orders r (field.Memory m) last ys =
     let i : Index = r space.Memory m.span m.id in
     behind_exports last m.span export.Memory i m.exports.names (data_in m.kind m.span i ++ memory_alone m m.kind ∷ []) ys ∙ memory_orders last ys m m.kind i
-field_orders r (field.Global g) last ys = behind_exports last g.span export.Global _ g.exports.names (global_alone g g.kind ∷ []) ys ∙ global_orders last ys g g.kind
+field_orders r (field.Global g) last ys = behind_exports last g.span export.Global _ g.exports.names (global_alone g g.kind ∷ []) ys
+    ∙ global_orders last ys g g.kind
 field_orders r (field.Tag t) last ys = behind_exports last t.span export.Tag _ t.exports.names (tag_alone t t.kind ∷ []) ys ∙ tag_orders last ys t t.kind
 field_orders r x last ys = refl
 
@@ -93,7 +103,8 @@ orders_after before (x ∷ xs) last =
     ∙ ap (λ ds. nothing_defined last (import_place x) ++ ds) (orders_after (before ++ items_in x) xs (option_or (defines x) last))
 
 orders_stay : (fields : List ModuleField) → order_demands (explicit_fields fields) ≡ order_demands fields
-orders_stay fields = completed_orders (desugared_by_position fields) ∙ (orders_are (desugared_by_position fields) ∙ (orders_after [] fields None ∙ sym (orders_are fields)))
+orders_stay fields = completed_orders (desugared_by_position fields)
+    ∙ (orders_are (desugared_by_position fields) ∙ (orders_after [] fields None ∙ sym (orders_are fields)))
 
 -- Checks of items, from the names before them.
 abbrev Borne : Type 0
@@ -113,7 +124,8 @@ clashes_by borne (x ∷ xs) = (own_by borne x.space x.id ++ field_demands x.fiel
 abbrev borne_in : List Item → Borne
 borne_in before s q = is_borne q (names_in s before)
 
-own_is : (before : List Item) (s : Space) (id : Option Mark) (fields : List (Option Mark)) → own_demand before (record { space = s; id = id; fields = fields }) ≡ own_by (borne_in before) s id
+own_is : (before : List Item) (s : Space) (id : Option Mark) (fields : List (Option Mark))
+    → own_demand before (record { space = s; id = id; fields = fields }) ≡ own_by (borne_in before) s id
 own_is before s None fields = refl
 own_is before s (Some m) fields = refl
 
@@ -125,7 +137,9 @@ demands_are before [] = refl
 demands_are before (x ∷ xs) =
     ap (λ ds. (ds ++ field_demands x.fields) ++ each_after item_demand (before ++ x ∷ []) xs) (own_is before x.space x.id x.fields)
     ∙ ap (λ ds. (own_by (borne_in before) x.space x.id ++ field_demands x.fields) ++ ds)
-    (demands_are (before ++ x ∷ []) xs ∙ ap (λ borne. clashes_by borne xs) (same_borne (borne_in (before ++ x ∷ [])) (with_item (borne_in before) x) (λ s q. borne_by_both s q before (x ∷ []))))
+    (demands_are (before ++ x ∷ []) xs
+    ∙ ap (λ borne. clashes_by borne xs) (same_borne (borne_in (before ++ x ∷ [])) (with_item (borne_in before) x)
+    (λ s q. borne_by_both s q before (x ∷ []))))
 
 -- An item without id and fields makes no difference.
 bare_bears : (borne : Borne) (t : Space) → with_item borne (item t None []) ≡ borne
@@ -155,7 +169,8 @@ items_stay fields =
     let written = desugared_by_position fields in
     let types = map unnamed_type (implied_signatures written) in
     let same : clashes (items (explicit_fields fields)) ≡ clashes (items fields) =
-    ap clashes (flat_map-append items_in written types) ∙ (behind (items written) (implied_signatures written) ∙ same_after clashes (λ s xs h. skips s xs) more [] fields) in
+    ap clashes (flat_map-append items_in written types)
+    ∙ (behind (items written) (implied_signatures written) ∙ same_after clashes (λ s xs h. skips s xs) more [] fields) in
     demands_are [] (items (explicit_fields fields)) ∙ (ap (λ (f : Borne → List Demand). f (borne_in [])) same ∙ sym (demands_are [] (items fields)))
 
 pub early_stays : EarlyStays
@@ -168,7 +183,8 @@ module _ (fields : List ModuleField) where
 
   sites_behind : demands (explicit_fields fields) ≡ early_demands fields ++ sites
   sites_behind =
-      sym (append_assoc (order_demands (explicit_fields fields)) (item_demands (items (explicit_fields fields))) sites) ∙ ap (λ ds. ds ++ sites) (early_stays fields)
+      sym (append_assoc (order_demands (explicit_fields fields)) (item_demands (items (explicit_fields fields))) sites)
+      ∙ ap (λ ds. ds ++ sites) (early_stays fields)
 
 pub early_is_first : EarlyIsFirst
 early_is_first fields f h = ap first_unmet (sites_behind fields) ∙ unmet_append (early_demands fields) (sites fields) f h

@@ -65,8 +65,10 @@ module _ (n : ℕ) (fields : List ModuleField) (free : first_unmet (item_demands
       let x : ModuleField = bound_field find (field.Func f) in
       let now : ℕ = length (declared_ids f.ty.inline (mapped_func_kind (binding_change find) f.ty f.kind)) in
       ap (λ m. (m + now) ∷ open_counts (in_field x)) (bound_unsaid f.ty.index f.ty.inline)
-      ∙ (ap (λ ms. (unsaid_params new f.ty.index f.ty.inline + length (param_marks f.ty.inline ++ ms)) ∷ open_counts (in_field x)) (kind_declared (binding_change find) (binding_keeps find) f.ty f.kind)
-      ∙ ap (λ ns. (unsaid_params new f.ty.index f.ty.inline + length (declared_ids f.ty.inline f.kind)) ∷ ns) (still_open (binding_change find) (binding_keeps find) (field.Func f)))
+      ∙ (ap (λ ms. (unsaid_params new f.ty.index f.ty.inline + length (param_marks f.ty.inline ++ ms)) ∷ open_counts (in_field x))
+      (kind_declared (binding_change find) (binding_keeps find) f.ty f.kind)
+      ∙ ap (λ ns. (unsaid_params new f.ty.index f.ty.inline + length (declared_ids f.ty.inline f.kind)) ∷ ns)
+      (still_open (binding_change find) (binding_keeps find) (field.Func f)))
   bound_body x = still_open (binding_change find) (binding_keeps find) x
 
   given_body : (m : ℕ) (x : ModuleField) → body_counts_in new (with_type_id m x) ≡ body_counts_in new x

@@ -16,7 +16,8 @@ use Rattle.wast_resolve_rules.specs.Scopes.{shape_of, shapes_in, shapes_of_types
 
 -- A function of each field that ignores ids and indices of type uses has the same value on the list.
 module _ {A : Type 0} (f : ModuleField → List A) where
-  pub each_bound : (find : LookUp) → ((x : ModuleField) → f (bound_field find x) ≡ f x) → (xs : List ModuleField) → flat_map f (map (bound_field find) xs) ≡ flat_map f xs
+  pub each_bound : (find : LookUp) → ((x : ModuleField) → f (bound_field find x) ≡ f x) → (xs : List ModuleField)
+      → flat_map f (map (bound_field find) xs) ≡ flat_map f xs
   each_bound find bound [] = refl
   each_bound find bound (x ∷ xs) = ap (λ ys. ys ++ flat_map f (map (bound_field find) xs)) (bound x) ∙ ap (λ ys. f x ++ ys) (each_bound find bound xs)
 
@@ -27,19 +28,23 @@ module _ {A : Type 0} (f : ModuleField → List A) where
 
     each_filled : (n : ℕ) (xs : List ModuleField) → flat_map f (with_ids_from lacks_id with_type_id n xs) ≡ flat_map f xs
     each_filled n [] = refl
-    each_filled n (x ∷ xs) = ap (λ ys. ys ++ flat_map f (with_ids_from lacks_id with_type_id (n + one_if (lacks_id x)) xs)) (if_given (lacks_id x) n x) ∙ ap (λ ys. f x ++ ys) (each_filled (n + one_if (lacks_id x)) xs)
+    each_filled n (x ∷ xs) = ap (λ ys. ys ++ flat_map f (with_ids_from lacks_id with_type_id (n + one_if (lacks_id x)) xs))
+        (if_given (lacks_id x) n x) ∙ ap (λ ys. f x ++ ys) (each_filled (n + one_if (lacks_id x)) xs)
 
     each_implied : (n : ℕ) (ss : List Signature) → flat_map f (implied_types n ss) ≡ flat_map f (map unnamed_type ss)
     each_implied n [] = refl
-    each_implied n (s ∷ ss) = ap (λ ys. ys ++ flat_map f (implied_types (n + 1) ss)) (given n (unnamed_type s)) ∙ ap (λ ys. f (unnamed_type s) ++ ys) (each_implied (n + 1) ss)
+    each_implied n (s ∷ ss) = ap (λ ys. ys ++ flat_map f (implied_types (n + 1) ss)) (given n (unnamed_type s))
+        ∙ ap (λ ys. f (unnamed_type s) ++ ys) (each_implied (n + 1) ss)
 
-    pub all_stay : (n : ℕ) (fields : List ModuleField) → ((x : ModuleField) → f (bound_field (found_for fields n) x) ≡ f x) → flat_map f (expanded_fields n fields) ≡ flat_map f (fields_with_implied_types fields)
+    pub all_stay : (n : ℕ) (fields : List ModuleField) → ((x : ModuleField) → f (bound_field (found_for fields n) x) ≡ f x)
+        → flat_map f (expanded_fields n fields) ≡ flat_map f (fields_with_implied_types fields)
     all_stay n fields bound =
         let m : ℕ = n + missing_id_count lacks_id fields in
         each_bound (found_for fields n) bound (fields_with_types n fields)
         ∙ (flat_map-append f (with_ids_from lacks_id with_type_id n fields) (implied_types m (implied_signatures fields))
         ∙ (ap (λ ys. ys ++ flat_map f (implied_types m (implied_signatures fields))) (each_filled n fields)
-        ∙ (ap (λ ys. flat_map f fields ++ ys) (each_implied m (implied_signatures fields)) ∙ sym (flat_map-append f fields (map unnamed_type (implied_signatures fields))))))
+        ∙ (ap (λ ys. flat_map f fields ++ ys) (each_implied m (implied_signatures fields))
+        ∙ sym (flat_map-append f fields (map unnamed_type (implied_signatures fields))))))
 
 bound_types : (find : LookUp) (x : ModuleField) → shapes_in (bound_field find x) ≡ shapes_in x
 bound_types find (field.Ty t) = ap (λ (t : ty.«Type»). shape_of t.def.kind ∷ []) (type_at t).still

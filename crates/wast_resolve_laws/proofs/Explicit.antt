@@ -11,9 +11,12 @@ use Rattle.wast_resolve_laws.specs.Tree.{ModuleField}
 use Rattle.wast_resolve_rules.specs.Scopes.{module_scope}
 use Rattle.wast_resolve_rules.specs.Demands.{first_unmet, demands}
 use Rattle.wast_resolve_rules.specs.Explicit.{explicit_fields, explicit_fields_from, generated_id_count}
-use Rattle.wast_resolve_laws.specs.Laws.{SameAnswer, SameCounts, SameBodyCounts, ExplicitStaysWellFormed, NoIdIsLeft, FinishedStaysWellFormed, SamePositions, FinishedIsResolved, FinishedIsBelow, UsesHaveIndices, FinishedIsWrittenOut, ItemsStay}
+use Rattle.wast_resolve_laws.specs.Laws.{SameAnswer, SameCounts, SameBodyCounts, ExplicitStaysWellFormed, NoIdIsLeft}
+use Rattle.wast_resolve_laws.specs.Laws.{FinishedStaysWellFormed, SamePositions, FinishedIsResolved, FinishedIsBelow, UsesHaveIndices}
+use Rattle.wast_resolve_laws.specs.Laws.{FinishedIsWrittenOut, ItemsStay}
 use Rattle.wast_resolve_laws.proofs.AtRest.{items_stay}
-use Rattle.wast_resolve_laws.proofs.Composed.{same_answer, same_counts, same_bodies, expanded_well_formed, all_are_numbers, numbered_well_formed, numbered_below}
+use Rattle.wast_resolve_laws.proofs.Composed.{same_answer, same_counts, same_bodies, expanded_well_formed, all_are_numbers}
+use Rattle.wast_resolve_laws.proofs.Composed.{numbered_well_formed, numbered_below}
 use Rattle.wast_resolve_laws.proofs.Indexed.{numbered_indexed, numbered_resolved}
 use Rattle.wast_resolve_laws.proofs.InPlace.{numbered_written_out}
 use Rattle.wast_resolve_laws.proofs.ByPosition.{numbered_by_position}
@@ -49,7 +52,8 @@ explicit_bodies n fields above free =
     same_bodies (next n fields) (desugared_from n fields) (still_above n fields above) (clashes_alike n fields above ∙ free) ∙ written_bodies n fields above
 
 pub explicit_well_formed : ExplicitStaysWellFormed
-explicit_well_formed n fields above h = expanded_well_formed (next n fields) (desugared_from n fields) (still_above n fields above) (written_well_formed n fields h)
+explicit_well_formed n fields above h = expanded_well_formed (next n fields) (desugared_from n fields) (still_above n fields above)
+    (written_well_formed n fields h)
 
 pub finished_numbered : NoIdIsLeft
 finished_numbered n fields above met = all_are_numbers (next n fields) (desugared_from n fields) (still_above n fields above) (met_alike n fields above met)
@@ -58,11 +62,13 @@ pub finished_resolved : FinishedIsResolved
 finished_resolved n fields above met = numbered_resolved (next n fields) (desugared_from n fields) (still_above n fields above) (met_alike n fields above met)
 
 pub finished_well_formed : FinishedStaysWellFormed
-finished_well_formed n fields above h met = numbered_well_formed (next n fields) (desugared_from n fields) (still_above n fields above) (written_well_formed n fields h) (met_alike n fields above met)
+finished_well_formed n fields above h met = numbered_well_formed (next n fields) (desugared_from n fields) (still_above n fields above)
+    (written_well_formed n fields h) (met_alike n fields above met)
 
 pub finished_by_position : SamePositions
 finished_by_position n fields above met =
-    numbered_by_position (next n fields) (desugared_from n fields) (still_above n fields above) (met_alike n fields above met) ∙ written_positions n fields above (met_alike n fields above met)
+    numbered_by_position (next n fields) (desugared_from n fields) (still_above n fields above) (met_alike n fields above met)
+    ∙ written_positions n fields above (met_alike n fields above met)
 
 pub finished_below : FinishedIsBelow
 finished_below n fields above =

@@ -23,7 +23,8 @@ bounded (e ∷ m) a c h = by (same_name a e.0) (renamed_name m a) (bounded m a c
 differs : (m : FiniteNaming) (a b c : Name) → renamed_name m a ≡ Some c → c ≡ other_name m b → ⊥
 differs m a (Written text) c h e =
     let l = (bounded m a c h).0 in
-    let k : length (text_of c) ≡ length (replicate (1 + longest m) 0) + length text = ap (λ q. length (text_of q)) e ∙ length-append (replicate (1 + longest m) 0) text in
+    let k : length (text_of c) ≡ length (replicate (1 + longest m) 0) + length text = ap (λ q. length (text_of q)) e
+    ∙ length-append (replicate (1 + longest m) 0) text in
     let z = length-replicate {A = ℕ} (1 + longest m) 0 in
     omega (arith, l, k, z)
 differs m a (Generated n) c h e =

@@ -38,7 +38,8 @@ Within k (a ∷ us) [] = ⊥
 Within k (a ∷ us) (b ∷ bs) = ((s : Signature) → a ≡ Some s → (u : Signature) × (b ≡ Function u) × (s ≡ numbered_signature k u)) × Within k us bs
 
 module _ (k : TypeNames) where
-  within_both : (us : List (Option Signature)) (bs : List Shape) (cs : List (Option Signature)) (ds : List Shape) → Within k us bs → Within k cs ds → Within k (us ++ cs) (bs ++ ds)
+  within_both : (us : List (Option Signature)) (bs : List Shape) (cs : List (Option Signature)) (ds : List Shape) → Within k us bs → Within k cs ds
+      → Within k (us ++ cs) (bs ++ ds)
   within_both [] [] cs ds h g = g
   within_both [] (b ∷ bs) cs ds h g = absurd h
   within_both (a ∷ us) [] cs ds h g = absurd h
@@ -48,7 +49,8 @@ module _ (k : TypeNames) where
   none_within [] = tt
   none_within (m ∷ ms) = (λ s e. absurd (cc e), none_within ms)
 
-  kind_shape : (d : InnerTypeKind) (s : Signature) → option_map (numbered_signature k) (kind_signature d) ≡ Some s → (u : Signature) × (shape_of d ≡ Function u) × (s ≡ numbered_signature k u)
+  kind_shape : (d : InnerTypeKind) (s : Signature) → option_map (numbered_signature k) (kind_signature d) ≡ Some s
+      → (u : Signature) × (shape_of d ≡ Function u) × (s ≡ numbered_signature k u)
   kind_shape (inner.Func t) s e = (signature_of t, refl, sym (inside e))
     where
       or_empty : Option Signature → Signature
@@ -64,7 +66,8 @@ module _ (k : TypeNames) where
   taken_shape : (d : TypeDef) (s : Signature) → taken_by k d ≡ Some s → (u : Signature) × (shape_of d.kind ≡ Function u) × (s ≡ numbered_signature k u)
   taken_shape d s e = by_test (is_eligible d) e
     where
-      by_test : (b : Bool) → cond b (option_map (numbered_signature k) (kind_signature d.kind)) None ≡ Some s → (u : Signature) × (shape_of d.kind ≡ Function u) × (s ≡ numbered_signature k u)
+      by_test : (b : Bool) → cond b (option_map (numbered_signature k) (kind_signature d.kind)) None ≡ Some s
+          → (u : Signature) × (shape_of d.kind ≡ Function u) × (s ≡ numbered_signature k u)
       by_test true e = kind_shape d.kind s e
       by_test false e = absurd (cc e)
 
@@ -77,7 +80,8 @@ module _ (k : TypeNames) where
   all_within [] = tt
   all_within (x ∷ xs) = within_both (types_in k x) (shapes_in x) (flat_map (types_in k) xs) (shapes_of_types xs) (field_within x) (all_within xs)
 
-  within_get : (us : List (Option Signature)) (bs : List Shape) → Within k us bs → (p : ℕ) (s : Signature) → slice_get us p ≡ Some (Some s) → (u : Signature) × (slice_get bs p ≡ Some (Function u)) × (s ≡ numbered_signature k u)
+  within_get : (us : List (Option Signature)) (bs : List Shape) → Within k us bs → (p : ℕ) (s : Signature) → slice_get us p ≡ Some (Some s)
+      → (u : Signature) × (slice_get bs p ≡ Some (Function u)) × (s ≡ numbered_signature k u)
   within_get [] [] h p s e = absurd (cc e)
   within_get [] (b ∷ bs) h p s e = absurd h
   within_get (a ∷ us) [] h p s e = absurd h
@@ -98,7 +102,8 @@ pub record HasSignature (k : TypeNames) (c : Scope) (s : Signature) (i : Index) 
   pub same : same_signature (numbered_signature k s) (numbered_signature k found) ≡ true
 
 -- an inline type whose ids are known matches it
-pub it_matches : (k : TypeNames) (c : Scope) → Continues k c.known → (t : FunctionType) (i : Index) → HasSignature k c (signature_of t) i → first_unmet (ask_demands c.known (in_signature t)) ≡ None → first_unmet (match_demands c i t) ≡ None
+pub it_matches : (k : TypeNames) (c : Scope) → Continues k c.known → (t : FunctionType) (i : Index) → HasSignature k c (signature_of t) i
+    → first_unmet (ask_demands c.known (in_signature t)) ≡ None → first_unmet (match_demands c i t) ≡ None
 it_matches k c continues t i h met =
     let place = place_of h.id in
     ap (λ j. first_unmet (match_demands c j t)) h.is
@@ -119,31 +124,40 @@ module _ (n : ℕ) (fields : List ModuleField) (free : first_unmet (item_demands
   same_names = ap (names_in space.Ty) (bound_items (found_for fields n) (fields_with_types n fields)) ∙ names_of_types (fields_with_types n fields)
 
   -- the id at a position has it as its number
-  pub id_denotes : (p : ℕ) (id : Id) → slice_get ids p ≡ Some (Some id) → position_of (name_of id) (names_in space.Ty (items (expanded_fields n fields))) ≡ Some p
+  pub id_denotes : (p : ℕ) (id : Id) → slice_get ids p ≡ Some (Some id)
+      → position_of (name_of id) (names_in space.Ty (items (expanded_fields n fields))) ≡ Some p
   id_denotes p id at =
-      let named : slice_get (names_by ids) p ≡ Some (Some (name_of id)) = slice_get-map (λ id. name_if (mark_of_option id)) ids p ∙ ap (option_map (λ id. name_if (mark_of_option id))) at in
-      let there : slice_get (names_in space.Ty (items (expanded_fields n fields))) p ≡ Some (Some (name_of id)) = ap (λ ns. slice_get ns p) same_names ∙ named in
-      free_position space.Ty (name_of id) (items (expanded_fields n fields)) free p (slice_get_within (names_in space.Ty (items (expanded_fields n fields))) p (Some (name_of id)) there)
+      let named : slice_get (names_by ids) p ≡ Some (Some (name_of id)) = slice_get-map (λ id. name_if (mark_of_option id)) ids p
+      ∙ ap (option_map (λ id. name_if (mark_of_option id))) at in
+      let there : slice_get (names_in space.Ty (items (expanded_fields n fields))) p ≡ Some (Some (name_of id)) = ap
+      (λ ns. slice_get ns p) same_names ∙ named in
+      free_position space.Ty (name_of id) (items (expanded_fields n fields)) free p
+      (slice_get_within (names_in space.Ty (items (expanded_fields n fields))) p (Some (name_of id)) there)
       (get_or_from_slice_get (names_in space.Ty (items (expanded_fields n fields))) p (Some (name_of id)) None there)
 
   abbrev k : TypeNames
   k = type_names fields
 
   -- the type at a position of the type space
-  type_stands : (s : Signature) (p : ℕ) → index_for fields s ≡ Some p → (t : Signature) × (slice_get (shapes_of_types (expanded_fields n fields)) p ≡ Some (Function t)) × (same_signature (numbered_signature k s) (numbered_signature k t) ≡ true)
+  type_stands : (s : Signature) (p : ℕ) → index_for fields s ≡ Some p
+      → (t : Signature) × (slice_get (shapes_of_types (expanded_fields n fields)) p ≡ Some (Function t)) ×
+      (same_signature (numbered_signature k s) (numbered_signature k t) ≡ true)
   type_stands s p at =
       let space = type_space fields in
       let x = position-Some (has_signature (numbered_signature k s)) space p None at in
       let t = its_signature (numbered_signature k s) (get_or space p None) x.1 in
       let here : slice_get space p ≡ Some (Some t.0) = slice_get-get_or space p None x.0 ∙ ap Some t.1 in
-      let there : slice_get (flat_map (types_in k) (expanded_fields n fields)) p ≡ Some (Some t.0) = ap (λ ts. slice_get ts p) (types_are_the_space n fields) ∙ here in
-      let u = within_get k (flat_map (types_in k) (expanded_fields n fields)) (shapes_of_types (expanded_fields n fields)) (all_within k (expanded_fields n fields)) p t.0 there in
+      let there : slice_get (flat_map (types_in k) (expanded_fields n fields)) p ≡ Some (Some t.0) = ap (λ ts. slice_get ts p)
+      (types_are_the_space n fields) ∙ here in
+      let u = within_get k (flat_map (types_in k) (expanded_fields n fields)) (shapes_of_types (expanded_fields n fields))
+      (all_within k (expanded_fields n fields)) p t.0 there in
       (u.0, u.1, ap (same_signature (numbered_signature k s)) (sym u.2) ∙ t.2)
 
   pub what_is_found : (s : Signature) (i : Index) → found_for fields n s ≡ Some i → HasSignature k (module_scope (expanded_fields n fields)) s i
   what_is_found s i e = by_index (index_for fields s) refl (sym (takes_the_type_at_its_index n fields s) ∙ e)
     where
-      by_slot : (p : ℕ) → index_for fields s ≡ Some p → (o : Option (Option Id)) → slice_get ids p ≡ o → index_by_id o ≡ Some i → HasSignature k (module_scope (expanded_fields n fields)) s i
+      by_slot : (p : ℕ) → index_for fields s ≡ Some p → (o : Option (Option Id)) → slice_get ids p ≡ o → index_by_id o ≡ Some i
+          → HasSignature k (module_scope (expanded_fields n fields)) s i
       by_slot p at None there is = absurd (cc is)
       by_slot p at (Some None) there is = absurd (cc is)
       by_slot p at (Some (Some id)) there is =

@@ -33,7 +33,8 @@ later : (x : Item) (xs : List Item) (i : Index) → IsTypeOf xs i → IsTypeOf (
 later x xs i h = let b = h.below in record {
   id = h.id;
   is = h.is;
-  borne = borne_by_both space.Ty (name_of h.id) (x ∷ []) xs ∙ or_true (is_borne (name_of h.id) (names_in space.Ty (x ∷ []))) (is_borne (name_of h.id) (names_in space.Ty xs)) h.borne;
+  borne = borne_by_both space.Ty (name_of h.id) (x ∷ []) xs
+      ∙ or_true (is_borne (name_of h.id) (names_in space.Ty (x ∷ []))) (is_borne (name_of h.id) (names_in space.Ty xs)) h.borne;
   below = omega (arith, b);
 }
 
@@ -45,7 +46,8 @@ here : (xs : List Item) (id : Id) (fields : List StructField) (i : Index) → i 
 here xs id fields i is = record {
   id = id;
   is = is;
-  borne = borne_among space.Ty (name_of id) (item space.Ty (Some id) fields ∷ xs) ∙ ap (λ b. b || list_any (λ (x : Item). same_space space.Ty x.space && is_called (name_of id) (name_if x.id)) xs) (same_name_itself (name_of id));
+  borne = borne_among space.Ty (name_of id) (item space.Ty (Some id) fields ∷ xs)
+      ∙ ap (λ b. b || list_any (λ (x : Item). same_space space.Ty x.space && is_called (name_of id) (name_if x.id)) xs) (same_name_itself (name_of id));
   below = omega arith;
 }
 
@@ -53,11 +55,13 @@ pub found : (k : TypeNames) (xs : List ModuleField) (s : Signature) (i : Index) 
 found k [] s i h = absurd (cc h)
 found k (field.Ty t ∷ xs) s i h = by_taken (taken_by k t.def) t.id (fields_of t.def.kind) (found k xs s i) h
   where
-    by_test : (b : Bool) (id : Id) (fs : List StructField) → (index_of (bindings k xs) s ≡ Some i → IsTypeOf (items xs) i) → cond b (Some (index.Id id)) (index_of (bindings k xs) s) ≡ Some i → IsTypeOf (item space.Ty (Some id) fs ∷ items xs) i
+    by_test : (b : Bool) (id : Id) (fs : List StructField) → (index_of (bindings k xs) s ≡ Some i → IsTypeOf (items xs) i)
+        → cond b (Some (index.Id id)) (index_of (bindings k xs) s) ≡ Some i → IsTypeOf (item space.Ty (Some id) fs ∷ items xs) i
     by_test true id fs f h = here (items xs) id fs i (cc h)
     by_test false id fs f h = later (item space.Ty (Some id) fs) (items xs) i (f h)
 
-    by_taken : (o : Option Signature) (id : Option Id) (fs : List StructField) → (index_of (bindings k xs) s ≡ Some i → IsTypeOf (items xs) i) → index_of (binding_of o id ++ bindings k xs) s ≡ Some i → IsTypeOf (item space.Ty id fs ∷ items xs) i
+    by_taken : (o : Option Signature) (id : Option Id) (fs : List StructField) → (index_of (bindings k xs) s ≡ Some i → IsTypeOf (items xs) i)
+        → index_of (binding_of o id ++ bindings k xs) s ≡ Some i → IsTypeOf (item space.Ty id fs ∷ items xs) i
     by_taken None id fs f h = later (item space.Ty id fs) (items xs) i (f h)
     by_taken (Some t) None fs f h = later (item space.Ty None fs) (items xs) i (f h)
     by_taken (Some t) (Some id) fs f h = by_test (same_signature s t) id fs f h

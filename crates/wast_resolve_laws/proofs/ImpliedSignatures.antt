@@ -38,8 +38,10 @@ abbrev pub values_pass : (ValType → Bool) → Signature → Bool
 values_pass p s = list_all p s.0 && list_all p s.1
 
 -- the same after ids are replaced by numbers, if what passes does so as a number
-all_numbered : (p : ValType → Bool) (k : TypeNames) → ((v : ValType) → p v ≡ true → p (numbered_val k v) ≡ true) → (ss : List Signature) → list_all (values_pass p) ss ≡ true → list_all (values_pass p) (map (numbered_signature k) ss) ≡ true
-all_numbered p k one ss h = list_all-map (values_pass p) (numbered_signature k) ss ∙ all_pass (values_pass p) (λ s. values_pass p (numbered_signature k s)) each ss h
+all_numbered : (p : ValType → Bool) (k : TypeNames) → ((v : ValType) → p v ≡ true → p (numbered_val k v) ≡ true) → (ss : List Signature)
+    → list_all (values_pass p) ss ≡ true → list_all (values_pass p) (map (numbered_signature k) ss) ≡ true
+all_numbered p k one ss h = list_all-map (values_pass p) (numbered_signature k) ss
+    ∙ all_pass (values_pass p) (λ s. values_pass p (numbered_signature k s)) each ss h
   where
     each : (s : Signature) → values_pass p s ≡ true → values_pass p (numbered_signature k s) ≡ true
     each s h =
@@ -49,4 +51,5 @@ all_numbered p k one ss h = list_all-map (values_pass p) (numbered_signature k) 
 
 pub all_implied : (p : ValType → Bool) (fields : List ModuleField) → ((v : ValType) → p v ≡ true → p (numbered_val (type_names fields) v) ≡ true)
     → list_all (values_pass p) (needed_signatures fields) ≡ true → list_all (values_pass p) (implied_signatures fields) ≡ true
-all_implied p fields one h = all_new (values_pass p) (is_among (eligible_signatures fields)) (needed_numbers fields) (all_numbered p (type_names fields) one (needed_signatures fields) h)
+all_implied p fields one h = all_new (values_pass p) (is_among (eligible_signatures fields)) (needed_numbers fields)
+    (all_numbered p (type_names fields) one (needed_signatures fields) h)

@@ -8,4 +8,5 @@ use Rattle.wast_resolve_rules.specs.Resolved.{numbering_change}
 use Rattle.wast_resolve_laws.proofs.OfExpanded.{StaysWrittenOut}
 
 pub numbered_written_out : StaysWrittenOut
-numbered_written_out n fields = written_alone (numbering_change (module_scope (expanded_fields n fields))) (expanded_fields n fields) ∙ stays_written_out n fields
+numbered_written_out n fields = written_alone (numbering_change (module_scope (expanded_fields n fields))) (expanded_fields n fields)
+    ∙ stays_written_out n fields

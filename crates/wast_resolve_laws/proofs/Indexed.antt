@@ -7,7 +7,8 @@ use Rattle.std.specs.List.{list_all}
 use Rattle.std.proofs.lemmas.List.{length-map}
 use Rattle.std.proofs.lemmas.List.Folds.{list_all-map}
 use Rattle.wast_base.specs.Ids.{is_number}
-use Rattle.wast_tree_nodes.specs.Sites.{Where, OfItem, OfCall, OfBlock, Site, Asked, Used, LocalAt, FieldAt, LabelAt, in_type_use, asked_in, checks_of, in_module}
+use Rattle.wast_tree_nodes.specs.Sites.{Where, OfItem, OfCall, OfBlock, Site, Asked, Used, LocalAt, FieldAt, LabelAt, in_type_use, asked_in}
+use Rattle.wast_tree_nodes.specs.Sites.{checks_of, in_module}
 use Rattle.wast_tree_nodes.specs.Types.{is_short, says_enough}
 use Rattle.wast_tree_nodes.specs.Resolved.{is_numbered, are_numbered, is_resolved_site}
 use Rattle.wast_tree_map.specs.Mapped.{mapped_val, mapped_param, mapped_signature, mapped_site, mapped_field}
@@ -40,7 +41,8 @@ module _ (c : Scope) where
       ap (λ m. m == 0 && nat_lt (length (map (mapped_val (numbered_at c.known)) t.results)) 2) (length-map t.params (mapped_param (numbered_at c.known)))
       ∙ ap (λ m. length t.params == 0 && nat_lt m 2) (length-map t.results (mapped_val (numbered_at c.known)))
 
-  use_has : (w : Where) (i : Option Index) (t : Option FunctionType) → needed_without w i t ≡ [] → needed_by_use w (resolved_use c.known w (record { index = i; inline = t })) ≡ []
+  use_has : (w : Where) (i : Option Index) (t : Option FunctionType) → needed_without w i t ≡ []
+      → needed_by_use w (resolved_use c.known w (record { index = i; inline = t })) ≡ []
   use_has OfItem (Some i) t h = refl
   use_has OfItem None t h = absurd cc
   use_has OfCall (Some i) t h = refl
@@ -58,12 +60,14 @@ module _ (c : Scope) where
   sites_have : (ss : List Site) → needed_in ss ≡ [] → needed_in (map (mapped_site (numbering_change c)) ss) ≡ []
   sites_have [] none = refl
   sites_have (s ∷ ss) none =
-      ap (λ xs. xs ++ needed_in (map (mapped_site (numbering_change c)) ss)) (site_has s (left_none (needed_at s) (needed_in ss) none)) ∙ sites_have ss (right_none (needed_at s) (needed_in ss) none)
+      ap (λ xs. xs ++ needed_in (map (mapped_site (numbering_change c)) ss)) (site_has s (left_none (needed_at s) (needed_in ss) none))
+      ∙ sites_have ss (right_none (needed_at s) (needed_in ss) none)
 
   has_fields : (xs : List ModuleField) → needed_signatures xs ≡ [] → needed_signatures (map (mapped_field (numbering_change c)) xs) ≡ []
   has_fields xs none = ap needed_in (stands (numbering_change c) (numbering_keeps c) xs) ∙ sites_have (in_module xs) none
 
-  use_says : (w : Where) (i : Option Index) (t : Option FunctionType) → says (Used w (record { index = i; inline = t })) ≡ true → says (Used w (resolved_use c.known w (record { index = i; inline = t }))) ≡ true
+  use_says : (w : Where) (i : Option Index) (t : Option FunctionType) → says (Used w (record { index = i; inline = t })) ≡ true
+      → says (Used w (resolved_use c.known w (record { index = i; inline = t }))) ≡ true
   use_says OfBlock (Some i) t h = refl
   use_says OfBlock None (Some t) h = refl
   use_says OfBlock None None h = absurd (cc h)
@@ -76,13 +80,15 @@ module _ (c : Scope) where
   pub still_says : (xs : List ModuleField) → list_all says (in_module xs) ≡ true → list_all says (in_module (map (mapped_field (numbering_change c)) xs)) ≡ true
   still_says xs h =
       ap (list_all says) (stands (numbering_change c) (numbering_keeps c) xs)
-      ∙ (list_all-map says (mapped_site (numbering_change c)) (in_module xs) ∙ all_pass says (λ s. says (mapped_site (numbering_change c) s)) site_says (in_module xs) h)
+      ∙ (list_all-map says (mapped_site (numbering_change c)) (in_module xs)
+      ∙ all_pass says (λ s. says (mapped_site (numbering_change c) s)) site_says (in_module xs) h)
 
 pub numbered_indexed : HasIndices
 numbered_indexed n fields = has_fields (module_scope (expanded_fields n fields)) (expanded_fields n fields) (uses_are_bound n fields)
 
 -- If each index is a number and no type use needs a type, the list is resolved.
-use_enough : (w : Where) (i : Option Index) (t : Option FunctionType) → needed_without w i t ≡ [] → says (Used w (record { index = i; inline = t })) ≡ true → (is_some i || says_enough w t) ≡ true
+use_enough : (w : Where) (i : Option Index) (t : Option FunctionType) → needed_without w i t ≡ []
+    → says (Used w (record { index = i; inline = t })) ≡ true → (is_some i || says_enough w t) ≡ true
 use_enough w (Some i) t none said = refl
 use_enough OfItem None t none said = absurd cc
 use_enough OfCall None t none said = absurd cc
@@ -91,7 +97,8 @@ use_enough OfBlock None (Some t) none said = none_needed (is_short t) (signature
 
 site_resolved : (s : Site) → needed_at s ≡ [] → says s ≡ true → are_numbered (asked_in s) ≡ true → is_resolved_site s ≡ true
 site_resolved (Asked a) none said h = first_so (is_numbered a) true h
-site_resolved (Used w u) none said h = both_so (is_some u.index || says_enough w u.inline) (are_numbered (in_type_use u)) (use_enough w u.index u.inline none said) h
+site_resolved (Used w u) none said h = both_so (is_some u.index || says_enough w u.inline) (are_numbered (in_type_use u))
+    (use_enough w u.index u.inline none said) h
 site_resolved (LocalAt locals i) none said h = first_so (is_number i) true h
 site_resolved (FieldAt owner i) none said h =
     let rest = is_number i && true in
@@ -103,9 +110,12 @@ sites_resolved : (ss : List Site) → needed_in ss ≡ [] → list_all says ss �
 sites_resolved [] none said h = refl
 sites_resolved (s ∷ ss) none said h =
     both_so (is_resolved_site s) (list_all is_resolved_site ss)
-    (site_resolved s (left_none (needed_at s) (needed_in ss) none) (first_so (says s) (list_all says ss) said) (first_part is_numbered (asked_in s) (checks_of ss) h))
-    (sites_resolved ss (right_none (needed_at s) (needed_in ss) none) (second_so (says s) (list_all says ss) said) (second_part is_numbered (asked_in s) (checks_of ss) h))
+    (site_resolved s (left_none (needed_at s) (needed_in ss) none) (first_so (says s) (list_all says ss) said)
+    (first_part is_numbered (asked_in s) (checks_of ss) h))
+    (sites_resolved ss (right_none (needed_at s) (needed_in ss) none) (second_so (says s) (list_all says ss) said)
+    (second_part is_numbered (asked_in s) (checks_of ss) h))
 
 pub numbered_resolved : IsResolved
 numbered_resolved n fields above met =
-    sites_resolved (in_module (numbered n fields)) (numbered_indexed n fields) (still_says (module_scope (expanded_fields n fields)) (expanded_fields n fields) (expanded_says n fields)) (all_are_numbers n fields above met)
+    sites_resolved (in_module (numbered n fields)) (numbered_indexed n fields)
+    (still_says (module_scope (expanded_fields n fields)) (expanded_fields n fields) (expanded_says n fields)) (all_are_numbers n fields above met)

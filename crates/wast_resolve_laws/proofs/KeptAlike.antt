@@ -25,13 +25,16 @@ none_borne q s ss = borne_among s q (items (map unnamed_type ss)) ∙ none ss
   where
     none : (ss : List Signature) → list_any (λ (x : Item). same_space s x.space && is_called q (name_if x.id)) (items (map unnamed_type ss)) ≡ false
     none [] = refl
-    none (t ∷ ss) = ap (λ b. b || list_any (λ (x : Item). same_space s x.space && is_called q (name_if x.id)) (items (map unnamed_type ss))) (and-false (same_space s space.Ty)) ∙ none ss
+    none (t ∷ ss) = ap (λ b. b || list_any (λ (x : Item). same_space s x.space && is_called q (name_if x.id)) (items (map unnamed_type ss)))
+        (and-false (same_space s space.Ty)) ∙ none ss
 
-pub completed_borne : (q : Name) (s : Space) (fields : List ModuleField) → is_borne q (names_in s (items (fields_with_implied_types fields))) ≡ is_borne q (names_in s (items fields))
+pub completed_borne : (q : Name) (s : Space) (fields : List ModuleField)
+    → is_borne q (names_in s (items (fields_with_implied_types fields))) ≡ is_borne q (names_in s (items fields))
 completed_borne q s fields =
     let new = items (map unnamed_type (implied_signatures fields)) in
     ap (λ xs. is_borne q (names_in s xs)) (flat_map-append items_in fields (map unnamed_type (implied_signatures fields)))
-    ∙ (borne_by_both s q (items fields) new ∙ (ap (λ b. is_borne q (names_in s (items fields)) || b) (none_borne q s (implied_signatures fields)) ∙ or-false (is_borne q (names_in s (items fields)))))
+    ∙ (borne_by_both s q (items fields) new ∙ (ap (λ b. is_borne q (names_in s (items fields)) || b) (none_borne q s (implied_signatures fields))
+    ∙ or-false (is_borne q (names_in s (items fields)))))
 
 -- If old names are the same, the same ids are kept.
 module _ (n : ℕ) (k l : IdContext) (same : (s : Space) (q : Name) → generation_of q < n → is_some (k.number s q) ≡ is_some (l.number s q)) where
@@ -42,4 +45,5 @@ module _ (n : ℕ) (k l : IdContext) (same : (s : Space) (q : Name) → generati
 
   pub all_kept_alike : (asks : List Check) → greatest_asked asks < n → are_kept k asks ≡ are_kept l asks
   all_kept_alike [] lt = refl
-  all_kept_alike (a ∷ asks) lt = ap (λ b. b && are_kept k asks) (kept_alike a (omega (arith, lt))) ∙ ap (λ b. is_kept l a && b) (all_kept_alike asks (omega (arith, lt)))
+  all_kept_alike (a ∷ asks) lt = ap (λ b. b && are_kept k asks) (kept_alike a (omega (arith, lt)))
+      ∙ ap (λ b. is_kept l a && b) (all_kept_alike asks (omega (arith, lt)))

@@ -18,7 +18,8 @@ behind_some : (n : ℕ) (o : Option ℕ) → is_some (option_map (λ p. n + p) o
 behind_some n None = refl
 behind_some n (Some p) = refl
 
-pub by_names : (c : Scope) (l : Locals) (word : List ℕ) (i : Index) → known_index (local_number c l) word i ≡ known_index (λ name. position_of name l.names) word i
+pub by_names : (c : Scope) (l : Locals) (word : List ℕ) (i : Index)
+    → known_index (local_number c l) word i ≡ known_index (λ name. position_of name l.names) word i
 by_names c l word (index.Num n p) = refl
 by_names c l word (index.Id id) = ap (unknown_demand word (mark_of id)) (behind_some (implicit_param_count c l.owner) (position_of (name_of id) l.names))
 
@@ -44,7 +45,8 @@ abbrev pub number_at : IdContext → Option Index → Option Index
 number_at k i = option_map at_start (option_map (numbered_at k space.Ty) i)
 
 module _ (c d : Scope) (types : c.types ≡ d.types) where
-  pub unsaid_denoted : (i j : Index) → denoted (c.known.number space.Ty) i ≡ denoted (d.known.number space.Ty) j → unsaid_params c (Some i) None ≡ unsaid_params d (Some j) None
+  pub unsaid_denoted : (i j : Index) → denoted (c.known.number space.Ty) i ≡ denoted (d.known.number space.Ty) j
+      → unsaid_params c (Some i) None ≡ unsaid_params d (Some j) None
   unsaid_denoted i j same =
       ap (λ o. params_of (type_at c.types o)) same ∙ ap (λ ts. params_of (type_at ts (denoted (d.known.number space.Ty) j))) types
 

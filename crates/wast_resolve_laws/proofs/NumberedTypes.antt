@@ -30,11 +30,13 @@ pub met_both : (ds es : List Demand) → first_unmet ds ≡ None → first_unmet
 met_both ds es h k = first_unmet-append ds es h ∙ k
 
 -- An index whose check passes becomes a number, which has no check.
-met_id : (f : Cause) (s : Span) (word : List ℕ) (number : Name → Option ℕ) (id : Id) (o : Option ℕ) → first_unmet (record { fault = f; place = s; met = is_some o } ∷ []) ≡ None → known_index number word (numbered_by o id) ≡ []
+met_id : (f : Cause) (s : Span) (word : List ℕ) (number : Name → Option ℕ) (id : Id) (o : Option ℕ)
+    → first_unmet (record { fault = f; place = s; met = is_some o } ∷ []) ≡ None → known_index number word (numbered_by o id) ≡ []
 met_id f s word number id None h = absurd (cc h)
 met_id f s word number id (Some k) h = refl
 
-pub met_index : (number other : Name → Option ℕ) (word : List ℕ) (i : Index) → first_unmet (known_index number word i) ≡ None → known_index other word (resolved_index number i) ≡ []
+pub met_index : (number other : Name → Option ℕ) (word : List ℕ) (i : Index) → first_unmet (known_index number word i) ≡ None
+    → known_index other word (resolved_index number i) ≡ []
 met_index number other word (index.Num k p) h = refl
 met_index number other word (index.Id id) h = met_id _ _ word other id (number (name_of id)) h
 
@@ -46,7 +48,8 @@ module _ (k : IdContext) where
   abbrev pub numbered_signature : Signature → Signature
   numbered_signature s = (map (mapped_val (numbered_at k)) s.0, map (mapped_val (numbered_at k)) s.1)
 
-  pub matches_still : (t : FunctionType) (s : Signature) → signatures_match k (mapped_signature (numbered_at k) t) (numbered_signature s) ≡ signatures_match k t s
+  pub matches_still : (t : FunctionType) (s : Signature)
+      → signatures_match k (mapped_signature (numbered_at k) t) (numbered_signature s) ≡ signatures_match k t s
   matches_still t s =
       ap (λ u. same_signature_by (same_type k) u (numbered_signature s)) (signature_changed (λ o. o) (numbered_at k) t)
       ∙ signatures_same (numbered_at k) (same_type k) (same_type k) type_still (signature_of t) s
@@ -58,7 +61,8 @@ module _ (k : IdContext) where
   numbered_shape Other = Other
 
   -- The checks if there are both.
-  pub with_still : (p : Span) (t : FunctionType) (o : Option Shape) → match_with (signatures_match k (mapped_signature (numbered_at k) t)) p (option_map numbered_shape o) ≡ match_with (signatures_match k t) p o
+  pub with_still : (p : Span) (t : FunctionType) (o : Option Shape)
+      → match_with (signatures_match k (mapped_signature (numbered_at k) t)) p (option_map numbered_shape o) ≡ match_with (signatures_match k t) p o
   with_still p t None = refl
   with_still p t (Some (Function s)) = ap (λ b. match_with (λ u. b) p (Some (Function s))) (matches_still t s)
   with_still p t (Some (Struct number)) = refl
@@ -75,11 +79,14 @@ module _ (k : IdContext) where
       let p = met_parts (ask_demand k a) (ask_demands k asks) h in
       λ i. ask_rests a p.0 i ++ asks_rest asks p.1 i
 
-  pub index_asks : (o : Option Index) → first_unmet (ask_demands k (if_there (in_index space.Ty) o)) ≡ None → ask_demands k (if_there (in_index space.Ty) (option_map (numbered_at k space.Ty) o)) ≡ []
+  pub index_asks : (o : Option Index) → first_unmet (ask_demands k (if_there (in_index space.Ty) o)) ≡ None
+      → ask_demands k (if_there (in_index space.Ty) (option_map (numbered_at k space.Ty) o)) ≡ []
   index_asks None h = refl
-  index_asks (Some i) h = λ t. met_index (k.number space.Ty) (k.number space.Ty) (word_of space.Ty) i (sym (ap first_unmet (append-nil (known_index (k.number space.Ty) (word_of space.Ty) i))) ∙ h) t ++ []
+  index_asks (Some i) h = λ t. met_index (k.number space.Ty) (k.number space.Ty) (word_of space.Ty) i
+      (sym (ap first_unmet (append-nil (known_index (k.number space.Ty) (word_of space.Ty) i))) ∙ h) t ++ []
 
-  pub inline_asks : (o : Option FunctionType) → first_unmet (ask_demands k (if_there in_signature o)) ≡ None → ask_demands k (if_there in_signature (option_map (mapped_signature (numbered_at k)) o)) ≡ []
+  pub inline_asks : (o : Option FunctionType) → first_unmet (ask_demands k (if_there in_signature o)) ≡ None
+      → ask_demands k (if_there in_signature (option_map (mapped_signature (numbered_at k)) o)) ≡ []
   inline_asks o h =
       let c : Scope = record { known = k; types = [] } in
       ap (ask_demands k) (stands_in o (option_at signature_at o) (numbering_change c) (numbering_keeps c)) ∙ asks_rest (if_there in_signature o) h
@@ -87,4 +94,5 @@ module _ (k : IdContext) where
   pub both_asks : (o : Option Index) (t : Option FunctionType) → first_unmet (ask_demands k (if_there (in_index space.Ty) o ++ if_there in_signature t)) ≡ None
       → (first_unmet (ask_demands k (if_there (in_index space.Ty) o)) ≡ None) × (first_unmet (ask_demands k (if_there in_signature t)) ≡ None)
   both_asks o t h =
-      met_parts (ask_demands k (if_there (in_index space.Ty) o)) (ask_demands k (if_there in_signature t)) (ap first_unmet (sym (flat_map-append (ask_demand k) (if_there (in_index space.Ty) o) (if_there in_signature t))) ∙ h)
+      met_parts (ask_demands k (if_there (in_index space.Ty) o)) (ask_demands k (if_there in_signature t))
+      (ap first_unmet (sym (flat_map-append (ask_demand k) (if_there (in_index space.Ty) o) (if_there in_signature t))) ∙ h)

@@ -2,7 +2,8 @@
 use Rattle.std.specs.Bool.{beq}
 use Rattle.std.specs.List.{position_or_len}
 use Rattle.std.specs.Prelude.{nat_lt, if◌then◌else◌, ◌==◌}
-use Rattle.std.proofs.Common.{◌≡◌, ◌+◌, Bool, true, false, not, true≢false, cond, ◌&&◌, length, List, [], ◌∷◌, ◌++◌, map, Option, Some, None, option_map, is_some, refl, sym, ap, ◌∙◌}
+use Rattle.std.proofs.Common.{◌≡◌, ◌+◌, Bool, true, false, not, true≢false, cond, ◌&&◌, length, List, [], ◌∷◌, ◌++◌, map, Option, Some}
+use Rattle.std.proofs.Common.{None, option_map, is_some, refl, sym, ap, ◌∙◌}
 use Rattle.std.proofs.lemmas.Bool.{false_from_ne_true}
 use Rattle.std.proofs.lemmas.List.{length-map, map-append}
 use Rattle.wast_base.specs.Ids.{Name, name_of, same_name, same_id, same_index, Mark, mark_of_option}
@@ -17,7 +18,8 @@ use Rattle.wast_tree_map.specs.Mapped.{Indices, Ids, mapped_heap, mapped_ref, ma
 use Rattle.wast_tree_map.specs.Named.{Naming, RenamesIds, renamed, renamed_mark, renamed_item}
 use Rattle.wast_tree_map.specs.Laws.{NamesItems}
 use Rattle.wast_tree_map.proofs.Fields.{named_if}
-use Rattle.wast_expand_keys.specs.Signatures.{Signature, signature_of, type_of_param, value_rank, reference_in, same_heap_by, same_reference_by, same_value_by, same_values_by, same_signature_by}
+use Rattle.wast_expand_keys.specs.Signatures.{Signature, signature_of, type_of_param, value_rank, reference_in, same_heap_by}
+use Rattle.wast_expand_keys.specs.Signatures.{same_reference_by, same_value_by, same_values_by, same_signature_by}
 use Rattle.wast_resolve_laws.specs.Tree.{Id, Index, Space, NameAnnotation, HeapType, RefType, ValType, FunctionType}
 use Rattle.wast_resolve_laws.specs.Tree.space
 use Rattle.wast_resolve_laws.specs.Tree.index
@@ -32,7 +34,8 @@ module _ (n : Naming) (injective : (a b : Name) → n a ≡ n b → a ≡ b) whe
     where
       by : (c : Bool) → same_name a b ≡ c → same_name (n a) (n b) ≡ c
       by true h = ap (λ c. same_name (n a) (n c)) (sym (same_name_equal a b h)) ∙ same_name_itself (n a)
-      by false h = false_from_ne_true (same_name (n a) (n b)) (λ t. true≢false (sym (same_name_itself a) ∙ (ap (same_name a) (injective a b (same_name_equal (n a) (n b) t)) ∙ h)))
+      by false h = false_from_ne_true (same_name (n a) (n b)) (λ t. true≢false (sym (same_name_itself a)
+          ∙ (ap (same_name a) (injective a b (same_name_equal (n a) (n b) t)) ∙ h)))
 
   called_same : (q : Name) (o : Option Name) → is_called (n q) (option_map n o) ≡ is_called q o
   called_same q None = refl
@@ -50,7 +53,8 @@ module _ (n : Naming) (injective : (a b : Name) → n a ≡ n b → a ≡ b) whe
   pub borne_same : (q : Name) (names : List (Option Name)) → is_borne (n q) (renamed n names) ≡ is_borne q names
   borne_same q names = ap is_some (position_same q names)
 
-  pub expects_same : (m : Option Mark) (blocks : Blocks) → is_expected_label (option_map n (name_if m)) (renamed n blocks) ≡ is_expected_label (name_if m) blocks
+  pub expects_same : (m : Option Mark) (blocks : Blocks) → is_expected_label (option_map n (name_if m)) (renamed n blocks) ≡ is_expected_label
+      (name_if m) blocks
   expects_same None blocks = refl
   expects_same (Some m) [] = refl
   expects_same (Some m) (l ∷ ls) = called_same m.0 l
@@ -122,11 +126,13 @@ module _ (f : Indices) (same other : Index → Index → Bool) (alike : (i j : I
   signatures_same s t = λ i. values_same s.0 t.0 i && values_same s.1 t.1 i
 
 -- the signature of a type with changed ids and indices
-params_changed : (own : Ids) (f : Indices) (ps : List (Option Id × Option NameAnnotation × ValType)) → map type_of_param (map (named_param own f) ps) ≡ map (mapped_val f) (map type_of_param ps)
+params_changed : (own : Ids) (f : Indices) (ps : List (Option Id × Option NameAnnotation × ValType))
+    → map type_of_param (map (named_param own f) ps) ≡ map (mapped_val f) (map type_of_param ps)
 params_changed own f [] = refl
 params_changed own f (p ∷ ps) = ap (λ vs. mapped_val f p.2 ∷ vs) (params_changed own f ps)
 
-pub signature_changed : (own : Ids) (f : Indices) (t : FunctionType) → signature_of (named_signature own f t) ≡ (map (mapped_val f) (signature_of t).0, map (mapped_val f) (signature_of t).1)
+pub signature_changed : (own : Ids) (f : Indices) (t : FunctionType)
+    → signature_of (named_signature own f t) ≡ (map (mapped_val f) (signature_of t).0, map (mapped_val f) (signature_of t).1)
 signature_changed own f t = ap (λ vs. (vs, map (mapped_val f) t.results)) (params_changed own f t.params)
 
 -- The properties of a renaming.
@@ -135,7 +141,9 @@ module _ (r : Renaming) (is : IsRenaming r) where
   ids_named None = refl
   ids_named (Some id) = ap Some (is.calls id)
 
-  params_named : (ps : List (Option Id × Option NameAnnotation × ValType)) → map (λ p. mark_of_option p.0) (map (named_param (option_map r.id) (λ s. renamed_index r)) ps) ≡ map (renamed_mark r.name) (map (λ p. mark_of_option p.0) ps)
+  params_named : (ps : List (Option Id × Option NameAnnotation × ValType))
+      → map (λ p. mark_of_option p.0) (map (named_param (option_map r.id) (λ s. renamed_index r)) ps) ≡ map (renamed_mark r.name)
+      (map (λ p. mark_of_option p.0) ps)
   params_named [] = refl
   params_named (p ∷ ps) = λ i. ids_named p.0 i ∷ params_named ps i
 

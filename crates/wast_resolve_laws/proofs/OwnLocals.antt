@@ -8,8 +8,13 @@ use Rattle.wast_base.specs.Blocks.{Blocks, is_balanced}
 use Rattle.wast_base.specs.Ids.{mark_of_option}
 use Rattle.wast_tree_nodes.specs.Clauses.{hints_stand}
 use Rattle.wast_tree_nodes.specs.Instrs.{block_effects}
-use Rattle.wast_tree_nodes.specs.Sites.{Check, InnerIndex, Clause, Covered, Site, Asked, LocalAt, Begins, BodyContext, Locals, OfBlock, context_after_site, after_all, context_after, constant_context, check_sites, uncovered_check, if_there, in_heap, in_ref, in_index, in_pair, in_signature, in_type_use, in_mem_arg, in_select, in_use, at_index, at_label, in_cast, in_handle, in_handlers, in_catch, in_try_table, in_br_table, in_instr, in_instrs, in_expression, in_constant}
-use Rattle.wast_resolve_laws.specs.Tree.{Index, Space, Form, RefType, HeapType, FunctionType, TypeUse, Handle, ResumeTable, BrTableIndices, TryTable, TryTableCatch, MemArg, MemArgTarget, Instruction, Expression}
+use Rattle.wast_tree_nodes.specs.Sites.{Check, InnerIndex, Clause, Covered, Site, Asked, LocalAt, Begins, BodyContext, Locals, OfBlock}
+use Rattle.wast_tree_nodes.specs.Sites.{context_after_site, after_all, context_after, constant_context, check_sites, uncovered_check}
+use Rattle.wast_tree_nodes.specs.Sites.{if_there, in_heap, in_ref, in_index, in_pair, in_signature, in_type_use, in_mem_arg, in_select}
+use Rattle.wast_tree_nodes.specs.Sites.{in_use, at_index, at_label, in_cast, in_handle, in_handlers, in_catch, in_try_table, in_br_table}
+use Rattle.wast_tree_nodes.specs.Sites.{in_instr, in_instrs, in_expression, in_constant}
+use Rattle.wast_resolve_laws.specs.Tree.{Index, Space, Form, RefType, HeapType, FunctionType, TypeUse, Handle, ResumeTable, BrTableIndices}
+use Rattle.wast_resolve_laws.specs.Tree.{TryTable, TryTableCatch, MemArg, MemArgTarget, Instruction, Expression}
 use Rattle.wast_resolve_laws.specs.Tree.space
 use Rattle.wast_resolve_laws.specs.Tree.form
 use Rattle.wast_resolve_laws.specs.Tree.handle
@@ -43,7 +48,8 @@ outer_part asks typed = ap (map outer) (sym typed) ∙ (outer_typed asks ∙ typ
 pub outer_use : (u : TypeUse FunctionType) → map outer (in_type_use u) ≡ in_type_use u
 outer_use u =
     outer_part (in_type_use u)
-    (both_typed (if_there (in_index space.Ty) u.index) (if_there in_signature u.inline) ((option_part index_part).typed u.index) ((option_part signature_part).typed u.inline))
+    (both_typed (if_there (in_index space.Ty) u.index) (if_there in_signature u.inline) ((option_part index_part).typed u.index)
+    ((option_part signature_part).typed u.inline))
 
 module _ (o : Option (TypeUse FunctionType)) where
   abbrev pub Fixed : List Site → Type 0
@@ -83,7 +89,8 @@ module _ (o : Option (TypeUse FunctionType)) where
   try_table_fixed : (blocks : Blocks) (t : TryTable) → Fixed (in_try_table blocks t)
   try_table_fixed blocks t =
       let begins = Begins blocks (mark_of_option t.block.label) ∷ [] in
-      fixed_both (in_use OfBlock t.block.ty) (flat_map (in_catch blocks) t.catches ++ begins) refl (fixed_both (flat_map (in_catch blocks) t.catches) begins (fixed_each (in_catch blocks) (catch_fixed blocks) t.catches) refl)
+      fixed_both (in_use OfBlock t.block.ty) (flat_map (in_catch blocks) t.catches ++ begins) refl
+      (fixed_both (flat_map (in_catch blocks) t.catches) begins (fixed_each (in_catch blocks) (catch_fixed blocks) t.catches) refl)
 
   br_table_fixed : (blocks : Blocks) (t : BrTableIndices) → Fixed (in_br_table blocks t)
   br_table_fixed blocks t = fixed_both (flat_map (at_label blocks) t.labels) (at_label blocks t.default) (labels_fixed blocks t.labels) refl
@@ -92,14 +99,16 @@ module _ (o : Option (TypeUse FunctionType)) where
   uncovered_fixed ss f h = fixed_both ss (check_sites (uncovered_check f)) h refl
 
   cast_fixed : (blocks : Blocks) (l : Index) (to from : RefType) → Fixed (in_cast blocks l to from)
-  cast_fixed blocks l to from = fixed_both (at_label blocks l) (check_sites (in_ref to ++ in_ref from)) refl (fixed_asks (in_ref to ++ in_ref from) (both_typed (in_ref to) (in_ref from) (ref_part.typed to) (ref_part.typed from)))
+  cast_fixed blocks l to from = fixed_both (at_label blocks l) (check_sites (in_ref to ++ in_ref from)) refl
+      (fixed_asks (in_ref to ++ in_ref from) (both_typed (in_ref to) (in_ref from) (ref_part.typed to) (ref_part.typed from)))
 
   handle_fixed : (blocks : Blocks) (x : Handle) → Fixed (in_handle blocks x)
   handle_fixed blocks (handle.OnLabel e l) = refl
   handle_fixed blocks (handle.OnSwitch e) = refl
 
   table_fixed : (blocks : Blocks) (t : ResumeTable) → Fixed (in_handlers blocks t)
-  table_fixed blocks t = uncovered_fixed (flat_map (in_handle blocks) t.handlers) form.StackSwitching (fixed_each (in_handle blocks) (handle_fixed blocks) t.handlers)
+  table_fixed blocks t = uncovered_fixed (flat_map (in_handle blocks) t.handlers) form.StackSwitching
+      (fixed_each (in_handle blocks) (handle_fixed blocks) t.handlers)
 
   handlers_fixed : (blocks : Blocks) (s : Space) (i : Index) (t : ResumeTable) → Fixed (at_index s i ++ in_handlers blocks t)
   handlers_fixed blocks s i t = fixed_both (at_index s i) (in_handlers blocks t) refl (table_fixed blocks t)
@@ -116,10 +125,13 @@ instr_fixed h (instr.ref_cast a) = fixed_asks h.locals.owner (in_ref a.rt) (ref_
 instr_fixed h (instr.ref_cast_desc_eq a) = fixed_form h.locals.owner (in_ref a.rt) (Covered form.Descriptor false) (ref_part.typed a.rt) refl
 instr_fixed h (instr.br_on_cast a) = cast_fixed h.locals.owner h.blocks a.label a.to_type a.from_type
 instr_fixed h (instr.br_on_cast_fail a) = cast_fixed h.locals.owner h.blocks a.label a.to_type a.from_type
-instr_fixed h (instr.br_on_cast_desc_eq a) = uncovered_fixed h.locals.owner (in_cast h.blocks a.label a.to_type a.from_type) form.Descriptor (cast_fixed h.locals.owner h.blocks a.label a.to_type a.from_type)
-instr_fixed h (instr.br_on_cast_desc_eq_fail a) = uncovered_fixed h.locals.owner (in_cast h.blocks a.label a.to_type a.from_type) form.Descriptor (cast_fixed h.locals.owner h.blocks a.label a.to_type a.from_type)
+instr_fixed h (instr.br_on_cast_desc_eq a) = uncovered_fixed h.locals.owner (in_cast h.blocks a.label a.to_type a.from_type) form.Descriptor
+    (cast_fixed h.locals.owner h.blocks a.label a.to_type a.from_type)
+instr_fixed h (instr.br_on_cast_desc_eq_fail a) = uncovered_fixed h.locals.owner (in_cast h.blocks a.label a.to_type a.from_type) form.Descriptor
+    (cast_fixed h.locals.owner h.blocks a.label a.to_type a.from_type)
 instr_fixed h (instr.resume a) = handlers_fixed h.locals.owner h.blocks (space.Ty) a.type_index a.table
-instr_fixed h (instr.resume_throw a) = fixed_both h.locals.owner (check_sites (in_pair space.Ty a.type_index space.Tag a.tag_index)) (in_handlers h.blocks a.table) refl (table_fixed h.locals.owner h.blocks a.table)
+instr_fixed h (instr.resume_throw a) = fixed_both h.locals.owner (check_sites (in_pair space.Ty a.type_index space.Tag a.tag_index))
+    (in_handlers h.blocks a.table) refl (table_fixed h.locals.owner h.blocks a.table)
 instr_fixed h (instr.resume_throw_ref a) = handlers_fixed h.locals.owner h.blocks (space.Ty) a.type_index a.table
 instr_fixed h i = grind (arith, common_steps, heap_fixed h.locals.owner)
 
@@ -141,4 +153,5 @@ pub expression_fixed : (h : BodyContext) (e : Expression) → Fixed h.locals.own
 expression_fixed h e = fixed_both h.locals.owner (in_instrs h e.instrs) (Asked (Clause 2 (hints_stand e)) ∷ []) (instrs_fixed h e.instrs) refl
 
 pub constant_fixed : (e : Expression) → Fixed None (in_constant e)
-constant_fixed e = fixed_both None (in_instrs constant_context e.instrs) (Asked (Clause 5 (is_balanced (block_effects e.instrs))) ∷ []) (instrs_fixed constant_context e.instrs) refl
+constant_fixed e = fixed_both None (in_instrs constant_context e.instrs) (Asked (Clause 5 (is_balanced (block_effects e.instrs))) ∷ [])
+    (instrs_fixed constant_context e.instrs) refl

@@ -18,12 +18,14 @@ use Rattle.wast_resolve_laws.specs.Tree.{Space, FunctionType, TypeUse, FuncKind,
 use Rattle.wast_resolve_laws.specs.Tree.func
 use Rattle.wast_resolve_laws.specs.Tree.field
 use Rattle.wast_resolve_rules.specs.Scopes.{Scope, module_scope, implicit_param_count}
-use Rattle.wast_resolve_rules.specs.Demands.{first_unmet, demands, space_counts, field_counts, item_counts, kind_marks, declared_ids, local_counts_in, open_counts_at, open_counts, body_counts_in, body_counts}
+use Rattle.wast_resolve_rules.specs.Demands.{first_unmet, demands, space_counts, field_counts, item_counts, kind_marks, declared_ids}
+use Rattle.wast_resolve_rules.specs.Demands.{local_counts_in, open_counts_at, open_counts, body_counts_in, body_counts}
 use Rattle.wast_resolve_rules.specs.Explicit.{explicit_fields, by_positions}
 use Rattle.wast_resolve_rules.specs.Resolved.{resolved_fields}
 use Rattle.wast_resolve_rules.specs.Stripped.{stripping}
 use Rattle.wast_base.specs.Spaces.{spaces}
-use Rattle.wast_resolve_laws.specs.Renaming.{Renaming, IsRenaming, renaming, renamed_use, renamed_fields, told_marks, RenamesFault, RenamedAnswer, RenamedPositions, RenamedCounts, WrittenAnswer, WrittenPositions}
+use Rattle.wast_resolve_laws.specs.Renaming.{Renaming, IsRenaming, renaming, renamed_use, renamed_fields, told_marks, RenamesFault}
+use Rattle.wast_resolve_laws.specs.Renaming.{RenamedAnswer, RenamedPositions, RenamedCounts, WrittenAnswer, WrittenPositions}
 use Rattle.wast_resolve_laws.proofs.OtherNames.{count_same, names}
 use Rattle.wast_resolve_laws.proofs.RenamedDemands.{same_demands}
 use Rattle.wast_resolve_laws.proofs.RenamedNumbers.{same_resolved}
@@ -56,7 +58,8 @@ module _ (r : Renaming) (is : IsRenaming r) where
   kind_marked u (func.Import source exact) = refl
   kind_marked u (func.Inline locals e) = marks_named r.name (renaming r) (names r is) locals
 
-  declared_count : (u : TypeUse FunctionType) (k : FuncKind) → length (declared_ids (renamed_use r u).inline (mapped_func_kind (renaming r) u k)) ≡ length (declared_ids u.inline k)
+  declared_count : (u : TypeUse FunctionType) (k : FuncKind)
+      → length (declared_ids (renamed_use r u).inline (mapped_func_kind (renaming r) u k)) ≡ length (declared_ids u.inline k)
   declared_count u k =
       ap length ((λ i. (names r is).params u i ++ kind_marked u k i) ∙ sym (map-append (renamed_mark r.name) (param_marks u.inline) (kind_marks k)))
       ∙ length-map (declared_ids u.inline k) (renamed_mark r.name)
@@ -86,7 +89,8 @@ module _ (r : Renaming) (is : IsRenaming r) where
 
   pub bodies_count : (xs : List ModuleField) → body_counts (renamed_fields r xs) ≡ body_counts xs
   bodies_count xs =
-      all_count (module_scope xs) (module_scope (renamed_fields r xs)) (λ u. nameless_same r is (module_scope xs) (module_scope (renamed_fields r xs)) (numbers_are r is xs) (shapes_alike r is xs) (Some u)) xs
+      all_count (module_scope xs) (module_scope (renamed_fields r xs))
+      (λ u. nameless_same r is (module_scope xs) (module_scope (renamed_fields r xs)) (numbers_are r is xs) (shapes_alike r is xs) (Some u)) xs
 
 pub renamed_answer : RenamedAnswer
 renamed_answer r is fields =
@@ -111,4 +115,5 @@ written_answer n fields above =
 pub written_by_positions : WrittenPositions
 written_by_positions n fields above met =
     let all = desugared_from n fields in
-    ap (λ xs. all_mapped stripping (resolved_fields (fields_with_type_positions xs))) (stays_by_position all (nothing_is_left n fields)) ∙ written_positions n fields above (written_unmet n fields above ∙ met)
+    ap (λ xs. all_mapped stripping (resolved_fields (fields_with_type_positions xs))) (stays_by_position all (nothing_is_left n fields))
+    ∙ written_positions n fields above (written_unmet n fields above ∙ met)

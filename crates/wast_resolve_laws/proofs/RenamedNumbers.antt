@@ -26,9 +26,11 @@ module _ (r : Renaming) (is : IsRenaming r) where
   by_number id None = refl
   by_number id (Some k) = ap (λ (m : Mark). index.Num k m.1) (is.calls id)
 
-  pub number_same : (number other : Name → Option ℕ) → ((q : Name) → other (r.name q) ≡ number q) → (i : Index) → resolved_index other (renamed_index r i) ≡ renamed_index r (resolved_index number i)
+  pub number_same : (number other : Name → Option ℕ) → ((q : Name) → other (r.name q) ≡ number q) → (i : Index)
+      → resolved_index other (renamed_index r i) ≡ renamed_index r (resolved_index number i)
   number_same number other h (index.Num k place) = refl
-  number_same number other h (index.Id id) = ap (λ o. numbered_by o (r.id id)) (ap (λ (m : Mark). other m.0) (is.calls id) ∙ h (name_of id)) ∙ by_number id (number (name_of id))
+  number_same number other h (index.Id id) = ap (λ o. numbered_by o (r.id id)) (ap (λ (m : Mark). other m.0) (is.calls id) ∙ h (name_of id))
+      ∙ by_number id (number (name_of id))
 
   -- Types.
   module _ (num other : Indices) (h : (s : Space) (i : Index) → other s (renamed_index r i) ≡ renamed_index r (num s i)) where
@@ -41,15 +43,19 @@ module _ (r : Renaming) (is : IsRenaming r) where
     value_same (value.Ref q) = ap (λ (t : HeapType). value.Ref (record q { heap = t })) (heap_same q.heap)
     value_same t = refl
 
-    pub values_same : (ts : List ValType) → map (mapped_val other) (map (mapped_val (λ s. renamed_index r)) ts) ≡ map (mapped_val (λ s. renamed_index r)) (map (mapped_val num) ts)
+    pub values_same : (ts : List ValType) → map (mapped_val other) (map (mapped_val (λ s. renamed_index r)) ts) ≡ map
+        (mapped_val (λ s. renamed_index r)) (map (mapped_val num) ts)
     values_same [] = refl
     values_same (t ∷ ts) = λ i. value_same t i ∷ values_same ts i
 
-    params_same : (ps : List (Option Id × Option NameAnnotation × ValType)) → map (mapped_param other) (map (named_param (option_map r.id) (λ s. renamed_index r)) ps) ≡ map (named_param (option_map r.id) (λ s. renamed_index r)) (map (mapped_param num) ps)
+    params_same : (ps : List (Option Id × Option NameAnnotation × ValType))
+        → map (mapped_param other) (map (named_param (option_map r.id) (λ s. renamed_index r)) ps) ≡ map
+        (named_param (option_map r.id) (λ s. renamed_index r)) (map (mapped_param num) ps)
     params_same [] = refl
     params_same (p ∷ ps) = λ i. (option_map r.id p.0, p.1, value_same p.2 i) ∷ params_same ps i
 
-    type_same : (t : Option FunctionType) → option_map (mapped_signature other) (option_map (renamed_type r) t) ≡ option_map (renamed_type r) (option_map (mapped_signature num) t)
+    type_same : (t : Option FunctionType) → option_map (mapped_signature other) (option_map (renamed_type r) t) ≡ option_map (renamed_type r)
+        (option_map (mapped_signature num) t)
     type_same None = refl
     type_same (Some t) = λ i. Some (record { params = params_same t.params i; results = values_same t.results i })
 
@@ -57,7 +63,8 @@ module _ (r : Renaming) (is : IsRenaming r) where
     index_same None = refl
     index_same (Some i) = ap Some (h space.Ty i)
 
-  once_by : (o : Option Index) (t : Option FunctionType) → said_once (renamed_use r (record { index = o; inline = t })) ≡ renamed_use r (said_once (record { index = o; inline = t }))
+  once_by : (o : Option Index) (t : Option FunctionType) → said_once (renamed_use r (record { index = o; inline = t })) ≡ renamed_use r
+      (said_once (record { index = o; inline = t }))
   once_by None t = refl
   once_by (Some i) t = refl
 
@@ -67,7 +74,10 @@ module _ (r : Renaming) (is : IsRenaming r) where
     index_numbered s i = number_same (c.known.number s) (d.known.number s) (numbers s) i
 
     use_numbered : (u : TypeUse FunctionType) → numbered_use d.known (renamed_use r u) ≡ renamed_use r (numbered_use c.known u)
-    use_numbered u = λ i. record { index = index_same (numbered_at c.known) (numbered_at d.known) index_numbered u.index i; inline = type_same (numbered_at c.known) (numbered_at d.known) index_numbered u.inline i }
+    use_numbered u = λ i. record {
+      index = index_same (numbered_at c.known) (numbered_at d.known) index_numbered u.index i;
+      inline = type_same (numbered_at c.known) (numbered_at d.known) index_numbered u.inline i;
+    }
 
     once_same : (u : TypeUse FunctionType) → said_once (numbered_use d.known (renamed_use r u)) ≡ renamed_use r (said_once (numbered_use c.known u))
     once_same u = ap said_once (use_numbered u) ∙ once_by (numbered_use c.known u).index (numbered_use c.known u).inline
@@ -109,15 +119,25 @@ module _ (r : Renaming) (is : IsRenaming r) where
     site_numbered : (s : Site) → Joins (numbering_change c) (renaming r) both s
     site_numbered (Asked a) = asks_numbered a
     site_numbered (Used w u) = sym (use_resolved w u)
-    site_numbered (LocalAt locals i) = sym (number_same (local_number c locals) (local_number d (named_locals r.name (renaming r) locals)) (local_same r is c d numbers types locals) i)
-    site_numbered (FieldAt owner i) = (sym (index_numbered space.Ty owner), sym (number_same (field_number c owner) (field_number d (renamed_index r owner)) (field_same r is c d numbers types owner) i))
-    site_numbered (LabelAt blocks i) = sym (number_same (λ name. label_depth name blocks) (λ name. label_depth name (renamed r.name blocks)) (λ q. position_same r.name is.injective q blocks) i)
+    site_numbered (LocalAt locals i) =
+        sym (number_same (local_number c locals) (local_number d (named_locals r.name (renaming r) locals)) (local_same r is c d numbers types locals) i)
+    site_numbered (FieldAt owner i) = (
+      sym (index_numbered space.Ty owner),
+      sym (number_same (field_number c owner) (field_number d (renamed_index r owner))
+          (field_same r is c d numbers types owner) i),
+    )
+    site_numbered (LabelAt blocks i) =
+        sym (number_same (λ name. label_depth name blocks) (λ name. label_depth name (renamed r.name blocks))
+        (λ q. position_same r.name is.injective q blocks) i)
     site_numbered x = tt
 
-    all_numbered : (xs : List ModuleField) → map (mapped_field (numbering_change d)) (renamed_fields r xs) ≡ renamed_fields r (map (mapped_field (numbering_change c)) xs)
+    all_numbered : (xs : List ModuleField) → map (mapped_field (numbering_change d)) (renamed_fields r xs) ≡ renamed_fields r
+        (map (mapped_field (numbering_change c)) xs)
     all_numbered xs =
-        joins_named r.name (renaming r) (numbering_change d) both (record { names = names r is; ids = λ o. refl; owns = λ o. refl }) xs (each_so (NamedJoins r.name (renaming r) (numbering_change d) both) named (in_module xs))
-        ∙ sym (joins (numbering_change c) (renaming r) both (record { keeps = numbering_keeps c; ids = λ o. refl; owns = λ o. refl }) xs (each_so (Joins (numbering_change c) (renaming r) both) site_numbered (in_module xs)))
+        joins_named r.name (renaming r) (numbering_change d) both (record { names = names r is; ids = λ o. refl; owns = λ o. refl }) xs
+        (each_so (NamedJoins r.name (renaming r) (numbering_change d) both) named (in_module xs))
+        ∙ sym (joins (numbering_change c) (renaming r) both (record { keeps = numbering_keeps c; ids = λ o. refl; owns = λ o. refl }) xs
+        (each_so (Joins (numbering_change c) (renaming r) both) site_numbered (in_module xs)))
 
   pub same_resolved : (xs : List ModuleField) → resolved_fields (renamed_fields r xs) ≡ renamed_fields r (resolved_fields xs)
   same_resolved xs = all_numbered (module_scope xs) (module_scope (renamed_fields r xs)) (numbers_are r is xs) (shapes_alike r is xs) xs

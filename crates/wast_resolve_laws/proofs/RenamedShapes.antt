@@ -1,7 +1,8 @@
 -- The types of a list, by index, with other names.
 use Rattle.std.specs.Prelude.{⊤}
 use Rattle.std.specs.List.{slice_get, list_any}
-use Rattle.std.proofs.Common.{◌≡◌, ℕ, zero, suc, ◌+◌, Bool, true, false, cond, length, List, [], ◌∷◌, ◌++◌, map, Option, Some, None, option_map, is_some, refl, sym, ap, ◌∙◌, subst}
+use Rattle.std.proofs.Common.{◌≡◌, ℕ, zero, suc, ◌+◌, Bool, true, false, cond, length, List, [], ◌∷◌, ◌++◌, map, Option, Some, None}
+use Rattle.std.proofs.Common.{option_map, is_some, refl, sym, ap, ◌∙◌, subst}
 use Rattle.std.proofs.lemmas.List.{length-map}
 use Rattle.wast_base.specs.Ids.{Name, name_of, Mark, span_of_index}
 use Rattle.wast_base.specs.Spaces.{name_if, position_of}
@@ -18,7 +19,9 @@ use Rattle.wast_resolve_laws.specs.Tree.inner
 use Rattle.wast_resolve_laws.specs.Tree.space
 use Rattle.wast_resolve_laws.specs.Tree.ty
 use Rattle.wast_resolve_laws.specs.Tree.field
-use Rattle.wast_resolve_rules.specs.Scopes.{Shape, Function, Struct, Other, struct_shape, shape_of, shapes_in, shapes_of_types, Scope, denoted, type_at, params_of, field_in, unsaid_params, implicit_param_count, local_number, field_number}
+use Rattle.wast_resolve_rules.specs.Scopes.{Shape, Function, Struct, Other, struct_shape, shape_of, shapes_in, shapes_of_types, Scope}
+use Rattle.wast_resolve_rules.specs.Scopes.{denoted, type_at, params_of, field_in, unsaid_params, implicit_param_count, local_number}
+use Rattle.wast_resolve_rules.specs.Scopes.{field_number}
 use Rattle.wast_resolve_laws.specs.Renaming.{Renaming, IsRenaming, renamed_index, renamed_type, renamed_use, renaming, renamed_fields}
 use Rattle.wast_resolve_laws.proofs.OtherNames.{position_same, known_same, marks_same, signature_changed, names, ids_named}
 
@@ -93,29 +96,34 @@ module _ (r : Renaming) (is : IsRenaming r) where
   some_same (None ∷ os) = some_same os
   some_same (Some q ∷ os) = refl
 
-  struct_by : (b : Bool) (names : List (Option Name)) → ShapeAlike r (cond b (Struct (λ q. position_of q names)) Other) (cond b (Struct (λ q. position_of q (renamed n names))) Other)
+  struct_by : (b : Bool) (names : List (Option Name))
+      → ShapeAlike r (cond b (Struct (λ q. position_of q names)) Other) (cond b (Struct (λ q. position_of q (renamed n names))) Other)
   struct_by true os = λ q. position_same n is.injective q os
   struct_by false os = tt
 
   struct_alike : (names : List (Option Name)) → ShapeAlike r (struct_shape names) (struct_shape (renamed n names))
   struct_alike names =
-      subst (λ (b : Bool). ShapeAlike r (struct_shape names) (cond b (Struct (λ q. position_of q (renamed n names))) Other)) (sym (some_same names)) (struct_by (list_any is_some names) names)
+      subst (λ (b : Bool). ShapeAlike r (struct_shape names) (cond b (Struct (λ q. position_of q (renamed n names))) Other)) (sym (some_same names))
+      (struct_by (list_any is_some names) names)
 
   field_marks : (fs : List StructField) → field_ids (map (named_struct_field (option_map r.id) (λ s. renamed_index r)) fs) ≡ map (renamed_mark n) (field_ids fs)
   field_marks [] = refl
   field_marks (f ∷ fs) = λ i. ids_named r is f.id i ∷ field_marks fs i
 
-  field_names : (fs : List StructField) → map name_if (field_ids (map (named_struct_field (option_map r.id) (λ s. renamed_index r)) fs)) ≡ renamed n (map name_if (field_ids fs))
+  field_names : (fs : List StructField) → map name_if (field_ids (map (named_struct_field (option_map r.id) (λ s. renamed_index r)) fs)) ≡ renamed n
+      (map name_if (field_ids fs))
   field_names fs = ap (map name_if) (field_marks fs) ∙ marks_same n is.injective (field_ids fs)
 
   kind_alike : (k : InnerTypeKind) → ShapeAlike r (shape_of k) (shape_of (named_inner (option_map r.id) (λ s. renamed_index r) k))
   kind_alike (inner.Func t) = signature_changed (option_map r.id) (λ s. renamed_index r) t
   kind_alike (inner.Struct t) =
-      subst (λ (ns : List (Option Name)). ShapeAlike r (struct_shape (map name_if (field_ids t.fields))) (struct_shape ns)) (sym (field_names t.fields)) (struct_alike (map name_if (field_ids t.fields)))
+      subst (λ (ns : List (Option Name)). ShapeAlike r (struct_shape (map name_if (field_ids t.fields))) (struct_shape ns))
+      (sym (field_names t.fields)) (struct_alike (map name_if (field_ids t.fields)))
   kind_alike (inner.Array t) = tt
   kind_alike (inner.Cont t) = tt
 
-  types_alike : (ts : List ty.«Type») → ShapesAlike r (map (λ (t : ty.«Type»). shape_of t.def.kind) ts) (map (λ (t : ty.«Type»). shape_of t.def.kind) (map (mapped_type (renaming r)) ts))
+  types_alike : (ts : List ty.«Type»)
+      → ShapesAlike r (map (λ (t : ty.«Type»). shape_of t.def.kind) ts) (map (λ (t : ty.«Type»). shape_of t.def.kind) (map (mapped_type (renaming r)) ts))
   types_alike [] = tt
   types_alike (t ∷ ts) = (kind_alike t.def.kind, types_alike ts)
 
@@ -126,17 +134,20 @@ module _ (r : Renaming) (is : IsRenaming r) where
 
   pub shapes_alike : (xs : List ModuleField) → ShapesAlike r (shapes_of_types xs) (shapes_of_types (renamed_fields r xs))
   shapes_alike [] = tt
-  shapes_alike (x ∷ xs) = more_alike r (shapes_in x) (shapes_in (mapped_field (renaming r) x)) (shapes_of_types xs) (shapes_of_types (renamed_fields r xs)) (in_alike x) (shapes_alike xs)
+  shapes_alike (x ∷ xs) = more_alike r (shapes_in x) (shapes_in (mapped_field (renaming r) x)) (shapes_of_types xs)
+      (shapes_of_types (renamed_fields r xs)) (in_alike x) (shapes_alike xs)
 
   -- the identifier context of items
   pub items_are : (xs : List ModuleField) → items (renamed_fields r xs) ≡ map (renamed_item n) (items xs)
   items_are xs = items_named n (renaming r) (ids_named r is) (names r is) xs
 
-  pub numbers_are : (xs : List ModuleField) (s : Space) (q : Name) → (id_context (items (renamed_fields r xs))).number s (n q) ≡ (id_context (items xs)).number s q
+  pub numbers_are : (xs : List ModuleField) (s : Space) (q : Name)
+      → (id_context (items (renamed_fields r xs))).number s (n q) ≡ (id_context (items xs)).number s q
   numbers_are xs s q = ap (λ its. (id_context its).number s (n q)) (items_are xs) ∙ known_same n is.injective (items xs) s q
 
   -- an index, from the numbers of names
-  pub denoted_same : (number other : Name → Option ℕ) → ((q : Name) → other (n q) ≡ number q) → (i : Index) → denoted other (renamed_index r i) ≡ denoted number i
+  pub denoted_same : (number other : Name → Option ℕ) → ((q : Name) → other (n q) ≡ number q) → (i : Index)
+      → denoted other (renamed_index r i) ≡ denoted number i
   denoted_same number other h (index.Num k place) = refl
   denoted_same number other h (index.Id id) = ap (λ (m : Mark). other m.0) (is.calls id) ∙ h (name_of id)
 
@@ -152,11 +163,13 @@ module _ (r : Renaming) (is : IsRenaming r) where
     pub at_index : (i : Index) → FoundAlike r (type_at c.types (denoted (c.known.number space.Ty) i)) (type_at d.types (denoted (c.known.number space.Ty) i))
     at_index i = at_alike r c.types d.types types (denoted (c.known.number space.Ty) i)
 
-    unsaid_same : (o : Option Index) (t : Option FunctionType) → unsaid_params d (option_map (renamed_index r) o) (option_map (renamed_type r) t) ≡ unsaid_params c o t
+    unsaid_same : (o : Option Index) (t : Option FunctionType)
+        → unsaid_params d (option_map (renamed_index r) o) (option_map (renamed_type r) t) ≡ unsaid_params c o t
     unsaid_same None None = refl
     unsaid_same (Some i) (Some t) = refl
     unsaid_same None (Some t) = refl
-    unsaid_same (Some i) None = ap (λ o. params_of (type_at d.types o)) (type_denoted i) ∙ params_alike r (type_at c.types (denoted (c.known.number space.Ty) i)) (type_at d.types (denoted (c.known.number space.Ty) i)) (at_index i)
+    unsaid_same (Some i) None = ap (λ o. params_of (type_at d.types o)) (type_denoted i)
+        ∙ params_alike r (type_at c.types (denoted (c.known.number space.Ty) i)) (type_at d.types (denoted (c.known.number space.Ty) i)) (at_index i)
 
     pub nameless_same : (o : Option (TypeUse FunctionType)) → implicit_param_count d (option_map (renamed_use r) o) ≡ implicit_param_count c o
     nameless_same None = refl
@@ -168,4 +181,5 @@ module _ (r : Renaming) (is : IsRenaming r) where
     pub field_same : (owner : Index) (q : Name) → field_number d (renamed_index r owner) (n q) ≡ field_number c owner q
     field_same owner q =
         ap (λ o. field_in (type_at d.types o) (n q)) (type_denoted owner)
-        ∙ field_alike r (type_at c.types (denoted (c.known.number space.Ty) owner)) (type_at d.types (denoted (c.known.number space.Ty) owner)) (at_index owner) q
+        ∙ field_alike r (type_at c.types (denoted (c.known.number space.Ty) owner)) (type_at d.types (denoted (c.known.number space.Ty) owner))
+        (at_index owner) q

@@ -1,7 +1,8 @@
 -- Other names leave the number of generated ids and the condition for E10 the same.
 use Rattle.std.specs.Prelude.{is_none, IsTrue}
 use Rattle.std.specs.List.{list_any}
-use Rattle.std.proofs.Common.{◌≡◌, ℕ, ◌+◌, ◌≤◌, ◌^◌, Bool, ◌&&◌, ◌||◌, length, List, [], ◌∷◌, map, Option, Some, None, option_map, inl, inr, refl, sym, ap, ◌∙◌, subst}
+use Rattle.std.proofs.Common.{◌≡◌, ℕ, ◌+◌, ◌≤◌, ◌^◌, Bool, ◌&&◌, ◌||◌, length, List, [], ◌∷◌, map, Option, Some, None, option_map, inl, inr}
+use Rattle.std.proofs.Common.{refl, sym, ap, ◌∙◌, subst}
 use Rattle.std.proofs.lemmas.List.{length-map}
 use Rattle.wast_base.specs.Faults.{Cause}
 use Rattle.wast_base.specs.Filling.{one_if, missing_id_count}
@@ -25,7 +26,8 @@ use Rattle.wast_resolve_laws.proofs.RenamedTypes.{all_implied}
 use Rattle.wast_resolve_laws.proofs.RenamedWrittenOut.{same_written}
 
 -- as many elements need an id if each needs one that did
-wanted_like : {A : Type 0} (wants : A → Bool) (f : A → A) → ((x : A) → wants (f x) ≡ wants x) → (xs : List A) → missing_id_count wants (map f xs) ≡ missing_id_count wants xs
+wanted_like : {A : Type 0} (wants : A → Bool) (f : A → A) → ((x : A) → wants (f x) ≡ wants x) → (xs : List A)
+    → missing_id_count wants (map f xs) ≡ missing_id_count wants xs
 wanted_like wants f same [] = refl
 wanted_like wants f same (x ∷ xs) = λ i. one_if (same x i) + wanted_like wants f same xs i
 
@@ -52,10 +54,12 @@ module _ (r : Renaming) (is : IsRenaming r) where
   lacks_same x = refl
 
   types_same : (xs : List ModuleField) → type_id_count (renamed_fields r xs) ≡ type_id_count xs
-  types_same xs = λ i. wanted_like lacks_id (mapped_field (renaming r)) lacks_same xs i + (ap length (all_implied r is xs) ∙ length-map (implied_signatures xs) (renamed_signature r)) i
+  types_same xs = λ i. wanted_like lacks_id (mapped_field (renaming r)) lacks_same xs i + (ap length (all_implied r is xs)
+      ∙ length-map (implied_signatures xs) (renamed_signature r)) i
 
   filled_same : (xs : List ModuleField) → generated_id_count (renamed_fields r xs) ≡ generated_id_count xs
-  filled_same xs = λ i. wanted_like wants_id (mapped_field (renaming r)) wants_same xs i + (ap type_id_count (same_written r is xs) ∙ types_same (desugared_by_position xs)) i
+  filled_same xs = λ i. wanted_like wants_id (mapped_field (renaming r)) wants_same xs i + (ap type_id_count (same_written r is xs)
+      ∙ types_same (desugared_by_position xs)) i
 
   -- The bytes of inline data are the same.
   overflow_same : (x : ModuleField) → has_oversized_data (mapped_field (renaming r) x) ≡ has_oversized_data x
@@ -84,17 +88,27 @@ module _ (r : Renaming) (is : IsRenaming r) where
       by (Some a) (Some b) f h = absurd (cc h)
 
   -- two lists with as many of each, and no duplicates in one if the other has none
-  crowded_by : (xs ys : List ModuleField) → item_counts (items xs) ≡ item_counts (items ys) → (first_unmet (item_demands (items xs)) ≡ None → first_unmet (item_demands (items ys)) ≡ None) → body_counts xs ≡ body_counts ys → IsCrowded xs → IsCrowded ys
+  crowded_by : (xs ys : List ModuleField) → item_counts (items xs) ≡ item_counts (items ys)
+      → (first_unmet (item_demands (items xs)) ≡ None → first_unmet (item_demands (items ys)) ≡ None) → body_counts xs ≡ body_counts ys
+      → IsCrowded xs → IsCrowded ys
   crowded_by xs ys counts met bodies h = elim h [ inl many ↦ inl (subst HasMany counts many) | inr inside ↦ inr (met inside.0, subst HasMany bodies inside.1) ]
 
-  large_by : (n : ℕ) (xs ys : List ModuleField) → (IsCrowded (explicit_fields xs) → IsCrowded (explicit_fields ys)) → generated_id_count xs ≡ generated_id_count ys → list_any has_oversized_data xs ≡ list_any has_oversized_data ys → IsTooLarge n xs → IsTooLarge n ys
+  large_by : (n : ℕ) (xs ys : List ModuleField) → (IsCrowded (explicit_fields xs) → IsCrowded (explicit_fields ys))
+      → generated_id_count xs ≡ generated_id_count ys → list_any has_oversized_data xs ≡ list_any has_oversized_data ys → IsTooLarge n xs → IsTooLarge n ys
   large_by n xs ys crowded filled bytes h =
-      elim h [ inl many ↦ inl (crowded many) | inr rest ↦ elim rest [ inl counter ↦ inr (inl (subst (λ k. 2 ^ 64 ≤ n + k) filled counter)) | inr much ↦ inr (inr (subst IsTrue bytes much)) ] ]
+      elim h [
+        | inl many ↦ inl (crowded many)
+        | inr rest ↦ elim rest [
+          | inl counter ↦ inr (inl (subst (λ k. 2 ^ 64 ≤ n + k) filled counter))
+          | inr much ↦ inr (inr (subst IsTrue bytes much))
+        ]
+      ]
 
   crowded_then : (fields : List ModuleField) → IsCrowded (explicit_fields fields) → IsCrowded (explicit_fields (renamed_fields r fields))
   crowded_then fields h =
       let xs = explicit_fields fields in
-      subst IsCrowded (sym (same_explicit r is fields)) (crowded_by xs (renamed_fields r xs) (sym (items_count r is xs)) (unclashed xs) (sym (bodies_count r is xs)) h)
+      subst IsCrowded (sym (same_explicit r is fields)) (crowded_by xs (renamed_fields r xs) (sym (items_count r is xs)) (unclashed xs)
+      (sym (bodies_count r is xs)) h)
 
   crowded_before : (fields : List ModuleField) → IsCrowded (explicit_fields (renamed_fields r fields)) → IsCrowded (explicit_fields fields)
   crowded_before fields h =

@@ -1,7 +1,8 @@
 -- With other names type uses append the same types, at the same positions.
 use Rattle.std.specs.Prelude.{if◌then◌else◌, is_none, nat_lt, ◌==◌}
 use Rattle.std.specs.List.{position, position_or_len, flat_map}
-use Rattle.std.proofs.Common.{◌≡◌, ℕ, ◌+◌, Bool, true, false, not, cond, ◌||◌, ◌&&◌, length, List, [], ◌∷◌, ◌++◌, map, Option, Some, None, option_map, refl, sym, ap, ◌∙◌}
+use Rattle.std.proofs.Common.{◌≡◌, ℕ, ◌+◌, Bool, true, false, not, cond, ◌||◌, ◌&&◌, length, List, [], ◌∷◌, ◌++◌, map, Option, Some, None}
+use Rattle.std.proofs.Common.{option_map, refl, sym, ap, ◌∙◌}
 use Rattle.std.proofs.lemmas.List.{length-map, map-append}
 use Rattle.wast_base.specs.Ids.{Name, same_index}
 use Rattle.wast_tree_nodes.specs.Sites.{if_there, Check, ItemIndex, Where, OfBlock, Site, Asked, Used, LocalAt, FieldAt, LabelAt, in_module}
@@ -16,7 +17,8 @@ use Rattle.wast_expand_keys.specs.ImpliedTypes.{eligible_in, eligible_signatures
 use Rattle.wast_expand_keys.specs.Numbers.{TypeNames, type_names, in_numbers, numbered_signature}
 use Rattle.wast_expand_keys.specs.TypeSpace.{types_in, type_space, has_signature, index_for}
 use Rattle.wast_expand_keys.specs.Expanders.{LookUp}
-use Rattle.wast_expand_keys.specs.Expanded.{unnamed_param, unnamed_type, start_of_text, bound_if, bound_index, bound_inline, bound_use, binding_change, bound_field}
+use Rattle.wast_expand_keys.specs.Expanded.{unnamed_param, unnamed_type, start_of_text, bound_if, bound_index, bound_inline, bound_use}
+use Rattle.wast_expand_keys.specs.Expanded.{binding_change, bound_field}
 use Rattle.wast_expand_keys.specs.Completed.{fields_with_implied_types}
 use Rattle.wast_expand_keys.specs.Positioned.{position_for, fields_with_type_positions}
 use Rattle.wast_expand_types.proofs.Staying.{binding_keeps}
@@ -32,7 +34,8 @@ use Rattle.wast_resolve_laws.proofs.RenamedNumbers.{number_same, values_same}
 use Rattle.wast_resolve_laws.proofs.RenamedShapes.{renamed_signature, numbers_are}
 
 -- a position in a list with changed items, if they pass the changed test as they passed the other
-place_like : {A B : Type 0} (p : A → Bool) (q : B → Bool) (f : A → B) → ((x : A) → q (f x) ≡ p x) → (xs : List A) → position_or_len q (map f xs) ≡ position_or_len p xs
+place_like : {A B : Type 0} (p : A → Bool) (q : B → Bool) (f : A → B) → ((x : A) → q (f x) ≡ p x) → (xs : List A)
+    → position_or_len q (map f xs) ≡ position_or_len p xs
 place_like p q f h [] = refl
 place_like p q f h (x ∷ xs) = λ i. cond (not (h x i)) (1 + place_like p q f h xs i) 0
 
@@ -57,7 +60,8 @@ module _ (r : Renaming) (is : IsRenaming r) where
   inline_told (Some t) = signature_changed given (λ t. renamed_index r) t
 
   short_told : (t : FunctionType) → is_short (renamed_type r t) ≡ is_short t
-  short_told t = λ i. (length-map t.params (named_param given (λ t. renamed_index r)) i) == 0 && nat_lt (length-map t.results (mapped_val (λ t. renamed_index r)) i) 2
+  short_told t = λ i. (length-map t.params (named_param given (λ t. renamed_index r)) i) == 0 && nat_lt
+      (length-map t.results (mapped_val (λ t. renamed_index r)) i) 2
 
   needs_told : (w : Where) (t : Option FunctionType) → needs_type w (option_map (renamed_type r) t) ≡ needs_type w t
   needs_told OfBlock None = refl
@@ -68,7 +72,8 @@ module _ (r : Renaming) (is : IsRenaming r) where
   needed_told true s = refl
   needed_told false s = refl
 
-  use_told : (w : Where) (o : Option Index) (t : Option FunctionType) → needed_without w (option_map (renamed_index r) o) (option_map (renamed_type r) t) ≡ map told (needed_without w o t)
+  use_told : (w : Where) (o : Option Index) (t : Option FunctionType)
+      → needed_without w (option_map (renamed_index r) o) (option_map (renamed_type r) t) ≡ map told (needed_without w o t)
   use_told w None t = (λ i. needed_if (needs_told w t i) (inline_told t i)) ∙ needed_told (needs_type w t) (inline_signature t)
   use_told w (Some i) t = refl
 
@@ -89,7 +94,11 @@ module _ (r : Renaming) (is : IsRenaming r) where
 
   module _ (k l : TypeNames) (numbers : (q : Name) → l (r.name q) ≡ k q) where
     numbered_told : (s : Signature) → numbered_signature l (told s) ≡ told (numbered_signature k s)
-    numbered_told s = λ i. (values_same r is (in_numbers k) (in_numbers l) (λ t. number_same r is k l numbers) s.0 i, values_same r is (in_numbers k) (in_numbers l) (λ t. number_same r is k l numbers) s.1 i)
+    numbered_told s = λ i. (
+      values_same r is (in_numbers k) (in_numbers l) (λ t. number_same r is k l numbers) s.0 i,
+      values_same r is (in_numbers k)
+          (in_numbers l) (λ t. number_same r is k l numbers) s.1 i,
+    )
 
     each_numbered : (ss : List Signature) → map (numbered_signature l) (map told ss) ≡ map told (map (numbered_signature k) ss)
     each_numbered [] = refl
@@ -147,10 +156,12 @@ module _ (r : Renaming) (is : IsRenaming r) where
   among_told [] s = refl
   among_told (t ∷ ts) s = λ i. told_same s t i || among_told ts s i
 
-  new_told : (known other : Signature → Bool) → ((s : Signature) → other (told s) ≡ known s) → (ss : List Signature) → first_new other (map told ss) ≡ map told (first_new known ss)
+  new_told : (known other : Signature → Bool) → ((s : Signature) → other (told s) ≡ known s) → (ss : List Signature)
+      → first_new other (map told ss) ≡ map told (first_new known ss)
   new_told known other h [] = refl
   new_told known other h (s ∷ ss) =
-      (λ i. if h s i then new_told known other h ss i else (told s ∷ new_told (λ t. known t || same_signature t s) (λ t. other t || same_signature t (told s)) (λ t i. h t i || told_same t s i) ss i))
+      (λ i. if h s i then new_told known other h ss i else
+      (told s ∷ new_told (λ t. known t || same_signature t s) (λ t. other t || same_signature t (told s)) (λ t i. h t i || told_same t s i) ss i))
       ∙ by (known s) (first_new known ss) (first_new (λ t. known t || same_signature t s) ss)
     where
       by : (b : Bool) (xs ys : List Signature) → (if b then map told xs else (told s ∷ map told ys)) ≡ map told (if b then xs else (s ∷ ys))
@@ -163,13 +174,26 @@ module _ (r : Renaming) (is : IsRenaming r) where
       ∙ new_told (is_among (eligible_signatures xs)) (is_among (map told (eligible_signatures xs))) (among_told (eligible_signatures xs)) (needed_numbers xs)
 
   -- The appended types.
-  params_told : (vs : List ValType) → map unnamed_param (map (mapped_val (λ t. renamed_index r)) vs) ≡ map (named_param given (λ t. renamed_index r)) (map unnamed_param vs)
+  params_told : (vs : List ValType) → map unnamed_param (map (mapped_val (λ t. renamed_index r)) vs) ≡ map (named_param given (λ t. renamed_index r))
+      (map unnamed_param vs)
   params_told [] = refl
   params_told (v ∷ vs) = ap (λ ps. unnamed_param (mapped_val (λ t. renamed_index r) v) ∷ ps) (params_told vs)
 
   type_told : (s : Signature) → unnamed_type (told s) ≡ mapped_field (renaming r) (unnamed_type s)
   type_told s =
-      ap (λ (ps : List (Option Id × Option NameAnnotation × ValType)). field.Ty (record { span = start_of_text; id = None; name = None; def = record { kind = inner.Func (record { params = ps; results = (told s).1 }); shared = false; parents = []; descriptor = None; describes = None; final_type = None } }))
+      ap (λ (ps : List (Option Id × Option NameAnnotation × ValType)). field.Ty (record {
+        span = start_of_text;
+        id = None;
+        name = None;
+        def = record {
+          kind = inner.Func (record { params = ps; results = (told s).1 });
+          shared = false;
+          parents = [];
+          descriptor = None;
+          describes = None;
+          final_type = None;
+        };
+      }))
       (params_told s.0)
 
   types_told : (ss : List Signature) → map unnamed_type (map told ss) ≡ renamed_fields r (map unnamed_type ss)
@@ -177,13 +201,15 @@ module _ (r : Renaming) (is : IsRenaming r) where
   types_told (s ∷ ss) = λ i. type_told s i ∷ types_told ss i
 
   pub same_completed : (xs : List ModuleField) → fields_with_implied_types (renamed_fields r xs) ≡ renamed_fields r (fields_with_implied_types xs)
-  same_completed xs = (λ i. renamed_fields r xs ++ (ap (map unnamed_type) (all_implied xs) ∙ types_told (implied_signatures xs)) i) ∙ sym (map-append (mapped_field (renaming r)) xs (map unnamed_type (implied_signatures xs)))
+  same_completed xs = (λ i. renamed_fields r xs ++ (ap (map unnamed_type) (all_implied xs) ∙ types_told (implied_signatures xs)) i)
+      ∙ sym (map-append (mapped_field (renaming r)) xs (map unnamed_type (implied_signatures xs)))
 
   -- Positions.
   abbrev no_signature : Option Signature
   no_signature = None
 
-  members_told : (ts : List ty.«Type») → map (λ (t : ty.«Type»). no_signature) (map (mapped_type (renaming r)) ts) ≡ map (option_map told) (map (λ (t : ty.«Type»). no_signature) ts)
+  members_told : (ts : List ty.«Type») → map (λ (t : ty.«Type»). no_signature) (map (mapped_type (renaming r)) ts) ≡ map (option_map told)
+      (map (λ (t : ty.«Type»). no_signature) ts)
   members_told [] = refl
   members_told (t ∷ ts) = ap (λ os. None ∷ os) (members_told ts)
 
@@ -203,7 +229,8 @@ module _ (r : Renaming) (is : IsRenaming r) where
 
   space_told : (xs : List ModuleField) → type_space (renamed_fields r xs) ≡ map (option_map told) (type_space xs)
   space_told xs =
-      (λ i. all_in (type_names xs) (type_names (renamed_fields r xs)) (numbers_same xs) xs i ++ (ap (map Some) (all_implied xs) ∙ somes_told (implied_signatures xs)) i)
+      (λ i. all_in (type_names xs) (type_names (renamed_fields r xs)) (numbers_same xs) xs i ++ (ap (map Some) (all_implied xs)
+      ∙ somes_told (implied_signatures xs)) i)
       ∙ sym (map-append (option_map told) (flat_map (types_in (type_names xs)) xs) (map Some (implied_signatures xs)))
 
   has_told : (s : Signature) (o : Option Signature) → has_signature (told s) (option_map told o) ≡ has_signature s o
@@ -222,11 +249,14 @@ module _ (r : Renaming) (is : IsRenaming r) where
     if_told true o = refl
     if_told false o = refl
 
-    bound_told : (w : Where) (o : Option Index) (t : Option FunctionType) → bound_index other w (option_map (renamed_index r) o) (option_map (renamed_type r) t) ≡ option_map (renamed_index r) (bound_index find w o t)
-    bound_told w None t = (λ i. bound_if (needs_told w t i) ((ap other (inline_told t) ∙ finds (inline_signature t)) i)) ∙ if_told (needs_type w t) (find (inline_signature t))
+    bound_told : (w : Where) (o : Option Index) (t : Option FunctionType)
+        → bound_index other w (option_map (renamed_index r) o) (option_map (renamed_type r) t) ≡ option_map (renamed_index r) (bound_index find w o t)
+    bound_told w None t = (λ i. bound_if (needs_told w t i) ((ap other (inline_told t) ∙ finds (inline_signature t)) i))
+        ∙ if_told (needs_type w t) (find (inline_signature t))
     bound_told w (Some i) t = refl
 
-    inline_bound : (w : Where) (o : Option Index) (t : Option FunctionType) → bound_inline w (option_map (renamed_index r) o) (option_map (renamed_type r) t) ≡ option_map (renamed_type r) (bound_inline w o t)
+    inline_bound : (w : Where) (o : Option Index) (t : Option FunctionType)
+        → bound_inline w (option_map (renamed_index r) o) (option_map (renamed_type r) t) ≡ option_map (renamed_type r) (bound_inline w o t)
     inline_bound OfBlock (Some i) t = refl
     inline_bound OfBlock None (Some t) = refl
     inline_bound OfBlock None None = refl
@@ -261,8 +291,10 @@ module _ (r : Renaming) (is : IsRenaming r) where
 
     all_bound : (xs : List ModuleField) → map (bound_field other) (renamed_fields r xs) ≡ renamed_fields r (map (bound_field find) xs)
     all_bound xs =
-        joins_named r.name (renaming r) (binding_change other) both (record { names = names r is; ids = λ o. refl; owns = λ o. refl }) xs (each_so (NamedJoins r.name (renaming r) (binding_change other) both) binds_named (in_module xs))
-        ∙ sym (joins (binding_change find) (renaming r) both (record { keeps = binding_keeps find; ids = λ o. refl; owns = λ o. refl }) xs (each_so (Joins (binding_change find) (renaming r) both) binds_kept (in_module xs)))
+        joins_named r.name (renaming r) (binding_change other) both (record { names = names r is; ids = λ o. refl; owns = λ o. refl }) xs
+        (each_so (NamedJoins r.name (renaming r) (binding_change other) both) binds_named (in_module xs))
+        ∙ sym (joins (binding_change find) (renaming r) both (record { keeps = binding_keeps find; ids = λ o. refl; owns = λ o. refl }) xs
+        (each_so (Joins (binding_change find) (renaming r) both) binds_kept (in_module xs)))
 
   position_told : (o : Option ℕ) → option_map (λ k. index.Num k start_of_text) o ≡ option_map (renamed_index r) (option_map (λ k. index.Num k start_of_text) o)
   position_told None = refl
@@ -271,4 +303,5 @@ module _ (r : Renaming) (is : IsRenaming r) where
   pub same_positioned : (xs : List ModuleField) → fields_with_type_positions (renamed_fields r xs) ≡ renamed_fields r (fields_with_type_positions xs)
   same_positioned xs =
       ap (map (bound_field (position_for (renamed_fields r xs)))) (same_completed xs)
-      ∙ all_bound (position_for xs) (position_for (renamed_fields r xs)) (λ s. ap (option_map (λ k. index.Num k start_of_text)) (index_told xs s) ∙ position_told (index_for xs s)) (fields_with_implied_types xs)
+      ∙ all_bound (position_for xs) (position_for (renamed_fields r xs)) (λ s. ap (option_map (λ k. index.Num k start_of_text)) (index_told xs s)
+      ∙ position_told (index_for xs s)) (fields_with_implied_types xs)

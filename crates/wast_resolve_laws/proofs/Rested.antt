@@ -67,7 +67,8 @@ module _ (n : ℕ) (fields : List ModuleField) (ks : List (ℕ × Span)) where
       let more = in_module (start_fields_of (numbers ks)) in
       ap (list_all says) (flat_map-append in_field (resolved_fields_from n fields) (start_fields_of (numbers ks)))
       ∙ (list_all-append says now more
-      ∙ both_so (list_all says now) (list_all says more) (still_says (module_scope (explicit_fields_from n fields)) (explicit_fields_from n fields) (expanded_says (n + reference_id_count fields) (desugared_from n fields))) (starts_say ks))
+      ∙ both_so (list_all says now) (list_all says more) (still_says (module_scope (explicit_fields_from n fields)) (explicit_fields_from n fields)
+      (expanded_says (n + reference_id_count fields) (desugared_from n fields))) (starts_say ks))
 
   all_out : is_written_out list ≡ true
   all_out =
@@ -76,18 +77,21 @@ module _ (n : ℕ) (fields : List ModuleField) (ks : List (ℕ × Span)) where
 
 pub rests_still : RestsStill
 rests_still m n fields ks =
-    ap resolved_fields (explicit_from_is (list n fields ks) (nothing_needed n fields ks) (all_have_ids n fields ks) (all_say n fields ks) (all_out n fields ks) m) ∙ rests_numbered (explicit_fields_from n fields) ks
+    ap resolved_fields (explicit_from_is (list n fields ks) (nothing_needed n fields ks) (all_have_ids n fields ks) (all_say n fields ks)
+    (all_out n fields ks) m) ∙ rests_numbered (explicit_fields_from n fields) ks
 
 pub rests_by_position : RestsByPosition
 rests_by_position n fields ks =
-    ap resolved_fields (by_positions_is (list n fields ks) (nothing_needed n fields ks) (all_have_ids n fields ks) (all_say n fields ks) (all_out n fields ks)) ∙ rests_numbered (explicit_fields_from n fields) ks
+    ap resolved_fields (by_positions_is (list n fields ks) (nothing_needed n fields ks) (all_have_ids n fields ks) (all_say n fields ks)
+    (all_out n fields ks)) ∙ rests_numbered (explicit_fields_from n fields) ks
 
 pub fills_no_more : FillsNoMore
 fills_no_more n fields ks = fills_none (list n fields ks) (nothing_needed n fields ks) (all_have_ids n fields ks) (all_say n fields ks) (all_out n fields ks)
 
 pub rests_are_met : RestsMet
 rests_are_met n fields ks above met =
-    ap (λ xs. first_unmet (demands xs)) (explicit_is (list n fields ks) (nothing_needed n fields ks) (all_have_ids n fields ks) (all_say n fields ks) (all_out n fields ks))
+    ap (λ xs. first_unmet (demands xs)) (explicit_is (list n fields ks) (nothing_needed n fields ks) (all_have_ids n fields ks) (all_say n fields ks)
+    (all_out n fields ks))
     ∙ rests_met (explicit_fields_from n fields) ks (explicit_answer n fields above ∙ met)
 
 pub starts_stay_well_formed : StartsStayWellFormed

@@ -8,7 +8,8 @@ use Rattle.wast_base.specs.Ids.{Name}
 use Rattle.wast_tree_nodes.specs.Items.{items, items_in, field_ids}
 use Rattle.wast_tree_nodes.specs.Known.{IdContext, id_context}
 use Rattle.wast_tree_nodes.specs.Sites.{in_module}
-use Rattle.wast_tree_map.specs.Mapped.{mapped_site, mapped_struct_field, mapped_inner, mapped_type, mapped_func_kind, mapped_table_kind, mapped_global_kind, mapped_field}
+use Rattle.wast_tree_map.specs.Mapped.{mapped_site, mapped_struct_field, mapped_inner, mapped_type, mapped_func_kind, mapped_table_kind}
+use Rattle.wast_tree_map.specs.Mapped.{mapped_global_kind, mapped_field}
 use Rattle.wast_tree_map.proofs.Laws.{stands}
 use Rattle.std.proofs.lemmas.List.{map-append}
 use Rattle.wast_base.specs.Ids.{mark_of_option}
@@ -54,7 +55,8 @@ module _ (c : Scope) where
   kind_still (inner.Array t) = refl
   kind_still (inner.Cont t) = refl
 
-  types_still : (ts : List ty.«Type») → map (λ (t : ty.«Type»). shape_of t.def.kind) (map (mapped_type (numbering_change c)) ts) ≡ map (numbered_shape k) (map (λ (t : ty.«Type»). shape_of t.def.kind) ts)
+  types_still : (ts : List ty.«Type») → map (λ (t : ty.«Type»). shape_of t.def.kind) (map (mapped_type (numbering_change c)) ts) ≡ map
+      (numbered_shape k) (map (λ (t : ty.«Type»). shape_of t.def.kind) ts)
   types_still [] = refl
   types_still (t ∷ ts) = λ i. kind_still t.def.kind i ∷ types_still ts i
 
@@ -68,15 +70,18 @@ module _ (c : Scope) where
   shapes_still (x ∷ xs) = (λ i. in_still x i ++ shapes_still xs i) ∙ sym (map-append (numbered_shape k) (shapes_in x) (shapes_of_types xs))
 
   -- the order of imports
-  func_kept : (span : Span) (u : TypeUse FunctionType) (f : FuncKind) → imported_at span (Some (is_imported_func (mapped_func_kind (numbering_change c) u f))) ≡ imported_at span (Some (is_imported_func f))
+  func_kept : (span : Span) (u : TypeUse FunctionType) (f : FuncKind)
+      → imported_at span (Some (is_imported_func (mapped_func_kind (numbering_change c) u f))) ≡ imported_at span (Some (is_imported_func f))
   func_kept span u (func.Import source exact) = refl
   func_kept span u (func.Inline locals e) = refl
 
-  table_kept : (span : Span) (t : TableKind) → imported_at span (Some (is_imported_table (mapped_table_kind (numbering_change c) t))) ≡ imported_at span (Some (is_imported_table t))
+  table_kept : (span : Span) (t : TableKind)
+      → imported_at span (Some (is_imported_table (mapped_table_kind (numbering_change c) t))) ≡ imported_at span (Some (is_imported_table t))
   table_kept span (table.Import source ty) = refl
   table_kept span x = refl
 
-  global_kept : (span : Span) (g : GlobalKind) → imported_at span (Some (is_imported_global (mapped_global_kind (numbering_change c) g))) ≡ imported_at span (Some (is_imported_global g))
+  global_kept : (span : Span) (g : GlobalKind)
+      → imported_at span (Some (is_imported_global (mapped_global_kind (numbering_change c) g))) ≡ imported_at span (Some (is_imported_global g))
   global_kept span (global.Import source) = refl
   global_kept span (global.Inline e) = refl
 
@@ -90,10 +95,13 @@ module _ (c : Scope) where
   starts_order last [] = refl
   starts_order last (j ∷ ks) = starts_order last ks
 
-  orders_rest : (last : Option Space) (xs : List ModuleField) (ks : List (ℕ × Span)) → orders_from last (map (mapped_field (numbering_change c)) xs ++ start_fields_of (numbers ks)) ≡ orders_from last xs
+  orders_rest : (last : Option Space) (xs : List ModuleField) (ks : List (ℕ × Span))
+      → orders_from last (map (mapped_field (numbering_change c)) xs ++ start_fields_of (numbers ks)) ≡ orders_from last xs
   orders_rest last [] ks = starts_order last ks
   orders_rest last (x ∷ xs) ks =
-      (λ i. nothing_defined last (place_kept x i) ++ orders_from (option_or (unless_import (place_kept x i) (defines_alone (numbering_change c) x i)) last) (map (mapped_field (numbering_change c)) xs ++ start_fields_of (numbers ks)))
+      (λ i. nothing_defined last (place_kept x i) ++ orders_from
+      (option_or (unless_import (place_kept x i) (defines_alone (numbering_change c) x i)) last)
+      (map (mapped_field (numbering_change c)) xs ++ start_fields_of (numbers ks)))
       ∙ ap (λ ds. nothing_defined last (import_place x) ++ ds) (orders_rest (option_or (defines x) last) xs ks)
 
 starts_items : (ks : List (ℕ × Span)) → items (start_fields_of (numbers ks)) ≡ []
@@ -111,24 +119,34 @@ starts_demand c (j ∷ ks) = starts_demand c ks
 pub items_rest : (xs : List ModuleField) (ks : List (ℕ × Span)) → items (resolved_fields xs ++ start_fields_of (numbers ks)) ≡ items xs
 items_rest xs ks =
     flat_map-append items_in (resolved_fields xs) (start_fields_of (numbers ks))
-    ∙ ((λ i. items_alone (numbering_change (module_scope xs)) (λ o. refl) (numbering_keeps (module_scope xs)) xs i ++ starts_items ks i) ∙ append-nil (items xs))
+    ∙ ((λ i. items_alone (numbering_change (module_scope xs)) (λ o. refl) (numbering_keeps (module_scope xs)) xs i ++ starts_items ks i)
+    ∙ append-nil (items xs))
 
 pub scope_rests : (xs : List ModuleField) (ks : List (ℕ × Span)) → module_scope (resolved_fields xs ++ start_fields_of (numbers ks)) ≡ rested (module_scope xs)
 scope_rests xs ks = λ i. record {
   known = id_context (items_rest xs ks i);
-  types = (flat_map-append shapes_in (resolved_fields xs) (start_fields_of (numbers ks)) ∙ ((λ j. shapes_still (module_scope xs) xs j ++ starts_shapes ks j) ∙ append-nil (map (numbered_shape (module_scope xs).known) (shapes_of_types xs)))) i;
+  types = (flat_map-append shapes_in (resolved_fields xs) (start_fields_of (numbers ks))
+      ∙ ((λ j. shapes_still (module_scope xs) xs j ++ starts_shapes ks j) ∙ append-nil (map (numbered_shape (module_scope xs).known) (shapes_of_types xs)))) i;
 }
 
-pub sites_are : (xs : List ModuleField) (ks : List (ℕ × Span)) → in_module (resolved_fields xs ++ start_fields_of (numbers ks)) ≡ map (mapped_site (numbering_change (module_scope xs))) (in_module xs) ++ in_module (start_fields_of (numbers ks))
-sites_are xs ks = flat_map-append in_field (resolved_fields xs) (start_fields_of (numbers ks)) ∙ ap (λ ss. ss ++ in_module (start_fields_of (numbers ks))) (stands (numbering_change (module_scope xs)) (numbering_keeps (module_scope xs)) xs)
+pub sites_are : (xs : List ModuleField) (ks : List (ℕ × Span))
+    → in_module (resolved_fields xs ++ start_fields_of (numbers ks)) ≡ map (mapped_site (numbering_change (module_scope xs)))
+    (in_module xs) ++ in_module (start_fields_of (numbers ks))
+sites_are xs ks = flat_map-append in_field (resolved_fields xs) (start_fields_of (numbers ks))
+    ∙ ap (λ ss. ss ++ in_module (start_fields_of (numbers ks))) (stands (numbering_change (module_scope xs)) (numbering_keeps (module_scope xs)) xs)
 
-pub rests_met : (xs : List ModuleField) (ks : List (ℕ × Span)) → first_unmet (demands xs) ≡ None → first_unmet (demands (resolved_fields xs ++ start_fields_of (numbers ks))) ≡ None
+pub rests_met : (xs : List ModuleField) (ks : List (ℕ × Span)) → first_unmet (demands xs) ≡ None
+    → first_unmet (demands (resolved_fields xs ++ start_fields_of (numbers ks))) ≡ None
 rests_met xs ks met =
     let c = module_scope xs in
     let p = met_parts (order_demands xs) (name_demands xs) met in
     let q = met_parts (item_demands (items xs)) (site_demands c (in_module xs)) p.1 in
-    met_both (order_demands (resolved_fields xs ++ start_fields_of (numbers ks))) (name_demands (resolved_fields xs ++ start_fields_of (numbers ks))) (ap first_unmet (orders_are (resolved_fields xs ++ start_fields_of (numbers ks)) ∙ (orders_rest c None xs ks ∙ sym (orders_are xs))) ∙ p.0)
-    (met_both (item_demands (items (resolved_fields xs ++ start_fields_of (numbers ks)))) (site_demands (module_scope (resolved_fields xs ++ start_fields_of (numbers ks))) (in_module (resolved_fields xs ++ start_fields_of (numbers ks))))
+    met_both (order_demands (resolved_fields xs ++ start_fields_of (numbers ks))) (name_demands (resolved_fields xs ++ start_fields_of (numbers ks)))
+    (ap first_unmet (orders_are (resolved_fields xs ++ start_fields_of (numbers ks)) ∙ (orders_rest c None xs ks ∙ sym (orders_are xs))) ∙ p.0)
+    (met_both (item_demands (items (resolved_fields xs ++ start_fields_of (numbers ks))))
+    (site_demands (module_scope (resolved_fields xs ++ start_fields_of (numbers ks))) (in_module (resolved_fields xs ++ start_fields_of (numbers ks))))
     (ap (λ its. first_unmet (item_demands its)) (items_rest xs ks) ∙ q.0)
-    (ap first_unmet ((λ i. site_demands (scope_rests xs ks i) (sites_are xs ks i)) ∙ flat_map-append (site_demand (rested c)) (map (mapped_site (numbering_change c)) (in_module xs)) (in_module (start_fields_of (numbers ks))))
-    ∙ met_both (site_demands (rested c) (map (mapped_site (numbering_change c)) (in_module xs))) (site_demands (rested c) (in_module (start_fields_of (numbers ks)))) (sites_rest c (in_module xs) q.1) (ap first_unmet (starts_demand (rested c) ks))))
+    (ap first_unmet ((λ i. site_demands (scope_rests xs ks i) (sites_are xs ks i))
+    ∙ flat_map-append (site_demand (rested c)) (map (mapped_site (numbering_change c)) (in_module xs)) (in_module (start_fields_of (numbers ks))))
+    ∙ met_both (site_demands (rested c) (map (mapped_site (numbering_change c)) (in_module xs)))
+    (site_demands (rested c) (in_module (start_fields_of (numbers ks)))) (sites_rest c (in_module xs) q.1) (ap first_unmet (starts_demand (rested c) ks))))

@@ -11,7 +11,8 @@ use Rattle.wast_expand_keys.specs.NeedingUses.{needed_signatures}
 use Rattle.wast_expand_keys.specs.Numbers.{type_names, numbered_signature}
 use Rattle.wast_expand_keys.specs.ImpliedTypes.{eligible_signatures, is_among, first_new, implied_signatures}
 use Rattle.wast_expand_keys.specs.Expanders.{LookUp}
-use Rattle.wast_expand_keys.specs.Expanded.{lacks_id, with_type_id, unnamed_type, implied_types, fields_with_types, found_for, bound_field, expanded_fields, type_id_count}
+use Rattle.wast_expand_keys.specs.Expanded.{lacks_id, with_type_id, unnamed_type, implied_types, fields_with_types, found_for, bound_field}
+use Rattle.wast_expand_keys.specs.Expanded.{expanded_fields, type_id_count}
 use Rattle.wast_expand_keys.specs.Completed.{fields_with_implied_types}
 use Rattle.wast_expand_keys.specs.Positioned.{position_for, fields_with_type_positions}
 use Rattle.wast_expand_types.proofs.AtRest.{filled_none}
@@ -19,7 +20,8 @@ use Rattle.wast_expand_types.proofs.Staying.{says, fields_stay}
 use Rattle.wast_resolve_laws.specs.Tree.{ModuleField}
 use Rattle.wast_resolve_rules.specs.Explicit.{explicit_fields, explicit_fields_from, by_positions, generated_id_count}
 
-module _ (xs : List ModuleField) (none : needed_signatures xs ≡ []) (ids : missing_id_count lacks_id xs ≡ 0) (say : list_all says (in_module xs) ≡ true) (out : is_written_out xs ≡ true) where
+module _ (xs : List ModuleField) (none : needed_signatures xs ≡ []) (ids : missing_id_count lacks_id xs ≡ 0)
+    (say : list_all says (in_module xs) ≡ true) (out : is_written_out xs ≡ true) where
   implied_none : implied_signatures xs ≡ []
   implied_none = ap (λ ss. first_new (is_among (eligible_signatures xs)) (map (numbered_signature (type_names xs)) ss)) none
 
@@ -49,7 +51,8 @@ module _ (xs : List ModuleField) (none : needed_signatures xs ≡ []) (ids : mis
 
   pub fills_none : generated_id_count xs ≡ 0
   fills_none =
-      let wants : type_id_count (desugared_by_position xs) ≡ missing_id_count lacks_id xs + length (implied_signatures xs) = ap type_id_count (stays_by_position xs out) in
+      let wants : type_id_count (desugared_by_position xs) ≡ missing_id_count lacks_id xs + length (implied_signatures xs) = ap type_id_count
+      (stays_by_position xs out) in
       let refs = wants_no_reference xs out in
       let less : length (implied_signatures xs) ≡ 0 = ap length implied_none in
       omega (arith, wants, refs, less, ids)

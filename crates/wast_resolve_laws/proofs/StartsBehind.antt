@@ -1,5 +1,6 @@
 -- Start fields after a list: they come before the appended types, which are the same, and they are not items.
-use Rattle.std.proofs.Common.{◌≡◌, ℕ, ◌+◌, Bool, true, false, List, [], ◌∷◌, ◌++◌, map, append-nil, append_assoc, Option, Some, None, is_some, refl, sym, ap, ◌∙◌}
+use Rattle.std.proofs.Common.{◌≡◌, ℕ, ◌+◌, Bool, true, false, List, [], ◌∷◌, ◌++◌, map, append-nil, append_assoc, Option, Some, None}
+use Rattle.std.proofs.Common.{is_some, refl, sym, ap, ◌∙◌}
 use Rattle.std.specs.List.{flat_map, list_all}
 use Rattle.std.specs.Cmp.{first_so, second_so}
 use Rattle.std.specs.Option.{option_or}
@@ -20,7 +21,8 @@ use Rattle.wast_expand_keys.specs.NeedingUses.{needed_at, needed_in, needed_sign
 use Rattle.wast_expand_keys.specs.Numbers.{type_names, numbered_signature}
 use Rattle.wast_expand_keys.specs.ImpliedTypes.{eligible_in, eligible_signatures, is_among, first_new, implied_signatures}
 use Rattle.wast_expand_keys.specs.Expanders.{LookUp, index_of}
-use Rattle.wast_expand_keys.specs.Expanded.{lacks_id, with_type_id, def_of, start_of_text, implied_type, implied_types, fields_with_types, bindings_in, bindings, found_for, bound_field, expanded_fields}
+use Rattle.wast_expand_keys.specs.Expanded.{lacks_id, with_type_id, def_of, start_of_text, implied_type, implied_types, fields_with_types}
+use Rattle.wast_expand_keys.specs.Expanded.{bindings_in, bindings, found_for, bound_field, expanded_fields}
 use Rattle.wast_resolve_laws.specs.Tree.{Span, Index, Space, ModuleField}
 use Rattle.wast_resolve_laws.specs.Tree.index
 use Rattle.wast_resolve_laws.specs.Tree.space
@@ -48,7 +50,8 @@ module _ {A : Type 0} (g : ModuleField → List A) (none : (i : Index) → g (fi
   pub among : (xs ys : List ModuleField) → flat_map g (xs ++ (start_fields_of is ++ ys)) ≡ flat_map g (xs ++ ys)
   among xs ys =
       flat_map-append g xs (start_fields_of is ++ ys)
-      ∙ (ap (λ zs. flat_map g xs ++ zs) (flat_map-append g (start_fields_of is) ys ∙ ap (λ zs. zs ++ flat_map g ys) starts_none) ∙ sym (flat_map-append g xs ys))
+      ∙ (ap (λ zs. flat_map g xs ++ zs) (flat_map-append g (start_fields_of is) ys ∙ ap (λ zs. zs ++ flat_map g ys) starts_none)
+      ∙ sym (flat_map-append g xs ys))
 
   pub behind_all : (xs : List ModuleField) → flat_map g (xs ++ start_fields_of is) ≡ flat_map g xs
   behind_all xs = flat_map-append g xs (start_fields_of is) ∙ (ap (λ zs. flat_map g xs ++ zs) starts_none ∙ append-nil (flat_map g xs))
@@ -57,9 +60,11 @@ module _ {A : Type 0} (g : ModuleField → List A) (none : (i : Index) → g (fi
 module _ (wants : ModuleField → Bool) (give : ℕ → ModuleField → ModuleField) (none : (i : Index) → wants (field.Start i) ≡ false) where
   starts_filled : (n : ℕ) (is : List Index) → with_ids_from wants give n (start_fields_of is) ≡ start_fields_of is
   starts_filled n [] = refl
-  starts_filled n (i ∷ is) = (λ t. given_if (none i t) give n (field.Start i) ∷ with_ids_from wants give (n + one_if (none i t)) (start_fields_of is)) ∙ ap (λ ys. field.Start i ∷ ys) (starts_filled (n + 0) is)
+  starts_filled n (i ∷ is) = (λ t. given_if (none i t) give n (field.Start i) ∷ with_ids_from wants give (n + one_if (none i t))
+      (start_fields_of is)) ∙ ap (λ ys. field.Start i ∷ ys) (starts_filled (n + 0) is)
 
-  pub filled_behind : (n : ℕ) (xs : List ModuleField) (is : List Index) → with_ids_from wants give n (xs ++ start_fields_of is) ≡ with_ids_from wants give n xs ++ start_fields_of is
+  pub filled_behind : (n : ℕ) (xs : List ModuleField) (is : List Index)
+      → with_ids_from wants give n (xs ++ start_fields_of is) ≡ with_ids_from wants give n xs ++ start_fields_of is
   filled_behind n [] is = starts_filled n is
   filled_behind n (x ∷ xs) is = ap (λ ys. given_if (wants x) give n x ∷ ys) (filled_behind (n + one_if (wants x)) xs is)
 
@@ -96,14 +101,16 @@ module _ (is : List Index) where
   pub needed_behind : (xs : List ModuleField) → needed_signatures (xs ++ start_fields_of is) ≡ needed_signatures xs
   needed_behind xs =
       ap needed_in (flat_map-append in_field xs (start_fields_of is))
-      ∙ (flat_map-append needed_at (in_module xs) (in_module (start_fields_of is)) ∙ (ap (λ ss. needed_signatures xs ++ ss) starts_need ∙ append-nil (needed_signatures xs)))
+      ∙ (flat_map-append needed_at (in_module xs) (in_module (start_fields_of is))
+      ∙ (ap (λ ss. needed_signatures xs ++ ss) starts_need ∙ append-nil (needed_signatures xs)))
 
   -- They are not types, so no type use matches them.
   names_behind : (xs : List ModuleField) → type_names (xs ++ start_fields_of is) ≡ type_names xs
   names_behind xs = ap (λ its. (id_context its).number space.Ty) (behind_all items_in (λ i. refl) is xs)
 
   eligible_behind : (xs : List ModuleField) → eligible_signatures (xs ++ start_fields_of is) ≡ eligible_signatures xs
-  eligible_behind xs = ap (λ k. flat_map (eligible_in k) (xs ++ start_fields_of is)) (names_behind xs) ∙ behind_all (eligible_in (type_names xs)) (λ i. refl) is xs
+  eligible_behind xs = ap (λ k. flat_map (eligible_in k) (xs ++ start_fields_of is)) (names_behind xs)
+      ∙ behind_all (eligible_in (type_names xs)) (λ i. refl) is xs
 
   implied_behind : (xs : List ModuleField) → implied_signatures (xs ++ start_fields_of is) ≡ implied_signatures xs
   implied_behind xs = λ t. first_new (is_among (eligible_behind xs t)) (map (numbered_signature (names_behind xs t)) (needed_behind xs t))
@@ -131,10 +138,12 @@ module _ (m : ℕ) (xs : List ModuleField) where
   module _ (is : List Index) where
     typed_behind : fields_with_types m (xs ++ start_fields_of is) ≡ with_ids ++ (start_fields_of is ++ more_types)
     typed_behind =
-        (λ t. filled_behind lacks_id with_type_id (λ i. refl) m xs is t ++ implied_types (m + wanted_behind lacks_id with_type_id (λ i. refl) xs is t) (implied_behind is xs t))
+        (λ t. filled_behind lacks_id with_type_id (λ i. refl) m xs is t ++ implied_types
+        (m + wanted_behind lacks_id with_type_id (λ i. refl) xs is t) (implied_behind is xs t))
         ∙ append_assoc with_ids (start_fields_of is) more_types
 
-    bound_behind : bindings (type_names (xs ++ start_fields_of is)) (fields_with_types m (xs ++ start_fields_of is)) ≡ bindings (type_names xs) (fields_with_types m xs)
+    bound_behind : bindings (type_names (xs ++ start_fields_of is)) (fields_with_types m (xs ++ start_fields_of is)) ≡ bindings (type_names xs)
+        (fields_with_types m xs)
     bound_behind = (λ t. bindings (names_behind is xs t) (typed_behind t)) ∙ among (bindings_in (type_names xs)) (λ i. refl) is with_ids more_types
 
     same_find : found_for (xs ++ start_fields_of is) m ≡ find
@@ -187,7 +196,8 @@ orders_among : (last : Option Space) (is : List Index) (ys : List ModuleField) �
 orders_among last [] ys = refl
 orders_among last (i ∷ is) ys = orders_among last is ys
 
-orders_behind : (last : Option Space) (is : List Index) (xs ys : List ModuleField) → orders_from last (xs ++ (start_fields_of is ++ ys)) ≡ orders_from last (xs ++ ys)
+orders_behind : (last : Option Space) (is : List Index) (xs ys : List ModuleField)
+    → orders_from last (xs ++ (start_fields_of is ++ ys)) ≡ orders_from last (xs ++ ys)
 orders_behind last is [] ys = orders_among last is ys
 orders_behind last is (x ∷ xs) ys = ap (λ ds. nothing_defined last (import_place x) ++ ds) (orders_behind (option_or (defines x) last) is xs ys)
 
@@ -208,12 +218,14 @@ module _ (c : Scope) where
   starts_met [] h = refl
   starts_met (i ∷ is) h =
       met_both (site_demand c (Asked (ItemIndex space.Func i))) (site_demands c (in_module (start_fields_of is)))
-      (start_met i (first_so (denotes_function c.known i) (list_all (denotes_function c.known) is) h)) (starts_met is (second_so (denotes_function c.known i) (list_all (denotes_function c.known) is) h))
+      (start_met i (first_so (denotes_function c.known i) (list_all (denotes_function c.known) is) h))
+      (starts_met is (second_so (denotes_function c.known i) (list_all (denotes_function c.known) is) h))
 
   sites_both : (xs ys : List ModuleField) → site_demands c (in_module (xs ++ ys)) ≡ site_demands c (in_module xs) ++ site_demands c (in_module ys)
   sites_both xs ys = ap (site_demands c) (flat_map-append in_field xs ys) ∙ flat_map-append (site_demand c) (in_module xs) (in_module ys)
 
-  sites_met : (is : List Index) (xs ys : List ModuleField) → list_all (denotes_function c.known) is ≡ true → first_unmet (site_demands c (in_module (xs ++ ys))) ≡ None
+  sites_met : (is : List Index) (xs ys : List ModuleField) → list_all (denotes_function c.known) is ≡ true
+      → first_unmet (site_demands c (in_module (xs ++ ys))) ≡ None
       → first_unmet (site_demands c (in_module (xs ++ (start_fields_of is ++ ys)))) ≡ None
   sites_met is xs ys all h =
       let parts = met_parts (site_demands c (in_module xs)) (site_demands c (in_module ys)) (ap first_unmet (sym (sites_both xs ys)) ∙ h) in
@@ -225,13 +237,16 @@ module _ (is : List Index) (xs ys : List ModuleField) where
   abbrev c : Scope
   c = module_scope (xs ++ ys)
 
-  pub demands_met : list_all (denotes_function c.known) is ≡ true → first_unmet (demands (xs ++ ys)) ≡ None → first_unmet (demands (xs ++ (start_fields_of is ++ ys))) ≡ None
+  pub demands_met : list_all (denotes_function c.known) is ≡ true → first_unmet (demands (xs ++ ys)) ≡ None
+      → first_unmet (demands (xs ++ (start_fields_of is ++ ys))) ≡ None
   demands_met all met =
       let all_fields : List ModuleField = xs ++ (start_fields_of is ++ ys) in
       let p = met_parts (order_demands (xs ++ ys)) (name_demands (xs ++ ys)) met in
       let q = met_parts (item_demands (items (xs ++ ys))) (site_demands c (in_module (xs ++ ys))) p.1 in
-      met_both (order_demands all_fields) (name_demands all_fields) (ap first_unmet (orders_are all_fields ∙ (orders_behind None is xs ys ∙ sym (orders_are (xs ++ ys)))) ∙ p.0)
-      (met_both (item_demands (items all_fields)) (site_demands (module_scope all_fields) (in_module all_fields)) (ap (λ its. first_unmet (item_demands its)) (items_among is xs ys) ∙ q.0)
+      met_both (order_demands all_fields) (name_demands all_fields) (ap first_unmet (orders_are all_fields
+      ∙ (orders_behind None is xs ys ∙ sym (orders_are (xs ++ ys)))) ∙ p.0)
+      (met_both (item_demands (items all_fields)) (site_demands (module_scope all_fields) (in_module all_fields))
+      (ap (λ its. first_unmet (item_demands its)) (items_among is xs ys) ∙ q.0)
       (ap (λ d. first_unmet (site_demands d (in_module all_fields))) (scope_among is xs ys) ∙ sites_met c is xs ys all q.1))
 
   starts_numbered : map (mapped_field (numbering_change c)) (start_fields_of is) ≡ start_fields_of (map (numbered_at c.known space.Func) is)
@@ -241,11 +256,13 @@ module _ (is : List Index) (xs ys : List ModuleField) where
       each [] = refl
       each (i ∷ is) = ap (λ zs. field.Start (numbered_at c.known space.Func i) ∷ zs) (each is)
 
-  pub resolved_among : resolved_fields (xs ++ (start_fields_of is ++ ys)) ≡ map (mapped_field (numbering_change c)) xs ++ (start_fields_of (map (numbered_at c.known space.Func) is) ++ map (mapped_field (numbering_change c)) ys)
+  pub resolved_among : resolved_fields (xs ++ (start_fields_of is ++ ys)) ≡ map (mapped_field (numbering_change c)) xs ++
+      (start_fields_of (map (numbered_at c.known space.Func) is) ++ map (mapped_field (numbering_change c)) ys)
   resolved_among =
       ap (λ d. map (mapped_field (numbering_change d)) (xs ++ (start_fields_of is ++ ys))) (scope_among is xs ys)
       ∙ (map-append (mapped_field (numbering_change c)) xs (start_fields_of is ++ ys)
-      ∙ ap (λ zs. map (mapped_field (numbering_change c)) xs ++ zs) (map-append (mapped_field (numbering_change c)) (start_fields_of is) ys ∙ ap (λ zs. zs ++ map (mapped_field (numbering_change c)) ys) starts_numbered))
+      ∙ ap (λ zs. map (mapped_field (numbering_change c)) xs ++ zs) (map-append (mapped_field (numbering_change c)) (start_fields_of is) ys
+      ∙ ap (λ zs. zs ++ map (mapped_field (numbering_change c)) ys) starts_numbered))
 
 -- The same with start fields after the fields of a module.
 module _ (n : ℕ) (fields : List ModuleField) where

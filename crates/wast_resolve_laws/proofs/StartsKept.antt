@@ -1,5 +1,6 @@
 -- Proves StartsStayBelow: a list with start fields after it has the same greatest generated id.
-use Rattle.std.proofs.Common.{◌≡◌, ℕ, ◌+◌, ◌<◌, ◌≤◌, Bool, true, false, not, ◌&&◌, ◌||◌, List, [], ◌∷◌, ◌++◌, map, Option, Some, None, is_some, refl, sym, ap, ◌∙◌, arith}
+use Rattle.std.proofs.Common.{◌≡◌, ℕ, ◌+◌, ◌<◌, ◌≤◌, Bool, true, false, not, ◌&&◌, ◌||◌, List, [], ◌∷◌, ◌++◌, map, Option, Some, None}
+use Rattle.std.proofs.Common.{is_some, refl, sym, ap, ◌∙◌, arith}
 use Rattle.std.specs.Prelude.{max}
 use Rattle.std.specs.List.{list_all, list_any}
 use Rattle.std.specs.Cmp.{first_so, second_so}
@@ -33,11 +34,13 @@ greatest_asks asks more = ap max_of (map-append generation_in asks more) ∙ gre
 pub items_behind : (xs : List ModuleField) (is : List Index) → items (xs ++ start_fields_of is) ≡ items xs
 items_behind xs is = behind_all items_in (λ i. refl) is xs
 
-asked_behind : (xs : List ModuleField) (is : List Index) → checks_of (in_module (xs ++ start_fields_of is)) ≡ checks_of (in_module xs) ++ checks_of (in_module (start_fields_of is))
+asked_behind : (xs : List ModuleField) (is : List Index)
+    → checks_of (in_module (xs ++ start_fields_of is)) ≡ checks_of (in_module xs) ++ checks_of (in_module (start_fields_of is))
 asked_behind xs is = ap checks_of (flat_map-append in_field xs (start_fields_of is)) ∙ flat_map-append asked_in (in_module xs) (in_module (start_fields_of is))
 
 -- The greatest generated id is that of the list, or of the start fields.
-generation_behind : (xs : List ModuleField) (is : List Index) → greatest_generation (xs ++ start_fields_of is) ≡ max (greatest_generation xs) (greatest_asked (checks_of (in_module (start_fields_of is))))
+generation_behind : (xs : List ModuleField) (is : List Index) → greatest_generation (xs ++ start_fields_of is) ≡ max (greatest_generation xs)
+    (greatest_asked (checks_of (in_module (start_fields_of is))))
 generation_behind xs is =
     let a = ap greatest_item (items_behind xs is) in
     let b = ap greatest_asked (asked_behind xs is) in
@@ -60,7 +63,8 @@ module _ (s : Space) (q : Name) where
   bearer_below [] h = absurd (cc h)
   bearer_below (x ∷ xs) h = by_first (bears x) refl h (bearer_below xs)
     where
-      by_first : (b : Bool) → bears x ≡ b → (b || list_any bears xs) ≡ true → (list_any bears xs ≡ true → generation_of q ≤ greatest_item xs) → generation_of q ≤ greatest_item (x ∷ xs)
+      by_first : (b : Bool) → bears x ≡ b → (b || list_any bears xs) ≡ true → (list_any bears xs ≡ true → generation_of q ≤ greatest_item xs)
+          → generation_of q ≤ greatest_item (x ∷ xs)
       by_first true e h rest = let g = generation_called q x.id (second_so (same_space s x.space) (is_called q (name_if x.id)) e) in omega (arith, g)
       by_first false e h rest = let g = rest h in omega (arith, g)
 
@@ -76,7 +80,8 @@ settled_below xs s (index.Id id) h = by_name (name_of id) h
     by_name (Written text) h = omega arith
     by_name (Generated m) h = borne_below s (Generated m) xs h
 
-starts_below : (xs : List Item) (is : List Index) → list_all (is_settled_index ((id_context xs).number space.Func)) is ≡ true → greatest_asked (checks_of (in_module (start_fields_of is))) ≤ greatest_item xs
+starts_below : (xs : List Item) (is : List Index) → list_all (is_settled_index ((id_context xs).number space.Func)) is ≡ true
+    → greatest_asked (checks_of (in_module (start_fields_of is))) ≤ greatest_item xs
 starts_below xs [] h = omega arith
 starts_below xs (i ∷ is) h =
     let settled : Index → Bool = is_settled_index ((id_context xs).number space.Func) in

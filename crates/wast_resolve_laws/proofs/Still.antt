@@ -19,7 +19,8 @@ use Rattle.wast_resolve_laws.specs.Tree.index
 use Rattle.wast_resolve_laws.specs.Tree.space
 use Rattle.wast_resolve_laws.specs.Tree.heap
 use Rattle.wast_resolve_laws.specs.Tree.value
-use Rattle.wast_resolve_rules.specs.Scopes.{Shape, Function, Struct, Other, Scope, module_scope, denoted, type_at, params_of, field_in, unsaid_params, implicit_param_count, local_number, field_number}
+use Rattle.wast_resolve_rules.specs.Scopes.{Shape, Function, Struct, Other, Scope, module_scope, denoted, type_at, params_of, field_in}
+use Rattle.wast_resolve_rules.specs.Scopes.{unsaid_params, implicit_param_count, local_number, field_number}
 use Rattle.wast_resolve_rules.specs.Resolved.{numbered_at, numbered_use, resolved_use, numbering_change, resolved_fields}
 use Rattle.wast_resolve_rules.proofs.Numbering.{numbering_keeps}
 use Rattle.wast_resolve_laws.specs.Rests.{start_fields_of, numbers}
@@ -29,14 +30,19 @@ use Rattle.wast_resolve_laws.proofs.Resting.{scope_rests}
 
 module _ (k : IdContext) where
   -- a part that numbering changes in its indices alone
-  part_twice : {T : Type 0} {asks : T → List Check} {changed : Change → T → T} (x : T) → In asks changed x → changed (of_indices (numbered_at k)) (changed (of_indices (numbered_at k)) x) ≡ changed (of_indices (numbered_at k)) x
+  part_twice : {T : Type 0} {asks : T → List Check} {changed : Change → T → T} (x : T) → In asks changed x
+      → changed (of_indices (numbered_at k)) (changed (of_indices (numbered_at k)) x) ≡ changed (of_indices (numbered_at k)) x
   part_twice x at = indices_join (numbered_at k) (numbered_at k) (numbered_at k) (λ s i. resolved_twice (k.number s) (k.number s) (λ q. refl) i) x at
 
   numbered_twice : (u : TypeUse FunctionType) → numbered_use k (numbered_use k u) ≡ numbered_use k u
-  numbered_twice u = λ i. record { index = part_twice u.index (option_at (index_in space.Ty) u.index) i; inline = part_twice u.inline (option_at signature_at u.inline) i }
+  numbered_twice u = λ i. record {
+    index = part_twice u.index (option_at (index_in space.Ty) u.index) i;
+    inline = part_twice u.inline (option_at signature_at u.inline) i;
+  }
 
   -- a type use whose inline type was removed is numbered so
-  said_twice : (o : Option Index) (t : Option FunctionType) → said_once (numbered_use k (said_once (record { index = o; inline = t }))) ≡ said_once (numbered_use k (record { index = o; inline = t }))
+  said_twice : (o : Option Index) (t : Option FunctionType) → said_once (numbered_use k (said_once (record { index = o; inline = t }))) ≡ said_once
+      (numbered_use k (record { index = o; inline = t }))
   said_twice None t = refl
   said_twice (Some i) t = refl
 
@@ -64,7 +70,8 @@ module _ (c : Scope) where
   field_still (Some (Struct number)) q = refl
   field_still (Some Other) q = refl
 
-  unsaid_still : (o : Option Index) (t : Option FunctionType) → unsaid_params (rested c) (option_map (numbered_at k space.Ty) o) (option_map (mapped_signature (numbered_at k)) t) ≡ unsaid_params c o t
+  unsaid_still : (o : Option Index) (t : Option FunctionType)
+      → unsaid_params (rested c) (option_map (numbered_at k space.Ty) o) (option_map (mapped_signature (numbered_at k)) t) ≡ unsaid_params c o t
   unsaid_still None None = refl
   unsaid_still None (Some t) = refl
   unsaid_still (Some i) (Some t) = refl
@@ -91,12 +98,18 @@ module _ (c : Scope) where
   site_joins : (s : Site) → Joins (numbering_change c) (numbering_change (rested c)) (numbering_change c) s
   site_joins (Asked a) = asks_join a
   site_joins (Used w u) = use_twice k w u
-  site_joins (LocalAt locals i) = resolved_twice (local_number c locals) (local_number (rested c) (mapped_locals (numbering_change c) locals)) (local_still locals) i
-  site_joins (FieldAt owner i) = (resolved_twice (k.number space.Ty) (k.number space.Ty) (λ q. refl) owner, resolved_twice (field_number c owner) (field_number (rested c) (numbered_at k space.Ty owner)) (owner_still owner) i)
+  site_joins (LocalAt locals i) = resolved_twice (local_number c locals) (local_number (rested c) (mapped_locals (numbering_change c) locals))
+      (local_still locals) i
+  site_joins (FieldAt owner i) = (
+    resolved_twice (k.number space.Ty) (k.number space.Ty) (λ q. refl) owner,
+    resolved_twice (field_number c owner)
+        (field_number (rested c) (numbered_at k space.Ty owner)) (owner_still owner) i,
+  )
   site_joins (LabelAt blocks i) = resolved_twice (λ name. label_depth name blocks) (λ name. label_depth name blocks) (λ q. refl) i
   site_joins x = tt
 
-  again : (xs : List ModuleField) → map (mapped_field (numbering_change (rested c))) (map (mapped_field (numbering_change c)) xs) ≡ map (mapped_field (numbering_change c)) xs
+  again : (xs : List ModuleField) → map (mapped_field (numbering_change (rested c))) (map (mapped_field (numbering_change c)) xs) ≡ map
+      (mapped_field (numbering_change c)) xs
   again xs =
       joins (numbering_change c) (numbering_change (rested c)) (numbering_change c) (record { keeps = numbering_keeps c; ids = λ o. refl; owns = λ o. refl }) xs
       (each_so (Joins (numbering_change c) (numbering_change (rested c)) (numbering_change c)) site_joins (in_module xs))
@@ -105,7 +118,8 @@ module _ (c : Scope) where
   starts_still [] = refl
   starts_still (j ∷ ks) = λ i. start_fields_of (numbers (j ∷ [])) ++ starts_still ks i
 
-pub rests_numbered : (xs : List ModuleField) (ks : List (ℕ × Span)) → resolved_fields (resolved_fields xs ++ start_fields_of (numbers ks)) ≡ resolved_fields xs ++ start_fields_of (numbers ks)
+pub rests_numbered : (xs : List ModuleField) (ks : List (ℕ × Span))
+    → resolved_fields (resolved_fields xs ++ start_fields_of (numbers ks)) ≡ resolved_fields xs ++ start_fields_of (numbers ks)
 rests_numbered xs ks =
     ap (λ d. map (mapped_field (numbering_change d)) (resolved_fields xs ++ start_fields_of (numbers ks))) (scope_rests xs ks)
     ∙ (map-append (mapped_field (numbering_change (rested (module_scope xs)))) (resolved_fields xs) (start_fields_of (numbers ks))

@@ -5,7 +5,8 @@ use Rattle.wast_base.specs.Ids.{mark_of_option}
 use Rattle.wast_resolve_labels.specs.Laws.{WalksAsCounted}
 use Rattle.wast_resolve_labels.specs.Turns.{blocks_after, blocks_after_all}
 use Rattle.wast_tree_nodes.specs.Instrs.{turn_of, block_effects}
-use Rattle.wast_tree_nodes.specs.Sites.{BodyContext, Begins, after_all, at_label, context_after, in_catch, in_heap, in_instr, in_instrs, in_mem_arg, in_select, uncovered_check, in_ref, in_cast}
+use Rattle.wast_tree_nodes.specs.Sites.{BodyContext, Begins, after_all, at_label, context_after, in_catch, in_heap, in_instr, in_instrs}
+use Rattle.wast_tree_nodes.specs.Sites.{in_mem_arg, in_select, uncovered_check, in_ref, in_cast}
 use Rattle.wast_tree_nodes.proofs.Behind.{after-append}
 use Rattle.wast_resolve_laws.specs.Tree.{Instruction}
 use Rattle.wast_resolve_laws.specs.Tree.form
@@ -20,10 +21,12 @@ turned h (instr.select t) = ap (λ (g : BodyContext). g.blocks) (asking_stays h 
 turned h (instr.ref_null t) = ap (λ (g : BodyContext). g.blocks) (asking_stays h (in_heap t))
 turned h (instr.try_table t) =
     let begins = Begins h.blocks (mark_of_option t.block.label) ∷ [] in
-    ap (λ (g : BodyContext). g.blocks) (after-append h (flat_map (in_catch h.blocks) t.catches) begins ∙ ap (λ g. after_all g begins) (catches_stay h h.blocks t.catches))
+    ap (λ (g : BodyContext). g.blocks) (after-append h (flat_map (in_catch h.blocks) t.catches) begins
+    ∙ ap (λ g. after_all g begins) (catches_stay h h.blocks t.catches))
 turned h (instr.br_table t) =
     let default = at_label h.blocks t.default in
-    ap (λ (g : BodyContext). g.blocks) (after-append h (flat_map (at_label h.blocks) t.labels) default ∙ ap (λ g. after_all g default) (labels_stay h h.blocks t.labels))
+    ap (λ (g : BodyContext). g.blocks) (after-append h (flat_map (at_label h.blocks) t.labels) default
+    ∙ ap (λ g. after_all g default) (labels_stay h h.blocks t.labels))
 turned h (instr.MemLane op a) = ap (λ (g : BodyContext). g.blocks) (asking_stays h (in_mem_arg a.memarg))
 turned h (instr.ref_test a) = ap (λ (g : BodyContext). g.blocks) (asking_stays h (in_ref a.rt))
 turned h (instr.ref_cast a) = ap (λ (g : BodyContext). g.blocks) (asking_stays h (in_ref a.rt))
@@ -31,9 +34,11 @@ turned h (instr.ref_cast_desc_eq a) = ap (λ (g : BodyContext). g.blocks) (askin
 turned h (instr.br_on_cast a) = ap (λ (g : BodyContext). g.blocks) (cast_stays h h.blocks a.label a.to_type a.from_type)
 turned h (instr.br_on_cast_fail a) = ap (λ (g : BodyContext). g.blocks) (cast_stays h h.blocks a.label a.to_type a.from_type)
 turned h (instr.br_on_cast_desc_eq a) =
-    ap (λ (g : BodyContext). g.blocks) (behind_stays h (in_cast h.blocks a.label a.to_type a.from_type) (uncovered_check form.Descriptor) (cast_stays h h.blocks a.label a.to_type a.from_type))
+    ap (λ (g : BodyContext). g.blocks) (behind_stays h (in_cast h.blocks a.label a.to_type a.from_type) (uncovered_check form.Descriptor)
+    (cast_stays h h.blocks a.label a.to_type a.from_type))
 turned h (instr.br_on_cast_desc_eq_fail a) =
-    ap (λ (g : BodyContext). g.blocks) (behind_stays h (in_cast h.blocks a.label a.to_type a.from_type) (uncovered_check form.Descriptor) (cast_stays h h.blocks a.label a.to_type a.from_type))
+    ap (λ (g : BodyContext). g.blocks) (behind_stays h (in_cast h.blocks a.label a.to_type a.from_type) (uncovered_check form.Descriptor)
+    (cast_stays h h.blocks a.label a.to_type a.from_type))
 turned h (instr.resume a) = ap (λ (g : BodyContext). g.blocks) (handlers_stay h h.blocks a.table)
 turned h (instr.resume_throw a) = ap (λ (g : BodyContext). g.blocks) (handlers_stay h h.blocks a.table)
 turned h (instr.resume_throw_ref a) = ap (λ (g : BodyContext). g.blocks) (handlers_stay h h.blocks a.table)

@@ -35,19 +35,23 @@ module _ (n : ℕ) (fields : List ModuleField) (above : greatest_generation fiel
   asks_below : pass (is_below n) (checks_of (in_module old)) ≡ true
   asks_below =
       let some : is_below n (Covered form.Shared true) ≡ true = lt-ltb 0 n (omega (arith, above)) in
-      completed_pass (is_below n) some (λ m p. some) (desugared_by_position fields) (written_out_pass (is_below n) (λ c. some) (λ s m p. some) fields (each_below n generation_in (checks_of (in_module fields)) (omega (arith, above))))
+      completed_pass (is_below n) some (λ m p. some) (desugared_by_position fields) (written_out_pass (is_below n) (λ c. some) (λ s m p. some) fields
+      (each_below n generation_in (checks_of (in_module fields)) (omega (arith, above))))
 
-  same_uses : first_unmet (item_demands (items new)) ≡ None → first_unmet (site_demands (module_scope new) (in_module new)) ≡ first_unmet (site_demands (module_scope old) (in_module old))
+  same_uses : first_unmet (item_demands (items new)) ≡ None → first_unmet (site_demands (module_scope new) (in_module new)) ≡ first_unmet
+      (site_demands (module_scope old) (in_module old))
   same_uses free =
       written_uses (module_scope new) n fields (completed_own n fields free)
       ∙ ap first_unmet (old_uses n new old (alike_shapes (completed_looks n fields)) (λ s q lt. written_position n fields items_below q s lt) asks_below)
 
   same_names : first_unmet (name_demands new) ≡ first_unmet (name_demands old)
   same_names =
-      alike_behind (item_demands (items new)) (item_demands (items old)) (site_demands (module_scope new) (in_module new)) (site_demands (module_scope old) (in_module old)) (written_clashes n fields items_below) same_uses
+      alike_behind (item_demands (items new)) (item_demands (items old)) (site_demands (module_scope new) (in_module new))
+      (site_demands (module_scope old) (in_module old)) (written_clashes n fields items_below) same_uses
 
   pub written_unmet : first_unmet (demands new) ≡ first_unmet (demands old)
-  written_unmet = alike_behind (order_demands new) (order_demands old) (name_demands new) (name_demands old) (ap first_unmet (alike_orders (completed_looks n fields))) (λ met. same_names)
+  written_unmet = alike_behind (order_demands new) (order_demands old) (name_demands new) (name_demands old)
+      (ap first_unmet (alike_orders (completed_looks n fields))) (λ met. same_names)
 
   pub clashes_alike : first_unmet (item_demands (items new)) ≡ first_unmet (item_demands (items old))
   clashes_alike = written_clashes n fields items_below
@@ -57,7 +61,8 @@ module _ (n : ℕ) (fields : List ModuleField) (above : greatest_generation fiel
 
   pub written_bodies : body_counts new ≡ body_counts old
   written_bodies =
-      alike_bodies (completed_looks n fields) (module_scope new) ∙ old_bodies n new old (alike_shapes (completed_looks n fields)) (λ s q lt. written_position n fields items_below q s lt) asks_below
+      alike_bodies (completed_looks n fields) (module_scope new)
+      ∙ old_bodies n new old (alike_shapes (completed_looks n fields)) (λ s q lt. written_position n fields items_below q s lt) asks_below
 
 pub written_wants : (n : ℕ) (fields : List ModuleField) → type_id_count (desugared_from n fields) ≡ type_id_count (desugared_by_position fields)
 written_wants n fields = alike_wants (written_looks n fields)

@@ -37,7 +37,8 @@ module _ (n : ℕ) (ys zs : List Item) where
   behind_kept [] h = h
   behind_kept (x ∷ xs) h = let k = behind_kept xs h in record { cs = Kept x ∷ k.cs; old = ap (λ ws. x ∷ ws) k.old; new = ap (λ ws. x ∷ ws) k.new }
 
-  behind_own : (b : Bool) (x : ModuleField) → wants_id x ≡ b → AreChanged (n + one_if b) ys zs → AreChanged n (items_in x ++ ys) (items_in (given_if b with_item_id n x) ++ zs)
+  behind_own : (b : Bool) (x : ModuleField) → wants_id x ≡ b → AreChanged (n + one_if b) ys zs
+      → AreChanged n (items_in x ++ ys) (items_in (given_if b with_item_id n x) ++ zs)
   behind_own false x e h = behind_kept (items_in x) (subst (λ m. AreChanged m ys zs) (omega arith) h)
   behind_own true x e h = let g = given n x e in record {
     cs = Given g.s g.p [] ∷ h.cs;
@@ -50,12 +51,14 @@ same_segments false n x = refl
 same_segments true n (field.Func f) = refl
 same_segments true n x = refl
 
-parts : (r : Reference) (x : ModuleField) (xs : List ModuleField) (ts : List Item) → items (desugar_field r x ++ xs) ++ ts ≡ segments x ++ (items_in x ++ (items xs ++ ts))
+parts : (r : Reference) (x : ModuleField) (xs : List ModuleField) (ts : List Item)
+    → items (desugar_field r x ++ xs) ++ ts ≡ segments x ++ (items_in x ++ (items xs ++ ts))
 parts r x xs ts =
     ap (λ ys. ys ++ ts) (flat_map-append items_in (desugar_field r x) xs ∙ ap (λ ys. ys ++ items xs) (field_items r x))
     ∙ (append_assoc (segments x ++ items_in x) (items xs) ts ∙ append_assoc (segments x) (items_in x) (items xs ++ ts))
 
-fields_changed : (n : ℕ) (before ts : List Item) (xs : List ModuleField) → AreChanged n (items (written_after before xs) ++ ts) (items (desugared_from n xs) ++ ts)
+fields_changed : (n : ℕ) (before ts : List Item) (xs : List ModuleField)
+    → AreChanged n (items (written_after before xs) ++ ts) (items (desugared_from n xs) ++ ts)
 fields_changed n before ts [] = all_kept n ts
 fields_changed n before ts (x ∷ xs) =
     let b = wants_id x in

@@ -131,18 +131,21 @@ module _ {xs ys : List ModuleField} (h : LookAlike xs ys) where
   -- the ids of source types have the same numbers
   alike_names : type_names xs ≡ type_names ys
   alike_names =
-      ap {B = TypeNames} (λ (names : List (Option Name)) (q : Name). position_of q names) (names_of_types xs ∙ (ap names_by (alike (λ l. l.ids)) ∙ sym (names_of_types ys)))
+      ap {B = TypeNames} (λ (names : List (Option Name)) (q : Name). position_of q names) (names_of_types xs
+      ∙ (ap names_by (alike (λ l. l.ids)) ∙ sym (names_of_types ys)))
 
   pub alike_implied : implied_signatures xs ≡ implied_signatures ys
   alike_implied =
       ap (λ (k : TypeNames). first_new (is_among (flat_map (eligible_in k) xs)) (map (numbered_signature k) (needed_signatures xs))) alike_names
-      ∙ (ap (λ (ss : List Signature). first_new (is_among ss) (map (numbered_signature (type_names ys)) (needed_signatures xs))) (alike (λ l. l.writes (type_names ys)))
+      ∙ (ap (λ (ss : List Signature). first_new (is_among ss) (map (numbered_signature (type_names ys)) (needed_signatures xs)))
+      (alike (λ l. l.writes (type_names ys)))
       ∙ ap (λ (ss : List Signature). first_new (is_among (implied_types.eligible_signatures ys)) (map (numbered_signature (type_names ys)) ss)) alike_needed)
 
   alike_type_space : type_space xs ≡ type_space ys
   alike_type_space =
       ap (λ (k : TypeNames). flat_map (types_in k) xs ++ map Some (implied_signatures xs)) alike_names
-      ∙ (ap (λ ts. ts ++ map Some (implied_signatures xs)) (alike (λ l. l.types (type_names ys))) ∙ ap (λ (ss : List Signature). flat_map (types_in (type_names ys)) ys ++ map Some ss) alike_implied)
+      ∙ (ap (λ ts. ts ++ map Some (implied_signatures xs)) (alike (λ l. l.types (type_names ys)))
+      ∙ ap (λ (ss : List Signature). flat_map (types_in (type_names ys)) ys ++ map Some ss) alike_implied)
 
   pub alike_positions : position_for xs ≡ position_for ys
   alike_positions i s = option_map (λ p. index.Num p start_of_text) (position (has_signature (numbered_signature (alike_names i) s)) (alike_type_space i))
@@ -152,7 +155,9 @@ module _ {xs ys : List ModuleField} (h : LookAlike xs ys) where
 
   pub alike_wants : type_id_count xs ≡ type_id_count ys
   alike_wants =
-      ap (λ m. m + length (implied_signatures xs)) (wanted_by_looks xs ∙ (ap (missing_id_count (λ (l : Look). l.lacks)) h.looks ∙ sym (wanted_by_looks ys))) ∙ ap (λ (ss : List Signature). missing_id_count lacks_id ys + length ss) alike_implied
+      ap (λ m. m + length (implied_signatures xs)) (wanted_by_looks xs
+      ∙ (ap (missing_id_count (λ (l : Look). l.lacks)) h.looks ∙ sym (wanted_by_looks ys)))
+      ∙ ap (λ (ss : List Signature). missing_id_count lacks_id ys + length ss) alike_implied
 
 module _ (n : ℕ) (fields : List ModuleField) where
   pub written_looks : LookAlike (desugared_from n fields) (desugared_by_position fields)
@@ -164,7 +169,8 @@ module _ (n : ℕ) (fields : List ModuleField) where
   completed_alike {give = give} Same blind own =
       map-append give (desugared_from n fields) (map unnamed_type (implied_signatures (desugared_from n fields)))
       ∙ (ap (λ ys. ys ++ map give (map unnamed_type (implied_signatures (desugared_from n fields)))) (fields_alike Same blind n [] fields (omega arith) own)
-      ∙ (ap (λ ss. map give (desugared_by_position fields) ++ map give (map unnamed_type ss)) (alike_implied written_looks) ∙ sym (map-append give (desugared_by_position fields) (map unnamed_type (implied_signatures (desugared_by_position fields))))))
+      ∙ (ap (λ ss. map give (desugared_by_position fields) ++ map give (map unnamed_type ss)) (alike_implied written_looks)
+      ∙ sym (map-append give (desugared_by_position fields) (map unnamed_type (implied_signatures (desugared_by_position fields))))))
 
   pub completed_looks : LookAlike (fields_with_implied_types (desugared_from n fields)) (fields_with_implied_types (desugared_by_position fields))
   completed_looks = record { looks = completed_alike Any (look_blind n) (all_any n [] fields) }

@@ -1,6 +1,7 @@
 -- If no two items have the same id, the references of the expansion by ids have the positions of their items as
 -- numbers.
-use Rattle.std.proofs.Common.{◌≡◌, ℕ, ◌+◌, Bool, true, false, true≢false, cond, List, [], ◌∷◌, ◌++◌, map, length, length-append, append_assoc, get_or, Option, Some, None, refl, sym, ap, ◌∙◌, arith}
+use Rattle.std.proofs.Common.{◌≡◌, ℕ, ◌+◌, Bool, true, false, true≢false, cond, List, [], ◌∷◌, ◌++◌, map, length, length-append}
+use Rattle.std.proofs.Common.{append_assoc, get_or, Option, Some, None, refl, sym, ap, ◌∙◌, arith}
 use Rattle.std.specs.List.{flat_map}
 use Rattle.std.proofs.Math.Seq.{get_or-append_seam}
 use Rattle.std.proofs.lemmas.Bool.{eqb-true}
@@ -44,7 +45,8 @@ module _ (s : Space) where
   names_both xs ys = ap (names_in s) (flat_map-append items_in xs ys) ∙ flat_map-append (name_in s) (items xs) (items ys)
 
   names_written : is_of_segments s ≡ false → (x : ModuleField) → names (desugar_field by_id x) ≡ names_in s (items_in x)
-  names_written its = same_in_field (names_in s) (λ t xs h. ap (λ b. cond b (None ∷ []) [] ++ names_in s xs) (apart s t its h)) (λ y xs ys e. ap (λ ns. name_in s y ++ ns) e) by_id
+  names_written its = same_in_field (names_in s) (λ t xs h. ap (λ b. cond b (None ∷ []) [] ++ names_in s xs) (apart s t its h))
+      (λ y xs ys e. ap (λ ns. name_in s y ++ ns) e) by_id
 
   one_name : (t : Space) (x y : Option Id) → length (names_in s (item t x [] ∷ [])) ≡ length (names_in s (item t y [] ∷ []))
   one_name t x y = by_space (same_space s t) (name_if (mark_of_option x)) (name_if (mark_of_option y))
@@ -54,9 +56,11 @@ module _ (s : Space) where
       by_space false o p = refl
 
   -- as many items after an id is generated
-  as_many : (b : Bool) (m : ℕ) (x : ModuleField) → wants_id x ≡ b → length (names_in s (items_in (given_if b with_item_id m x))) ≡ length (names_in s (items_in x))
+  as_many : (b : Bool) (m : ℕ) (x : ModuleField) → wants_id x ≡ b
+      → length (names_in s (items_in (given_if b with_item_id m x))) ≡ length (names_in s (items_in x))
   as_many false m x e = refl
-  as_many true m x e = let g = given m x e in ap (λ xs. length (names_in s xs)) g.new ∙ (one_name g.s (Some (gensym_id m g.p)) None ∙ sym (ap (λ xs. length (names_in s xs)) g.old))
+  as_many true m x e = let g = given m x e in ap (λ xs. length (names_in s xs)) g.new
+      ∙ (one_name g.s (Some (gensym_id m g.p)) None ∙ sym (ap (λ xs. length (names_in s xs)) g.old))
 
   own_name : (id : Id) → names_in s (item s (Some id) [] ∷ []) ≡ Some (name_of id) ∷ []
   own_name id = ap (λ b. cond b (Some (name_of id) ∷ []) [] ++ []) (itself s)
@@ -68,7 +72,8 @@ module _ (all rest : List ModuleField) (free : first_unmet (item_demands (items 
       let there : names s all ≡ names s before ++ (Some (name_of id) ∷ names s tail) =
       ap (names s) is ∙ (names_both s before (ws ++ tail) ∙ ap (λ ns. names s before ++ ns) (names_both s ws tail ∙ ap (λ ns. ns ++ names s tail) here)) in
       let long = ap length there ∙ length-append (names s before) (Some (name_of id) ∷ names s tail) in
-      free_position s (name_of id) (items all) free (length (names s before)) (omega (arith, long)) (ap (λ ns. get_or ns (length (names s before)) None) there ∙ get_or-append_seam (names s before) (Some (name_of id)) (names s tail) None)
+      free_position s (name_of id) (items all) free (length (names s before)) (omega (arith, long))
+      (ap (λ ns. get_or ns (length (names s before)) None) there ∙ get_or-append_seam (names s before) (Some (name_of id)) (names s tail) None)
 
   all_own : (m : ℕ) (before : List Item) (xs pre : List ModuleField) → all ≡ pre ++ (flat_map (desugar_field by_id) (with_referred_ids m xs) ++ rest)
       → ((s : Space) → is_of_segments s ≡ false → length (names s pre) ≡ length (names_in s before)) → AllOwn (Numbers (id_context (items all))) m before xs
@@ -80,7 +85,8 @@ module _ (all rest : List ModuleField) (free : first_unmet (item_demands (items 
       let more : List ModuleField = flat_map (desugar_field by_id) (with_referred_ids next xs) in
       let parts : all ≡ pre ++ (ws ++ (more ++ rest)) = is ∙ ap (λ zs. pre ++ zs) (append_assoc ws more rest) in (
         (λ s id its bears.
-            ap (λ p. numbered_by p id) (own_position s id pre ws (more ++ rest) parts (names_written s its y ∙ (ap (names_in s) bears ∙ own_name s id))) ∙ ap (λ p. index.Num p (place_of id)) (same s its)),
+            ap (λ p. numbered_by p id) (own_position s id pre ws (more ++ rest) parts (names_written s its y
+            ∙ (ap (names_in s) bears ∙ own_name s id))) ∙ ap (λ p. index.Num p (place_of id)) (same s its)),
         all_own next (before ++ items_in x) xs (pre ++ ws) (parts ∙ sym (append_assoc pre ws (more ++ rest))) (λ s its.
             let now = ap length (names_both s pre ws) ∙ length-append (names s pre) (names s ws) in
             let then = ap length (flat_map-append (name_in s) before (items_in x)) ∙ length-append (names_in s before) (names_in s (items_in x)) in
@@ -88,5 +94,8 @@ module _ (all rest : List ModuleField) (free : first_unmet (item_demands (items 
             omega (arith, now, then, one, same s its)),
       )
 
-pub completed_own : (n : ℕ) (fields : List ModuleField) → first_unmet (item_demands (items (fields_with_implied_types (desugared_from n fields)))) ≡ None → AllOwn (Numbers (id_context (items (fields_with_implied_types (desugared_from n fields))))) n [] fields
-completed_own n fields free = all_own (fields_with_implied_types (desugared_from n fields)) (map unnamed_type (implied_signatures (desugared_from n fields))) free n [] fields [] refl (λ s its. refl)
+pub completed_own : (n : ℕ) (fields : List ModuleField)
+    → first_unmet (item_demands (items (fields_with_implied_types (desugared_from n fields)))) ≡ None
+    → AllOwn (Numbers (id_context (items (fields_with_implied_types (desugared_from n fields))))) n [] fields
+completed_own n fields free = all_own (fields_with_implied_types (desugared_from n fields))
+    (map unnamed_type (implied_signatures (desugared_from n fields))) free n [] fields [] refl (λ s its. refl)

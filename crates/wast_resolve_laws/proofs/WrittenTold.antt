@@ -19,7 +19,8 @@ use Rattle.wast_resolve_laws.proofs.WrittenSame.{called, IsBlind, AllOwn}
 use Rattle.wast_resolve_laws.proofs.WrittenLooks.{completed_alike}
 use Rattle.wast_resolve_laws.proofs.WrittenOwn.{Numbers}
 
-module _ (k : IdContext) (used : Where → TypeUse FunctionType → TypeUse FunctionType) (local : Locals → Index → Index) (member : Index → Index → Index) (label : Blocks → Index → Index) where
+module _ (k : IdContext) (used : Where → TypeUse FunctionType → TypeUse FunctionType) (local : Locals → Index → Index) (member : Index → Index
+    → Index) (label : Blocks → Index → Index) where
   abbrev pub telling_numbers : Change
   telling_numbers = record { index = numbered_at k; used = used; local = local; field = member; label = label; id = written_id; own = λ o. o }
 
@@ -36,10 +37,12 @@ module _ (k : IdContext) (used : Where → TypeUse FunctionType → TypeUse Func
     given = λ m span le. record { of_import = λ at name source k. refl; of_field = by_field m span };
   }
     where
-      by_field : (m : ℕ) (span : Span) (x : ModuleField) → mapped_field telling_numbers (called (Some (gensym_id m span)) x) ≡ mapped_field telling_numbers (called None x)
+      by_field : (m : ℕ) (span : Span) (x : ModuleField)
+          → mapped_field telling_numbers (called (Some (gensym_id m span)) x) ≡ mapped_field telling_numbers (called None x)
       by_field m span (field.Func f) = refl
       by_field m span x = refl
 
   pub told_alike : (n : ℕ) (fields : List ModuleField) → AllOwn (Numbers k) n [] fields
-      → all_mapped telling_numbers (fields_with_implied_types (desugared_from n fields)) ≡ all_mapped telling_numbers (fields_with_implied_types (desugared_by_position fields))
+      → all_mapped telling_numbers (fields_with_implied_types (desugared_from n fields)) ≡ all_mapped telling_numbers
+      (fields_with_implied_types (desugared_by_position fields))
   told_alike n fields own = completed_alike n fields (Numbers k) (told_blind n) own

@@ -55,7 +55,9 @@ module _ (c : Scope) where
   access_unmet (index.Num n p) i = refl
   access_unmet (index.Id id) i = by_number (c.known.number space.Ty (name_of id)) refl
     where
-      by_number : (o : Option ℕ) → c.known.number space.Ty (name_of id) ≡ o → first_unmet (unknown_demand (word_of space.Ty) (mark_of id) (is_some o) ++ field_at c.types o i) ≡ first_unmet (access_demand c (numbered_by o id) i)
+      by_number : (o : Option ℕ) → c.known.number space.Ty (name_of id) ≡ o
+          → first_unmet (unknown_demand (word_of space.Ty) (mark_of id) (is_some o) ++ field_at c.types o i) ≡ first_unmet
+          (access_demand c (numbered_by o id) i)
       by_number None is = ap (λ o. first_unmet (unknown_demand (word_of space.Ty) (mark_of id) (is_some o) ++ field_at c.types o i)) (sym is)
       by_number (Some n) is = refl
 
@@ -75,7 +77,9 @@ module _ (c : Scope) where
   fields_unmet xs = sites_unmet (in_module xs) ∙ ap (λ ss. first_of (map unmet ss)) (sym (stands numbers (record { params = λ u. refl; owns = λ o. refl }) xs))
 
   pub written_uses : (n : ℕ) (fields : List ModuleField) → AllOwn (Numbers c.known) n [] fields
-      → first_unmet (site_demands c (in_module (fields_with_implied_types (desugared_from n fields)))) ≡ first_unmet (site_demands c (in_module (fields_with_implied_types (desugared_by_position fields))))
+      → first_unmet (site_demands c (in_module (fields_with_implied_types (desugared_from n fields)))) ≡ first_unmet
+      (site_demands c (in_module (fields_with_implied_types (desugared_by_position fields))))
   written_uses n fields own =
       fields_unmet (fields_with_implied_types (desugared_from n fields))
-      ∙ (ap (λ xs. first_of (map unmet (in_module xs))) (told_alike c.known (λ w u. u) (λ l i. i) (λ o i. i) (λ b i. i) n fields own) ∙ sym (fields_unmet (fields_with_implied_types (desugared_by_position fields))))
+      ∙ (ap (λ xs. first_of (map unmet (in_module xs))) (told_alike c.known (λ w u. u) (λ l i. i) (λ o i. i) (λ b i. i) n fields own)
+      ∙ sym (fields_unmet (fields_with_implied_types (desugared_by_position fields))))

@@ -1,5 +1,6 @@
 -- Calls that look up indices in an identifier context number them, and fail with the first check that fails.
-use Rattle.std.proofs.Common.{◌≡◌, ℕ, zero, suc, arith, Bool, true, false, ◌&&◌, List, [], ◌∷◌, ◌++◌, refl, sym, ap, ◌∙◌, subst, map, Result, Ok, Err, Some, None}
+use Rattle.std.proofs.Common.{◌≡◌, ℕ, zero, suc, arith, Bool, true, false, ◌&&◌, List, [], ◌∷◌, ◌++◌, refl, sym, ap, ◌∙◌, subst, map}
+use Rattle.std.proofs.Common.{Result, Ok, Err, Some, None}
 use Rattle.std.specs.List.{flat_map, Contains}
 use Rattle.wast_base.specs.declared.faults.Error.{Error}
 use Rattle.wast_base.specs.Faults.{diagnostic_of}
@@ -37,7 +38,8 @@ both_true true b h = (refl, h)
 both_true false b h = absurd (cc h)
 
 -- a condition on checks holds for each index among them
-settled_each : (k : IdContext) (asks : List Check) → are_settled k (map as_type asks) ≡ true → (i : Index) → Contains (indices_of asks) i → IsSettledFor k space.Ty i
+settled_each : (k : IdContext) (asks : List Check) → are_settled k (map as_type asks) ≡ true → (i : Index) → Contains (indices_of asks) i
+    → IsSettledFor k space.Ty i
 settled_each k [] h i (n, lt, is) = absurd (omega (arith, lt))
 settled_each k (InnerIndex j ∷ asks) h i c = settled_each k asks h i c
 settled_each k (PlainId m ∷ asks) h i c = settled_each k asks h i c
@@ -60,17 +62,21 @@ module _ {T : Type 0} {asks : T → List Check} {changed : Indices → T → T} 
   settled_of k x h = settled_each k (asks x) (ap (are_settled k) (p.typed x) ∙ h)
 
 module _ {C : Type 0} (known_by : C → IdContext) where
-  all_numbered : {a b : C} {is js : List Index} {u : Unit {0}} → Calls (LooksTypesUp known_by) a is b js (Ok u) → (js ≡ map (numbered_at (known_by a) space.Ty) is) × (first_unmet (flat_map (type_demand (known_by a)) is) ≡ None)
+  all_numbered : {a b : C} {is js : List Index} {u : Unit {0}} → Calls (LooksTypesUp known_by) a is b js (Ok u)
+      → (js ≡ map (numbered_at (known_by a) space.Ty) is) × (first_unmet (flat_map (type_demand (known_by a)) is) ≡ None)
   all_numbered none_left = (refl, refl)
   all_numbered {a} (answered {i = i} {is = is} {js = js} {n = n} h t) =
       let k = known_by a in
-      let r = subst (λ c. (js ≡ map (numbered_at (known_by c) space.Ty) is) × (first_unmet (flat_map (type_demand (known_by c)) is) ≡ None)) h.0 (all_numbered t) in
+      let r = subst (λ c. (js ≡ map (numbered_at (known_by c) space.Ty) is) × (first_unmet (flat_map (type_demand (known_by c)) is) ≡ None))
+      h.0 (all_numbered t) in
       (λ m. h.1.index m ∷ r.0 m, both_met (type_demand k) (i ∷ []) is (denoted_met k i n h.1.number) r.1)
 
-  first_unknown : {a b : C} {is js : List Index} {e : Error} → Calls (LooksTypesUp known_by) a is b js (Err e) → Answers ⊥ ⊥ (diagnostic_of e) (first_unmet (flat_map (type_demand (known_by a)) is))
+  first_unknown : {a b : C} {is js : List Index} {e : Error} → Calls (LooksTypesUp known_by) a is b js (Err e)
+      → Answers ⊥ ⊥ (diagnostic_of e) (first_unmet (flat_map (type_demand (known_by a)) is))
   first_unknown {a} {e = e} (answered {i = i} {is = is} {n = n} h t) =
       let k = known_by a in
-      second_fails (type_demand k) (i ∷ []) is ⊥ ⊥ (diagnostic_of e) (denoted_met k i n h.1.number) (subst (λ c. Answers ⊥ ⊥ (diagnostic_of e) (first_unmet (flat_map (type_demand (known_by c)) is))) h.0 (first_unknown t))
+      second_fails (type_demand k) (i ∷ []) is ⊥ ⊥ (diagnostic_of e) (denoted_met k i n h.1.number)
+      (subst (λ c. Answers ⊥ ⊥ (diagnostic_of e) (first_unmet (flat_map (type_demand (known_by c)) is))) h.0 (first_unknown t))
   first_unknown {a} {e = e} (refused {i = i} {is = is} h) = first_fails (type_demand (known_by a)) (i ∷ []) is ⊥ ⊥ (diagnostic_of e) h.1.refusal
 
   -- and the resolver does not change
@@ -79,15 +85,19 @@ module _ {C : Type 0} (known_by : C → IdContext) where
   kept (answered h t) = kept t ∙ h.0
   kept (refused h) = h.0
 
-  pub calls_kept : {a b : C} {xs ys : List Check} {result : Result (Unit {0}) Error} → CallsOn (LooksTypesUp known_by) a xs b ys result → CallsOn (LooksTypesUp known_by) a xs a ys result
+  pub calls_kept : {a b : C} {xs ys : List Check} {result : Result (Unit {0}) Error} → CallsOn (LooksTypesUp known_by) a xs b ys result
+      → CallsOn (LooksTypesUp known_by) a xs a ys result
   calls_kept {a = a} {xs = xs} {ys = ys} {result = result} c = subst (λ b. CallsOn (LooksTypesUp known_by) a xs b ys result) (kept c.calls) c
 
   -- so they are a walk over a part of a type
-  pub calls_walk : {T : Type 0} {asks : T → List Check} {changed : Indices → T → T} {a b : C} {x y : T} (result : Result (Unit {0}) Error) → IsTypePart asks changed
-      → CallsOn (LooksTypesUp known_by) a (asks x) b (asks y) result → changed blank y ≡ changed blank x → Walks ⊥ ⊥ (ask_demands (known_by a) (asks x)) (changed (numbered_at (known_by a)) x) y result
+  pub calls_walk : {T : Type 0} {asks : T → List Check} {changed : Indices → T → T} {a b : C} {x y : T} (result : Result (Unit {0}) Error)
+      → IsTypePart asks changed
+      → CallsOn (LooksTypesUp known_by) a (asks x) b (asks y) result → changed blank y ≡ changed blank x
+      → Walks ⊥ ⊥ (ask_demands (known_by a) (asks x)) (changed (numbered_at (known_by a)) x) y result
   calls_walk {a = a} {x = x} {y = y} (Ok u) p c rest =
       let n = all_numbered c.calls in (ap first_unmet (typed_of p (known_by a) x) ∙ n.1, p.same (numbered_at (known_by a)) x y rest n.0)
-  calls_walk {a = a} {x = x} (Err e) p c rest = subst (λ ds. Answers ⊥ ⊥ (diagnostic_of e) (first_unmet ds)) (sym (typed_of p (known_by a) x)) (first_unknown c.calls)
+  calls_walk {a = a} {x = x} (Err e) p c rest = subst (λ ds. Answers ⊥ ⊥ (diagnostic_of e) (first_unmet ds)) (sym (typed_of p (known_by a) x))
+      (first_unknown c.calls)
 
 module _ {T : Type 0} {asks : T → List Check} {changed : Indices → T → T} (p : IsTypePart asks changed) where
   pub by_resolver : ByResolver asks changed

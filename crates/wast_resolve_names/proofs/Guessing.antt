@@ -30,7 +30,9 @@ stands_at es id at sorted h = record {
 }
 
 -- its number is that of the name
-pub guessed : (m : FinMap key_cmp ℕ) (es : List (Id × ℕ)) (id : Id) (at : ℕ) (e : Id × ℕ) → entries_of es ≡ entries m → Bears es id at → Some (get_or es at e).1 ≡ get m (key_of (name_of id))
+pub guessed : (m : FinMap key_cmp ℕ) (es : List (Id × ℕ)) (id : Id) (at : ℕ) (e : Id × ℕ) → entries_of es ≡ entries m → Bears es id at
+    → Some (get_or es at e).1 ≡ get m (key_of (name_of id))
 guessed m es id at e are h =
     let sorted : AreSorted es = subst (λ xs. T (is_sorted key_cmp xs)) (sym are) (entries_sorted m) in
-    sym (find_at (key_of (name_of id)) es at e (stands_at es id at sorted h)) ∙ ap (find key_cmp (key_of (name_of id))) are ∙ sym (get-entries m (key_of (name_of id)))
+    sym (find_at (key_of (name_of id)) es at e (stands_at es id at sorted h)) ∙ ap (find key_cmp (key_of (name_of id))) are
+    ∙ sym (get-entries m (key_of (name_of id)))

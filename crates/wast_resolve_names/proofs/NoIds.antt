@@ -21,7 +21,8 @@ none_denotes q [] h = refl
 none_denotes q (None ∷ ns) h = position_head (is_called q) false None ns refl ∙ ap (option_map suc) (none_denotes q ns h)
 none_denotes q (Some n ∷ ns) h = absurd (true≢false h)
 
-pub empty_filled : (ns : List (Option Name)) (s : NameSpace) (count : ℕ) → list_any is_some ns ≡ false → count ≡ length ns → s ≡ empty_from count → IsFilled ns s
+pub empty_filled : (ns : List (Option Name)) (s : NameSpace) (count : ℕ) → list_any is_some ns ≡ false → count ≡ length ns → s ≡ empty_from count
+    → IsFilled ns s
 empty_filled ns s count none long is = record {
   free = λ p c. absurd (cc (sym (none_at ns p none) ∙ c.bears));
   count = ap (λ (s : NameSpace). s.count) is ∙ long;

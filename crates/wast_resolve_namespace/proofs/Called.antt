@@ -1,5 +1,6 @@
 -- The first position in a list with a name.
-use Rattle.std.proofs.Common.{◌≡◌, ℕ, zero, suc, ◌<◌, List, [], ◌∷◌, length, get_or, take, length-take, get_or-take, Option, Some, None, is_some, option_map, Bool, true, false, true≢false, cond, refl, sym, ap, ◌∙◌, arith}
+use Rattle.std.proofs.Common.{◌≡◌, ℕ, zero, suc, ◌<◌, List, [], ◌∷◌, length, get_or, take, length-take, get_or-take, Option, Some, None}
+use Rattle.std.proofs.Common.{is_some, option_map, Bool, true, false, true≢false, cond, refl, sym, ap, ◌∙◌, arith}
 use Rattle.std.specs.List.{position}
 use Rattle.std.proofs.lemmas.List.Quantifiers.{position-Some}
 use Rattle.wast_base.specs.Ids.{Name}
@@ -43,7 +44,8 @@ some_position : (o : Option ℕ) → is_some o ≡ true → (i : ℕ) × (o ≡ 
 some_position None h = absurd (cc h)
 some_position (Some i) h = (i, refl)
 
-pub earlier_bearer : (q : Name) (names : List (Option Name)) (n : ℕ) → n < length names → is_borne q (take n names) ≡ true → (i : ℕ) × (i < n) × (get_or names i None ≡ Some q)
+pub earlier_bearer : (q : Name) (names : List (Option Name)) (n : ℕ) → n < length names → is_borne q (take n names) ≡ true
+    → (i : ℕ) × (i < n) × (get_or names i None ≡ Some q)
 earlier_bearer q names n within h =
     let x = some_position (position_of q (take n names)) h in
     let y = position_bears q (take n names) x.0 x.1 in

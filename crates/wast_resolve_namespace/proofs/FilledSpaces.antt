@@ -1,5 +1,6 @@
 -- Properties of the sorted pairs of all names: which are duplicates, and the position of each.
-use Rattle.std.proofs.Common.{◌≡◌, ℕ, ◌+◌, ◌<◌, List, length, get_or, false, true≢false, inl, inr, ◌≤◌, T, Option, Some, None, option_map, refl, sym, ap, ◌∙◌, subst, subst₂, arith, IsPermutation}
+use Rattle.std.proofs.Common.{◌≡◌, ℕ, ◌+◌, ◌<◌, List, length, get_or, false, true≢false, inl, inr, ◌≤◌, T, Option, Some, None, option_map}
+use Rattle.std.proofs.Common.{refl, sym, ap, ◌∙◌, subst, subst₂, arith, IsPermutation}
 use Rattle.std.specs.Ordering.{is_lt}
 use Rattle.std.specs.List.Sorted.{IsSortedBy}
 use Rattle.std.specs.FinMap.{get, from_sorted, find, is_sorted}
@@ -15,7 +16,8 @@ use Rattle.wast_base.proofs.Names.{is_called_so}
 use Rattle.wast_base.specs.Order.{Key, key_of, key_cmp}
 use Rattle.wast_resolve_namespace.specs.Namespaces.{NameSpace, number_in}
 use Rattle.wast_resolve_namespace.specs.Places.{entry_of, entries_of, AreSorted}
-use Rattle.wast_resolve_namespace.specs.Filling.{keys_of, numbered_from, pair_cmp, AreRanked, IsClash, IsFirstClash, IsFilled, IsTie, IsLeastTie, IsFirstTie, HasFirstClash, first_of_each, Denotes}
+use Rattle.wast_resolve_namespace.specs.Filling.{keys_of, numbered_from, pair_cmp, AreRanked, IsClash, IsFirstClash, IsFilled, IsTie}
+use Rattle.wast_resolve_namespace.specs.Filling.{IsLeastTie, IsFirstTie, HasFirstClash, first_of_each, Denotes}
 use Rattle.wast_resolve_namespace.proofs.Basics.{some_element}
 use Rattle.wast_base.proofs.Keys.{keys_total, exact_keys, name_from, name_from-key_of}
 use Rattle.wast_resolve_namespace.proofs.Called.{position_bears, no_position, borne_at, earlier_bearer}
@@ -75,27 +77,32 @@ sorted_entries es h k x le lt =
     let long = length-map es entry_of in
     let within : k + 1 < length es = omega (arith, long, lt) in
     let d = some_element es (k + 1) within in
-    subst₂ (λ (a b : Key × ℕ). is_lt (pair_cmp key_cmp a b) ≡ false) (sym (key_get es (k + 1) d x within)) (sym (key_get es k d x (omega arith))) (h k d le within)
+    subst₂ (λ (a b : Key × ℕ). is_lt (pair_cmp key_cmp a b) ≡ false) (sym (key_get es (k + 1) d x within)) (sym (key_get es k d x (omega arith)))
+    (h k d le within)
 
 -- No item before the first position has the name.
-not_before : (q : Name) (names : List (Option Name)) (i j : ℕ) → position_of q names ≡ Some i → j < length names → get_or names j None ≡ Some q → {r : ℕ} → r ≡ 0 + j → i ≤ r
+not_before : (q : Name) (names : List (Option Name)) (i j : ℕ) → position_of q names ≡ Some i → j < length names → get_or names j None ≡ Some q
+    → {r : ℕ} → r ≡ 0 + j → i ≤ r
 not_before q names i j e within at place = elim (cases_Bool (nat_lt j i)) [
   | inl before ↦ absurd (true≢false (sym (is_called_so q (get_or names j None) at) ∙ (position-Some (is_called q) names i None e).2 j (ltb-true j i before)))
   | inr not ↦ let le = ltb-false j i not in omega (arith, place, le)
 ]
 
 -- The pairs es are the sorted pairs ps, which are those of the names.
-module _ (names : List (Option Name)) (ps es : List (Id × ℕ)) (are : entries_of ps ≡ numbered_from 0 (keys_of names)) (moved : IsPermutation ps es) (ordered : AreRanked es) where
+module _ (names : List (Option Name)) (ps es : List (Id × ℕ)) (are : entries_of ps ≡ numbered_from 0 (keys_of names)) (moved : IsPermutation ps es)
+    (ordered : AreRanked es) where
   moved_entries : IsPermutation (numbered_from 0 (keys_of names)) (entries_of es)
   moved_entries = subst (λ (xs : List (Key × ℕ)). IsPermutation xs (entries_of es)) are (IsPermutation-map entry_of ps es moved)
 
   tie_from_clash : (p : ℕ) → IsClash names p → IsTie (entries_of es) p
-  tie_from_clash p c = again_is_tie keys_total exact_keys (keys_of names) (entries_of es) moved_entries (sorted_entries es ordered) p (again_from_clash names p c)
+  tie_from_clash p c = again_is_tie keys_total exact_keys (keys_of names) (entries_of es) moved_entries (sorted_entries es ordered) p
+      (again_from_clash names p c)
 
   clash_from_tie : (p : ℕ) → IsTie (entries_of es) p → IsClash names p
   clash_from_tie p t =
       let lt : t.at < length es = omega (arith, t.within, length-map es entry_of) in
-      clash_from_again names p (tie_is_again keys_total exact_keys (keys_of names) (entries_of es) moved_entries (sorted_entries es ordered) p (entry_of (some_element es t.at lt)) t)
+      clash_from_again names p (tie_is_again keys_total exact_keys (keys_of names) (entries_of es) moved_entries (sorted_entries es ordered) p
+      (entry_of (some_element es t.at lt)) t)
 
   pub first_clash : (p : ℕ) → IsLeastTie (entries_of es) p → IsFirstClash names p
   first_clash p h = record { clash = clash_from_tie p h.tie; least = λ r c. h.least r (tie_from_clash r c) }
@@ -115,10 +122,12 @@ module _ (names : List (Option Name)) (ps es : List (Id × ℕ)) (are : entries_
         no_position q names e p within (bears (get_or names p None) q (sym (key_there names p within) ∙ at)))
     denotes q (Some i) e =
         let x = position_bears q names i e in
-        get_sorted es (key_of q) names_rise ∙ place_is_found keys_total exact_keys (keys_of names) (entries_of es) moved_entries (sorted_entries es ordered) free
+        get_sorted es (key_of q) names_rise
+        ∙ place_is_found keys_total exact_keys (keys_of names) (entries_of es) moved_entries (sorted_entries es ordered) free
         (key_of q) i (omega (arith, x.0, same_keys_length names)) (key_there names i x.0 ∙ ap (option_map key_of) x.1)
 
-    pub filled_space : (count : ℕ) → count ≡ length names → (s : NameSpace) → s ≡ record { names = from_sorted (entries_of es); count = count } → IsFilled names s
+    pub filled_space : (count : ℕ) → count ≡ length names → (s : NameSpace) → s ≡ record { names = from_sorted (entries_of es); count = count }
+        → IsFilled names s
     filled_space count long s is = record {
       free = λ p c. free p (tie_from_clash p c);
       count = ap (λ (s : NameSpace). s.count) is ∙ long;
@@ -136,16 +145,19 @@ module _ (names : List (Option Name)) (ps es : List (Id × ℕ)) (are : entries_
       let keys = numbered_from 0 (keys_of names) in
       let climbs = rises keys_total exact_keys (keys_of names) (entries_of es) moved_entries (sorted_entries es ordered) in
       let here = Contains-permutation keys (entries_of es) (key_of q, i) moved_entries
-      (from_place 0 (keys_of names) i i (key_of q) (omega (arith, x.0, same_keys_length names)) (omega arith) (key_there names i x.0 ∙ ap (option_map key_of) x.1)) in
+      (from_place 0 (keys_of names) i i (key_of q) (omega (arith, x.0, same_keys_length names)) (omega arith)
+      (key_there names i x.0 ∙ ap (option_map key_of) x.1)) in
       least_found keys_total exact_keys (key_of q) i (entries_of es) climbs here (λ r c.
-      let s = to_place 0 (keys_of names) (key_of q) r (Contains-permutation (entries_of es) keys (key_of q, r) (IsPermutation-sym keys (entries_of es) moved_entries) c) in
+      let s = to_place 0 (keys_of names) (key_of q) r
+      (Contains-permutation (entries_of es) keys (key_of q, r) (IsPermutation-sym keys (entries_of es) moved_entries) c) in
       let within : s.at < length names = omega (arith, s.within, same_keys_length names) in
       not_before q names i s.at e within (bears (get_or names s.at None) q (sym (key_there names s.at within) ∙ s.is)) s.place)
 
   module _ (firsts : List (Id × ℕ)) (are_firsts : entries_of firsts ≡ first_of_each key_cmp (entries_of es)) where
     pub firsts_sorted : AreSorted firsts
     firsts_sorted = subst (λ (xs : List (Key × ℕ)). T (is_sorted key_cmp xs)) (sym are_firsts)
-        (firsts_rise keys_total exact_keys (entries_of es) (rises keys_total exact_keys (keys_of names) (entries_of es) moved_entries (sorted_entries es ordered)))
+        (firsts_rise keys_total exact_keys (entries_of es) (rises keys_total exact_keys (keys_of names) (entries_of es) moved_entries
+        (sorted_entries es ordered)))
 
     pub firsts_known : (count : ℕ) (s : NameSpace) → s ≡ record { names = from_sorted (entries_of firsts); count = count } → Denotes names s
     firsts_known count s is q =

@@ -1,5 +1,6 @@
 -- The first pair of each key in a sorted list: its keys increase, and look-ups have the same results.
-use Rattle.std.proofs.Common.{◌≡◌, ℕ, zero, suc, ◌+◌, ◌<◌, ◌≤◌, List, [], ◌∷◌, ◌++◌, length, get_or, drop, Option, Some, None, refl, sym, ap, ◌∙◌, subst, T, true, false, ◌&&◌, Bool, cond, arith, inl, inr, append_assoc, append-nil, ◌-◌}
+use Rattle.std.proofs.Common.{◌≡◌, ℕ, zero, suc, ◌+◌, ◌<◌, ◌≤◌, List, [], ◌∷◌, ◌++◌, length, get_or, drop, Option, Some, None, refl, sym}
+use Rattle.std.proofs.Common.{ap, ◌∙◌, subst, T, true, false, ◌&&◌, Bool, cond, arith, inl, inr, append_assoc, append-nil, ◌-◌}
 use Rattle.std.specs.declared.cmp.Ordering.{Ordering}
 use Rattle.std.specs.declared.cmp.Ordering.TheVariants.{Less, Equal, Greater}
 use Rattle.std.specs.Ordering.{is_lt, is_eq}
@@ -28,7 +29,8 @@ module _ {K : Type 0} {R : K → K → Ordering} (o : IsTotalOrder R) (exact : C
   climbs_tail e es h i j d lt within = h (suc i) (suc j) d (omega arith) (omega arith)
 
   -- the first pair of a key has its least number
-  by_head : (q : K) (p n : ℕ) (x : K × ℕ) (es : List (K × ℕ)) (b : Bool) → is_eq (R q x.0) ≡ b → (x.0 ≡ q → x.1 ≡ p) → (is_eq (R q x.0) ≡ false → find R q es ≡ Some p) → cond (is_eq (R q x.0)) (Some x.1) (find R q es) ≡ Some p
+  by_head : (q : K) (p n : ℕ) (x : K × ℕ) (es : List (K × ℕ)) (b : Bool) → is_eq (R q x.0) ≡ b → (x.0 ≡ q → x.1 ≡ p)
+      → (is_eq (R q x.0) ≡ false → find R q es ≡ Some p) → cond (is_eq (R q x.0)) (Some x.1) (find R q es) ≡ Some p
   by_head q p n x es true e here rest = ap (λ (b : Bool). cond b (Some x.1) (find R q es)) e ∙ ap Some (here (sym (exact q x.0 (is_equal (R q x.0) e))))
   by_head q p n x es false e here rest = ap (λ (b : Bool). cond b (Some x.1) (find R q es)) e ∙ rest e
 
@@ -56,7 +58,8 @@ module _ {K : Type 0} {R : K → K → Ordering} (o : IsTotalOrder R) (exact : C
   found_behind q last [] = refl
   found_behind q last (e ∷ es) = by_same (is_eq (R last.0 e.0)) refl (found_behind q e es)
     where
-      same_head : (x y : K × ℕ) (a b c : Option ℕ) (t u : Bool) → t ≡ u → cond u (Some y.1) b ≡ cond u (Some y.1) c → cond t (Some x.1) b ≡ cond t (Some x.1) (cond u (Some y.1) c)
+      same_head : (x y : K × ℕ) (a b c : Option ℕ) (t u : Bool) → t ≡ u → cond u (Some y.1) b ≡ cond u (Some y.1) c
+          → cond t (Some x.1) b ≡ cond t (Some x.1) (cond u (Some y.1) c)
       same_head x y a b c true true e h = refl
       same_head x y a b c false false e h = h
       same_head x y a b c true false e h = absurd (cc (e))
@@ -64,7 +67,8 @@ module _ {K : Type 0} {R : K → K → Ordering} (o : IsTotalOrder R) (exact : C
 
       by_same : (b : Bool) → is_eq (R last.0 e.0) ≡ b → find R q (e ∷ others_behind R e es) ≡ find R q (e ∷ es)
           → find R q (last ∷ cond b (others_behind R e es) (e ∷ others_behind R e es)) ≡ find R q (last ∷ e ∷ es)
-      by_same true h rest = same_head last e None (find R q (others_behind R e es)) (find R q es) (is_eq (R q last.0)) (is_eq (R q e.0)) (ap (λ k. is_eq (R q k)) (exact last.0 e.0 (is_equal (R last.0 e.0) h))) rest
+      by_same true h rest = same_head last e None (find R q (others_behind R e es)) (find R q es) (is_eq (R q last.0)) (is_eq (R q e.0))
+          (ap (λ k. is_eq (R q k)) (exact last.0 e.0 (is_equal (R last.0 e.0) h))) rest
       by_same false h rest = ap (λ (r : Option ℕ). cond (is_eq (R q last.0)) (Some last.1) r) rest
 
   pub found_first : (q : K) (es : List (K × ℕ)) → find R q (first_of_each R es) ≡ find R q es
@@ -101,8 +105,10 @@ module _ {K : Type 0} {R : K → K → Ordering} (o : IsTotalOrder R) (exact : C
       rest : List (K × ℕ)
       rest = others_behind R e es
 
-      by_same : (b : Bool) → is_eq (R last.0 e.0) ≡ b → T (is_sorted R (e ∷ others_behind R e es)) → T (is_sorted R (last ∷ cond b (others_behind R e es) (e ∷ others_behind R e es)))
-      by_same true h t = subst (λ (k : K). T (below_all R k (others_behind R e es) && is_sorted R (others_behind R e es))) (sym (exact last.0 e.0 (is_equal (R last.0 e.0) h))) t
+      by_same : (b : Bool) → is_eq (R last.0 e.0) ≡ b → T (is_sorted R (e ∷ others_behind R e es))
+          → T (is_sorted R (last ∷ cond b (others_behind R e es) (e ∷ others_behind R e es)))
+      by_same true h t = subst (λ (k : K). T (below_all R k (others_behind R e es) && is_sorted R (others_behind R e es)))
+          (sym (exact last.0 e.0 (is_equal (R last.0 e.0) h))) t
       by_same false h t =
           let p = parts (below_all R e.0 (others_behind R e es)) (is_sorted R (others_behind R e es)) t in
           let less : R last.0 e.0 ≡ Less = elim (climbs 0 1 e (omega arith) (omega arith)) [
@@ -110,7 +116,8 @@ module _ {K : Type 0} {R : K → K → Ordering} (o : IsTotalOrder R) (exact : C
             | inr k ↦ absurd (cc (sym (ap (λ (x : K). is_eq (R last.0 x)) (sym k.0) ∙ tied last.0) ∙ h))
           ] in
           both (is_lt (R last.0 e.0) && below_all R last.0 (others_behind R e es)) (is_sorted R (e ∷ others_behind R e es))
-          (both (is_lt (R last.0 e.0)) (below_all R last.0 (others_behind R e es)) (less_so (R last.0 e.0) less) (still_below last.0 e.0 (others_behind R e es) less p.0)) t
+          (both (is_lt (R last.0 e.0)) (below_all R last.0 (others_behind R e es)) (less_so (R last.0 e.0) less)
+          (still_below last.0 e.0 (others_behind R e es) less p.0)) t
 
   pub firsts_rise : (es : List (K × ℕ)) → Climbs es → T (is_sorted R (first_of_each R es))
   firsts_rise [] climbs = tt
@@ -118,38 +125,50 @@ module _ {K : Type 0} {R : K → K → Ordering} (o : IsTotalOrder R) (exact : C
 
 -- The first n of these pairs are visited, and the kept ones are in the result.
 abbrev pub IsLeft : List (Id × ℕ) → List (Id × ℕ) → ℕ → Type 0
-IsLeft es kept n = (d : Key × ℕ) → entries_of kept ++ others_behind key_cmp (get_or (entries_of es) (n - 1) d) (drop n (entries_of es)) ≡ first_of_each key_cmp (entries_of es)
+IsLeft es kept n = (d : Key × ℕ) → entries_of kept ++ others_behind key_cmp (get_or (entries_of es) (n - 1) d)
+    (drop n (entries_of es)) ≡ first_of_each key_cmp (entries_of es)
 
 module _ (es fs : List (Id × ℕ)) (n : ℕ) (begun : 1 ≤ n) where
   next : (d : Key × ℕ) → n < length es → others_behind key_cmp (get_or (entries_of es) (n - 1) d) (drop n (entries_of es))
-      ≡ cond (is_eq (key_cmp (get_or (entries_of es) (n - 1) d).0 (get_or (entries_of es) n d).0)) (others_behind key_cmp (get_or (entries_of es) n d) (drop (suc n) (entries_of es)))
+      ≡ cond (is_eq (key_cmp (get_or (entries_of es) (n - 1) d).0 (get_or (entries_of es) n d).0))
+      (others_behind key_cmp (get_or (entries_of es) n d) (drop (suc n) (entries_of es)))
       (get_or (entries_of es) n d ∷ others_behind key_cmp (get_or (entries_of es) n d) (drop (suc n) (entries_of es)))
   next d lt = ap (others_behind key_cmp (get_or (entries_of es) (n - 1) d)) (drop-cons (entries_of es) n d (omega (arith, lt, length-map es entry_of)))
 
-  same_test : (a b : Id × ℕ) (d : Key × ℕ) → n < length es → is_eq (key_cmp (key_at (get_or es (n - 1) a)) (key_at (get_or es n b))) ≡ is_eq (key_cmp (get_or (entries_of es) (n - 1) d).0 (get_or (entries_of es) n d).0)
+  same_test : (a b : Id × ℕ) (d : Key × ℕ) → n < length es → is_eq (key_cmp (key_at (get_or es (n - 1) a)) (key_at (get_or es n b))) ≡ is_eq
+      (key_cmp (get_or (entries_of es) (n - 1) d).0 (get_or (entries_of es) n d).0)
   same_test a b d lt i = is_eq (key_cmp (sym (key_get es (n - 1) a d (omega (arith, begun, lt))) i).0 (sym (key_get es n b d lt) i).0)
 
-  further : (d : Key × ℕ) → others_behind key_cmp (get_or (entries_of es) n d) (drop (suc n) (entries_of es)) ≡ others_behind key_cmp (get_or (entries_of es) ((n + 1) - 1) d) (drop (n + 1) (entries_of es))
+  further : (d : Key × ℕ) → others_behind key_cmp (get_or (entries_of es) n d) (drop (suc n) (entries_of es)) ≡ others_behind key_cmp
+      (get_or (entries_of es) ((n + 1) - 1) d) (drop (n + 1) (entries_of es))
   further d =
       let one : (n + 1) - 1 ≡ n = omega arith in
       let two : n + 1 ≡ suc n = omega arith in
       λ i. others_behind key_cmp (get_or (entries_of es) (sym one i) d) (drop (sym two i) (entries_of es))
 
-  pub skip_one : (a b : Id × ℕ) → n < length es → is_eq (key_cmp (key_at (get_or es (n - 1) a)) (key_at (get_or es n b))) ≡ true → IsLeft es fs n → IsLeft es fs (n + 1)
+  pub skip_one : (a b : Id × ℕ) → n < length es → is_eq (key_cmp (key_at (get_or es (n - 1) a)) (key_at (get_or es n b))) ≡ true → IsLeft es fs n
+      → IsLeft es fs (n + 1)
   skip_one a b lt same h d =
-      ap (λ xs. entries_of fs ++ xs) (sym (further d)) ∙ (ap (λ xs. entries_of fs ++ xs) (sym (next d lt ∙ ap (λ (b : Bool). cond b (others_behind key_cmp (get_or (entries_of es) n d) (drop (suc n) (entries_of es)))
-      (get_or (entries_of es) n d ∷ others_behind key_cmp (get_or (entries_of es) n d) (drop (suc n) (entries_of es)))) (sym (same_test a b d lt) ∙ same))) ∙ h d)
+      ap (λ xs. entries_of fs ++ xs) (sym (further d))
+      ∙ (ap (λ xs. entries_of fs ++ xs)
+      (sym (next d lt ∙ ap (λ (b : Bool). cond b (others_behind key_cmp (get_or (entries_of es) n d) (drop (suc n) (entries_of es)))
+      (get_or (entries_of es) n d ∷ others_behind key_cmp (get_or (entries_of es) n d) (drop (suc n) (entries_of es)))) (sym (same_test a b d lt)
+      ∙ same))) ∙ h d)
 
-  pub keep_one : (a b c : Id × ℕ) → n < length es → is_eq (key_cmp (key_at (get_or es (n - 1) a)) (key_at (get_or es n b))) ≡ false → IsLeft es fs n → IsLeft es (fs ++ get_or es n c ∷ []) (n + 1)
+  pub keep_one : (a b c : Id × ℕ) → n < length es → is_eq (key_cmp (key_at (get_or es (n - 1) a)) (key_at (get_or es n b))) ≡ false → IsLeft es fs n
+      → IsLeft es (fs ++ get_or es n c ∷ []) (n + 1)
   keep_one a b c lt other h d =
       let rest = others_behind key_cmp (get_or (entries_of es) n d) (drop (suc n) (entries_of es)) in
       ap (λ xs. entries_of (fs ++ get_or es n c ∷ []) ++ xs) (sym (further d))
       ∙ (ap (λ xs. xs ++ rest) (map-append entry_of fs (get_or es n c ∷ []))
       ∙ (append_assoc (entries_of fs) (entry_of (get_or es n c) ∷ []) rest
       ∙ (ap (λ e. entries_of fs ++ e ∷ rest) (sym (key_get es n c d lt))
-      ∙ (ap (λ xs. entries_of fs ++ xs) (sym (next d lt ∙ ap (λ (b : Bool). cond b rest (get_or (entries_of es) n d ∷ rest)) (sym (same_test a b d lt) ∙ other))) ∙ h d))))
+      ∙ (ap (λ xs. entries_of fs ++ xs)
+      (sym (next d lt ∙ ap (λ (b : Bool). cond b rest (get_or (entries_of es) n d ∷ rest)) (sym (same_test a b d lt) ∙ other))) ∙ h d))))
 
   pub all_left : length es ≤ n → IsLeft es fs n → entries_of fs ≡ first_of_each key_cmp (entries_of es)
   all_left le h =
       let d : Key × ℕ = (([], None), 0) in
-      sym (append-nil (entries_of fs)) ∙ (ap (λ xs. entries_of fs ++ others_behind key_cmp (get_or (entries_of es) (n - 1) d) xs) (sym (drop_all n (entries_of es) (omega (arith, le, length-map es entry_of)))) ∙ h d)
+      sym (append-nil (entries_of fs))
+      ∙ (ap (λ xs. entries_of fs ++ others_behind key_cmp (get_or (entries_of es) (n - 1) d) xs)
+      (sym (drop_all n (entries_of es) (omega (arith, le, length-map es entry_of)))) ∙ h d)

@@ -27,10 +27,12 @@ unnamed_keys (suc n) at xs = unnamed_keys n (suc at) xs ∙ ap (λ (m : ℕ). nu
 -- there are as many items as are counted
 pub gathered_length : (at : ℕ) (es : List (Id × ℕ)) (count : ℕ) → ArePositions at es count → at + length (names_from at es count) ≡ count
 gathered_length at [] count h = omega (arith, h, unnamed_length (count - at) [])
-gathered_length at (e ∷ es) count h = omega (arith, h.0, unnamed_length (e.1 - at) (Some (name_of e.0) ∷ names_from (suc e.1) es count), gathered_length (suc e.1) es count h.1)
+gathered_length at (e ∷ es) count h =
+    omega (arith, h.0, unnamed_length (e.1 - at) (Some (name_of e.0) ∷ names_from (suc e.1) es count), gathered_length (suc e.1) es count h.1)
 
 -- the ids are those of the items with a name, at their positions
-pub gathered_entries : (at : ℕ) (es : List (Id × ℕ)) (count : ℕ) → ArePositions at es count → entries_of es ≡ numbered_from at (keys_of (names_from at es count))
+pub gathered_entries : (at : ℕ) (es : List (Id × ℕ)) (count : ℕ) → ArePositions at es count
+    → entries_of es ≡ numbered_from at (keys_of (names_from at es count))
 gathered_entries at [] count h = sym (unnamed_keys (count - at) at [])
 gathered_entries at (e ∷ es) count h =
     let here : (e.1 - at) + at ≡ e.1 = omega (arith, h.0) in
@@ -51,7 +53,8 @@ unnamed_positions : (at : ℕ) (es : List (Id × ℕ)) (count : ℕ) → ArePosi
 unnamed_positions at [] count h = omega (arith, h)
 unnamed_positions at (e ∷ es) count h = (h.0, unnamed_positions (suc e.1) es count h.1)
 
-gather_named : (at : ℕ) (es : List (Id × ℕ)) (count : ℕ) (id : Id) → ArePositions at es count → names_from at (es ++ (id, count) ∷ []) (suc count) ≡ names_from at es count ++ Some (name_of id) ∷ []
+gather_named : (at : ℕ) (es : List (Id × ℕ)) (count : ℕ) (id : Id) → ArePositions at es count
+    → names_from at (es ++ (id, count) ∷ []) (suc count) ≡ names_from at es count ++ Some (name_of id) ∷ []
 gather_named at [] count id h =
     let none : suc count - suc count ≡ 0 = omega arith in
     ap (λ (n : ℕ). unnamed (count - at) (Some (name_of id) ∷ unnamed n [])) none ∙ unnamed_append (count - at) [] (Some (name_of id) ∷ [])

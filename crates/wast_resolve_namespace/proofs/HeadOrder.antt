@@ -84,7 +84,8 @@ first_by_head a b h k p q lt =
     first_by_worth 8 a b p.bytes q.bytes (omega (arith, lt, at_a, at_b))
 
 -- Different keys decide which pair comes first.
-pub by_head : (a b : Id × ℕ) (h k : ℕ) → IsHead (text_of (name_of a.0)) h → IsHead (text_of (name_of b.0)) k → h ≢ k → nat_lt h k ≡ is_lt (pair_cmp key_cmp (entry_of a) (entry_of b))
+pub by_head : (a b : Id × ℕ) (h k : ℕ) → IsHead (text_of (name_of a.0)) h → IsHead (text_of (name_of b.0)) k → h ≢ k
+    → nat_lt h k ≡ is_lt (pair_cmp key_cmp (entry_of a) (entry_of b))
 by_head a b h k p q apart =
     let s = text_of (name_of a.0) in
     let t = text_of (name_of b.0) in

@@ -69,7 +69,8 @@ module _ (es fs : List (Id × ℕ)) (n at a : ℕ) (next : at ≡ a + 1) (swappe
   }
 
 -- If it does not come before its neighbour, all are sorted.
-pub arrived : (es : List (Id × ℕ)) (n at : ℕ) (d e : Id × ℕ) → n ≤ length es → IsOnItsWay es n at → before (get_or es at d) (get_or es (at - 1) e) ≡ false → AreRankedTo es n
+pub arrived : (es : List (Id × ℕ)) (n at : ℕ) (d e : Id × ℕ) → n ≤ length es → IsOnItsWay es n at
+    → before (get_or es at d) (get_or es (at - 1) e) ≡ false → AreRankedTo es n
 arrived es n at d e within h test k f low lt = elim (cases_eq (k + 1) at) [
   | inr other ↦ h.others k f lt other
   | inl is ↦
@@ -80,7 +81,8 @@ arrived es n at d e within h test k f low lt = elim (cases_eq (k + 1) at) [
 ]
 
 -- Keys that move with their pairs.
-pub heads_swapped : (es fs : List (Id × ℕ)) (hs ks : List ℕ) (n a b : ℕ) → a < n → b < n → SwappedAt es fs a b → SwappedAt hs ks a b → AreHeads es hs n → AreHeads fs ks n
+pub heads_swapped : (es fs : List (Id × ℕ)) (hs ks : List ℕ) (n a b : ℕ) → a < n → b < n → SwappedAt es fs a b → SwappedAt hs ks a b
+    → AreHeads es hs n → AreHeads fs ks n
 heads_swapped es fs hs ks n a b lt below pairs heads h = record {
   head = λ k d within. elim (cases_eq k a) [
     | inl is ↦ subst₂ (λ (e : Id × ℕ) (m : ℕ). IsHead (text_of (name_of e.0)) m)
@@ -95,7 +97,8 @@ heads_swapped es fs hs ks n a b lt below pairs heads h = record {
 }
 
 -- One key more.
-pub heads_more : (es : List (Id × ℕ)) (hs : List ℕ) (n h : ℕ) (d : Id × ℕ) → n < length es → n < length hs → AreHeads es hs n → IsHead (text_of (name_of (get_or es n d).0)) h → AreHeads es (set hs n h) (n + 1)
+pub heads_more : (es : List (Id × ℕ)) (hs : List ℕ) (n h : ℕ) (d : Id × ℕ) → n < length es → n < length hs → AreHeads es hs n
+    → IsHead (text_of (name_of (get_or es n d).0)) h → AreHeads es (set hs n h) (n + 1)
 heads_more es hs n h d within room heads head = record {
   head = λ k e lt. elim (cases_eq k n) [
     | inl is ↦ subst₂ (λ (x : Id × ℕ) (m : ℕ). IsHead (text_of (name_of x.0)) m)

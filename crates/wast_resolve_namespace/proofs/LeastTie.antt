@@ -1,5 +1,6 @@
 -- The search for the least number of equal neighbours.
-use Rattle.std.proofs.Common.{◌≡◌, ◌≢◌, ℕ, suc, ◌+◌, ◌<◌, ◌≤◌, ◌⊎◌, List, cond, Option, Some, None, refl, sym, ap, ◌∙◌, subst, length, get_or, true, false, Bool, arith, inl, inr, true≢false}
+use Rattle.std.proofs.Common.{◌≡◌, ◌≢◌, ℕ, suc, ◌+◌, ◌<◌, ◌≤◌, ◌⊎◌, List, cond, Option, Some, None, refl, sym, ap, ◌∙◌, subst, length}
+use Rattle.std.proofs.Common.{get_or, true, false, Bool, arith, inl, inr, true≢false}
 use Rattle.std.specs.declared.cmp.Ordering.TheVariants.{Equal}
 use Rattle.std.specs.Prelude.{nat_lt}
 use Rattle.std.specs.Ordering.{is_eq}
@@ -48,7 +49,8 @@ module _ {K : Type 0} where
     pub some : (p : ℕ) → r ≡ Some p → IsTie es p
     pub least : (q : ℕ) (t : IsTie es q) → t.at < n → (p : ℕ) × (r ≡ Some p) × (p ≤ q)
 
-  pub least_skip : (es : List (K × ℕ)) (n : ℕ) (r : Option ℕ) (d : K × ℕ) → (get_or es n d).0 ≢ (get_or es (suc n) d).0 → IsLeastTo es n r → IsLeastTo es (suc n) r
+  pub least_skip : (es : List (K × ℕ)) (n : ℕ) (r : Option ℕ) (d : K × ℕ) → (get_or es n d).0 ≢ (get_or es (suc n) d).0 → IsLeastTo es n r
+      → IsLeastTo es (suc n) r
   least_skip es n r d other h = record {
     some = h.some;
     least = λ q t lt. elim (cases_lt t.at n) [
@@ -60,7 +62,8 @@ module _ {K : Type 0} where
     ];
   }
 
-  pub least_more : (es : List (K × ℕ)) (n : ℕ) (r : Option ℕ) (p : ℕ) → suc n < length es → ((d : K × ℕ) → (get_or es n d).0 ≡ (get_or es (suc n) d).0) → ((d : K × ℕ) → (get_or es (suc n) d).1 ≡ p)
+  pub least_more : (es : List (K × ℕ)) (n : ℕ) (r : Option ℕ) (p : ℕ) → suc n < length es
+      → ((d : K × ℕ) → (get_or es n d).0 ≡ (get_or es (suc n) d).0) → ((d : K × ℕ) → (get_or es (suc n) d).1 ≡ p)
       → IsLeastTo es n r → IsLeastTo es (suc n) (Some (least_of r p))
   least_more es n r p within same place h = record {
     some = λ m e.
@@ -96,24 +99,31 @@ module _ {K : Type 0} where
 pub key_get : (es : List (Id × ℕ)) (i : ℕ) (d : Id × ℕ) (x : Key × ℕ) → i < length es → get_or (entries_of es) i x ≡ entry_of (get_or es i d)
 key_get es i d x lt = get_or-map entry_of es i d x lt
 
-keys_same : (es : List (Id × ℕ)) (i j : ℕ) (d e : Id × ℕ) → i < length es → j < length es → key_at (get_or es i d) ≡ key_at (get_or es j e) → (x : Key × ℕ) → (get_or (entries_of es) i x).0 ≡ (get_or (entries_of es) j x).0
+keys_same : (es : List (Id × ℕ)) (i j : ℕ) (d e : Id × ℕ) → i < length es → j < length es → key_at (get_or es i d) ≡ key_at (get_or es j e)
+    → (x : Key × ℕ) → (get_or (entries_of es) i x).0 ≡ (get_or (entries_of es) j x).0
 keys_same es i j d e li lj h x = ap (λ (z : Key × ℕ). z.0) (key_get es i d x li) ∙ h ∙ sym (ap (λ (z : Key × ℕ). z.0) (key_get es j e x lj))
 
-pub skip_pairs : (es : List (Id × ℕ)) (n m : ℕ) (r : Option ℕ) (d e : Id × ℕ) → m ≡ suc n → m < length es → is_eq (key_cmp (key_at (get_or es n d)) (key_at (get_or es m e))) ≡ false
+pub skip_pairs : (es : List (Id × ℕ)) (n m : ℕ) (r : Option ℕ) (d e : Id × ℕ) → m ≡ suc n → m < length es
+    → is_eq (key_cmp (key_at (get_or es n d)) (key_at (get_or es m e))) ≡ false
     → IsLeastTo (entries_of es) n r → IsLeastTo (entries_of es) m r
 skip_pairs es n m r d e is lt other h =
     let x = entry_of d in
     let li : n < length es = omega (arith, is) in
     subst (λ (i : ℕ). IsLeastTo (entries_of es) i r) (sym is) (least_skip (entries_of es) n r x (λ same.
     let k : key_at (get_or es n d) ≡ key_at (get_or es m e) =
-    sym (ap (λ (z : Key × ℕ). z.0) (key_get es n d x li)) ∙ same ∙ ap (λ (i : ℕ). (get_or (entries_of es) i x).0) (sym is) ∙ ap (λ (z : Key × ℕ). z.0) (key_get es m e x lt) in
-    true≢false (sym (ap is_eq (subst (λ (y : Key). key_cmp (key_at (get_or es n d)) y ≡ Equal) k (tied_itself keys_total (key_at (get_or es n d))))) ∙ other)) h)
+    sym (ap (λ (z : Key × ℕ). z.0) (key_get es n d x li)) ∙ same ∙ ap (λ (i : ℕ). (get_or (entries_of es) i x).0) (sym is)
+    ∙ ap (λ (z : Key × ℕ). z.0) (key_get es m e x lt) in
+    true≢false (sym (ap is_eq (subst (λ (y : Key). key_cmp (key_at (get_or es n d)) y ≡ Equal) k (tied_itself keys_total (key_at (get_or es n d)))))
+    ∙ other)) h)
 
-pub more_pairs : (es : List (Id × ℕ)) (n m : ℕ) (r : Option ℕ) (p : ℕ) (d e f : Id × ℕ) → m ≡ suc n → m < length es → is_eq (key_cmp (key_at (get_or es n d)) (key_at (get_or es m e))) ≡ true
+pub more_pairs : (es : List (Id × ℕ)) (n m : ℕ) (r : Option ℕ) (p : ℕ) (d e f : Id × ℕ) → m ≡ suc n → m < length es
+    → is_eq (key_cmp (key_at (get_or es n d)) (key_at (get_or es m e))) ≡ true
     → p ≡ (get_or es m f).1 → IsLeastTo (entries_of es) n r → IsLeastTo (entries_of es) m (Some (least_of r p))
 more_pairs es n m r p d e f is lt same place h =
     let li : n < length es = omega (arith, is) in
-    let k : key_at (get_or es n d) ≡ key_at (get_or es m e) = exact_keys (key_at (get_or es n d)) (key_at (get_or es m e)) (is_equal (key_cmp (key_at (get_or es n d)) (key_at (get_or es m e))) same) in
-    subst (λ (i : ℕ). IsLeastTo (entries_of es) i (Some (least_of r p))) (sym is) (least_more (entries_of es) n r p (omega (arith, is, lt, length-map es entry_of))
+    let k : key_at (get_or es n d) ≡ key_at (get_or es m e) = exact_keys (key_at (get_or es n d)) (key_at (get_or es m e))
+    (is_equal (key_cmp (key_at (get_or es n d)) (key_at (get_or es m e))) same) in
+    subst (λ (i : ℕ). IsLeastTo (entries_of es) i (Some (least_of r p))) (sym is)
+    (least_more (entries_of es) n r p (omega (arith, is, lt, length-map es entry_of))
     (λ x. keys_same es n m d e li lt k x ∙ ap (λ (i : ℕ). (get_or (entries_of es) i x).0) is)
     (λ x. ap (λ (i : ℕ). (get_or (entries_of es) i x).1) (sym is) ∙ ap (λ (z : Key × ℕ). z.1) (key_get es m f x lt) ∙ sym place) h)

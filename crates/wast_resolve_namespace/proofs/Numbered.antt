@@ -1,5 +1,6 @@
 -- Keys with their positions: each position once, and each key at its position.
-use Rattle.std.proofs.Common.{◌≡◌, ◌≢◌, ℕ, zero, suc, ◌+◌, ◌<◌, List, [], ◌∷◌, Option, Some, None, sym, ap, ap₂, ◌∙◌, map, length, get_or, false, Bool, arith, inl, inr, true≢false}
+use Rattle.std.proofs.Common.{◌≡◌, ◌≢◌, ℕ, zero, suc, ◌+◌, ◌<◌, List, [], ◌∷◌, Option, Some, None, sym, ap, ap₂, ◌∙◌, map, length, get_or}
+use Rattle.std.proofs.Common.{false, Bool, arith, inl, inr, true≢false}
 use Rattle.std.specs.declared.cmp.Ordering.TheVariants.{Equal, Greater}
 use Rattle.std.specs.Ordering.{nat_cmp, is_eq}
 use Rattle.std.specs.Cmp.{nat_cmp_is}
@@ -24,12 +25,14 @@ module _ {K : Type 0} where
   pub later : (e x : K × ℕ) (es : List (K × ℕ)) → Contains es x → Contains (e ∷ es) x
   later e x es c = (suc c.0, omega (arith, c.1), c.2)
 
-  pub from_place : (n : ℕ) (xs : List (Option K)) (i p : ℕ) (k : K) → i < length xs → p ≡ n + i → get_or xs i None ≡ Some k → Contains (numbered_from n xs) (k, p)
+  pub from_place : (n : ℕ) (xs : List (Option K)) (i p : ℕ) (k : K) → i < length xs → p ≡ n + i → get_or xs i None ≡ Some k
+      → Contains (numbered_from n xs) (k, p)
   from_place n [] i p k lt e h = absurd (omega arith)
   from_place n (None ∷ xs) zero p k lt e h = absurd (cc (h))
   from_place n (Some x ∷ xs) zero p k lt e h = (0, omega arith, pair_is x k n p (ap (from_some x) h) (omega (arith, e)))
   from_place n (None ∷ xs) (suc i) p k lt e h = from_place (suc n) xs i p k (omega arith) (omega (arith, e)) h
-  from_place n (Some x ∷ xs) (suc i) p k lt e h = later (x, n) (k, p) (numbered_from (suc n) xs) (from_place (suc n) xs i p k (omega arith) (omega (arith, e)) h)
+  from_place n (Some x ∷ xs) (suc i) p k lt e h =
+      later (x, n) (k, p) (numbered_from (suc n) xs) (from_place (suc n) xs i p k (omega arith) (omega (arith, e)) h)
 
   -- The key k is at the position p, and positions are counted from n.
   pub record Stands (n : ℕ) (xs : List (Option K)) (k : K) (p : ℕ) : Type 0 where
@@ -44,7 +47,12 @@ module _ {K : Type 0} where
   pub to_place : (n : ℕ) (xs : List (Option K)) (k : K) (p : ℕ) → Contains (numbered_from n xs) (k, p) → Stands n xs k p
   to_place n [] k p c = absurd (omega (arith, c.1))
   to_place n (None ∷ xs) k p c = next n None xs k p (to_place (suc n) xs k p c)
-  to_place n (Some x ∷ xs) k p (zero, lt, e) = record { at = 0; place = (let f : n ≡ p = ap (λ (z : K × ℕ). z.1) e in omega (arith, f)); within = omega arith; is = ap (λ (z : K × ℕ). Some z.0) e }
+  to_place n (Some x ∷ xs) k p (zero, lt, e) = record {
+    at = 0;
+    place = (let f : n ≡ p = ap (λ (z : K × ℕ). z.1) e in omega (arith, f));
+    within = omega arith;
+    is = ap (λ (z : K × ℕ). Some z.0) e;
+  }
   to_place n (Some x ∷ xs) k p (suc j, lt, e) = next n (Some x) xs k p (to_place (suc n) xs k p (j, omega (arith, lt), e))
 
   above : (n m : ℕ) (xs : List (Option K)) → n < m → AllByRecursion (λ y. eqb n y ≡ false) (map (λ (e : K × ℕ). e.1) (numbered_from m xs))

@@ -13,7 +13,8 @@ pub record IsRankedTo (es : List (Id × ℕ)) (n : ℕ) : Type 0 where
   pub within : n ≤ length es + 1
   pub ranked : (k : ℕ) (d : Id × ℕ) → k + 1 < n → is_lt (pair_cmp key_cmp (entry_of (get_or es (k + 1) d)) (entry_of (get_or es k d))) ≡ false
 
-pub more_ranked : (es : List (Id × ℕ)) (n : ℕ) (d e : Id × ℕ) → 1 ≤ n → n < length es → is_lt (pair_cmp key_cmp (entry_of (get_or es n d)) (entry_of (get_or es (n - 1) e))) ≡ false → IsRankedTo es n → IsRankedTo es (n + 1)
+pub more_ranked : (es : List (Id × ℕ)) (n : ℕ) (d e : Id × ℕ) → 1 ≤ n → n < length es
+    → is_lt (pair_cmp key_cmp (entry_of (get_or es n d)) (entry_of (get_or es (n - 1) e))) ≡ false → IsRankedTo es n → IsRankedTo es (n + 1)
 more_ranked es n d e some lt test h = record {
   within = omega (arith, lt);
   ranked = λ k f before. elim (cases_eq (k + 1) n) [
@@ -21,6 +22,7 @@ more_ranked es n d e some lt test h = record {
     | inl is ↦
         let last : k ≡ n - 1 = omega (arith, is) in
         subst₂ (λ (a b : Id × ℕ). is_lt (pair_cmp key_cmp (entry_of a) (entry_of b)) ≡ false)
-        (any_default es n d f lt ∙ ap (λ i. get_or es i f) (sym is)) (any_default es (n - 1) e f (omega (arith, some, lt)) ∙ ap (λ i. get_or es i f) (sym last)) test
+        (any_default es n d f lt ∙ ap (λ i. get_or es i f) (sym is)) (any_default es (n - 1) e f (omega (arith, some, lt))
+        ∙ ap (λ i. get_or es i f) (sym last)) test
   ];
 }

@@ -1,5 +1,6 @@
 -- Pairs with increasing keys are sorted, and each key has its number.
-use Rattle.std.proofs.Common.{◌≡◌, ℕ, zero, suc, ◌<◌, List, [], ◌∷◌, Option, Some, None, refl, sym, ap, ◌∙◌, subst, T, length, get_or, true, false, ◌&&◌, Bool, cond, arith, inl, inr, IsPermutation}
+use Rattle.std.proofs.Common.{◌≡◌, ℕ, zero, suc, ◌<◌, List, [], ◌∷◌, Option, Some, None, refl, sym, ap, ◌∙◌, subst, T, length, get_or, true}
+use Rattle.std.proofs.Common.{false, ◌&&◌, Bool, cond, arith, inl, inr, IsPermutation}
 use Rattle.std.specs.declared.cmp.Ordering.{Ordering}
 use Rattle.std.specs.declared.cmp.Ordering.TheVariants.{Less, Equal}
 use Rattle.std.specs.Ordering.{ordering_reverse, is_lt, is_eq}
@@ -34,7 +35,8 @@ module _ {K : Type 0} {R : K → K → Ordering} (o : IsTotalOrder R) (exact : C
 
   sorted_from : (es : List (K × ℕ)) → Rises es → T (is_sorted R es)
   sorted_from [] h = tt
-  sorted_from (e ∷ es) h = both_T (below_all R e.0 es) (is_sorted R es) (all_above e.0 es (λ j d lt. h 0 (suc j) d (omega arith) (omega arith))) (sorted_from es (rises_tail e es h))
+  sorted_from (e ∷ es) h = both_T (below_all R e.0 es) (is_sorted R es) (all_above e.0 es (λ j d lt. h 0 (suc j) d (omega arith) (omega arith)))
+      (sorted_from es (rises_tail e es h))
     where
       both_T : (a b : Bool) → T a → T b → T (a && b)
       both_T true b t u = u
@@ -44,19 +46,23 @@ module _ {K : Type 0} {R : K → K → Ordering} (o : IsTotalOrder R) (exact : C
   find_at q p [] j d h lt e = absurd (omega arith)
   find_at q p (x ∷ es) zero d h lt e =
       let k : x.0 ≡ q = ap (λ (z : K × ℕ). z.0) e in
-      ap (λ (b : Bool). cond b (Some x.1) (find R q es)) (ap is_eq (subst (λ (y : K). R q y ≡ Equal) (sym k) (tied_itself o q))) ∙ ap (λ (z : K × ℕ). Some z.1) e
+      ap (λ (b : Bool). cond b (Some x.1) (find R q es)) (ap is_eq (subst (λ (y : K). R q y ≡ Equal) (sym k) (tied_itself o q)))
+      ∙ ap (λ (z : K × ℕ). Some z.1) e
   find_at q p (x ∷ es) (suc j) d h lt e =
       let l : R x.0 q ≡ Less = subst (λ (z : K × ℕ). R x.0 z.0 ≡ Less) e (h 0 (suc j) d (omega arith) lt) in
-      ap (λ (b : Bool). cond b (Some x.1) (find R q es)) (ap is_eq (o.antisymm q x.0 ∙ ap ordering_reverse l)) ∙ find_at q p es j d (rises_tail x es h) (omega (arith, lt)) e
+      ap (λ (b : Bool). cond b (Some x.1) (find R q es)) (ap is_eq (o.antisymm q x.0 ∙ ap ordering_reverse l))
+      ∙ find_at q p es j d (rises_tail x es h) (omega (arith, lt)) e
 
   -- A key at a position is found there.
-  pub place_is_found : (xs : List (Option K)) (es : List (K × ℕ)) → IsPermutation (numbered_from 0 xs) es → IsSortedBy (λ a b. is_lt (pair_cmp R a b)) es → ((p : ℕ) → IsTie es p → ⊥)
+  pub place_is_found : (xs : List (Option K)) (es : List (K × ℕ)) → IsPermutation (numbered_from 0 xs) es
+      → IsSortedBy (λ a b. is_lt (pair_cmp R a b)) es → ((p : ℕ) → IsTie es p → ⊥)
       → (q : K) (p : ℕ) → p < length xs → get_or xs p None ≡ Some q → find R q es ≡ Some p
   place_is_found xs es moved sorted free q p lt h =
       let c = Contains-permutation (numbered_from 0 xs) es (q, p) moved (from_place 0 xs p p q lt (omega arith) h) in
       find_at q p es c.0 (q, p) (key_rises o exact xs es moved sorted free) c.1 c.2
 
-  pub rise_from_free : (xs : List (Option K)) (es : List (K × ℕ)) → IsPermutation (numbered_from 0 xs) es → IsSortedBy (λ a b. is_lt (pair_cmp R a b)) es → ((p : ℕ) → IsTie es p → ⊥) → T (is_sorted R es)
+  pub rise_from_free : (xs : List (Option K)) (es : List (K × ℕ)) → IsPermutation (numbered_from 0 xs) es
+      → IsSortedBy (λ a b. is_lt (pair_cmp R a b)) es → ((p : ℕ) → IsTie es p → ⊥) → T (is_sorted R es)
   rise_from_free xs es moved sorted free = sorted_from es (key_rises o exact xs es moved sorted free)
 
   find_none : (q : K) (es : List (K × ℕ)) → ((p : ℕ) → Contains es (q, p) → ⊥) → find R q es ≡ None
@@ -67,7 +73,8 @@ module _ {K : Type 0} {R : K → K → Ordering} (o : IsTotalOrder R) (exact : C
   ]
 
   -- A key at no position is not found.
-  pub nowhere_found : (xs : List (Option K)) (es : List (K × ℕ)) → IsPermutation (numbered_from 0 xs) es → (q : K) → ((p : ℕ) → p < length xs → get_or xs p None ≡ Some q → ⊥) → find R q es ≡ None
+  pub nowhere_found : (xs : List (Option K)) (es : List (K × ℕ)) → IsPermutation (numbered_from 0 xs) es → (q : K)
+      → ((p : ℕ) → p < length xs → get_or xs p None ≡ Some q → ⊥) → find R q es ≡ None
   nowhere_found xs es moved q h = find_none q es (λ p c.
       let s = to_place 0 xs q p (Contains-permutation es (numbered_from 0 xs) (q, p) (IsPermutation-sym (numbered_from 0 xs) es moved) c) in
       h s.at s.within s.is)

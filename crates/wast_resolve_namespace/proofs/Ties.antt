@@ -1,5 +1,6 @@
 -- In pairs sorted by key and number, equal keys are neighbours.
-use Rattle.std.proofs.Common.{◌≡◌, ◌≢◌, ℕ, zero, suc, ◌<◌, ◌≤◌, ◌⊎◌, List, Option, Some, None, refl, sym, ap, ◌∙◌, subst, map, length, get_or, false, Bool, arith, inl, inr, IsPermutation}
+use Rattle.std.proofs.Common.{◌≡◌, ◌≢◌, ℕ, zero, suc, ◌<◌, ◌≤◌, ◌⊎◌, List, Option, Some, None, refl, sym, ap, ◌∙◌, subst, map, length}
+use Rattle.std.proofs.Common.{get_or, false, Bool, arith, inl, inr, IsPermutation}
 use Rattle.std.specs.declared.cmp.Ordering.{Ordering}
 use Rattle.std.specs.declared.cmp.Ordering.TheVariants.{Less, Equal, Greater}
 use Rattle.std.specs.Ordering.{nat_cmp, ordering_then, ordering_reverse, is_lt}
@@ -52,20 +53,24 @@ module _ {K : Type 0} {R : K → K → Ordering} (o : IsTotalOrder R) (exact : C
   never : (q : K) → R q q ≡ Less → ⊥
   never q h = absurd (cc (h, tied_itself o q))
 
-  module _ (xs : List (Option K)) (es : List (K × ℕ)) (moved : IsPermutation (numbered_from 0 xs) es) (sorted : IsSortedBy (λ a b. is_lt (pair_cmp R a b)) es) where
+  module _ (xs : List (Option K)) (es : List (K × ℕ)) (moved : IsPermutation (numbered_from 0 xs) es)
+      (sorted : IsSortedBy (λ a b. is_lt (pair_cmp R a b)) es) where
     apart : (i j : ℕ) (d : K × ℕ) → i < j → j < length es → (get_or es i d).1 ≢ (get_or es j d).1
     apart i j d lt within e =
         let f = λ (x : K × ℕ). x.1 in
-        let ds = IsDistinct-IsPermutation eqb flips (map f (numbered_from 0 xs)) (map f es) (IsPermutation-map f (numbered_from 0 xs) es moved) (distinct 0 xs) in
+        let ds = IsDistinct-IsPermutation eqb flips (map f (numbered_from 0 xs)) (map f es) (IsPermutation-map f (numbered_from 0 xs) es moved)
+        (distinct 0 xs) in
         not_same (get_or (map f es) i d.1) (get_or (map f es) j d.1) (apart_from_distinct eqb (map f es) i j d.1 ds lt (omega (arith, within, length-map es f)))
         (get_or-map f es i d d.1 (omega arith) ∙ e ∙ sym (get_or-map f es j d d.1 within))
 
     pub rises : (i j : ℕ) (d : K × ℕ) → i < j → j < length es → Up (get_or es i d) (get_or es j d)
     rises i j d lt within =
-        split (get_or es i d) (get_or es j d) (sorted_far pair_lt (ranks_by pairs_total (λ (e : K × ℕ). e)) es sorted i j d (omega arith) within) (apart i j d lt within)
+        split (get_or es i d) (get_or es j d) (sorted_far pair_lt (ranks_by pairs_total (λ (e : K × ℕ). e)) es sorted i j d (omega arith) within)
+        (apart i j d lt within)
 
     stands : (i : ℕ) (d : K × ℕ) → i < length es → Stands 0 xs (get_or es i d).0 (get_or es i d).1
-    stands i d lt = to_place 0 xs (get_or es i d).0 (get_or es i d).1 (Contains-permutation es (numbered_from 0 xs) (get_or es i d) (IsPermutation-sym (numbered_from 0 xs) es moved) (Contains-get_or es i d lt))
+    stands i d lt = to_place 0 xs (get_or es i d).0 (get_or es i d).1 (Contains-permutation es (numbered_from 0 xs) (get_or es i d)
+        (IsPermutation-sym (numbered_from 0 xs) es moved) (Contains-get_or es i d lt))
 
     -- Neighbours with the same key are a key that occurs twice.
     pub tie_is_again : (p : ℕ) (d : K × ℕ) → IsTie es p → IsAgain xs p
@@ -114,7 +119,8 @@ module _ {K : Type 0} {R : K → K → Ordering} (o : IsTotalOrder R) (exact : C
         | inl e ↦ absurd (let f : i ≡ r = ap (λ (z : K × ℕ). z.1) (sym ha ∙ ap (λ n. get_or es n d) e ∙ hb) in omega (arith, f))
         | inr g ↦ elim (rises b a d g wa) [
           | inl l ↦ absurd (never q (subst (λ (z : K × ℕ). R z.0 q ≡ Less) hb (subst (λ (z : K × ℕ). R (get_or es b d).0 z.0 ≡ Less) ha l)))
-          | inr h ↦ absurd (let x : (get_or es b d).1 ≡ r = ap (λ (z : K × ℕ). z.1) hb in let y : (get_or es a d).1 ≡ i = ap (λ (z : K × ℕ). z.1) ha in omega (arith, h.1, x, y))
+          | inr h ↦ absurd (let x : (get_or es b d).1 ≡ r = ap (λ (z : K × ℕ). z.1) hb in let y : (get_or es a d).1 ≡ i = ap (λ (z : K × ℕ). z.1) ha
+              in omega (arith, h.1, x, y))
         ]
       ]
     ]
@@ -134,7 +140,8 @@ module _ {K : Type 0} {R : K → K → Ordering} (o : IsTotalOrder R) (exact : C
     pub again_is_tie : (p : ℕ) → IsAgain xs p → IsTie es p
     again_is_tie p c =
         let d : K × ℕ = (c.name, 0) in
-        let x = Contains-permutation (numbered_from 0 xs) es (c.name, c.earlier) moved (from_place 0 xs c.earlier c.earlier c.name (omega (arith, c.before, c.within)) (omega arith) c.first) in
+        let x = Contains-permutation (numbered_from 0 xs) es (c.name, c.earlier) moved
+        (from_place 0 xs c.earlier c.earlier c.name (omega (arith, c.before, c.within)) (omega arith) c.first) in
         let y = Contains-permutation (numbered_from 0 xs) es (c.name, p) moved (from_place 0 xs p p c.name c.within (omega arith) c.again) in
         tied_at c.name c.earlier p x.0 y.0 d (found c.name c.earlier d x) (found c.name p d y)
         (in_order c.name c.earlier p x.0 y.0 d (found c.name c.earlier d x) (found c.name p d y) c.before x.1 y.1) y.1

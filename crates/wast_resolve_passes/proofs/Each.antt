@@ -26,13 +26,16 @@ module _ {X A : Type 0} {g : A → List Demand} {f : X → List A} {w : X → X}
       b ∙ ap (λ x. x ∷ drop (suc i) olds) e
 
   -- the list around the next item
-  pub split : {B : Type 0} (e : X → List B) {nows : List X} {i : ℕ} {x : X} → IsHalfway g f w olds nows i → i < length olds → x ≡ get_or nows i x → flat_map e olds ≡ flat_map e (take i olds) ++ (e x ++ flat_map e (drop (suc i) olds))
+  pub split : {B : Type 0} (e : X → List B) {nows : List X} {i : ℕ} {x : X} → IsHalfway g f w olds nows i → i < length olds → x ≡ get_or nows i x
+      → flat_map e olds ≡ flat_map e (take i olds) ++ (e x ++ flat_map e (drop (suc i) olds))
   split e {nows} {i} {x} p lt is =
       let lt2 : i < length nows = omega (arith, p.len) in
       let rest : drop i olds ≡ x ∷ drop (suc i) olds = same_item x p lt2 ∙ ap (λ z. z ∷ drop (suc i) olds) (sym is) in
-      ap (flat_map e) (sym (take-append-drop i olds)) ∙ (flat_map-append e (take i olds) (drop i olds) ∙ ap (λ zs. flat_map e (take i olds) ++ flat_map e zs) rest)
+      ap (flat_map e) (sym (take-append-drop i olds))
+      ∙ (flat_map-append e (take i olds) (drop i olds) ∙ ap (λ zs. flat_map e (take i olds) ++ flat_map e zs) rest)
 
-  pub goes_on : {nows : List X} {i : ℕ} {x y : X} → IsHalfway g f w olds nows i → i < length olds → x ≡ get_or nows i x → first_unmet (flat_map g (f x)) ≡ None → y ≡ w x → IsHalfway g f w olds (set nows i y) (i + 1)
+  pub goes_on : {nows : List X} {i : ℕ} {x y : X} → IsHalfway g f w olds nows i → i < length olds → x ≡ get_or nows i x
+      → first_unmet (flat_map g (f x)) ≡ None → y ≡ w x → IsHalfway g f w olds (set nows i y) (i + 1)
   goes_on {nows} {i} {x} {y} p lt is met new =
       let lt2 : i < length nows = omega (arith, p.len) in
       let rest : drop i olds ≡ x ∷ drop (suc i) olds = same_item x p lt2 ∙ ap (λ z. z ∷ drop (suc i) olds) (sym is) in
@@ -44,7 +47,9 @@ module _ {X A : Type 0} {g : A → List Demand} {f : X → List A} {w : X → X}
         met = subst (λ zs. first_unmet (flat_map g zs) ≡ None)
             (sym (ap (flat_map f) more ∙ (flat_map-append f (take i olds) (x ∷ []) ∙ ap (λ zs. flat_map f (take i olds) ++ zs) (append-nil (f x)))))
             (both_met g (flat_map f (take i olds)) (f x) p.met met);
-        become = take_more_set nows i y lt2 ∙ (ap (λ zs. zs ++ y ∷ []) p.become ∙ (ap (λ z. map w (take i olds) ++ z ∷ []) new ∙ (sym (map-append w (take i olds) (x ∷ [])) ∙ ap (map w) (sym more))));
+        become = take_more_set nows i y lt2
+            ∙ (ap (λ zs. zs ++ y ∷ []) p.become
+            ∙ (ap (λ z. map w (take i olds) ++ z ∷ []) new ∙ (sym (map-append w (take i olds) (x ∷ [])) ∙ ap (map w) (sym more))));
       }
 
   -- an item whose trial failed
@@ -52,14 +57,16 @@ module _ {X A : Type 0} {g : A → List Demand} {f : X → List A} {w : X → X}
   tried {nows} {i} {x} {y} p is same = subst (λ ys. IsHalfway g f w olds ys i) (sym (ap (set nows i) (same ∙ is) ∙ set-get_or nows i x)) p
 
   -- the error at an item, with the conditions K for E12 and M for E10
-  pub stops_with : {nows : List X} {i : ℕ} {x : X} (K M : Type 0) (t : Diagnostic) → IsHalfway g f w olds nows i → i < length olds → x ≡ get_or nows i x → Answers K M t (first_unmet (flat_map g (f x)))
+  pub stops_with : {nows : List X} {i : ℕ} {x : X} (K M : Type 0) (t : Diagnostic) → IsHalfway g f w olds nows i → i < length olds
+      → x ≡ get_or nows i x → Answers K M t (first_unmet (flat_map g (f x)))
       → Answers K M t (first_unmet (flat_map g (flat_map f olds)))
   stops_with {nows} {i} {x} K M t p lt is failed =
       let others = flat_map f (drop (suc i) olds) in
       subst (λ os. Answers K M t (first_unmet (flat_map g os))) (sym (split f p lt is))
       (second_fails g (flat_map f (take i olds)) (f x ++ others) K M t p.met (first_fails g (f x) others K M t failed))
 
-  pub stops : {nows : List X} {i : ℕ} {x : X} (t : Diagnostic) → IsHalfway g f w olds nows i → i < length olds → x ≡ get_or nows i x → Answers ⊥ ⊥ t (first_unmet (flat_map g (f x))) → Answers ⊥ ⊥ t (first_unmet (flat_map g (flat_map f olds)))
+  pub stops : {nows : List X} {i : ℕ} {x : X} (t : Diagnostic) → IsHalfway g f w olds nows i → i < length olds → x ≡ get_or nows i x
+      → Answers ⊥ ⊥ t (first_unmet (flat_map g (f x))) → Answers ⊥ ⊥ t (first_unmet (flat_map g (flat_map f olds)))
   stops t p lt is failed = stops_with ⊥ ⊥ t p lt is failed
 
   -- all items are walked

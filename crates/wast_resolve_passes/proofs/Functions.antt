@@ -6,7 +6,8 @@ use Rattle.std.specs.List.{flat_map}
 use Rattle.wast_base.specs.Ids.{Mark}
 use Rattle.wast_base.specs.Spaces.{position_of}
 use Rattle.wast_base.proofs.Numbered.{denoted_still}
-use Rattle.wast_tree_nodes.specs.Sites.{BodyContext, Locals, in_local, local_marks, param_marks, declaration_sites, body_here, in_expression, in_func_kind, check_sites}
+use Rattle.wast_tree_nodes.specs.Sites.{BodyContext, Locals, in_local, local_marks, param_marks, declaration_sites, body_here}
+use Rattle.wast_tree_nodes.specs.Sites.{in_expression, in_func_kind, check_sites}
 use Rattle.wast_tree_map.specs.Mapped.{Change, KeepsMarks, mapped_signature, mapped_func_kind}
 use Rattle.wast_tree_map.proofs.Fields.{marks_stay}
 use Rattle.wast_resolve_passes.specs.Tree.{Index, FunctionType, TypeUse, FuncKind}
@@ -29,14 +30,16 @@ inside u k = initial_context (locals_in u k)
 
 -- the types of the locals, the ids of parameters and locals, and the body
 pub kind_demands : (c : Scope) (u : TypeUse FunctionType) (k : FuncKind)
-    → site_demands c (in_func_kind u k) ≡ ask_demands c.known (in_locals k) ++ (site_demands c (body_declarations (param_marks u.inline) k) ++ site_demands c (in_body (inside u k) k))
+    → site_demands c (in_func_kind u k) ≡ ask_demands c.known (in_locals k) ++
+    (site_demands c (body_declarations (param_marks u.inline) k) ++ site_demands c (in_body (inside u k) k))
 kind_demands c u (func.Import import exact) = refl
 kind_demands c u (func.Inline locals e) =
     let marks = param_marks u.inline ++ local_marks locals in
     let types = flat_map in_local locals in
     let body = in_expression (body_here u marks) e in
     flat_map-append (site_demand c) (check_sites types) (declaration_sites [] marks ++ body)
-    ∙ (ap (λ ds. ds ++ site_demands c (declaration_sites [] marks ++ body)) (asking_demands c types) ∙ ap (λ ds. ask_demands c.known types ++ ds) (flat_map-append (site_demand c) (declaration_sites [] marks) body))
+    ∙ (ap (λ ds. ds ++ site_demands c (declaration_sites [] marks ++ body)) (asking_demands c types)
+    ∙ ap (λ ds. ask_demands c.known types ++ ds) (flat_map-append (site_demand c) (declaration_sites [] marks) body))
 
 -- too many blocks in the body, or too many parameters and locals
 body_many : (u : TypeUse FunctionType) (k : FuncKind) → HasMany (open_counts (in_body (inside u k) k)) → HasMany (open_counts (in_func_kind u k))
@@ -47,7 +50,8 @@ body_many u (func.Inline locals e) m =
     let body = in_expression (body_here u marks) e in
     subst HasMany (sym (flat_map-append open_counts_at types (declaration_sites [] marks ++ body)))
     (many_right (open_counts types) (open_counts (declaration_sites [] marks ++ body))
-    (subst HasMany (sym (flat_map-append open_counts_at (declaration_sites [] marks) body)) (many_right (open_counts (declaration_sites [] marks)) (open_counts body) m)))
+    (subst HasMany (sym (flat_map-append open_counts_at (declaration_sites [] marks) body))
+    (many_right (open_counts (declaration_sites [] marks)) (open_counts body) m)))
 
 module _ (c : Scope) (u : TypeUse FunctionType) (k : FuncKind) where
   pub many_blocks : HasMany (open_counts (in_body (inside u k) k)) → HasMany (kind_counts c u k)
@@ -78,16 +82,21 @@ module _ (f : Change) where
   kind_becomes u (func.Inline locals e) = refl
 
 -- names have the same numbers among as many unnamed parameters with the same names after them
-pub numbers_still : (c : Scope) (l m : Locals) (k : FuncKind) (s : LocalSpace) → implicit_param_count c l.owner ≡ implicit_param_count c m.owner → l.names ≡ m.names → NumbersIn c l k s → NumbersIn c m k s
+pub numbers_still : (c : Scope) (l m : Locals) (k : FuncKind) (s : LocalSpace) → implicit_param_count c l.owner ≡ implicit_param_count c m.owner
+    → l.names ≡ m.names → NumbersIn c l k s → NumbersIn c m k s
 numbers_still c l m (func.Import import exact) s some same h = tt
 numbers_still c l m (func.Inline locals e) s some same h = λ name. h name ∙ (λ i. option_map (λ p. some i + p) (position_of name (same i)))
 
 unsaid_still : (c : Scope) (index : Option Index) (inline : Option FunctionType)
-    → unsaid_params c (option_map (numbered_at c.known space.Ty) index) (option_map (mapped_signature (numbered_at c.known)) inline) ≡ unsaid_params c index inline
+    → unsaid_params c (option_map (numbered_at c.known space.Ty) index) (option_map (mapped_signature (numbered_at c.known)) inline)
+    ≡ unsaid_params c index inline
 unsaid_still c index (Some t) = refl
 unsaid_still c None None = refl
 unsaid_still c (Some i) None = ap (λ o. params_of (type_at c.types o)) (denoted_still (c.known.number space.Ty) i)
 
 -- a type use has the same parameters after it is numbered
 pub numbered_says : (c : Scope) (u v : TypeUse FunctionType) → v ≡ numbered_use c.known u → SaysAsMuch c u v
-numbered_says c u v is = subst (SaysAsMuch c u) (sym is) record { nameless = unsaid_still c u.index u.inline; marks = inline_keeps (numbered_at c.known) u.inline }
+numbered_says c u v is = subst (SaysAsMuch c u) (sym is) record {
+  nameless = unsaid_still c u.index u.inline;
+  marks = inline_keeps (numbered_at c.known) u.inline;
+}

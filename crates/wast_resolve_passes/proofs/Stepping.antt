@@ -17,11 +17,13 @@ use Rattle.wast_resolve_passes.proofs.Moving.{stands_by}
 use Rattle.wast_resolve_names.proofs.Parts.{both_met, first_fails, second_fails}
 
 module _ (f : Change) where
-  mapped-append : (h : BodyContext) (xs ys : List Instruction) → mapped_instrs f h (xs ++ ys) ≡ mapped_instrs f h xs ++ mapped_instrs f (after_all h (in_instrs h xs)) ys
+  mapped-append : (h : BodyContext) (xs ys : List Instruction)
+      → mapped_instrs f h (xs ++ ys) ≡ mapped_instrs f h xs ++ mapped_instrs f (after_all h (in_instrs h xs)) ys
   mapped-append h [] ys = refl
   mapped-append h (x ∷ xs) ys =
       ap (λ zs. mapped_instr f h x ∷ zs)
-      (mapped-append (context_after h x) xs ys ∙ ap (λ g. mapped_instrs f (context_after h x) xs ++ mapped_instrs f g ys) (sym (after-append h (in_instr h x) (in_instrs (context_after h x) xs))))
+      (mapped-append (context_after h x) xs ys
+      ∙ ap (λ g. mapped_instrs f (context_after h x) xs ++ mapped_instrs f g ys) (sym (after-append h (in_instr h x) (in_instrs (context_after h x) xs))))
 
 -- the first i instructions are walked, and nows is the list after that
 pub record IsPartway (c : Scope) (f : Change) (start : BodyContext) (olds nows : List Instruction) (i : ℕ) : Type 0 where
@@ -35,7 +37,8 @@ abbrev pub reached : BodyContext → List Instruction → ℕ → BodyContext
 reached start olds i = after_all start (in_instrs start (take i olds))
 
 -- the instruction at a position from which on nothing has changed
-at_place : (olds nows : List Instruction) (i : ℕ) (x : Instruction) → length nows ≡ length olds → drop i nows ≡ drop i olds → i < length olds → x ≡ get_or nows i x → get_or olds i x ≡ x
+at_place : (olds nows : List Instruction) (i : ℕ) (x : Instruction) → length nows ≡ length olds → drop i nows ≡ drop i olds → i < length olds
+    → x ≡ get_or nows i x → get_or olds i x ≡ x
 at_place olds nows i x len left lt is =
     let a : drop i nows ≡ get_or nows i x ∷ drop (suc i) nows = drop-cons nows i x (omega (arith, len)) in
     let b : drop i olds ≡ get_or olds i x ∷ drop (suc i) olds = drop-cons olds i x lt in
@@ -57,7 +60,8 @@ pub record IsAlong (s t : Blocks) (olds nows : List Instruction) (i : ℕ) : Typ
   pub left : drop i nows ≡ drop i olds
   pub moved : (l : Locals) → t ≡ (reached (context_of l s) olds i).blocks
 
-pub along_more : {s t u : Blocks} {olds nows : List Instruction} {i : ℕ} {x : Instruction} (y : Instruction) → IsAlong s t olds nows i → i < length olds → x ≡ get_or nows i x
+pub along_more : {s t u : Blocks} {olds nows : List Instruction} {i : ℕ} {x : Instruction} (y : Instruction) → IsAlong s t olds nows i
+    → i < length olds → x ≡ get_or nows i x
     → ((l : Locals) → u ≡ (after_all (context_of l t) (in_instr (context_of l t) x)).blocks) → IsAlong s u olds (set nows i y) (i + 1)
 along_more {s} {t} {u} {olds} {nows} {i} {x} y p lt is moves =
     let item = at_place olds nows i x p.len p.left lt is in
@@ -69,10 +73,12 @@ along_more {s} {t} {u} {olds} {nows} {i} {x} y p lt is moves =
           let there = stands_by l s (in_instrs h (take i olds)) t (p.moved l) in
           moves l
           ∙ (ap (λ (g : BodyContext). (after_all g (in_instr g x)).blocks) there
-          ∙ ap (λ (g : BodyContext). g.blocks) (sym (ap (after_all h) (sites_one_more h olds i x lt item) ∙ after-append h (in_instrs h (take i olds)) (in_instr (reached h olds i) x))));
+          ∙ ap (λ (g : BodyContext). g.blocks) (sym (ap (after_all h) (sites_one_more h olds i x lt item)
+          ∙ after-append h (in_instrs h (take i olds)) (in_instr (reached h olds i) x))));
     }
 
-module _ {c : Scope} {f : Change} {start : BodyContext} {olds nows : List Instruction} {i : ℕ} {x : Instruction} (p : IsPartway c f start olds nows i) (lt : i < length olds) (is : x ≡ get_or nows i x) where
+module _ {c : Scope} {f : Change} {start : BodyContext} {olds nows : List Instruction} {i : ℕ} {x : Instruction}
+    (p : IsPartway c f start olds nows i) (lt : i < length olds) (is : x ≡ get_or nows i x) where
   item : get_or olds i x ≡ x
   item = at_place olds nows i x p.len p.left lt is
 
@@ -82,24 +88,28 @@ module _ {c : Scope} {f : Change} {start : BodyContext} {olds nows : List Instru
   sites_more : in_instrs start (take (i + 1) olds) ≡ in_instrs start (take i olds) ++ in_instr (reached start olds i) x
   sites_more = sites_one_more start olds i x lt item
 
-  sites_all : in_instrs start olds ≡ in_instrs start (take i olds) ++ (in_instr (reached start olds i) x ++ in_instrs (context_after (reached start olds i) x) (drop (suc i) olds))
+  sites_all : in_instrs start olds ≡ in_instrs start (take i olds) ++
+      (in_instr (reached start olds i) x ++ in_instrs (context_after (reached start olds i) x) (drop (suc i) olds))
   sites_all =
       ap (in_instrs start) (sym (take-append-drop i olds))
       ∙ (instrs-append start (take i olds) (drop i olds)
       ∙ ap (λ zs. in_instrs start (take i olds) ++ in_instrs (reached start olds i) zs) (drop-cons olds i x lt ∙ ap (λ z. z ∷ drop (suc i) olds) item))
 
-  pub partway_more : {y : Instruction} → first_unmet (site_demands c (in_instr (reached start olds i) x)) ≡ None → y ≡ mapped_instr f (reached start olds i) x → IsPartway c f start olds (set nows i y) (i + 1)
+  pub partway_more : {y : Instruction} → first_unmet (site_demands c (in_instr (reached start olds i) x)) ≡ None
+      → y ≡ mapped_instr f (reached start olds i) x → IsPartway c f start olds (set nows i y) (i + 1)
   partway_more {y} met new = record {
     len = length-set nows i y ∙ p.len;
     left = drop-set-lt (i + 1) nows i y (omega arith) ∙ rw (← drop-drop 1 i nows, ← drop-drop 1 i olds) (ap (drop 1) p.left);
-    met = ap (λ zs. first_unmet (site_demands c zs)) sites_more ∙ both_met (site_demand c) (in_instrs start (take i olds)) (in_instr (reached start olds i) x) p.met met;
+    met = ap (λ zs. first_unmet (site_demands c zs)) sites_more
+        ∙ both_met (site_demand c) (in_instrs start (take i olds)) (in_instr (reached start olds i) x) p.met met;
     become =
         take_more_set nows i y (omega (arith, p.len))
         ∙ (ap (λ zs. zs ++ y ∷ []) p.become ∙ (ap (λ z. mapped_instrs f start (take i olds) ++ z ∷ []) new
         ∙ (sym (mapped-append f start (take i olds) (x ∷ [])) ∙ ap (mapped_instrs f start) (sym more))));
   }
 
-  pub partway_stops : (K M : Type 0) (t : Diagnostic) → Answers K M t (first_unmet (site_demands c (in_instr (reached start olds i) x))) → Answers K M t (first_unmet (site_demands c (in_instrs start olds)))
+  pub partway_stops : (K M : Type 0) (t : Diagnostic) → Answers K M t (first_unmet (site_demands c (in_instr (reached start olds i) x)))
+      → Answers K M t (first_unmet (site_demands c (in_instrs start olds)))
   partway_stops K M t failed =
       let before = in_instrs start (take i olds) in
       let here = in_instr (reached start olds i) x in
@@ -115,7 +125,8 @@ module _ {c : Scope} {f : Change} {start : BodyContext} {olds nows : List Instru
       many_sites (in_instrs start olds) before here rest sites_all many
 
 -- all instructions are walked
-module _ {c : Scope} {f : Change} {start : BodyContext} {olds nows : List Instruction} {i : ℕ} (p : IsPartway c f start olds nows i) (le : length olds ≤ i) where
+module _ {c : Scope} {f : Change} {start : BodyContext} {olds nows : List Instruction} {i : ℕ} (p : IsPartway c f start olds nows i)
+    (le : length olds ≤ i) where
   pub all_met : first_unmet (site_demands c (in_instrs start olds)) ≡ None
   all_met = subst (λ is. first_unmet (site_demands c (in_instrs start is)) ≡ None) (take_all i olds le) p.met
 
@@ -127,10 +138,13 @@ put_back : (nows : List Instruction) (i : ℕ) (x : Instruction) → x ≡ get_o
 put_back nows i x is = ap (set nows i) is ∙ set-get_or nows i x
 
 -- the same after a trial that failed
-pub along_tried : {s t u : Blocks} {olds nows : List Instruction} {i : ℕ} {x y : Instruction} → IsAlong s t olds nows i → x ≡ get_or nows i x → y ≡ x → u ≡ t → IsAlong s u olds (set nows i y) i
+pub along_tried : {s t u : Blocks} {olds nows : List Instruction} {i : ℕ} {x y : Instruction} → IsAlong s t olds nows i → x ≡ get_or nows i x → y ≡ x
+    → u ≡ t → IsAlong s u olds (set nows i y) i
 along_tried {s} {t} {u} {olds} {nows} {i} {x} {y} p is same still =
     let back : set nows i y ≡ nows = ap (set nows i) same ∙ put_back nows i x is in
     subst (λ ys. IsAlong s u olds ys i) (sym back) (subst (λ v. IsAlong s v olds nows i) (sym still) p)
 
-pub partway_tried : {c : Scope} {f : Change} {start : BodyContext} {olds nows : List Instruction} {i : ℕ} {x y : Instruction} → IsPartway c f start olds nows i → x ≡ get_or nows i x → y ≡ x → IsPartway c f start olds (set nows i y) i
-partway_tried {c} {f} {start} {olds} {nows} {i} {x} {y} p is same = subst (λ ys. IsPartway c f start olds ys i) (sym (ap (set nows i) same ∙ put_back nows i x is)) p
+pub partway_tried : {c : Scope} {f : Change} {start : BodyContext} {olds nows : List Instruction} {i : ℕ} {x y : Instruction}
+    → IsPartway c f start olds nows i → x ≡ get_or nows i x → y ≡ x → IsPartway c f start olds (set nows i y) i
+partway_tried {c} {f} {start} {olds} {nows} {i} {x} {y} p is same = subst (λ ys. IsPartway c f start olds ys i) (sym (ap (set nows i) same
+    ∙ put_back nows i x is)) p

@@ -23,14 +23,20 @@ tries_not ds want old new true w h = absurd (cc h)
 tries_not ds want old new false w h = w
 
 -- a local
-pub local_tried : (c : Scope) (l : Locals) (s : LocalSpace) (i new : Index) (b : Bool) → Numbers c l s → Tries (known_index (local_in s) (codes "local") i) (resolved_index (local_in s) i) i new b
+pub local_tried : (c : Scope) (l : Locals) (s : LocalSpace) (i new : Index) (b : Bool) → Numbers c l s
+    → Tries (known_index (local_in s) (codes "local") i) (resolved_index (local_in s) i) i new b
     → Tries (site_demands c (LocalAt l i ∷ [])) (resolved_index (local_number c l) i) i new b
-local_tried c l s i new true h w =
-    (ap first_unmet (append-nil (known_index (local_number c l) (codes "local") i) ∙ sym (same_known (local_in s) (local_number c l) h (codes "local") i)) ∙ w.0, w.1 ∙ same_numbered (local_in s) (local_number c l) h i)
+local_tried c l s i new true h w = (
+  ap first_unmet (append-nil (known_index (local_number c l) (codes "local") i)
+      ∙ sym (same_known (local_in s) (local_number c l) h (codes "local") i)) ∙ w.0,
+  w.1 ∙ same_numbered (local_in s) (local_number c l) h i,
+)
 local_tried c l s i new false h w = w
 
 -- a label
-pub label_tried : (c : Scope) (blocks : Blocks) (i new : Index) (b : Bool) → (IsTrue b → first_unmet (known_index (number_among blocks) (codes "label") i) ≡ None) → (IsTrue b → new ≡ resolved_index (number_among blocks) i) → (IsFalse b → new ≡ i)
+pub label_tried : (c : Scope) (blocks : Blocks) (i new : Index) (b : Bool)
+    → (IsTrue b → first_unmet (known_index (number_among blocks) (codes "label") i) ≡ None)
+    → (IsTrue b → new ≡ resolved_index (number_among blocks) i) → (IsFalse b → new ≡ i)
     → Tries (site_demands c (at_label blocks i)) ((numbering_change c).label blocks i) i new b
 label_tried c blocks i new true met is stays = (sym (label_unmet blocks i) ∙ met refl, is refl)
 label_tried c blocks i new false met is stays = stays refl
@@ -50,11 +56,15 @@ selects_some ts h = record { asks = h.asks; stays = λ f i. record { tys = Some 
 
 pub select_tried : {U : Type 0} (make : SelectTypes → U) (c : Scope) (t : SelectTypes) (b : Bool) → (IsTrue b → SelectsNumber t)
     → Tries (site_demands c (check_sites (in_select t))) (make (mapped_select (numbering_change c).index t)) (make t) (make t) b
-select_tried make c t true h = let s = h refl in (ap (λ asks. first_unmet (site_demands c (check_sites asks))) s.asks, ap make (sym (s.stays (numbering_change c).index)))
+select_tried make c t true h = let s = h refl
+    in (ap (λ asks. first_unmet (site_demands c (check_sites asks))) s.asks, ap make (sym (s.stays (numbering_change c).index)))
 select_tried make c t false h = refl
 
 pub block_tried : {U : Type 0} (make : BlockType → U) (c : Scope) (block : BlockType) (old new : Blocks) (b : Bool) → OpensBlock block old new b
     → Tries (site_demands c (in_block old block)) (make (mapped_block (numbering_change c) block)) (make block) (make block) b
-block_tried make c block old new true h =
-    (ap first_unmet (append-nil (use_demand c block.ty)) ∙ h.0.met c, ap make (λ i. record { label = block.label; label_name = block.label_name; ty = (sym (h.0.stays c)) i }))
+block_tried make c block old new true h = (
+  ap first_unmet (append-nil (use_demand c block.ty))
+      ∙ h.0.met c,
+  ap make (λ i. record { label = block.label; label_name = block.label_name; ty = (sym (h.0.stays c)) i }),
+)
 block_tried make c block old new false h = refl

@@ -6,7 +6,8 @@ use Rattle.wast_base.specs.Faults.{Diagnostic}
 use Rattle.wast_base.specs.declared.faults.Error.{Error}
 use Rattle.std.specs.Prelude.{not}
 use Rattle.wast_tree_nodes.specs.Clauses.{is_segment_type_allowed}
-use Rattle.wast_tree_nodes.specs.Sites.{Check, Site, Asked, Clause, Covered, check_sites, in_ref, in_table_type, in_table_kind, in_global_type, in_global_kind, in_global, in_elem_kind, in_payload, in_elem, in_data_kind}
+use Rattle.wast_tree_nodes.specs.Sites.{Check, Site, Asked, Clause, Covered, check_sites, in_ref, in_table_type, in_table_kind}
+use Rattle.wast_tree_nodes.specs.Sites.{in_global_type, in_global_kind, in_global, in_elem_kind, in_payload, in_elem, in_data_kind}
 use Rattle.wast_tree_map.specs.Mapped.{Change, mapped_table_kind, mapped_elem_kind, mapped_payload, mapped_data_kind}
 use Rattle.wast_resolve_passes.specs.Tree.{TableKind, Global, Elem, ElemKind, ElemPayload, DataKind, ModuleField}
 use Rattle.wast_resolve_passes.specs.Tree.table
@@ -23,7 +24,9 @@ use Rattle.wast_resolve_passes.specs.Tree.form
 use Rattle.wast_resolve_rules.specs.Scopes.{Scope}
 use Rattle.wast_resolve_rules.specs.Demands.{first_unmet, Answers, ask_demand, site_demand, site_demands, open_counts_at, open_counts, HasMany}
 use Rattle.wast_resolve_names.specs.Walking.{Walks}
-use Rattle.wast_resolve_passes.specs.TwoSteps.{in_type_of_table, in_init, with_table_type, with_init, in_elem_table, in_elem_offset, with_elem_table, with_elem_offset, in_elements, in_element_type, with_elements, with_element_type, in_data_memory, in_data_offset, with_data_memory, with_data_offset}
+use Rattle.wast_resolve_passes.specs.TwoSteps.{in_type_of_table, in_init, with_table_type, with_init, in_elem_table, in_elem_offset}
+use Rattle.wast_resolve_passes.specs.TwoSteps.{with_elem_table, with_elem_offset, in_elements, in_element_type, with_elements}
+use Rattle.wast_resolve_passes.specs.TwoSteps.{with_element_type, in_data_memory, in_data_offset, with_data_memory, with_data_offset}
 use Rattle.wast_resolve_rules.proofs.Unmet.{first_unmet-append, answers_first, answers_after}
 use Rattle.wast_resolve_names.proofs.Parts.{all_but_last, all_counts_but_last, walks_as}
 use Rattle.wast_resolve_rules.proofs.Counted.{many_left, many_right}
@@ -44,43 +47,54 @@ module _ {c : Scope} {all first second : List Site} (parts : IsBoth c all first 
   many_first m = subst HasMany (sym two_counts) (many_left (open_counts first) (open_counts second) m)
 
   many_second : (later : List Site) → later ≡ second → HasMany (open_counts later) → HasMany (open_counts all)
-  many_second later same m = subst HasMany (sym two_counts) (many_right (open_counts first) (open_counts second) (subst (λ ss. HasMany (open_counts ss)) same m))
+  many_second later same m = subst HasMany (sym two_counts)
+      (many_right (open_counts first) (open_counts second) (subst (λ ss. HasMany (open_counts ss)) same m))
 
   -- the result of the first part, with the conditions K for E12 and M for E10
-  first_answers : {K M : Type 0} (t : Diagnostic) → (K → ⊤) → (M → HasMany (open_counts all)) → Answers K M t (first_unmet (site_demands c first)) → Answers ⊤ (HasMany (open_counts all)) t (first_unmet (site_demands c all))
+  first_answers : {K M : Type 0} (t : Diagnostic) → (K → ⊤) → (M → HasMany (open_counts all)) → Answers K M t (first_unmet (site_demands c first))
+      → Answers ⊤ (HasMany (open_counts all)) t (first_unmet (site_demands c all))
   first_answers t k m a =
-      subst (λ ds. Answers ⊤ (HasMany (open_counts all)) t (first_unmet ds)) (sym two_demands) (answers_first t (site_demands c first) (site_demands c second) k m a)
+      subst (λ ds. Answers ⊤ (HasMany (open_counts all)) t (first_unmet ds)) (sym two_demands)
+      (answers_first t (site_demands c first) (site_demands c second) k m a)
 
   -- the result of the second part after the first is walked
-  second_answers : {K M : Type 0} (t : Diagnostic) → (K → ⊤) → (M → HasMany (open_counts all)) → (later : List Site) → later ≡ second → first_unmet (site_demands c first) ≡ None
+  second_answers : {K M : Type 0} (t : Diagnostic) → (K → ⊤) → (M → HasMany (open_counts all)) → (later : List Site) → later ≡ second
+      → first_unmet (site_demands c first) ≡ None
       → Answers K M t (first_unmet (site_demands c later)) → Answers ⊤ (HasMany (open_counts all)) t (first_unmet (site_demands c all))
   second_answers {K} {M} t k m later same met a =
       subst (λ ds. Answers ⊤ (HasMany (open_counts all)) t (first_unmet ds)) (sym two_demands)
       (answers_after t (site_demands c first) (site_demands c second) k m met (subst (λ ss. Answers K M t (first_unmet (site_demands c ss))) same a))
 
-  pub first_fails : (t : Diagnostic) → Answers ⊥ ⊥ t (first_unmet (site_demands c first)) → Answers ⊤ (HasMany (open_counts all)) t (first_unmet (site_demands c all))
+  pub first_fails : (t : Diagnostic) → Answers ⊥ ⊥ t (first_unmet (site_demands c first))
+      → Answers ⊤ (HasMany (open_counts all)) t (first_unmet (site_demands c all))
   first_fails t a = first_answers t (λ l. absurd l) (λ m. absurd m) a
 
-  pub first_stops : (t : Diagnostic) → Answers ⊤ (HasMany (open_counts first)) t (first_unmet (site_demands c first)) → Answers ⊤ (HasMany (open_counts all)) t (first_unmet (site_demands c all))
+  pub first_stops : (t : Diagnostic) → Answers ⊤ (HasMany (open_counts first)) t (first_unmet (site_demands c first))
+      → Answers ⊤ (HasMany (open_counts all)) t (first_unmet (site_demands c all))
   first_stops t a = first_answers t (λ l. l) many_first a
 
-  pub second_fails : (t : Diagnostic) (later : List Site) → later ≡ second → first_unmet (site_demands c first) ≡ None → Answers ⊥ ⊥ t (first_unmet (site_demands c later))
+  pub second_fails : (t : Diagnostic) (later : List Site) → later ≡ second → first_unmet (site_demands c first) ≡ None
+      → Answers ⊥ ⊥ t (first_unmet (site_demands c later))
       → Answers ⊤ (HasMany (open_counts all)) t (first_unmet (site_demands c all))
   second_fails t later same met a = second_answers t (λ l. absurd l) (λ m. absurd m) later same met a
 
-  pub second_stops : (t : Diagnostic) (later : List Site) → later ≡ second → first_unmet (site_demands c first) ≡ None → Answers ⊤ (HasMany (open_counts later)) t (first_unmet (site_demands c later))
+  pub second_stops : (t : Diagnostic) (later : List Site) → later ≡ second → first_unmet (site_demands c first) ≡ None
+      → Answers ⊤ (HasMany (open_counts later)) t (first_unmet (site_demands c later))
       → Answers ⊤ (HasMany (open_counts all)) t (first_unmet (site_demands c all))
   second_stops t later same met a = second_answers t (λ l. l) (many_second later same) later same met a
 
-  pub both_met : (later : List Site) → later ≡ second → first_unmet (site_demands c first) ≡ None → first_unmet (site_demands c later) ≡ None → first_unmet (site_demands c all) ≡ None
-  both_met later same met then = ap first_unmet two_demands ∙ (first_unmet-append (site_demands c first) (site_demands c second) met ∙ (ap (λ ss. first_unmet (site_demands c ss)) (sym same) ∙ then))
+  pub both_met : (later : List Site) → later ≡ second → first_unmet (site_demands c first) ≡ None → first_unmet (site_demands c later) ≡ None
+      → first_unmet (site_demands c all) ≡ None
+  both_met later same met then = ap first_unmet two_demands ∙ (first_unmet-append (site_demands c first) (site_demands c second) met
+      ∙ (ap (λ ss. first_unmet (site_demands c ss)) (sym same) ∙ then))
 
 -- the two parts alone, or with a check that passes
 module _ (c : Scope) where
   pub as_both : (all first second : List Site) → all ≡ first ++ second → IsBoth c all first second
   as_both all first second is = record { demands = ap (site_demands c) is; counts = ap open_counts is }
 
-  but_last : (all first second : List Site) (last : Check) → all ≡ (first ++ second) ++ Asked last ∷ [] → ask_demand c.known last ≡ [] → IsBoth c all first second
+  but_last : (all first second : List Site) (last : Check) → all ≡ (first ++ second) ++ Asked last ∷ [] → ask_demand c.known last ≡ []
+      → IsBoth c all first second
   but_last all first second last is none = record {
     demands = ap (site_demands c) is ∙ all_but_last c (first ++ second) last none;
     counts = ap open_counts is ∙ all_counts_but_last (first ++ second) last;
@@ -88,8 +102,10 @@ module _ (c : Scope) where
 
   -- the type and the initial value of a table
   pub table_parts : (t : TableKind) → IsBoth c (in_table_kind t) (in_type_of_table t) (in_init t)
-  table_parts (table.Import import ty) = as_both (in_table_kind (table.Import import ty)) (check_sites (in_table_type ty)) [] (sym (append-nil (check_sites (in_table_type ty))))
-  table_parts (table.Normal ty init) = as_both (in_table_kind (table.Normal ty init)) (in_type_of_table (table.Normal ty init)) (in_init (table.Normal ty init)) refl
+  table_parts (table.Import import ty) = as_both (in_table_kind (table.Import import ty)) (check_sites (in_table_type ty)) []
+      (sym (append-nil (check_sites (in_table_type ty))))
+  table_parts (table.Normal ty init) = as_both (in_table_kind (table.Normal ty init)) (in_type_of_table (table.Normal ty init))
+      (in_init (table.Normal ty init)) refl
   table_parts (table.Inline ty is64 shared elements) =
       but_last (in_table_kind (table.Inline ty is64 shared elements)) (check_sites (in_ref ty)) (in_payload elements) (Covered form.Shared (not shared))
       (sym (append_assoc (check_sites (in_ref ty)) (in_payload elements) (Asked (Covered form.Shared (not shared)) ∷ []))) refl
@@ -97,7 +113,8 @@ module _ (c : Scope) where
   pub segment_parts : (e : Elem) → IsBoth c (in_elem e) (in_elem_kind e.kind) (in_payload e.payload)
   segment_parts e =
       let last = Clause 4 (is_segment_type_allowed e.kind e.payload) in
-      but_last (in_elem e) (in_elem_kind e.kind) (in_payload e.payload) last (sym (append_assoc (in_elem_kind e.kind) (in_payload e.payload) (Asked last ∷ []))) refl
+      but_last (in_elem e) (in_elem_kind e.kind) (in_payload e.payload) last
+      (sym (append_assoc (in_elem_kind e.kind) (in_payload e.payload) (Asked last ∷ []))) refl
 
   elem_sites : (e : ElemKind) → in_elem_kind e ≡ in_elem_table e ++ in_elem_offset e
   elem_sites elem.Passive = refl
@@ -160,7 +177,8 @@ module _ (f : Change) where
 -- after a walk over a part, the field is the same with the new part
 pub of_field : {T : Type 0} (many : Type 0) (wrap : T → ModuleField) (c : Scope) (ss : List Site) (want new : T) (result : Result (Unit {0}) Error)
     → Walks ⊥ ⊥ (site_demands c ss) want new result → Walks ⊤ many (site_demands c ss) (wrap want) (wrap new) result
-of_field many wrap c ss want new result walked = walks_as (λ l. absurd l) (λ m. absurd m) (site_demands c ss) (site_demands c ss) want new (wrap want) (wrap new) result refl (ap wrap) walked
+of_field many wrap c ss want new result walked = walks_as (λ l. absurd l) (λ m. absurd m) (site_demands c ss) (site_demands c ss) want new
+    (wrap want) (wrap new) result refl (ap wrap) walked
 
 -- a `resume` handler
 pub handle_sites : (blocks : Blocks) (h : Handle) → in_handle blocks h ≡ in_handler_tag h ++ in_handler_label blocks h

@@ -35,14 +35,18 @@ module _ (f g : Name → Option ℕ) (same : (name : Name) → f name ≡ g name
 pub local_walked : (M : Type 0) (c : Scope) (l : Locals) (s : LocalSpace) (i new : Index) (result : Result (Unit {0}) Error) → Numbers c l s
     → Outcome ⊥ ⊥ (first_unmet (known_index (local_in s) (codes "local") i)) result → new ≡ resolved_index (local_in s) i
     → Walks ⊤ M (site_demands c (LocalAt l i ∷ [])) (resolved_index (local_number c l) i) new result
-local_walked M c l s i new (Ok x) h met is =
-    (ap first_unmet (append-nil (known_index (local_number c l) (codes "local") i) ∙ sym (same_known (local_in s) (local_number c l) h (codes "local") i)) ∙ met, is ∙ same_numbered (local_in s) (local_number c l) h i)
+local_walked M c l s i new (Ok x) h met is = (
+  ap first_unmet (append-nil (known_index (local_number c l) (codes "local") i)
+      ∙ sym (same_known (local_in s) (local_number c l) h (codes "local") i)) ∙ met,
+  is ∙ same_numbered (local_in s) (local_number c l) h i,
+)
 local_walked M c l s i new (Err e) h unmet is =
     let all = append-nil (known_index (local_number c l) (codes "local") i) ∙ sym (same_known (local_in s) (local_number c l) h (codes "local") i) in
     answers_more (diagnostic_of e) _ _ (λ l. absurd l) (λ m. absurd m) (λ f g. ap first_unmet all ∙ g) unmet
 
 -- a label that no enclosing block has
-pub label_unmet : (blocks : Blocks) (i : Index) → first_unmet (known_index (number_among blocks) (codes "label") i) ≡ first_unmet (known_index (number_among blocks) (codes "label") i ++ [])
+pub label_unmet : (blocks : Blocks) (i : Index) → first_unmet (known_index (number_among blocks) (codes "label") i) ≡ first_unmet
+    (known_index (number_among blocks) (codes "label") i ++ [])
 label_unmet blocks i = ap first_unmet (sym (append-nil (known_index (number_among blocks) (codes "label") i)))
 
 -- a label that is not expected
@@ -51,10 +55,12 @@ repeated_unmet blocks None = refl
 repeated_unmet blocks (Some m) = refl
 
 -- a label at an `else` or an `end`
-pub label_checked : (M : Type 0) (c : Scope) (blocks : Blocks) (o : Option Id) (result : Result (Unit {0}) Error) → Outcome ⊥ ⊥ (wrong_label blocks (mark_of_option o)) result
+pub label_checked : (M : Type 0) (c : Scope) (blocks : Blocks) (o : Option Id) (result : Result (Unit {0}) Error)
+    → Outcome ⊥ ⊥ (wrong_label blocks (mark_of_option o)) result
     → Walks ⊤ M (site_demands c (Repeated blocks (mark_of_option o) ∷ [])) o o result
 label_checked M c blocks o (Ok x) h = (sym (repeated_unmet blocks (mark_of_option o)) ∙ h, refl)
-label_checked M c blocks o (Err e) h = answers_more (diagnostic_of e) _ _ (λ l. absurd l) (λ m. absurd m) (λ f g. sym (repeated_unmet blocks (mark_of_option o)) ∙ g) h
+label_checked M c blocks o (Err e) h = answers_more (diagnostic_of e) _ _ (λ l. absurd l) (λ m. absurd m)
+    (λ f g. sym (repeated_unmet blocks (mark_of_option o)) ∙ g) h
 
 -- a constant expression has no locals
 pub none_numbers : (c : Scope) (s : LocalSpace) → s ≡ record { space = empty_from 0; nameless = 0 } → Numbers c constant_context.locals s

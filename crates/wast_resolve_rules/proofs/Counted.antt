@@ -22,4 +22,5 @@ many_at all before ms behind is h = subst HasMany (sym is) (many_right before (m
 pub many_sites : (all before here behind : List Site) → all ≡ before ++ (here ++ behind) → HasMany (open_counts here) → HasMany (open_counts all)
 many_sites all before here behind is h =
     many_at (open_counts all) (open_counts before) (open_counts here) (open_counts behind)
-    (ap open_counts is ∙ (flat_map-append open_counts_at before (here ++ behind) ∙ ap (λ ns. open_counts before ++ ns) (flat_map-append open_counts_at here behind))) h
+    (ap open_counts is ∙ (flat_map-append open_counts_at before (here ++ behind)
+    ∙ ap (λ ns. open_counts before ++ ns) (flat_map-append open_counts_at here behind))) h

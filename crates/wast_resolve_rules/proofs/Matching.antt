@@ -37,9 +37,11 @@ module _ (k : IdContext) where
   same_values_still [] ws = refl
   same_values_still (v ∷ vs) [] = refl
   same_values_still (v ∷ vs) (w ∷ ws) =
-      ap (λ b. b && same_values_by (same_type k) (map (mapped_val (numbered_at k)) vs) ws) (same_value_still v w) ∙ ap (λ b. same_value_by (same_type k) v w && b) (same_values_still vs ws)
+      ap (λ b. b && same_values_by (same_type k) (map (mapped_val (numbered_at k)) vs) ws) (same_value_still v w)
+      ∙ ap (λ b. same_value_by (same_type k) v w && b) (same_values_still vs ws)
 
-  types_of_params : (ps : List (Option Id × Option NameAnnotation × ValType)) → map type_of_param (map (mapped_param (numbered_at k)) ps) ≡ map (mapped_val (numbered_at k)) (map type_of_param ps)
+  types_of_params : (ps : List (Option Id × Option NameAnnotation × ValType))
+      → map type_of_param (map (mapped_param (numbered_at k)) ps) ≡ map (mapped_val (numbered_at k)) (map type_of_param ps)
   types_of_params [] = refl
   types_of_params (p ∷ ps) = ap (λ vs. mapped_val (numbered_at k) p.2 ∷ vs) (types_of_params ps)
 
@@ -52,7 +54,8 @@ module _ (k : IdContext) where
 
 module _ (c : Scope) where
   with_still : (t : FunctionType) (i : Index) (o : Option Shape)
-      → match_with (signatures_match c.known (mapped_signature (numbered_at c.known) t)) (span_of_index (numbered_at c.known space.Ty i)) o ≡ match_with (signatures_match c.known t) (span_of_index i) o
+      → match_with (signatures_match c.known (mapped_signature (numbered_at c.known) t)) (span_of_index (numbered_at c.known space.Ty i)) o
+      ≡ match_with (signatures_match c.known t) (span_of_index i) o
   with_still t i None = ap (λ p. match_with (signatures_match c.known t) p None) (span_still (c.known.number space.Ty) i)
   with_still t i (Some (Struct number)) = ap (λ p. match_with (signatures_match c.known t) p (Some (Struct number))) (span_still (c.known.number space.Ty) i)
   with_still t i (Some Other) = ap (λ p. match_with (signatures_match c.known t) p (Some Other)) (span_still (c.known.number space.Ty) i)
@@ -60,9 +63,11 @@ module _ (c : Scope) where
       ap (λ p. match_with (signatures_match c.known (mapped_signature (numbered_at c.known) t)) p (Some (Function s))) (span_still (c.known.number space.Ty) i)
       ∙ ap (λ b. match_with (λ u. b) (span_of_index i) (Some (Function s))) (matches_still c.known t s)
 
-  demands_still : (i : Index) (t : FunctionType) → match_demands c (numbered_at c.known space.Ty i) (mapped_signature (numbered_at c.known) t) ≡ match_demands c i t
+  demands_still : (i : Index) (t : FunctionType)
+      → match_demands c (numbered_at c.known space.Ty i) (mapped_signature (numbered_at c.known) t) ≡ match_demands c i t
   demands_still i t =
-      ap (λ o. match_with (signatures_match c.known (mapped_signature (numbered_at c.known) t)) (span_of_index (numbered_at c.known space.Ty i)) (type_at c.types o)) (denoted_still (c.known.number space.Ty) i)
+      ap (λ o. match_with (signatures_match c.known (mapped_signature (numbered_at c.known) t)) (span_of_index (numbered_at c.known space.Ty i))
+      (type_at c.types o)) (denoted_still (c.known.number space.Ty) i)
       ∙ with_still t i (type_at c.types (denoted (c.known.number space.Ty) i))
 
   -- the same for a type use

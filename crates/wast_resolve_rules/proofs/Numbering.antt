@@ -8,7 +8,8 @@ use Rattle.wast_resolve_rules.specs.Scopes.{Scope}
 use Rattle.wast_resolve_rules.specs.Resolved.{numbered_at, numbering_change}
 
 module _ (f : Indices) where
-  params_keep : (ps : List (Option Id × Option NameAnnotation × ValType)) → map (λ p. mark_of_option p.0) (map (mapped_param f) ps) ≡ map (λ p. mark_of_option p.0) ps
+  params_keep : (ps : List (Option Id × Option NameAnnotation × ValType))
+      → map (λ p. mark_of_option p.0) (map (mapped_param f) ps) ≡ map (λ p. mark_of_option p.0) ps
   params_keep [] = refl
   params_keep (p ∷ ps) = ap (λ ms. mark_of_option p.0 ∷ ms) (params_keep ps)
 

@@ -2,7 +2,8 @@
 use Rattle.std.proofs.Common.{◌≡◌, List, [], ◌∷◌, ◌++◌, refl, ap, ◌∙◌}
 use Rattle.std.specs.List.{flat_map}
 use Rattle.wast_base.specs.Blocks.{Blocks}
-use Rattle.wast_tree_nodes.specs.Sites.{Check, Site, BodyContext, after_all, check_sites, uncovered_check, at_label, in_ref, in_cast, in_handle, in_handlers, in_catch}
+use Rattle.wast_tree_nodes.specs.Sites.{Check, Site, BodyContext, after_all, check_sites, uncovered_check, at_label, in_ref, in_cast}
+use Rattle.wast_tree_nodes.specs.Sites.{in_handle, in_handlers, in_catch}
 use Rattle.wast_tree_nodes.proofs.Behind.{after-append}
 use Rattle.wast_resolve_rules.specs.Tree.{Index, RefType, Handle, ResumeTable, TryTableCatch, TryTableCatchKind}
 use Rattle.wast_resolve_rules.specs.Tree.caught
@@ -42,7 +43,8 @@ handle_stays h blocks (handle.OnSwitch e) = refl
 handles_stay : (h : BodyContext) (blocks : Blocks) (xs : List Handle) → after_all h (flat_map (in_handle blocks) xs) ≡ h
 handles_stay h blocks [] = refl
 handles_stay h blocks (x ∷ xs) =
-    after-append h (in_handle blocks x) (flat_map (in_handle blocks) xs) ∙ (ap (λ g. after_all g (flat_map (in_handle blocks) xs)) (handle_stays h blocks x) ∙ handles_stay h blocks xs)
+    after-append h (in_handle blocks x) (flat_map (in_handle blocks) xs)
+    ∙ (ap (λ g. after_all g (flat_map (in_handle blocks) xs)) (handle_stays h blocks x) ∙ handles_stay h blocks xs)
 
 pub handlers_stay : (h : BodyContext) (blocks : Blocks) (t : ResumeTable) → after_all h (in_handlers blocks t) ≡ h
 handlers_stay h blocks t = behind_stays h (flat_map (in_handle blocks) t.handlers) (uncovered_check form.StackSwitching) (handles_stay h blocks t.handlers)

@@ -1,7 +1,10 @@
 -- Computes the example modules.
 use Rattle.std.proofs.Common.{refl}
-use Rattle.wast_resolve_rules.specs.WorkedAnswers.{Row27, Row31, Row32, Row2, Row7, Row8, Row24, TwoFunctions, ClashOfTypes, FieldsOfOneStruct, FieldsOfTwoStructs, ClashesInOrder, Row14, Row22, Row23, UnknownNames, MatchedByNumber, Row17, IndirectCalls}
-use Rattle.wast_resolve_rules.specs.WorkedBodies.{NestedLabels, InnermostOfTwo, CaughtOutside, CaughtInItself, DelegatedOutside, DelegatedToItself, LabelsAtEnds, BlockOfTwo, BehindNameless}
+use Rattle.wast_resolve_rules.specs.WorkedAnswers.{Row27, Row31, Row32, Row2, Row7, Row8, Row24, TwoFunctions, ClashOfTypes}
+use Rattle.wast_resolve_rules.specs.WorkedAnswers.{FieldsOfOneStruct, FieldsOfTwoStructs, ClashesInOrder, Row14, Row22, Row23, UnknownNames}
+use Rattle.wast_resolve_rules.specs.WorkedAnswers.{MatchedByNumber, Row17, IndirectCalls}
+use Rattle.wast_resolve_rules.specs.WorkedBodies.{NestedLabels, InnermostOfTwo, CaughtOutside, CaughtInItself, DelegatedOutside}
+use Rattle.wast_resolve_rules.specs.WorkedBodies.{DelegatedToItself, LabelsAtEnds, BlockOfTwo, BehindNameless}
 use Rattle.wast_resolve_rules.specs.WorkedEarly.{RowsEarly, ImportedInPlace}
 use Rattle.wast_resolve_rules.specs.WorkedFields.{Row48, Row16}
 use Rattle.wast_resolve_rules.specs.WorkedImports.{Row12, Row13, Row21, BehindAMemory, ImportsInOrder, ImportedTwice, UnknownStart}

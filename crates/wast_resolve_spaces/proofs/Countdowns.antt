@@ -1,5 +1,6 @@
 -- How far the first duplicate of each space is ahead, item by item.
-use Rattle.std.proofs.Common.{◌≡◌, ◌≢◌, ℕ, zero, suc, ◌+◌, ◌<◌, ◌≤◌, List, [], ◌∷◌, ◌++◌, length, get_or, set, Option, Some, None, Bool, true, false, true≢false, not, cond, refl, sym, ap, ◌∙◌, subst, arith, append-nil}
+use Rattle.std.proofs.Common.{◌≡◌, ◌≢◌, ℕ, zero, suc, ◌+◌, ◌<◌, ◌≤◌, List, [], ◌∷◌, ◌++◌, length, get_or, set, Option, Some, None, Bool}
+use Rattle.std.proofs.Common.{true, false, true≢false, not, cond, refl, sym, ap, ◌∙◌, subst, arith, append-nil}
 use Rattle.std.specs.Prelude.{if◌then◌else◌}
 use Rattle.std.proofs.lemmas.Bool.{eqb-true, eq-eqb}
 use Rattle.std.proofs.lemmas.Grind.{flat_map-append}
@@ -58,10 +59,16 @@ module _ (earlier later : List (Option Name)) where
 
   -- a duplicate has the name of an earlier item
   bearer_here : (o : Option Name) → IsClash (earlier ++ o ∷ later) (length earlier) → (q : Name) × (o ≡ Some q) × (is_borne q earlier ≡ true)
-  bearer_here o c = (c.name, sym (get_or-append_seam earlier o later None) ∙ c.bears, ap (is_borne c.name) (sym (take-append_seam earlier (o ∷ later))) ∙ c.borne)
+  bearer_here o c = (
+    c.name,
+    sym (get_or-append_seam earlier o later None)
+        ∙ c.bears,
+    ap (is_borne c.name) (sym (take-append_seam earlier (o ∷ later))) ∙ c.borne,
+  )
 
   -- the check of an item that is not a duplicate passes
-  pub met_here : (fault : Name → Cause) (mark : Option Mark) → (IsClash (earlier ++ name_if mark ∷ later) (length earlier) → ⊥) → first_unmet (new_name_by fault earlier mark) ≡ None
+  pub met_here : (fault : Name → Cause) (mark : Option Mark) → (IsClash (earlier ++ name_if mark ∷ later) (length earlier) → ⊥)
+      → first_unmet (new_name_by fault earlier mark) ≡ None
   met_here fault None h = refl
   met_here fault (Some m) h = by_test (is_borne m.0 earlier) (fault m.0, m.1) (λ e. h (clash_here m.0 e))
     where
@@ -92,12 +99,14 @@ pub names_around : (s : Space) (before : List Item) (x : Item) (rest : List Item
 names_around s before x rest h = flat_map-append (name_in s) before (x ∷ rest) ∙ ap (λ ns. names_in s before ++ (ns ++ names_in s rest)) (own_name s x h)
 
 -- an item of the space counts as one more
-one_counted : (s : Space) (before : List Item) (x : Item) → same_space s x.space ≡ true → length (names_in s (before ++ x ∷ [])) ≡ length (names_in s before) + 1
+one_counted : (s : Space) (before : List Item) (x : Item) → same_space s x.space ≡ true
+    → length (names_in s (before ++ x ∷ [])) ≡ length (names_in s before) + 1
 one_counted s before x h = ap length (names_around s before x [] h) ∙ length-append (names_in s before) (name_if x.id ∷ [])
 
 -- an item of another space does not count
 none_counted : (s : Space) (before : List Item) (x : Item) → same_space s x.space ≡ false → length (names_in s (before ++ x ∷ [])) ≡ length (names_in s before)
-none_counted s before x h = ap length (flat_map-append (name_in s) before (x ∷ []) ∙ (ap (λ ns. names_in s before ++ (ns ++ [])) (no_name s x h) ∙ append-nil (names_in s before)))
+none_counted s before x h = ap length (flat_map-append (name_in s) before (x ∷ []) ∙ (ap (λ ns. names_in s before ++ (ns ++ [])) (no_name s x h)
+    ∙ append-nil (names_in s before)))
 
 -- what is ahead in a space after an item; it is the same if the item is of another space
 after_one : (s : Space) (names : List (Option Name)) (before : List Item) (x : Item) (o next : Option ℕ) → Ahead names (length (names_in s before)) o
@@ -128,7 +137,8 @@ abbrev pub AllAhead : List Item → List Item → List (Option ℕ) → Type 0
 AllAhead all before ahead = (s : Space) → Ahead (names_in s all) (length (names_in s before)) (get_or ahead (rank_of s) None)
 
 -- after an item of a space without a duplicate ahead, the same is ahead in each space
-pub past_free : (all before : List Item) (x : Item) (ahead : List (Option ℕ)) → ahead_of ahead x ≡ None → AllAhead all before ahead → AllAhead all (before ++ x ∷ []) ahead
+pub past_free : (all before : List Item) (x : Item) (ahead : List (Option ℕ)) → ahead_of ahead x ≡ None → AllAhead all before ahead
+    → AllAhead all (before ++ x ∷ []) ahead
 past_free all before x ahead e h = λ s.
     let o = get_or ahead (rank_of s) None in
     after_one s (names_in s all) before x o o (h s)

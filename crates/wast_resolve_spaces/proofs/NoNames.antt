@@ -12,7 +12,8 @@ use Rattle.wast_resolve_names.proofs.NoIds.{none_at}
 use Rattle.wast_resolve_spaces.proofs.FieldClashes.{finds_none}
 
 -- whether a field has an id
-pub some_ids : (fields : List StructField) → list_any is_some (map name_if (field_ids fields)) ≡ list_any is_some (map (λ f. name_if (mark_of_option f.id)) fields)
+pub some_ids : (fields : List StructField)
+    → list_any is_some (map name_if (field_ids fields)) ≡ list_any is_some (map (λ f. name_if (mark_of_option f.id)) fields)
 some_ids fields = ap (list_any is_some) (map-map name_if (λ f. mark_of_option f.id) fields)
 
 -- without ids no check fails

@@ -14,7 +14,8 @@ use Rattle.wast_resolve_spaces.specs.Tree.{ModuleField}
 use Rattle.wast_resolve_names.specs.Gathers.{Stops}
 use Rattle.wast_resolve_spaces.specs.Tree.ty
 use Rattle.wast_resolve_spaces.specs.Tree.field
-use Rattle.wast_resolve_rules.specs.Demands.{Demand, first_unmet, own_demand, field_demands, item_demand, item_demands, each_after, field_counts, HasMany, Answers}
+use Rattle.wast_resolve_rules.specs.Demands.{Demand, first_unmet, own_demand, field_demands, item_demand, item_demands, each_after}
+use Rattle.wast_resolve_rules.specs.Demands.{field_counts, HasMany, Answers}
 use Rattle.wast_resolve_spaces.specs.Shaping.{type_demands, types_demands, type_fields, types_fields, IsRefused}
 use Rattle.wast_resolve_rules.proofs.Counted.{many_one, many_left, many_right}
 use Rattle.wast_resolve_rules.proofs.Unmet.{met_parts, first_unmet-append, answers_more}
@@ -42,7 +43,8 @@ field_met x h = refl
 fields_met : (xs : List ModuleField) → first_unmet (of_items (items xs)) ≡ None → first_unmet (flat_map types_demands xs) ≡ None
 fields_met [] h = refl
 fields_met (x ∷ xs) h =
-    let parts = met_parts (of_items (items_in x)) (of_items (items xs)) (ap first_unmet (sym (flat_map-append (λ (y : Item). field_demands y.fields) (items_in x) (items xs))) ∙ h) in
+    let parts = met_parts (of_items (items_in x)) (of_items (items xs))
+    (ap first_unmet (sym (flat_map-append (λ (y : Item). field_demands y.fields) (items_in x) (items xs))) ∙ h) in
     first_unmet-append (types_demands x) (flat_map types_demands xs) (field_met x parts.0) ∙ fields_met xs parts.1
 
 pub types_met : (xs : List ModuleField) → first_unmet (item_demands (items xs)) ≡ None → first_unmet (flat_map types_demands xs) ≡ None
@@ -66,7 +68,8 @@ types_many (x ∷ xs) h =
     subst HasMany (sym (map-append (λ (y : Item). length y.fields) (items_in x) (items xs)))
     (either (λ c. types_many xs (h.0, (c, h.1.1))) (Contains-append_cases (types_fields x) (flat_map types_fields xs) h.0 h.1.0))
   where
-    either : (Contains (flat_map types_fields xs) h.0 → HasMany (field_counts (items xs))) → Contains (types_fields x) h.0 ⊎ Contains (flat_map types_fields xs) h.0 → HasMany (field_counts (items_in x) ++ field_counts (items xs))
+    either : (Contains (flat_map types_fields xs) h.0 → HasMany (field_counts (items xs)))
+        → Contains (types_fields x) h.0 ⊎ Contains (flat_map types_fields xs) h.0 → HasMany (field_counts (items_in x) ++ field_counts (items xs))
     either later (inl c) = many_left (field_counts (items_in x)) (field_counts (items xs)) (field_many x (h.0, (c, h.1.1)))
     either later (inr c) = many_right (field_counts (items_in x)) (field_counts (items xs)) (later c)
 
@@ -76,11 +79,13 @@ module _ {T : Type 0} (xs : List T) (i : ℕ) (x : T) (lt : i < length xs) (at :
   from_here = drop_more xs i x lt ∙ ap (λ y. y ∷ drop (i + 1) xs) (sym at)
 
   -- if the checks of the remaining elements pass, so do those of the first, and of the others
-  pub next_met : (f : T → List Demand) → first_unmet (flat_map f (drop i xs)) ≡ None → (first_unmet (f x) ≡ None) × (first_unmet (flat_map f (drop (i + 1) xs)) ≡ None)
+  pub next_met : (f : T → List Demand) → first_unmet (flat_map f (drop i xs)) ≡ None
+      → (first_unmet (f x) ≡ None) × (first_unmet (flat_map f (drop (i + 1) xs)) ≡ None)
   next_met f h = met_parts (f x) (flat_map f (drop (i + 1) xs)) (ap (λ ys. first_unmet (flat_map f ys)) (sym from_here) ∙ h)
 
   -- what is read of the element comes after what was read before
-  pub next_read : {B : Type 0} (f : T → List B) (new old all : List B) → new ≡ old ++ f x → old ++ flat_map f (drop i xs) ≡ all → new ++ flat_map f (drop (i + 1) xs) ≡ all
+  pub next_read : {B : Type 0} (f : T → List B) (new old all : List B) → new ≡ old ++ f x → old ++ flat_map f (drop i xs) ≡ all
+      → new ++ flat_map f (drop (i + 1) xs) ≡ all
   next_read f new old all is h =
       let rest = flat_map f (drop (i + 1) xs) in
       ap (λ ys. ys ++ rest) is ∙ (append_assoc old (f x) rest ∙ (ap (λ ys. old ++ flat_map f ys) (sym from_here) ∙ h))
@@ -97,12 +102,14 @@ module _ {T : Type 0} (xs : List T) (i : ℕ) (x : T) (lt : i < length xs) (at :
   pub many_next : (f : T → List ℕ) → HasMany (f x) → HasMany (flat_map f xs)
   many_next f h =
       let rest = drop (i + 1) xs in
-      subst HasMany (sym (ap (flat_map f) around ∙ flat_map-append f (take i xs) (x ∷ rest))) (many_right (flat_map f (take i xs)) (f x ++ flat_map f rest) (many_left (f x) (flat_map f rest) h))
+      subst HasMany (sym (ap (flat_map f) around ∙ flat_map-append f (take i xs) (x ∷ rest)))
+      (many_right (flat_map f (take i xs)) (f x ++ flat_map f rest) (many_left (f x) (flat_map f rest) h))
 
   pub many_here : (f : T → ℕ) → 2 ^ 32 ≤ f x → HasMany (map f xs)
   many_here f le =
       let rest = drop (i + 1) xs in
-      subst HasMany (sym (ap (map f) around ∙ map-append f (take i xs) (x ∷ rest))) (many_right (map f (take i xs)) (f x ∷ map f rest) (many_left (f x ∷ []) (map f rest) (many_one (f x) le)))
+      subst HasMany (sym (ap (map f) around ∙ map-append f (take i xs) (x ∷ rest)))
+      (many_right (map f (take i xs)) (f x ∷ map f rest) (many_left (f x ∷ []) (map f rest) (many_one (f x) le)))
 
 -- more errors are permitted
 pub refused_more : {M N : Type 0} (e : Error) → (M → N) → IsRefused M e → IsRefused N e

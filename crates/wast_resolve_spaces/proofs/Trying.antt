@@ -1,5 +1,6 @@
 -- The index spaces that are filled so far, by rank.
-use Rattle.std.proofs.Common.{◌≡◌, ℕ, ◌+◌, ◌<◌, ◌≤◌, ◌^◌, ◌⊎◌, inl, inr, List, [], ◌∷◌, ◌++◌, refl, sym, ap, ◌∙◌, subst, arith, length, map, get_or, length-append, append_assoc}
+use Rattle.std.proofs.Common.{◌≡◌, ℕ, ◌+◌, ◌<◌, ◌≤◌, ◌^◌, ◌⊎◌, inl, inr, List, [], ◌∷◌, ◌++◌, refl, sym, ap, ◌∙◌, subst, arith, length, map}
+use Rattle.std.proofs.Common.{get_or, length-append, append_assoc}
 use Rattle.std.specs.Prelude.{⊤, Option, Some, None, Result, Ok, Contains}
 use Rattle.std.specs.FinMap.{get-empty}
 use Rattle.std.proofs.Math.ListN.{set, length-set, get_or-map, get_or-append}
@@ -32,7 +33,8 @@ pub rank_at : (i : ℕ) (d : Space) → i < 8 → rank_of (get_or spaces i d) �
 rank_at i d lt = sym (get_or-map rank_of spaces i d) ∙ (get_or-range_with_len 0 8 i (rank_of d) lt ∙ omega arith)
 
 -- what was collected for the space of a rank
-gathered_at : (names : Space → List (Option Name)) (all before rest : List (Result (List (Option Name)) Error)) (x : Result (List (Option Name)) Error) → ((s : Space) → Gathers (Ok []) (names s) (gathered_of all s))
+gathered_at : (names : Space → List (Option Name)) (all before rest : List (Result (List (Option Name)) Error))
+    (x : Result (List (Option Name)) Error) → ((s : Space) → Gathers (Ok []) (names s) (gathered_of all s))
     → before ++ x ∷ rest ≡ all → (s : Space) → rank_of s ≡ length before → Gathers (Ok []) (names s) x
 gathered_at names all before rest x h is s at =
     let nothing : Result (List (Option Name)) Error = Ok [] in
@@ -40,7 +42,8 @@ gathered_at names all before rest x h is s at =
     (ap (λ i. get_or all i nothing) at ∙ (ap (λ l. get_or l (length before) nothing) (sym is) ∙ get_or-append_seam before x rest nothing)) (h s)
 
 -- the next space, and what was collected for it
-pub gathered_next : (names : Space → List (Option Name)) (all before rest : List (Result (List (Option Name)) Error)) (x : Result (List (Option Name)) Error) → length all ≡ 8 → ((s : Space) → Gathers (Ok []) (names s) (gathered_of all s))
+pub gathered_next : (names : Space → List (Option Name)) (all before rest : List (Result (List (Option Name)) Error))
+    (x : Result (List (Option Name)) Error) → length all ≡ 8 → ((s : Space) → Gathers (Ok []) (names s) (gathered_of all s))
     → before ++ x ∷ rest ≡ all → (length before < 8) × Gathers (Ok []) (names (get_or spaces (length before) space.Func)) x
 gathered_next names all before rest x eight each whole =
     let long = ap length whole in
@@ -67,7 +70,8 @@ module _ (names : Space → List (Option Name)) where
   as_tried : (s : Space) (a b : NameSpace) (c d : Option ℕ) → a ≡ b → c ≡ d → IsTried (names s) a c → IsTried (names s) b d
   as_tried s a b c d e f h = subst (λ o. IsTried (names s) b o) f (subst (λ n. IsTried (names s) n c) e h)
 
-  pub tried_more : (tried : List NameSpace) (clashes : List (Option ℕ)) (i : ℕ) (new : NameSpace) (clash : Option ℕ) (t : Space) (more : List NameSpace) → AreTried names tried clashes i → i < 8 → rank_of t ≡ i
+  pub tried_more : (tried : List NameSpace) (clashes : List (Option ℕ)) (i : ℕ) (new : NameSpace) (clash : Option ℕ) (t : Space)
+      (more : List NameSpace) → AreTried names tried clashes i → i < 8 → rank_of t ≡ i
       → IsTried (names t) new clash → more ≡ tried ++ new ∷ [] → AreTried names more (set clashes i clash) (i + 1)
   tried_more tried clashes i new clash t more p lt at h is = subst (λ (ns : List NameSpace). AreTried names ns (set clashes i clash) (i + 1)) (sym is) record {
     count = length-append tried (new ∷ []) ∙ omega (arith, p.count);
@@ -87,19 +91,24 @@ module _ (names : Space → List (Option Name)) where
   tried_clash ns s None h = h.free
   tried_clash ns s (Some p) h = h
 
-  pub all_clashes : (tried : List NameSpace) (clashes : List (Option ℕ)) → (i : ℕ) → 8 ≤ i → AreTried names tried clashes i → (s : Space) → HasFirstClash (names s) (get_or clashes (rank_of s) None)
-  all_clashes tried clashes i le p s = tried_clash (names s) (get_or tried (rank_of s) (empty_from 0)) (get_or clashes (rank_of s) None) (p.each s (let b = below_8 s in omega arith))
+  pub all_clashes : (tried : List NameSpace) (clashes : List (Option ℕ)) → (i : ℕ) → 8 ≤ i → AreTried names tried clashes i → (s : Space)
+      → HasFirstClash (names s) (get_or clashes (rank_of s) None)
+  all_clashes tried clashes i le p s = tried_clash (names s) (get_or tried (rank_of s) (empty_from 0)) (get_or clashes (rank_of s) None)
+      (p.each s (let b = below_8 s in omega arith))
 
   -- if no space has a duplicate, each name has its position as its number
   tried_number : (ns : List (Option Name)) (s : NameSpace) (o : Option ℕ) → IsTried ns s o → o ≡ None → (name : Name) → number_in s name ≡ position_of name ns
   tried_number ns s None h e = h.number
   tried_number ns s (Some p) h e = cc
 
-  pub all_numbers : (tried : List NameSpace) (clashes : List (Option ℕ)) → (i : ℕ) → 8 ≤ i → AreTried names tried clashes i → ((s : Space) → get_or clashes (rank_of s) None ≡ None)
+  pub all_numbers : (tried : List NameSpace) (clashes : List (Option ℕ)) → (i : ℕ) → 8 ≤ i → AreTried names tried clashes i
+      → ((s : Space) → get_or clashes (rank_of s) None ≡ None)
       → (s : Space) (name : Name) → (known_in tried).number s name ≡ position_of name (names s)
-  all_numbers tried clashes i le p free s = tried_number (names s) (get_or tried (rank_of s) (empty_from 0)) (get_or clashes (rank_of s) None) (p.each s (let b = below_8 s in omega arith)) (free s)
+  all_numbers tried clashes i le p free s = tried_number (names s) (get_or tried (rank_of s) (empty_from 0)) (get_or clashes (rank_of s) None)
+      (p.each s (let b = below_8 s in omega arith)) (free s)
 
-pub known_by : (xs : List Item) (tried : List NameSpace) → ((s : Space) (name : Name) → (known_in tried).number s name ≡ position_of name (names_in s xs)) → known_in tried ≡ id_context xs
+pub known_by : (xs : List Item) (tried : List NameSpace)
+    → ((s : Space) (name : Name) → (known_in tried).number s name ≡ position_of name (names_in s xs)) → known_in tried ≡ id_context xs
 known_by xs tried h = λ i. record { number = λ s name. h s name i }
 
 -- without spaces the identifier context is that of no items
@@ -107,16 +116,19 @@ pub nothing_known : known_in [] ≡ id_context []
 nothing_known = known_by [] [] (λ s name. get-empty key_cmp (key_of name))
 
 counted_space : (f : Space → ℕ) (s : Space) → Contains (map f spaces) (f s)
-counted_space f s = subst (λ n. Contains (map f spaces) n) (get_or-map f spaces (rank_of s) space.Func ∙ ap f (at_rank s space.Func)) (Contains-get_or (map f spaces) (rank_of s) (f space.Func) (below_8 s))
+counted_space f s = subst (λ n. Contains (map f spaces) n) (get_or-map f spaces (rank_of s) space.Func
+    ∙ ap f (at_rank s space.Func)) (Contains-get_or (map f spaces) (rank_of s) (f space.Func) (below_8 s))
 
 many_items : (fields : List ModuleField) (n : ℕ) → Contains (item_counts (items fields)) n → 2 ^ 32 ≤ n → HasManyItems fields
 many_items fields n c le = (n, (c, le))
 
-stops_one : (t : Diagnostic) (fields : List ModuleField) (o : Option (Cause × Span)) (begun n : ℕ) → Contains (item_counts (items fields)) n → Stops t begun n → Answers ⊤ (HasManyItems fields) t o
+stops_one : (t : Diagnostic) (fields : List ModuleField) (o : Option (Cause × Span)) (begun n : ℕ) → Contains (item_counts (items fields)) n
+    → Stops t begun n → Answers ⊤ (HasManyItems fields) t o
 stops_one t fields o begun n c h = grind (arith, many_items)
 
 -- an error in one space is an error of the call
-pub stops_all : (t : Diagnostic) (fields : List ModuleField) (s : Space) (o : Option (Cause × Span)) → Stops t 0 (length (names_in s (items fields))) → Answers ⊤ (HasManyItems fields) t o
+pub stops_all : (t : Diagnostic) (fields : List ModuleField) (s : Space) (o : Option (Cause × Span)) → Stops t 0 (length (names_in s (items fields)))
+    → Answers ⊤ (HasManyItems fields) t o
 stops_all t fields s o h =
     let xs = items fields in
     let n = length (names_in s xs) in

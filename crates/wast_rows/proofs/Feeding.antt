@@ -69,7 +69,8 @@ module _ (P : List ℕ → List ℕ → Type 0) where
         each_open = all_append IsOpen first.asked second.asked first.each_open second.each_open;
         left_open = second.left_open;
         split = ap (λ t. t ++ more) first.split ∙ append_assoc (ended_lines first.asked) middle more ∙ ap (λ t. ended_lines first.asked ++ t) second.split
-            ∙ sym (append_assoc (ended_lines first.asked) (ended_lines second.asked) left) ∙ ap (λ t. t ++ left) (sym (flat_map-append ended_line first.asked second.asked));
+            ∙ sym (append_assoc (ended_lines first.asked) (ended_lines second.asked) left)
+            ∙ ap (λ t. t ++ left) (sym (flat_map-append ended_line first.asked second.asked));
         answered = all_zip_append P _ _ _ _ first.answered second.answered;
         shown = ap (λ o. o ++ after) first.shown ∙ ap (λ o. ended_lines first.told ++ o) second.shown ∙ sym (flat_map-append ended_line first.told second.told);
       }
@@ -77,7 +78,8 @@ module _ (P : List ℕ → List ℕ → Type 0) where
   -- The lines of a longer text are those that ended, and those of the rest.
   lines_beyond : (text left output rest : List ℕ) → (fed : AnswersEnded P text left output) → lines_of (text ++ rest) ≡ fed.asked ++ lines_of (left ++ rest)
   lines_beyond text left output rest fed =
-      ap (λ t. lines_of (t ++ rest)) fed.split ∙ ap lines_of (append_assoc (ended_lines fed.asked) left rest) ∙ lines_of-ended fed.asked (left ++ rest) fed.each_open
+      ap (λ t. lines_of (t ++ rest)) fed.split ∙ ap lines_of (append_assoc (ended_lines fed.asked) left rest)
+      ∙ lines_of-ended fed.asked (left ++ rest) fed.each_open
 
   -- Right lines for the rest make right lines for the whole.
   pub AnswersText-more : (text left output after : List ℕ) → AnswersEnded P text left output → AnswersText P left after → AnswersText P text (output ++ after)
@@ -112,7 +114,8 @@ module _ (P : List ℕ → List ℕ → Type 0) where
         split = lines_beyond text middle output more fed ∙ ap (λ l. fed.asked ++ l) last.split ∙ sym (append_assoc fed.asked last.asked last.later);
         answered = all_zip_append P _ _ _ _ fed.answered last.answered;
         begun = last.begun;
-        shown = ap (λ o. o ++ after) fed.shown ∙ ap (λ o. ended_lines fed.told ++ o) last.shown ∙ sym (append_assoc (ended_lines fed.told) (ended_lines last.told) last.part)
+        shown = ap (λ o. o ++ after) fed.shown ∙ ap (λ o. ended_lines fed.told ++ o) last.shown
+            ∙ sym (append_assoc (ended_lines fed.told) (ended_lines last.told) last.part)
             ∙ ap (λ o. o ++ last.part) (sym (flat_map-append ended_line fed.told last.told));
       }
 
@@ -135,14 +138,33 @@ module _ (P : List ℕ → List ℕ → Type 0) where
 
   begins_longer : (line : List ℕ) (later : List (List ℕ)) (part : List ℕ) → BeginsAnswer P (line ∷ []) part → BeginsAnswer P (line ∷ later) part
   begins_longer line later part (BeginsAnswer.nothing e) = BeginsAnswer.nothing e
-  begins_longer line later part (BeginsAnswer.partly first rest told more e answers split) = BeginsAnswer.partly line later told more refl (subst (λ l. P l told) (cc) answers) split
+  begins_longer line later part (BeginsAnswer.partly first rest told more e answers split) = BeginsAnswer.partly line later told more refl
+      (subst (λ l. P l told) (cc) answers) split
 
   -- A prefix of the line for a line that ended, and for the last line.
   pub BeginsText-feed : (line rest part : List ℕ) → IsOpen line → BeginsAnswer P (line ∷ []) part → BeginsText P (line ++ (line_feed ∷ rest)) part
   BeginsText-feed line rest part no_feed begun =
-      record { asked = []; told = []; later = line ∷ lines_of rest; part = part; split = lines_of-fed line rest no_feed; answered = tt; begun = begins_longer line _ part begun; shown = refl }
+      record {
+        asked = [];
+        told = [];
+        later = line ∷ lines_of rest;
+        part = part;
+        split = lines_of-fed line rest no_feed;
+        answered = tt;
+        begun = begins_longer line _ part begun;
+        shown = refl;
+      }
 
   pub BeginsText-open : (line part : List ℕ) → line ≢ [] → IsOpen line → BeginsAnswer P (line ∷ []) part → BeginsText P line part
   BeginsText-open [] part some no_feed begun = absurd (some refl)
   BeginsText-open (byte ∷ line) part some no_feed begun =
-      record { asked = []; told = []; later = (byte ∷ line) ∷ []; part = part; split = lines_of-open byte line no_feed; answered = tt; begun = begun; shown = refl }
+      record {
+        asked = [];
+        told = [];
+        later = (byte ∷ line) ∷ [];
+        part = part;
+        split = lines_of-open byte line no_feed;
+        answered = tt;
+        begun = begun;
+        shown = refl;
+      }

@@ -1,5 +1,6 @@
 -- Which lines are numbers, from the result of `parse`.
-use Rattle.std.proofs.Common.{◌≡◌, ◌≢◌, ℕ, ◌<◌, ◌≤◌, List, length, slice_index, Result, Ok, Err, MatchResult, Option, MatchOption, zero, suc, sym, ap, subst, arith, ◌∙◌}
+use Rattle.std.proofs.Common.{◌≡◌, ◌≢◌, ℕ, ◌<◌, ◌≤◌, List, length, slice_index, Result, Ok, Err, MatchResult, Option, MatchOption, zero}
+use Rattle.std.proofs.Common.{suc, sym, ap, subst, arith, ◌∙◌}
 use Rattle.std.specs.Fmt.{decimal}
 use Rattle.std.specs.Result.{result_ok}
 use Rattle.std.specs.Str.{IsUtf8}
@@ -21,7 +22,8 @@ no_plus line plus n small e =
 -- No number with two digits or more begins with a zero.
 pub no_leading_zero : (line : List ℕ) → slice_index line 0 ≡ 48 → 2 ≤ length line → IsNoNumber line
 no_leading_zero line zero_first long zero small e = omega (arith, ap length e, ap length (decimal_digit 0 (omega arith)))
-no_leading_zero line zero_first long (suc n) small e = omega (arith, first_decimal (suc n) (omega arith) (omega arith), zero_first, ap (λ bs. slice_index bs 0) e)
+no_leading_zero line zero_first long (suc n) small e =
+    omega (arith, first_decimal (suc n) (omega arith) (omega arith), zero_first, ap (λ bs. slice_index bs 0) e)
 
 -- What is not a text is not a number.
 pub no_text : (line : List ℕ) → (IsUtf8 line → ⊥) → IsNoNumber line
@@ -37,7 +39,8 @@ parsed {E = E} line (Ok n) plain alone h =
 parsed line (Err x) plain alone h = λ n small e. absurd (cc (parse-decimal 32 n line (Err x) small (omega arith) e h))
 
 -- The same without its error.
-pub parsed_ok : {E : Type 0} (line text : List ℕ) (r : Result ℕ E) (o : Option ℕ) → slice_index line 0 ≢ 43 → (slice_index line 0 ≡ 48 → length line < 2) → text ≡ line
+pub parsed_ok : {E : Type 0} (line text : List ℕ) (r : Result ℕ E) (o : Option ℕ) → slice_index line 0 ≢ 43
+    → (slice_index line 0 ≡ 48 → length line < 2) → text ≡ line
     → ParsesUnsigned 32 10 text r → o ≡ result_ok r → MatchOption o (IsNoNumber line) (IsDecimalOf line)
 parsed_ok {E = E} line text (Ok n) o plain alone same h e = rw e (parsed {E = E} line (Ok n) plain alone (rw same at h))
 parsed_ok {E = E} line text (Err x) o plain alone same h e = rw e (parsed {E = E} line (Err x) plain alone (rw same at h))

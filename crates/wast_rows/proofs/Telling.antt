@@ -13,7 +13,14 @@ written_row m zero line le tells = tells
 written_row m (suc n) line le tells = absurd (omega arith)
 
 -- The line of a module that was encoded.
-pub encoded_row : (m after : Module) (counter : ℕ) (answer : Result (Vec ℕ) Error) (line : List ℕ) → ill_formed m ≡ None → generation_bound m ≤ 0 → Encodes m 1 answer after counter → TellsAnswer answer line
+pub encoded_row : (m after : Module) (counter : ℕ) (answer : Result (Vec ℕ) Error) (line : List ℕ) → ill_formed m ≡ None → generation_bound m ≤ 0
+    → Encodes m 1 answer after counter → TellsAnswer answer line
     → TellsRow (Some (Ok m)) line
 encoded_row m after counter answer line well fresh encodes tells =
-    subst (λ clause. TellsFormed clause m line) (sym well) (written_row m (generation_bound m) line fresh (record { answer = answer; after = after; counter = counter; encodes = encodes; tells = tells }))
+    subst (λ clause. TellsFormed clause m line) (sym well) (written_row m (generation_bound m) line fresh (record {
+      answer = answer;
+      after = after;
+      counter = counter;
+      encodes = encodes;
+      tells = tells;
+    }))

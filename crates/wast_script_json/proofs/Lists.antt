@@ -1,11 +1,13 @@
 -- Lanes and values in a list, one after another.
-use Rattle.std.proofs.Common.{◌≡◌, ℕ, ◌+◌, ◌<◌, ◌≤◌, Bool, true, false, List, [], ◌∷◌, ◌++◌, length, get_or, drop, Option, Some, None, refl, sym, ap, ◌∙◌, append_assoc, append-nil}
+use Rattle.std.proofs.Common.{◌≡◌, ℕ, ◌+◌, ◌<◌, ◌≤◌, Bool, true, false, List, [], ◌∷◌, ◌++◌, length, get_or, drop, Option, Some, None, refl}
+use Rattle.std.proofs.Common.{sym, ap, ◌∙◌, append_assoc, append-nil}
 use Rattle.std.proofs.lemmas.List.{drop_more, drop_all, nil_from_length}
 use Rattle.std.specs.Prelude.{codes, if◌then◌else◌}
 use Rattle.std.specs.List.{flat_map, join_by}
 use Rattle.wast_script.specs.declared.values.Number.{Number}
 use Rattle.wast_script.specs.declared.values.Value.{Value}
-use Rattle.wast_script_json.specs.Values.{number_text, value_text, comma, is_joined_after, left_after, ending, values_from, is_either_of, one_either, results_by, results_text}
+use Rattle.wast_script_json.specs.Values.{number_text, value_text, comma, is_joined_after, left_after, ending, values_from, is_either_of}
+use Rattle.wast_script_json.specs.Values.{one_either, results_by, results_text}
 
 -- lanes from one on, by whether a comma is before it
 abbrev pub lanes_from : Bool → List Number → List ℕ
@@ -14,7 +16,8 @@ lanes_from is_joined (n ∷ ns) = comma is_joined ++ (number_text n ++ lanes_fro
 
 more_lanes : (ns : List Number) → lanes_from true ns ≡ flat_map (λ n. codes ", " ++ number_text n) ns
 more_lanes [] = refl
-more_lanes (n ∷ ns) = sym (append_assoc (codes ", ") (number_text n) (lanes_from true ns)) ∙ ap (λ (l : List ℕ). (codes ", " ++ number_text n) ++ l) (more_lanes ns)
+more_lanes (n ∷ ns) = sym (append_assoc (codes ", ") (number_text n) (lanes_from true ns))
+    ∙ ap (λ (l : List ℕ). (codes ", " ++ number_text n) ++ l) (more_lanes ns)
 
 pub all_lanes : (ns : List Number) → lanes_from false ns ≡ join_by number_text (codes ", ") ns
 all_lanes [] = refl
@@ -43,12 +46,14 @@ lanes_written ns i is_joined o t all h = sym (append-nil o) ∙ ap (λ (l : List
 -- the loop over values: one more of them, and all
 pub value_written : (lanes : List Number) (vs : List Value) (i : ℕ) (d : Value) (is_joined joined : Bool) (left after : ℕ) (o a b c t : List ℕ) → i < length vs
     → a ≡ o ++ comma is_joined → b ≡ a ++ value_text lanes (get_or vs i d) → after ≡ left_after (get_or vs i d) left → c ≡ b ++ ending left after
-    → joined ≡ is_joined_after (get_or vs i d) → o ++ values_from lanes is_joined left (drop i vs) ≡ t → c ++ values_from lanes joined after (drop (i + 1) vs) ≡ t
+    → joined ≡ is_joined_after (get_or vs i d) → o ++ values_from lanes is_joined left (drop i vs) ≡ t
+    → c ++ values_from lanes joined after (drop (i + 1) vs) ≡ t
 unfolding values_from
 value_written lanes vs i d is_joined joined left after o a b c t few e f g w j h =
     let v = get_or vs i d in
     ap (λ (n : ℕ). c ++ values_from lanes joined n (drop (i + 1) vs)) g ∙ ap (λ (k : Bool). c ++ values_from lanes k (left_after v left) (drop (i + 1) vs)) j
-    ∙ three_more o a b c (comma is_joined) (value_text lanes v) (ending left (left_after v left)) (values_from lanes (is_joined_after v) (left_after v left) (drop (i + 1) vs)) t e f
+    ∙ three_more o a b c (comma is_joined) (value_text lanes v) (ending left (left_after v left))
+    (values_from lanes (is_joined_after v) (left_after v left) (drop (i + 1) vs)) t e f
     (w ∙ ap (λ (n : ℕ). b ++ ending left n) g) (ap (λ (l : List Value). o ++ values_from lanes is_joined left l) (sym (drop_more vs i d few)) ∙ h)
 
 pub values_written : (lanes : List Number) (vs : List Value) (i : ℕ) (is_joined : Bool) (left : ℕ) (o t : List ℕ) → length vs ≤ i

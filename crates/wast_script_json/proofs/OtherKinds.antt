@@ -8,7 +8,8 @@ use Rattle.wast_script.specs.declared.commands.CommandKind.TheVariants as kind
 use Rattle.wast_script_json.specs.Commands.{of_other, other_place, other_skipped}
 use Rattle.wast_script_json.specs.References.{State}
 
-pub none_skipped : (s : State) (k : CommandKind) → ((i o : Option Id) → k ≡ kind.Instance i o → ⊥) → ((t : Bor (List ℕ)) (o : Option Id) → k ≡ kind.Register t o → ⊥)
+pub none_skipped : (s : State) (k : CommandKind) → ((i o : Option Id) → k ≡ kind.Instance i o → ⊥)
+    → ((t : Bor (List ℕ)) (o : Option Id) → k ≡ kind.Register t o → ⊥)
     → false ≡ other_skipped s k
 none_skipped s (kind.Instance i o) f g = absurd (f i o refl)
 none_skipped s (kind.Register t o) f g = absurd (g t o refl)
@@ -18,7 +19,8 @@ pub own_place : (k : CommandKind) (span : Span) → ((t : Bor (List ℕ)) (o : O
 own_place (kind.Register t o) span f = absurd (f t o refl)
 own_place k span f = refl
 
-pub none_written : (k : CommandKind) (line : ℕ) (b : Bool) → ((i o : Option Id) → k ≡ kind.Instance i o → ⊥) → ((t : Bor (List ℕ)) (o : Option Id) → k ≡ kind.Register t o → ⊥)
+pub none_written : (k : CommandKind) (line : ℕ) (b : Bool) → ((i o : Option Id) → k ≡ kind.Instance i o → ⊥)
+    → ((t : Bor (List ℕ)) (o : Option Id) → k ≡ kind.Register t o → ⊥)
     → ((i : Id) (o : Option Id) → k ≡ kind.Thread i o → ⊥) → (k ≡ kind.ThreadEnd → ⊥) → ((i : Id) → k ≡ kind.Wait i → ⊥) → [] ≡ of_other k line b
 none_written (kind.Instance i o) line b f g h j m = absurd (f i o refl)
 none_written (kind.Register t o) line b f g h j m = absurd (g t o refl)

@@ -1,5 +1,6 @@
 -- The JSON of a script, written in pieces.
-use Rattle.std.proofs.Common.{◌≡◌, ℕ, ◌+◌, ◌<◌, ◌≤◌, Bool, true, List, [], ◌∷◌, ◌++◌, length, get_or, drop, Option, refl, sym, ap, ◌∙◌, subst, append_assoc, append-nil}
+use Rattle.std.proofs.Common.{◌≡◌, ℕ, ◌+◌, ◌<◌, ◌≤◌, Bool, true, List, [], ◌∷◌, ◌++◌, length, get_or, drop, Option, refl, sym, ap, ◌∙◌}
+use Rattle.std.proofs.Common.{subst, append_assoc, append-nil}
 use Rattle.std.proofs.lemmas.List.{drop_more, drop_all}
 use Rattle.std.specs.Io.KnownBytes.{Appends}
 use Rattle.std.proofs.KnownBytes.{Appends-nil, Appends-trans}
@@ -12,7 +13,8 @@ use Rattle.wast_script_json.specs.Commands.{command_text, opens}
 use Rattle.wast_script_json.specs.References.{State, nothing_known}
 use Rattle.wast_script_json.specs.Known.{Knows}
 use Rattle.wast_script_json.specs.Places.{Counts}
-use Rattle.wast_script_json.specs.Files.{beginning, closing, Converted, module_for, modules_after, has_module, with_modules, AreCommands, IsJson, Stands, Writes, IsCut, Passes, PassesAll, PrintsJson}
+use Rattle.wast_script_json.specs.Files.{beginning, closing, Converted, module_for, modules_after, has_module, with_modules, AreCommands}
+use Rattle.wast_script_json.specs.Files.{IsJson, Stands, Writes, IsCut, Passes, PassesAll, PrintsJson}
 
 -- before the first command
 pub begins : (text : List ℕ) (w : ScriptJson) → Counts text w.lines → Knows w.instances nothing_known → w.is_first ≡ true → Stands text nothing_known true w
@@ -53,7 +55,8 @@ pub record Reached (script : Script) (s : State) (is_first : Bool) (cs left : Co
   pub onward : (rest : List ℕ) → AreCommands script state first left rest
       → (all : List ℕ) × AreCommands script s is_first cs all × (piece ++ (written w.json ++ rest) ≡ written v.json ++ all)
 
-pub reached_none : (script : Script) (s : State) (is_first : Bool) (cs : Converted) (v : ScriptJson) (old : Option (List ℕ)) → Stands script.text.now s is_first v
+pub reached_none : (script : Script) (s : State) (is_first : Bool) (cs : Converted) (v : ScriptJson) (old : Option (List ℕ))
+    → Stands script.text.now s is_first v
     → Reached script s is_first cs cs v v old old
 reached_none script s is_first cs v old at = record {
   state = s;
@@ -98,8 +101,10 @@ unfolding with_modules
 next_left cs ms i d few = ap (λ (ds : List Command). with_modules ds ms) (drop_more cs i d few)
 
 -- the loop over the commands: one more of them, and all
-pub reached_next : (script : Script) (s : State) (is_first : Bool) (all : Converted) (cs : List Command) (ms rest : List ConvertedModule) (i : ℕ) (d : Command) (has : Bool)
-    (m : Option ConvertedModule) (v u w : ScriptJson) (old mid new : Option (List ℕ)) → i < length cs → has ≡ has_module (get_or cs i d).kind → m ≡ module_for has ms
+pub reached_next : (script : Script) (s : State) (is_first : Bool) (all : Converted) (cs : List Command) (ms rest : List ConvertedModule) (i : ℕ)
+    (d : Command) (has : Bool)
+    (m : Option ConvertedModule) (v u w : ScriptJson) (old mid new : Option (List ℕ)) → i < length cs → has ≡ has_module (get_or cs i d).kind
+    → m ≡ module_for has ms
     → rest ≡ modules_after has ms → Reached script s is_first all (with_modules (drop i cs) ms) v u old mid
     → ((t : State) (b : Bool) → Stands script.text.now t b u → Passes script t b (get_or cs i d) m u w mid new)
     → Reached script s is_first all (with_modules (drop (i + 1) cs) rest) v w old new
@@ -122,9 +127,11 @@ unfolding AreCommands
 no_commands script s is_first = refl
 
 pub reached_all : (script : Script) (s : State) (is_first : Bool) (all : Converted) (cs : List Command) (ms : List ConvertedModule) (i : ℕ) (v w : ScriptJson)
-    (old new : Option (List ℕ)) → length cs ≤ i → Reached script s is_first all (with_modules (drop i cs) ms) v w old new → PassesAll script s is_first all v w old new
+    (old new : Option (List ℕ)) → length cs ≤ i → Reached script s is_first all (with_modules (drop i cs) ms) v w old new
+    → PassesAll script s is_first all v w old new
 reached_all script s is_first all cs ms i v w old new none r =
-    let o = r.onward [] (subst (λ (ls : Converted). AreCommands script r.state r.first ls []) (sym (no_left cs ms i none)) (no_commands script r.state r.first)) in
+    let o = r.onward [] (subst (λ (ls : Converted). AreCommands script r.state r.first ls []) (sym (no_left cs ms i none))
+    (no_commands script r.state r.first)) in
     record {
       all = o.0;
       commands = o.1;
@@ -139,7 +146,8 @@ closed piece v w e source all begins text ends =
     ap (λ (l : List ℕ). piece ++ l) ends ∙ sym (append_assoc piece w closing) ∙ ap (λ (l : List ℕ). l ++ closing) (text ∙ ap (λ (l : List ℕ). l ++ all) begins)
     ∙ append_assoc (beginning source) all closing
 
-json_of : (script : Script) (source text all : List ℕ) (cs : Converted) → AreCommands script nothing_known true cs all → text ≡ beginning source ++ (all ++ closing)
+json_of : (script : Script) (source text all : List ℕ) (cs : Converted) → AreCommands script nothing_known true cs all
+    → text ≡ beginning source ++ (all ++ closing)
     → IsJson script source cs text
 unfolding IsJson
 json_of script source text all cs commands parts = (all, commands, parts)

@@ -17,7 +17,8 @@ use Rattle.wast_base.proofs.Names.{same_name_equal, same_name_itself}
 use Rattle.wast_script.specs.declared.commands.ScriptModule.{ScriptModule}
 use Rattle.wast_script.specs.declared.commands.CommandKind.{CommandKind}
 use Rattle.wast_script.specs.declared.commands.CommandKind.TheVariants as kind
-use Rattle.wast_script_json.specs.References.{Numbered, own_name, shared_as, sharing, Reach, module_at, instance_at, with_instance, with_module, State, nothing_known, defined, copied, entered, left_to, IsKnown, Defines, After}
+use Rattle.wast_script_json.specs.References.{Numbered, own_name, shared_as, sharing, Reach, module_at, instance_at, with_instance}
+use Rattle.wast_script_json.specs.References.{with_module, State, nothing_known, defined, copied, entered, left_to, IsKnown, Defines, After}
 use Rattle.wast_script_json.specs.Known.{HasNumbers, Lists, Reaches, ReachesEach, Knows}
 use Rattle.wast_script_json.specs.declared.interfaces.Interface.{Interface}
 use Rattle.wast_script_json.specs.declared.instances.Numbers.{Numbers}
@@ -64,7 +65,8 @@ pub unnamed : (m : BTreeMap Id ℕ) (o : Option Id) (number : ℕ) → o ≡ Non
 unnamed m o number is all h = subst (λ (p : Option Id). HasNumbers m ((own_name p, number) ∷ all)) (sym is) h
 
 -- the number of an id, by cases of both
-pub shared_some : (n : Numbers) (id : Option Id) (o : Option ℕ) (k : ℕ) → o ≡ Some k → HasNumbers n.by_id ((own_name id, k) ∷ []) → n.last ≡ None → Lists n [] (shared_as id o)
+pub shared_some : (n : Numbers) (id : Option Id) (o : Option ℕ) (k : ℕ) → o ≡ Some k → HasNumbers n.by_id ((own_name id, k) ∷ []) → n.last ≡ None
+    → Lists n [] (shared_as id o)
 shared_some n id o k is h last = subst (λ (p : Option ℕ). Lists n [] (shared_as id p)) (sym is) (record { by_id = h; last = last })
 
 pub shared_none : (n : Numbers) (id : Option Id) (o : Option ℕ) → o ≡ None → Lists n [] [] → Lists n [] (shared_as id o)
@@ -99,8 +101,10 @@ pub no_instance : (c : Scope) (id : Option Id) (o : Option ℕ) → o ≡ None �
 no_instance c id o is r h = subst (λ (p : Option ℕ). Reaches c (with_instance id p r)) (sym is) h
 
 -- what is known after one more module
-pub one_more : (i j : Instances) (id : Option Id) (d : Bool) (x : Option Interface) (n : ℕ) → j.interfaces.items ≡ i.interfaces.items ++ x ∷ [] → n ≡ length i.interfaces.items
-    → ((r : Reach) → Reaches i.scope r → Reaches j.scope (with_module id d n r)) → j.outer.items ≡ i.outer.items → (s : State) → Knows i s → Knows j (defined id d x s)
+pub one_more : (i j : Instances) (id : Option Id) (d : Bool) (x : Option Interface) (n : ℕ) → j.interfaces.items ≡ i.interfaces.items ++ x ∷ []
+    → n ≡ length i.interfaces.items
+    → ((r : Reach) → Reaches i.scope r → Reaches j.scope (with_module id d n r)) → j.outer.items ≡ i.outer.items → (s : State) → Knows i s
+    → Knows j (defined id d x s)
 one_more i j id d x n more count scope same s k = record {
   known = more ∙ ap (λ xs. xs ++ x ∷ []) k.known;
   reach = subst (λ (m : ℕ). Reaches j.scope (with_module id d m s.reach)) (count ∙ ap (λ xs. length xs) k.known) (scope s.reach k.reach);
@@ -116,7 +120,8 @@ knows_nothing i none reach alone = record {
 
 -- one more instance
 pub one_instance : (i j : Instances) (id original : Option Id) (n : Option ℕ) → j.interfaces.items ≡ i.interfaces.items → j.outer.items ≡ i.outer.items
-    → ((r : Reach) → Reaches i.scope r → n ≡ module_at original r) → ((r : Reach) → Reaches i.scope r → Reaches j.scope (with_instance id n r)) → (s : State) → Knows i s
+    → ((r : Reach) → Reaches i.scope r → n ≡ module_at original r) → ((r : Reach) → Reaches i.scope r → Reaches j.scope (with_instance id n r))
+    → (s : State) → Knows i s
     → Knows j (copied id original s)
 one_instance i j id original n items outer found more s k = record {
   known = items ∙ k.known;
@@ -128,7 +133,8 @@ one_instance i j id original n items outer found more s k = record {
 pub popped : (xs : List Scope) (x : Scope) (c : List Scope) → c ≡ xs ++ x ∷ [] → reverse c ≡ x ∷ reverse xs
 popped xs x c e = ap reverse e ∙ reverse-append xs (x ∷ [])
 
-pub leaves : (s : State) (rs : List Reach) (x : Scope) (xs : List Scope) (j : Instances) → j.interfaces.items ≡ s.known → j.scope ≡ x → reverse j.outer.items ≡ xs
+pub leaves : (s : State) (rs : List Reach) (x : Scope) (xs : List Scope) (j : Instances) → j.interfaces.items ≡ s.known → j.scope ≡ x
+    → reverse j.outer.items ≡ xs
     → ReachesEach (x ∷ xs) rs → Knows j (left_to s rs)
 leaves s [] x xs j known scope outside h = absurd h
 leaves s (r ∷ rs) x xs j known scope outside h = record {
@@ -150,7 +156,8 @@ none_outside i j s items scope old new k =
       outside = subst (λ (cs : List Scope). ReachesEach (reverse cs) s.outside) (old ∙ sym new) k.outside;
     }) (subst (λ (cs : List Scope). ReachesEach (reverse cs) s.outside) old k.outside)
 
-pub one_thread : (i j : Instances) (shared : Option Id) (n : Option ℕ) → j.interfaces.items ≡ i.interfaces.items → ((r : Reach) → Reaches i.scope r → n ≡ instance_at shared r)
+pub one_thread : (i j : Instances) (shared : Option Id) (n : Option ℕ) → j.interfaces.items ≡ i.interfaces.items
+    → ((r : Reach) → Reaches i.scope r → n ≡ instance_at shared r)
     → Reaches j.scope (sharing (shared_as shared n)) → j.outer.items ≡ i.outer.items ++ i.scope ∷ [] → (s : State) → Knows i s → Knows j (entered shared s)
 one_thread i j shared n items found scope outer s k = record {
   known = items ∙ k.known;
@@ -159,7 +166,8 @@ one_thread i j shared n items found scope outer s k = record {
 }
 
 -- the instance that an id refers to, and what is known of it
-pub looked_up : (i : Instances) (s : State) (n m : Option ℕ) → Knows i s → n ≡ m → option_and_then (slice_get i.interfaces.items) n ≡ option_and_then (slice_get s.known) m
+pub looked_up : (i : Instances) (s : State) (n m : Option ℕ) → Knows i s → n ≡ m
+    → option_and_then (slice_get i.interfaces.items) n ≡ option_and_then (slice_get s.known) m
 looked_up i s n m k e = ap (λ (xs : List (Option Interface)). option_and_then (slice_get xs) n) k.known ∙ ap (option_and_then (slice_get s.known)) e
 
 -- what is known after a command of a kind
@@ -177,7 +185,8 @@ pub of_none : (o : Option ConvertedModule) (id : Option Id) (d : Bool) (j : Inst
 of_none o id d j s is know = (s, subst (λ (p : Option ConvertedModule). Defines id d p s s) (sym is) refl, know)
 
 -- a command after which the same is known
-pub plain : (k : CommandKind) (c : Option ConvertedModule) (s : State) → ((m : ScriptModule) → k ≡ kind.Module m → ⊥) → ((m : ScriptModule) → k ≡ kind.Definition m → ⊥)
+pub plain : (k : CommandKind) (c : Option ConvertedModule) (s : State) → ((m : ScriptModule) → k ≡ kind.Module m → ⊥)
+    → ((m : ScriptModule) → k ≡ kind.Definition m → ⊥)
     → ((i o : Option Id) → k ≡ kind.Instance i o → ⊥) → ((i : Id) (o : Option Id) → k ≡ kind.Thread i o → ⊥) → (k ≡ kind.ThreadEnd → ⊥) → After k c s s
 plain (kind.Module m) c s f g h i j = absurd (f m refl)
 plain (kind.Definition m) c s f g h i j = absurd (g m refl)

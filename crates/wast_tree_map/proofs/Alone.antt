@@ -5,7 +5,8 @@ use Rattle.std.specs.Borrow.{Bor}
 use Rattle.std.proofs.Common.{◌≡◌, ℕ, List, [], ◌∷◌, ◌++◌, refl, sym, ap, ◌∙◌, map}
 use Rattle.std.proofs.lemmas.List.{map-append}
 use Rattle.std.specs.List.{flat_map}
-use Rattle.wast_tree_map.specs.Tree.{Id, TypeUse, FunctionType, FuncKind, TableKind, GlobalKind, ItemSig, ItemKind, ImportItems, InnerTypeKind, Space, StructField, ModuleField}
+use Rattle.wast_tree_map.specs.Tree.{Id, TypeUse, FunctionType, FuncKind, TableKind, GlobalKind, ItemSig, ItemKind, ImportItems}
+use Rattle.wast_tree_map.specs.Tree.{InnerTypeKind, Space, StructField, ModuleField}
 use Rattle.wast_tree_map.specs.Tree.space
 use Rattle.wast_tree_map.specs.Tree.inner
 use Rattle.wast_tree_map.specs.Tree.ty
@@ -20,13 +21,16 @@ use Rattle.wast_tree_nodes.specs.Items.{Item, item, field_ids, fields_of, space_
 use Rattle.wast_tree_nodes.specs.Imports.{defined_space}
 use Rattle.wast_tree_nodes.specs.Profiles.{is_imported_func, is_imported_global}
 use Rattle.wast_tree_nodes.specs.WrittenOut.{exports_nothing, is_written_table, is_written_field, is_written_out}
-use Rattle.wast_tree_map.specs.Mapped.{Change, KeepsMarks, named_struct_field, named_inner, mapped_type, mapped_func_kind, mapped_table_kind, mapped_global_kind, mapped_item_kind, mapped_sig, mapped_shared_id, mapped_import_items, mapped_field}
+use Rattle.wast_tree_map.specs.Mapped.{Change, KeepsMarks, named_struct_field, named_inner, mapped_type, mapped_func_kind}
+use Rattle.wast_tree_map.specs.Mapped.{mapped_table_kind, mapped_global_kind, mapped_item_kind, mapped_sig, mapped_shared_id}
+use Rattle.wast_tree_map.specs.Mapped.{mapped_import_items, mapped_field}
 use Rattle.wast_tree_map.specs.Named.{Naming, identity_naming, renamed_mark, renamed_item, RenamesIds}
 use Rattle.wast_tree_map.specs.Laws.{KeepsItems, NamesItems, all_mapped}
 use Rattle.wast_tree_map.proofs.Kept.{mark_kept, items_kept, names_kept_by}
 
 -- If no id changes, the id of a signature that names share does not change either.
-pub shared_id_stays : {N : Type 0} (f : Change) → ((o : Option Id) → f.id o ≡ o) → ((o : Option Id) → f.own o ≡ o) → (names : List N) (o : Option Id) → mapped_shared_id f names o ≡ o
+pub shared_id_stays : {N : Type 0} (f : Change) → ((o : Option Id) → f.id o ≡ o) → ((o : Option Id) → f.own o ≡ o) → (names : List N) (o : Option Id)
+    → mapped_shared_id f names o ≡ o
 shared_id_stays f items owns [] o = owns o
 shared_id_stays f items owns (name ∷ names) o = items o
 
@@ -83,11 +87,14 @@ module _ (n : Naming) (f : Change) (ids : NamesItems n f) (names : RenamesIds n 
   sig_named : (s : ItemSig) → item_of_sig (mapped_sig f s) ≡ renamed_item n (item_of_sig s)
   sig_named s = λ i. record { space = kind_alone s.kind i; id = ids s.id i; fields = [] }
 
-  sigs_named : (ps : List (Bor (List ℕ) × ItemSig)) → flat_map (λ (p : Bor (List ℕ) × ItemSig). item_of_sig p.1 ∷ []) (map (λ (p : Bor (List ℕ) × ItemSig). (p.0, mapped_sig f p.1)) ps) ≡ map (renamed_item n) (flat_map (λ (p : Bor (List ℕ) × ItemSig). item_of_sig p.1 ∷ []) ps)
+  sigs_named : (ps : List (Bor (List ℕ) × ItemSig))
+      → flat_map (λ (p : Bor (List ℕ) × ItemSig). item_of_sig p.1 ∷ []) (map (λ (p : Bor (List ℕ) × ItemSig). (p.0, mapped_sig f p.1)) ps) ≡ map
+      (renamed_item n) (flat_map (λ (p : Bor (List ℕ) × ItemSig). item_of_sig p.1 ∷ []) ps)
   sigs_named [] = refl
   sigs_named (p ∷ ps) = λ i. sig_named p.1 i ∷ sigs_named ps i
 
-  group_named : (x y : Item) → x ≡ renamed_item n y → (texts : List (Bor (List ℕ))) → flat_map (λ (text : Bor (List ℕ)). x ∷ []) texts ≡ map (renamed_item n) (flat_map (λ (text : Bor (List ℕ)). y ∷ []) texts)
+  group_named : (x y : Item) → x ≡ renamed_item n y → (texts : List (Bor (List ℕ)))
+      → flat_map (λ (text : Bor (List ℕ)). x ∷ []) texts ≡ map (renamed_item n) (flat_map (λ (text : Bor (List ℕ)). y ∷ []) texts)
   group_named x y e [] = refl
   group_named x y e (text ∷ texts) = λ i. e i ∷ group_named x y e texts i
 
@@ -119,4 +126,5 @@ module _ (n : Naming) (f : Change) (ids : NamesItems n f) (names : RenamesIds n 
 
 -- The items are the same, if their ids are.
 pub items_alone : (f : Change) → KeepsItems f → KeepsMarks f → (xs : List ModuleField) → items (all_mapped f xs) ≡ items xs
-items_alone f keeps marks xs = items_named identity_naming f (λ o. keeps o ∙ sym (mark_kept (mark_of_option o))) (names_kept_by f marks) xs ∙ items_kept (items xs)
+items_alone f keeps marks xs = items_named identity_naming f (λ o. keeps o ∙ sym (mark_kept (mark_of_option o))) (names_kept_by f marks) xs
+    ∙ items_kept (items xs)

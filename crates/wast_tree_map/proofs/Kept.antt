@@ -5,7 +5,8 @@ use Rattle.wast_base.specs.Ids.{Name, Mark, mark_of_option}
 use Rattle.wast_tree_nodes.specs.Items.{Item}
 use Rattle.wast_tree_nodes.specs.Sites.{Check, ItemIndex, Locals, Site, Asked, Used, Declared, LocalAt, FieldAt, LabelAt, Repeated, Begins, Ends}
 use Rattle.wast_tree_map.specs.Mapped.{Indices, Change, mapped_locals, mapped_ask, mapped_site, KeepsMarks, JoinsAsk, Joins, AreJoint, Each}
-use Rattle.wast_tree_map.specs.Named.{identity_naming, RenamesIds, renamed, renamed_mark, renamed_item, named_locals, named_ask, named_site, NamedJoins, AreNamedJoint}
+use Rattle.wast_tree_map.specs.Named.{identity_naming, RenamesIds, renamed, renamed_mark, renamed_item, named_locals, named_ask, named_site}
+use Rattle.wast_tree_map.specs.Named.{NamedJoins, AreNamedJoint}
 use Rattle.wast_tree_map.proofs.Ways.{In, At}
 
 pub mark_kept : (m : Option Mark) → renamed_mark identity_naming m ≡ m

@@ -17,7 +17,8 @@ each_so p h [] = tt
 each_so p h (x ∷ xs) = (h x, each_so p h xs)
 
 -- The sites of the mapped list are the mapped sites.
-pub stands_named : (n : Naming) (f : Change) → RenamesIds n f → (xs : List ModuleField) → in_module (map (mapped_field f) xs) ≡ map (named_site n f) (in_module xs)
+pub stands_named : (n : Naming) (f : Change) → RenamesIds n f → (xs : List ModuleField)
+    → in_module (map (mapped_field f) xs) ≡ map (named_site n f) (in_module xs)
 stands_named n f k xs = (fields_at xs).stands n f k
 
 pub stands : (f : Change) → KeepsMarks f → (xs : List ModuleField) → in_module (map (mapped_field f) xs) ≡ map (mapped_site f) (in_module xs)
@@ -28,10 +29,12 @@ pub still : (xs : List ModuleField) → map (mapped_field no_change) xs ≡ xs
 still xs = (fields_at xs).still
 
 -- Two maps are a third, if they agree with it at each site.
-pub joins_named : (n : Naming) (h g f : Change) → AreNamedJoint n h g f → (xs : List ModuleField) → Each (NamedJoins n h g f) (in_module xs) → map (mapped_field g) (map (mapped_field h) xs) ≡ map (mapped_field f) xs
+pub joins_named : (n : Naming) (h g f : Change) → AreNamedJoint n h g f → (xs : List ModuleField) → Each (NamedJoins n h g f) (in_module xs)
+    → map (mapped_field g) (map (mapped_field h) xs) ≡ map (mapped_field f) xs
 joins_named n h g f j xs e = (fields_at xs).joins n h g f j e
 
-pub joins : (h g f : Change) → AreJoint h g f → (xs : List ModuleField) → Each (Joins h g f) (in_module xs) → map (mapped_field g) (map (mapped_field h) xs) ≡ map (mapped_field f) xs
+pub joins : (h g f : Change) → AreJoint h g f → (xs : List ModuleField) → Each (Joins h g f) (in_module xs)
+    → map (mapped_field g) (map (mapped_field h) xs) ≡ map (mapped_field f) xs
 joins h g f j xs e = joins_at xs (fields_at xs) h g f j e
 
 joins_then : (h g : Change) (s : Site) → Joins h g (compose h g) s
@@ -44,12 +47,14 @@ joins_then h g x = tt
 
 -- Two maps one after another are their composition.
 pub twice : (h g : Change) → KeepsMarks h → (xs : List ModuleField) → map (mapped_field g) (map (mapped_field h) xs) ≡ map (mapped_field (compose h g)) xs
-twice h g k xs = joins h g (compose h g) (record { keeps = k; ids = λ o. refl; owns = λ o. refl }) xs (each_so (Joins h g (compose h g)) (joins_then h g) (in_module xs))
+twice h g k xs = joins h g (compose h g) (record { keeps = k; ids = λ o. refl; owns = λ o. refl }) xs
+    (each_so (Joins h g (compose h g)) (joins_then h g) (in_module xs))
 
 -- The change that changes nothing keeps ids.
 pub same_keeps : KeepsMarks no_change
 same_keeps = record { params = λ u. refl; owns = λ o. refl }
 
 -- Maps that are equal at each site have the same result.
-pub alike : (f g : Change) → ((o : Option Id) → f.id o ≡ g.id o) → ((o : Option Id) → f.own o ≡ g.own o) → (xs : List ModuleField) → Each (Joins no_change f g) (in_module xs) → map (mapped_field f) xs ≡ map (mapped_field g) xs
+pub alike : (f g : Change) → ((o : Option Id) → f.id o ≡ g.id o) → ((o : Option Id) → f.own o ≡ g.own o) → (xs : List ModuleField)
+    → Each (Joins no_change f g) (in_module xs) → map (mapped_field f) xs ≡ map (mapped_field g) xs
 alike f g ids owns xs e = sym (ap (map (mapped_field f)) (still xs)) ∙ joins no_change f g (record { keeps = same_keeps; ids = ids; owns = owns }) xs e

@@ -23,10 +23,12 @@ pub borne_any : (name : Name) (ns : List (Option Name)) → is_borne name ns ≡
 borne_any name ns = ap is_some (position_from-zero (is_called name) ns) ∙ found_from (is_called name) 0 ns
 
 -- an item of joined lists has the name if one of either list does
-pub borne_by_both : (s : Space) (name : Name) (a b : List Item) → is_borne name (names_in s (a ++ b)) ≡ is_borne name (names_in s a) || is_borne name (names_in s b)
+pub borne_by_both : (s : Space) (name : Name) (a b : List Item) → is_borne name (names_in s (a ++ b)) ≡ is_borne name (names_in s a) || is_borne name
+    (names_in s b)
 borne_by_both s name a b =
     ap (is_borne name) (flat_map-append (name_in s) a b)
-    ∙ rw (borne_any name (names_in s a ++ names_in s b), borne_any name (names_in s a), borne_any name (names_in s b)) (any-append (is_called name) (names_in s a) (names_in s b))
+    ∙ rw (borne_any name (names_in s a ++ names_in s b), borne_any name (names_in s a), borne_any name (names_in s b))
+    (any-append (is_called name) (names_in s a) (names_in s b))
 
 borne_one : (name : Name) (n : Option Name) (c : Bool) → is_called name n ≡ c → is_borne name (n ∷ []) ≡ is_called name n
 borne_one name n true h = rw h refl
@@ -37,8 +39,10 @@ borne_if name false n = refl
 borne_if name true n = borne_one name n (is_called name n) refl
 
 -- whether an item has the name, as a test of each item
-pub borne_among : (s : Space) (name : Name) (xs : List Item) → is_borne name (names_in s xs) ≡ list_any (λ x. same_space s x.space && is_called name (name_if x.id)) xs
+pub borne_among : (s : Space) (name : Name) (xs : List Item)
+    → is_borne name (names_in s xs) ≡ list_any (λ x. same_space s x.space && is_called name (name_if x.id)) xs
 borne_among s name [] = refl
 borne_among s name (x ∷ xs) =
     borne_by_both s name (x ∷ []) xs
-    ∙ (ap (λ b. b || is_borne name (names_in s xs)) (borne_if name (same_space s x.space) (name_if x.id)) ∙ ap (λ b. (same_space s x.space && is_called name (name_if x.id)) || b) (borne_among s name xs))
+    ∙ (ap (λ b. b || is_borne name (names_in s xs)) (borne_if name (same_space s x.space) (name_if x.id))
+    ∙ ap (λ b. (same_space s x.space && is_called name (name_if x.id)) || b) (borne_among s name xs))

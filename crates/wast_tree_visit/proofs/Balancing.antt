@@ -1,5 +1,6 @@
 -- Lemmas for is_balanced: counting the enclosing blocks decides whether instructions are balanced.
-use Rattle.std.proofs.Common.{◌≡◌, ℕ, zero, suc, ◌+◌, ◌≤◌, ◌<◌, List, [], ◌∷◌, Option, Some, None, Bool, true, false, eqb, refl, ap, sym, ◌∙◌, length, take, drop, get_or, arith}
+use Rattle.std.proofs.Common.{◌≡◌, ℕ, zero, suc, ◌+◌, ◌≤◌, ◌<◌, List, [], ◌∷◌, Option, Some, None, Bool, true, false, eqb, refl, ap, sym}
+use Rattle.std.proofs.Common.{◌∙◌, length, take, drop, get_or, arith}
 use Rattle.std.specs.Prelude.{is_some, option_map}
 use Rattle.std.proofs.lemmas.Bool.{and_parts, and_from, eq-eqb, eqb-true}
 use Rattle.std.proofs.lemmas.List.{drop_more}
@@ -68,12 +69,14 @@ module _ (c : Bool) (ts : List BlockEffect) (n m : ℕ) where
   none_stays (Some b) h k e = cc
   none_stays None h k e = rw k (ap (balanced_from ts) (sym e))
 
-pub none_closes : (c : Bool) (ts : List BlockEffect) (n m : ℕ) (b : Option BlockType) → is_some b ≡ false → c ≡ true → n ≡ m + 1 → balanced_from (turn_by b c ∷ ts) n ≡ balanced_from ts m
+pub none_closes : (c : Bool) (ts : List BlockEffect) (n m : ℕ) (b : Option BlockType) → is_some b ≡ false → c ≡ true → n ≡ m + 1
+    → balanced_from (turn_by b c ∷ ts) n ≡ balanced_from ts m
 none_closes c ts n m (Some b) h k e = cc
 none_closes c ts zero m None h k e = absurd (omega arith)
 none_closes c ts (suc n) m None h k e = rw k (ap (balanced_from ts) (omega arith))
 
-pub none_is_open : (c : Bool) (ts : List BlockEffect) (n : ℕ) (b : Option BlockType) → is_some b ≡ false → c ≡ true → n ≡ 0 → balanced_from (turn_by b c ∷ ts) n ≡ false
+pub none_is_open : (c : Bool) (ts : List BlockEffect) (n : ℕ) (b : Option BlockType) → is_some b ≡ false → c ≡ true → n ≡ 0
+    → balanced_from (turn_by b c ∷ ts) n ≡ false
 none_is_open c ts n (Some b) h k e = cc
 none_is_open c ts n None h k e = rw (k, e) refl
 

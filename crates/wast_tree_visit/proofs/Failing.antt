@@ -1,5 +1,6 @@
 -- Lemmas: the least and the first rule that fails, from the state of a visitor.
-use Rattle.std.proofs.Common.{◌≡◌, ℕ, ◌+◌, ◌<◌, Bool, true, false, ◌&&◌, Option, Some, None, List, [], ◌∷◌, ◌++◌, length, get_or, take, flat_map, append-nil, refl, sym, ap, ◌∙◌}
+use Rattle.std.proofs.Common.{◌≡◌, ℕ, ◌+◌, ◌<◌, Bool, true, false, ◌&&◌, Option, Some, None, List, [], ◌∷◌, ◌++◌, length, get_or, take}
+use Rattle.std.proofs.Common.{flat_map, append-nil, refl, sym, ap, ◌∙◌}
 use Rattle.std.specs.Prelude.{min, map, is_none, is_some, ◌||◌}
 use Rattle.std.proofs.lemmas.Grind.{flat_map-append}
 use Rattle.std.proofs.lemmas.List.{take_more}
@@ -36,19 +37,23 @@ written_settles : (number : Name → Option ℕ) (i : Index) → is_written_inde
 written_settles number (index.Num n p) h = refl
 written_settles number (index.Id id) h = ap (λ b. b || is_some (number (name_of id))) h
 
-pub none_unless_generated : (o : Option ℕ) (k : IdContext) (s : Space) (i : Index) → is_written_index i ≡ true → o ≡ least_of o (failing_clauses_at k (ItemIndex s i))
+pub none_unless_generated : (o : Option ℕ) (k : IdContext) (s : Space) (i : Index) → is_written_index i ≡ true
+    → o ≡ least_of o (failing_clauses_at k (ItemIndex s i))
 none_unless_generated o k s i h = sym (ap (λ b. least_of o (unless_holds 6 b)) (written_settles (k.number s) i h))
 
 -- no rule fails if all checks pass
 pub none_fails : (k : IdContext) (asks : List Check) → is_none (least_of None (flat_map (failing_clauses_at k) asks)) ≡ list_all (is_kept k) asks
 none_fails k [] = refl
-none_fails k (ItemIndex s i ∷ asks) = least_unless 6 (is_kept k (ItemIndex s i)) (list_all (is_kept k) asks) (flat_map (failing_clauses_at k) asks) (none_fails k asks)
-none_fails k (InnerIndex i ∷ asks) = least_unless 6 (is_kept k (InnerIndex i)) (list_all (is_kept k) asks) (flat_map (failing_clauses_at k) asks) (none_fails k asks)
+none_fails k (ItemIndex s i ∷ asks) = least_unless 6 (is_kept k (ItemIndex s i)) (list_all (is_kept k) asks) (flat_map (failing_clauses_at k) asks)
+    (none_fails k asks)
+none_fails k (InnerIndex i ∷ asks) = least_unless 6 (is_kept k (InnerIndex i)) (list_all (is_kept k) asks) (flat_map (failing_clauses_at k) asks)
+    (none_fails k asks)
 none_fails k (PlainId m ∷ asks) = none_fails k asks
 none_fails k (Clause n holds ∷ asks) = least_unless n holds (list_all (is_kept k) asks) (flat_map (failing_clauses_at k) asks) (none_fails k asks)
 none_fails k (Covered f holds ∷ asks) = none_fails k asks
 
-first_unless : (ill : ℕ → IllFormed) (n : ℕ) (b c : Bool) (fs : List IllFormed) → is_none (head_of fs) ≡ c → is_none (head_of (map ill (unless_holds n b) ++ fs)) ≡ (b && c)
+first_unless : (ill : ℕ → IllFormed) (n : ℕ) (b c : Bool) (fs : List IllFormed) → is_none (head_of fs) ≡ c
+    → is_none (head_of (map ill (unless_holds n b) ++ fs)) ≡ (b && c)
 first_unless ill n true c fs h = h
 first_unless ill n false c fs h = refl
 
@@ -98,7 +103,8 @@ first_more [] ys = refl
 first_more (x ∷ xs) ys = refl
 
 -- one more part of a list
-pub first_more_in : {T F : Type 0} (f : T → List F) (xs : List T) (i : ℕ) (x d : T) → i < length xs → x ≡ get_or xs i d → first_of (head_of (flat_map f (take i xs))) (f x) ≡ head_of (flat_map f (take (i + 1) xs))
+pub first_more_in : {T F : Type 0} (f : T → List F) (xs : List T) (i : ℕ) (x d : T) → i < length xs → x ≡ get_or xs i d
+    → first_of (head_of (flat_map f (take i xs))) (f x) ≡ head_of (flat_map f (take (i + 1) xs))
 first_more_in f xs i x d lt is =
     first_more (flat_map f (take i xs)) (f x)
     ∙ sym (ap (λ ys. head_of (flat_map f ys)) (take_more xs i d lt ∙ ap (λ y. take i xs ++ y ∷ []) (sym is))
@@ -107,22 +113,26 @@ first_more_in f xs i x d lt is =
 -- a visitor that keeps an identifier context
 module _ {V : Type 0} (keeps : V → IdContext) where
   least_each : (of : V → Option ℕ) (a b : V) (xs : List Check)
-      → TellsEach (λ old x new. (keeps new ≡ keeps old) × (of new ≡ least_of (of old) (failing_clauses_at (keeps old) x))) a xs b → of b ≡ least_of (of a) (flat_map (failing_clauses_at (keeps a)) xs)
+      → TellsEach (λ old x new. (keeps new ≡ keeps old) × (of new ≡ least_of (of old) (failing_clauses_at (keeps old) x))) a xs b
+      → of b ≡ least_of (of a) (flat_map (failing_clauses_at (keeps a)) xs)
   least_each of a b [] h = ap of h
   least_each of a b (x ∷ xs) h =
       least_each of h.0 b xs h.1.1
       ∙ (ap (λ c. least_of (of h.0) (flat_map (failing_clauses_at c) xs)) h.1.0.0
-      ∙ (ap (λ c. least_of c (flat_map (failing_clauses_at (keeps a)) xs)) h.1.0.1 ∙ least_behind (of a) (failing_clauses_at (keeps a) x) (flat_map (failing_clauses_at (keeps a)) xs)))
+      ∙ (ap (λ c. least_of c (flat_map (failing_clauses_at (keeps a)) xs)) h.1.0.1
+      ∙ least_behind (of a) (failing_clauses_at (keeps a) x) (flat_map (failing_clauses_at (keeps a)) xs)))
 
   -- the least rule that fails
   pub least_told : (of : V → Option ℕ) {a b : V} {xs : List Check}
-      → Visits (λ old x new. (keeps new ≡ keeps old) × (of new ≡ least_of (of old) (failing_clauses_at (keeps old) x))) a xs b → of b ≡ least_of (of a) (flat_map (failing_clauses_at (keeps a)) xs)
+      → Visits (λ old x new. (keeps new ≡ keeps old) × (of new ≡ least_of (of old) (failing_clauses_at (keeps old) x))) a xs b
+      → of b ≡ least_of (of a) (flat_map (failing_clauses_at (keeps a)) xs)
   least_told of {a} {b} {xs} h = least_each of a b xs h.tells
 
   -- a visitor that also keeps the last position
   module _ (place : V → Span) (of : V → Option IllFormed) where
     abbrev finds : V → Check → V → Type 0
-    finds old x new = (keeps new ≡ keeps old) × (place new ≡ place_or_last (place old) x) × (of new ≡ first_of (of old) (failing_at (keeps old) (place_or_last (place old) x) x))
+    finds old x new = (keeps new ≡ keeps old) × (place new ≡ place_or_last (place old) x) ×
+        (of new ≡ first_of (of old) (failing_at (keeps old) (place_or_last (place old) x) x))
 
     known_each : (a b : V) (xs : List Check) → TellsEach finds a xs b → keeps b ≡ keeps a
     known_each a b [] h = ap keeps h

@@ -40,7 +40,8 @@ forms_from before [] = refl
 forms_from before (a ∷ asks) =
     let here = place_or_last before a in
     map-append form_in (uncovered_at here a) (found_from uncovered_at here asks)
-    ∙ (ap (λ fs. fs ++ map form_in (found_from uncovered_at here asks)) (form_alone here (uncovered_in a)) ∙ ap (λ fs. uncovered_in a ++ fs) (forms_from here asks))
+    ∙ (ap (λ fs. fs ++ map form_in (found_from uncovered_at here asks)) (form_alone here (uncovered_in a))
+    ∙ ap (λ fs. uncovered_in a ++ fs) (forms_from here asks))
 
 forms_in : {T : Type 0} (place : T → Span) (asks : T → List Check) (xs : List T)
     → map form_in (flat_map (λ x. found_from uncovered_at (place x) (asks x)) xs) ≡ flat_map uncovered_in (flat_map asks xs)

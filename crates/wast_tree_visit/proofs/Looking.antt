@@ -14,7 +14,8 @@ module _ {X : Type 0} (p : X → Bool) where
   past_all xs i le = sym (ap (λ ys. list_any p (take 1 ys)) (drop_all i xs le))
 
   module _ {A : Type 0} (f : A → X) (xs : List A) where
-    pub of_each : (i : ℕ) (x d : A) (b : Bool) → i < length xs → x ≡ get_or xs i d → b ≡ p (f x) → b ≡ list_any p (take 1 (drop i (flat_map (λ y. f y ∷ []) xs)))
+    pub of_each : (i : ℕ) (x d : A) (b : Bool) → i < length xs → x ≡ get_or xs i d → b ≡ p (f x)
+        → b ≡ list_any p (take 1 (drop i (flat_map (λ y. f y ∷ []) xs)))
     of_each i x d b lt is e =
         e
         ∙ (ap (λ y. p (f y)) is
@@ -25,6 +26,7 @@ module _ {X : Type 0} (p : X → Bool) where
     of_no_more i le = past_all (flat_map (λ y. f y ∷ []) xs) i (omega (arith, as_many f xs, le))
 
   -- all elements have the same item
-  pub of_same : {A : Type 0} (f : A → X) (xs : List A) (i : ℕ) (b : Bool) → i < length xs → ((x : A) → b ≡ p (f x)) → b ≡ list_any p (take 1 (drop i (flat_map (λ y. f y ∷ []) xs)))
+  pub of_same : {A : Type 0} (f : A → X) (xs : List A) (i : ℕ) (b : Bool) → i < length xs → ((x : A) → b ≡ p (f x))
+      → b ≡ list_any p (take 1 (drop i (flat_map (λ y. f y ∷ []) xs)))
   of_same f [] i b lt h = absurd (omega (arith, lt))
   of_same f (x ∷ xs) i b lt h = let y = get_or (x ∷ xs) i x in of_each f (x ∷ xs) i y x b lt refl (h y)

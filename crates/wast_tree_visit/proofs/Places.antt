@@ -41,7 +41,8 @@ module _ {T : Type 0} (items : T → List Item) (fields : List T) where
   field_before f i le =
       let xs = items_at items fields f in
       append-nil (flat_map items (take (f + 1) fields))
-      ∙ (ap (flat_map items) (take-add f 1 fields) ∙ (flat_map-append items (take f fields) (take 1 (drop f fields)) ∙ ap (λ ys. flat_map items (take f fields) ++ ys) (sym (take_all i xs le))))
+      ∙ (ap (flat_map items) (take-add f 1 fields) ∙ (flat_map-append items (take f fields) (take 1 (drop f fields))
+      ∙ ap (λ ys. flat_map items (take f fields) ++ ys) (sym (take_all i xs le))))
 
   -- the items before a position and those after it are all items
   on_both_sides : (place : Place) → items_before items fields place ++ items_behind items fields place ≡ flat_map items fields
@@ -59,7 +60,8 @@ module _ {T : Type 0} (items : T → List Item) (fields : List T) where
         → list_any p (items_behind items fields (at f i)) ≡ (found || list_any p (items_behind items fields (at f (i + 1))))
     stepped_on f i found e =
         ap (list_any p) (passed_on f i)
-        ∙ (list_any-append p (take 1 (drop i (items_at items fields f))) (items_behind items fields (at f (i + 1))) ∙ ap (λ b. b || list_any p (items_behind items fields (at f (i + 1)))) (sym e))
+        ∙ (list_any-append p (take 1 (drop i (items_at items fields f))) (items_behind items fields (at f (i + 1)))
+        ∙ ap (λ b. b || list_any p (items_behind items fields (at f (i + 1)))) (sym e))
 
     pub stepped_out : (f i : ℕ) (found : Bool) → length (items_at items fields f) ≤ i + 1 → found ≡ list_any p (take 1 (drop i (items_at items fields f)))
         → list_any p (items_behind items fields (at f i)) ≡ (found || list_any p (items_behind items fields (at (f + 1) 0)))
@@ -71,18 +73,21 @@ module _ {T : Type 0} (items : T → List Item) (fields : List T) where
     stepped_back f i found e =
         ap (list_any p) (passed_back f i)
         ∙ (list_any-append p (items_before items fields (at f i)) (take 1 (drop i (items_at items fields f)))
-        ∙ (or_comm (list_any p (items_before items fields (at f i))) (list_any p (take 1 (drop i (items_at items fields f)))) ∙ ap (λ b. b || list_any p (items_before items fields (at f i))) (sym e)))
+        ∙ (or_comm (list_any p (items_before items fields (at f i))) (list_any p (take 1 (drop i (items_at items fields f))))
+        ∙ ap (λ b. b || list_any p (items_before items fields (at f i))) (sym e)))
 
     pub stepped_over : (f : ℕ) (found : Bool) → length (items_at items fields f) ≤ 1 → found ≡ list_any p (take 1 (drop 0 (items_at items fields f)))
         → list_any p (items_before items fields (at (f + 1) 0)) ≡ (found || list_any p (items_before items fields (at f 0)))
     stepped_over f found le e = ap (list_any p) (field_before f 1 le) ∙ stepped_back f 0 found e
 
     -- an item passes a test if one on either side does
-    pub any_aside : (place : Place) → (list_any p (items_before items fields place) || list_any p (items_behind items fields place)) ≡ list_any p (flat_map items fields)
+    pub any_aside : (place : Place) → (list_any p (items_before items fields place) || list_any p (items_behind items fields place)) ≡ list_any p
+        (flat_map items fields)
     any_aside place = sym (list_any-append p (items_before items fields place) (items_behind items fields place)) ∙ ap (list_any p) (on_both_sides place)
 
   -- each step comes closer to the end, or to the start
-  pub nearer_on : (f i : ℕ) → f < length fields → length (items_at items fields f) ≤ i + 1 → steps_on items fields (at (f + 1) 0) ≤ steps_on items fields (at f i) - 1
+  pub nearer_on : (f i : ℕ) → f < length fields → length (items_at items fields f) ≤ i + 1
+      → steps_on items fields (at (f + 1) 0) ≤ steps_on items fields (at f i) - 1
   nearer_on f i lt le =
       let e = ap length (passed_on f i) ∙ length-append (take 1 (drop i (items_at items fields f))) (items_behind items fields (at f (i + 1))) in
       let o = ap length (next_field f (i + 1) le) in
@@ -91,6 +96,7 @@ module _ {T : Type 0} (items : T → List Item) (fields : List T) where
   pub nearer_back : (f i : ℕ) → i ≤ length (items_at items fields f) → steps_back items fields (at f i) ≤ steps_back items fields (at (f + 1) 0) - 1
   nearer_back f i le =
       let e =
-      ap length (ap (flat_map items) (take-add f 1 fields) ∙ flat_map-append items (take f fields) (take 1 (drop f fields))) ∙ length-append (flat_map items (take f fields)) (items_at items fields f)
+      ap length (ap (flat_map items) (take-add f 1 fields) ∙ flat_map-append items (take f fields) (take 1 (drop f fields)))
+      ∙ length-append (flat_map items (take f fields)) (items_at items fields f)
       in
       omega (arith, e, le)

@@ -14,11 +14,13 @@ ends : (left : ℕ) (rest : List ℕ) → section_length rest ≡ None → kept 
 ends zero rest e = refl
 ends (suc left) rest e = ap (kept_by rest (kept left)) e
 
-pub one_kept : (end counter n : ℕ) (all before after section rest tail : List ℕ) → counter < end → section_length rest ≡ Some n → section ≡ take n rest → tail ≡ drop n rest
+pub one_kept : (end counter n : ℕ) (all before after section rest tail : List ℕ) → counter < end → section_length rest ≡ Some n
+    → section ≡ take n rest → tail ≡ drop n rest
     → after ≡ before ++ kept_of section → before ++ kept (end - counter) rest ≡ all → after ++ kept (end - (counter + 1)) tail ≡ all
 one_kept end counter n all before after section rest tail h e front back is held =
     let fewer : end - (counter + 1) ≡ end - counter - 1 = omega arith in
-    let whole : before ++ (kept_of (take n rest) ++ kept (end - counter - 1) (drop n rest)) ≡ all = ap (λ l. before ++ l) (sym (next (end - counter) n rest (omega arith) e)) ∙ held in
+    let whole : before ++ (kept_of (take n rest) ++ kept (end - counter - 1) (drop n rest)) ≡ all = ap (λ l. before ++ l)
+    (sym (next (end - counter) n rest (omega arith) e)) ∙ held in
     rw (is, front, back, fewer, append_assoc) whole
 
 pub none_left : (end counter : ℕ) (all before out rest : List ℕ) → end ≤ counter → out ≡ before ++ rest → before ++ kept (end - counter) rest ≡ all → out ≡ all

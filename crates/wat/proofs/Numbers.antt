@@ -13,7 +13,8 @@ last (suc most) b bs n e = ap (λ t. number_from t b (number_at most bs)) e
 before : (most : ℕ) (bs : List ℕ) → number_at most bs ≡ number_at (suc most - 1) bs
 before most bs = let e : most ≡ suc most - 1 = omega arith in ap (λ m. number_at m bs) e
 
-pub more : (most b n c : ℕ) (bs : List ℕ) → most ≢ 0 → nat_lt b 128 ≡ false → number_at (most - 1) bs ≡ Some (n, c) → number_at most (b ∷ bs) ≡ Some (b % 128 + 128 * n, 1 + c)
+pub more : (most b n c : ℕ) (bs : List ℕ) → most ≢ 0 → nat_lt b 128 ≡ false → number_at (most - 1) bs ≡ Some (n, c)
+    → number_at most (b ∷ bs) ≡ Some (b % 128 + 128 * n, 1 + c)
 more zero b n c bs m e f = absurd (m refl)
 more (suc most) b n c bs m e f = ap (λ t. number_from t b (number_at most bs)) e ∙ ap (number_from false b) (before most bs ∙ f)
 

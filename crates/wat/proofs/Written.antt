@@ -11,7 +11,8 @@ use Rattle.wat.specs.Lines.{lines_of}
 use Rattle.wat.specs.Outputs.{OutputBy, IsOutput, HasNames}
 
 -- `made` is the output for the bytes, and `r` is that or an error.
-pub module_written : {D E : Type 0} (o : Options) (text : List ℕ) (bytes : Vec ℕ) (made : Result (Vec ℕ) D) (r : Result (Vec ℕ) E) → OfText EncodesText text (Ok bytes)
+pub module_written : {D E : Type 0} (o : Options) (text : List ℕ) (bytes : Vec ℕ) (made : Result (Vec ℕ) D) (r : Result (Vec ℕ) E)
+    → OfText EncodesText text (Ok bytes)
     → IfOk made (λ out. OutputBy o bytes.items out.items) → IfOk r (λ out. made ≡ Ok out) → IfOk r (λ out. IsOutput o text out.items)
 module_written o text bytes (Ok x) (Ok out) encoded made same =
     let e : x ≡ out = cc same in
@@ -20,7 +21,8 @@ module_written o text bytes (Err d) (Ok out) encoded made same = absurd (cc same
 module_written o text bytes made (Err e) encoded is same = same
 
 -- `made` is the lines for the list of ids, and `r` is these or an error.
-pub names_written : {D E : Type 0} (text : List ℕ) (all : Vec Denoted) (ids : List Denoted) (made : Result (Vec ℕ) D) (r : Result (Vec ℕ) E) → OfText ListsText text (Ok all) → ids ≡ all.items
+pub names_written : {D E : Type 0} (text : List ℕ) (all : Vec Denoted) (ids : List Denoted) (made : Result (Vec ℕ) D) (r : Result (Vec ℕ) E)
+    → OfText ListsText text (Ok all) → ids ≡ all.items
     → IfOk made (λ out. out.items ≡ lines_of ids) → IfOk r (λ out. made ≡ Ok out) → IfOk r (λ out. HasNames text out.items)
 names_written text all ids (Ok x) (Ok out) listed same made is =
     let e : x ≡ out = cc is in

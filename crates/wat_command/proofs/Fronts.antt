@@ -5,14 +5,16 @@ use Rattle.std.proofs.KnownBytes.{Appends-nil, Appends-trans, Appends-kept}
 use Rattle.wat_command.specs.Fronts.{AppendsFront}
 
 -- the bytes from an offset on, after those before it
-pub further : (a b c : Option (List ℕ)) (bytes : List ℕ) (at end : ℕ) → at ≤ end → Appends a b (take at bytes) → Appends b c (take (end - at) (drop at bytes)) → Appends a c (take end bytes)
+pub further : (a b c : Option (List ℕ)) (bytes : List ℕ) (at end : ℕ) → at ≤ end → Appends a b (take at bytes)
+    → Appends b c (take (end - at) (drop at bytes)) → Appends a c (take end bytes)
 further a b c bytes at end h p q =
     let same : end ≡ at + (end - at) = omega arith in
     subst (λ n. Appends a c (take n bytes)) (sym same) (subst (Appends a c) (sym (take-add at (end - at) bytes)) (Appends-trans a b c _ _ p q))
 
 -- all bytes
 pub all_of : (a b c : Option (List ℕ)) (bytes : List ℕ) (at : ℕ) → at ≡ length bytes → Appends a b (take at bytes) → Keeps b c → Appends a c bytes
-all_of a b c bytes at e p q = subst (Appends a c) (ap (λ n. take n bytes) e ∙ take_all (length bytes) bytes (omega arith)) (Appends-kept a b c (take at bytes) p q)
+all_of a b c bytes at e p q = subst (Appends a c) (ap (λ n. take n bytes) e ∙ take_all (length bytes) bytes (omega arith))
+    (Appends-kept a b c (take at bytes) p q)
 
 -- no byte
 pub nothing : (a : Option (List ℕ)) (bytes : List ℕ) → Appends a a (take 0 bytes)

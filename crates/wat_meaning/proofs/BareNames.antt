@@ -8,11 +8,15 @@ use Rattle.wast_tree_nodes.specs.Items.{space_of_kind}
 use Rattle.wast_tree_nodes.specs.Profiles.{Defined, Lone, profile_of}
 use Rattle.wast_core_name_section.specs.GivenNames.{written_text, given_name}
 use Rattle.wast_core_name_section.specs.ModuleNames.{type_name, import_names, names_defined, item_names_in}
-use Rattle.wast_core_name_section.specs.WithinItems.{arity, param_name, field_name, local_name, label_name, label_in, types_within, types_of, arity_at, params_or, params_if, params_then_locals, locals_in, locals_of, labels_in, tag_params, field_names_of, param_names_of, lists_in_type}
+use Rattle.wast_core_name_section.specs.WithinItems.{arity, param_name, field_name, local_name, label_name, label_in, types_within}
+use Rattle.wast_core_name_section.specs.WithinItems.{types_of, arity_at, params_or, params_if, params_then_locals, locals_in, locals_of}
+use Rattle.wast_core_name_section.specs.WithinItems.{labels_in, tag_params, field_names_of, param_names_of, lists_in_type}
 use Rattle.wast_core_name_section.proofs.Each.{each_like}
-use Rattle.wast_core_name_section.proofs.SameNameSection.{SameLists, SameInKind, SameInImport, KeepsNames, arity_in, same_arity, in_func, in_tag, in_imported_func, names_imported, in_import}
+use Rattle.wast_core_name_section.proofs.SameNameSection.{SameLists, SameInKind, SameInImport, KeepsNames, arity_in, same_arity, in_func}
+use Rattle.wast_core_name_section.proofs.SameNameSection.{in_tag, in_imported_func, names_imported, in_import}
 use Rattle.wast_core.proofs.ToldTypes.{each_alike}
-use Rattle.wat_syntax.specs.Tree.{Id, Index, NameAnnotation, ValType, FunctionType, InnerTypeKind, BlockType, Instruction, TagType, ItemKind, ImportItems, FuncKind, Func, ModuleField}
+use Rattle.wat_syntax.specs.Tree.{Id, Index, NameAnnotation, ValType, FunctionType, InnerTypeKind, BlockType, Instruction, TagType}
+use Rattle.wat_syntax.specs.Tree.{ItemKind, ImportItems, FuncKind, Func, ModuleField}
 use Rattle.wat_syntax.specs.Tree.index
 use Rattle.wat_syntax.specs.Tree.space
 use Rattle.wat_syntax.specs.Tree.inner
@@ -22,7 +26,8 @@ use Rattle.wat_syntax.specs.Tree.tag
 use Rattle.wat_syntax.specs.Tree.kind
 use Rattle.wat_syntax.specs.Tree.func
 use Rattle.wat_syntax.specs.Tree.field
-use Rattle.wat_syntax.specs.Bare.{bare_id_option, bare_index_option, bare_name_option, bare_param, bare_function_type, bare_type_use, bare_struct_field, bare_composite, bare_type, bare_tag_type}
+use Rattle.wat_syntax.specs.Bare.{bare_id_option, bare_index_option, bare_name_option, bare_param, bare_function_type, bare_type_use}
+use Rattle.wat_syntax.specs.Bare.{bare_struct_field, bare_composite, bare_type, bare_tag_type}
 use Rattle.wat_syntax.specs.BareInstructions.{bare_block, bare_instr}
 use Rattle.wat_syntax.specs.BareFields.{bare_item_kind, bare_item_sig, bare_import_items, bare_local, bare_func_kind, bare_func, bare_field, bare_fields}
 use Rattle.wat_ready.proofs.Erased.{name_kept}

@@ -65,4 +65,5 @@ pub well_formed_erased : (xs : List ModuleField) → is_well_formed (renamed_fie
 well_formed_erased xs =
     let k = id_context (items xs) in
     ap (λ its. are_kept (id_context its) (checks_of (in_module (renamed_fields erasing xs)))) (items_erased xs)
-    ∙ (by_values (is_kept k) (checks_of (in_module (renamed_fields erasing xs))) ∙ (ap (list_all (λ b. b)) (checks_same (is_kept k) (kept k) xs) ∙ sym (by_values (is_kept k) (checks_of (in_module xs)))))
+    ∙ (by_values (is_kept k) (checks_of (in_module (renamed_fields erasing xs))) ∙ (ap (list_all (λ b. b)) (checks_same (is_kept k) (kept k) xs)
+    ∙ sym (by_values (is_kept k) (checks_of (in_module xs)))))

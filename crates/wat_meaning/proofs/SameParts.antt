@@ -19,7 +19,8 @@ use Rattle.wast_core_sections.specs.declared.slots.Slot.TheVariants as slot
 use Rattle.wast_core_sections.specs.Slots.{section_kind, order}
 use Rattle.wast_core_sections.specs.DataCounts.{needs_count, count_parts}
 use Rattle.wast_core_sections.specs.Hints.{hinted_functions, hints_part, InRangeHints}
-use Rattle.wast_core_sections.specs.Sections.{Contribution, contribution_of, of_kind, entries_in, entries, start_part, starts_in, has_own_names, section_part, subsections_of, in_slot, parts}
+use Rattle.wast_core_sections.specs.Sections.{Contribution, contribution_of, of_kind, entries_in, entries, start_part, starts_in}
+use Rattle.wast_core_sections.specs.Sections.{has_own_names, section_part, subsections_of, in_slot, parts}
 use Rattle.wast_core_sections.specs.Writable.{InRangeHeld, InRangeSlot, InRangeModule, IsWritable}
 use Rattle.wast_core.specs.Tree.{CustomPlace, ModuleField}
 
@@ -70,4 +71,7 @@ module _ (f : ModuleField → ModuleField) (keeps : KeepsParts f) (name : Option
       (λ s p q. (subst (λ (g : Slot → List Part). All InRangePart (g s)) slots_stay p.0, held_stays s p.1)) order h h
 
   pub writable_stays : IsWritable name (map f xs) → IsWritable name xs
-  writable_stays w = record { in_range = range_stays w.in_range; length = subst (λ (ps : List Part). length (header ++ flat_map part ps) < 2 ^ 64) parts_stay w.length }
+  writable_stays w = record {
+    in_range = range_stays w.in_range;
+    length = subst (λ (ps : List Part). length (header ++ flat_map part ps) < 2 ^ 64) parts_stay w.length;
+  }

@@ -10,7 +10,8 @@ use Rattle.wasm_ops.proofs.Everywhere.{all_unmap, all_both}
 use Rattle.wasm_out.specs.Parts as parts
 use Rattle.wasm_out.specs.Producers.{producers}
 use Rattle.wast_tree_nodes.specs.Customs.{custom_name, subsection_id, stands_at, customs_in, customs_at, is_custom_called}
-use Rattle.wast_core_conv.specs.Customs.{as_producer_value, as_producer_field, export_flags, import_flags, listed_name, subsection_content, subsection, custom_bytes, custom_part}
+use Rattle.wast_core_conv.specs.Customs.{as_producer_value, as_producer_field, export_flags, import_flags, listed_name, subsection_content}
+use Rattle.wast_core_conv.specs.Customs.{subsection, custom_bytes, custom_part}
 use Rattle.wast_core_name_section.proofs.Each.{each_like}
 use Rattle.wast_core_sections.specs.Sections.{has_own_names}
 use Rattle.wast_core.specs.Tree.{CustomPlace}
@@ -109,7 +110,8 @@ custom_range (custom.Dylink0 d) h = all_before bare_subsection (λ s. (subsectio
 pub ranges_same : (place : CustomPlace) (xs : List ModuleField)
     → All (λ c. (custom_bytes c).in_range) (customs_at place (shown_fields xs)) → All (λ c. (custom_bytes c).in_range) (customs_at place xs)
 ranges_same place xs h =
-    all_before bare_custom (λ c. (custom_bytes c).in_range) custom_range (customs_at place xs) (subst (All (λ c. (custom_bytes c).in_range)) (shown_at place xs) h)
+    all_before bare_custom (λ c. (custom_bytes c).in_range) custom_range (customs_at place xs)
+    (subst (All (λ c. (custom_bytes c).in_range)) (shown_at place xs) h)
 
 -- whether a custom section is called "name"
 called_same : (x : ModuleField) → is_custom_called (codes "name") (shown_field x) ≡ is_custom_called (codes "name") x

@@ -15,7 +15,10 @@ use Rattle.wast_expand_keys.specs.Signatures.{Signature, same_signature_by}
 use Rattle.wast_resolve_rules.specs.Scopes.{Scope, module_scope, denoted, type_at, local_number}
 use Rattle.wast_resolve_rules.specs.Matches.{same_type}
 use Rattle.wast_resolve_rules.specs.ImportOrder.{import_place, unless_import, last_defined, nothing_defined, order_demand}
-use Rattle.wast_resolve_rules.specs.Demands.{first_unmet, known_index, each_after, item_demands, ask_demands, match_with, match_demands, match_if, use_demand, site_demand, site_demands, name_demands, order_demands, demands, item_counts, kind_marks, declared_ids, local_counts_in, open_counts_at, open_counts, body_counts_in, body_counts}
+use Rattle.wast_resolve_rules.specs.Demands.{first_unmet, known_index, each_after, item_demands, ask_demands, match_with, match_demands}
+use Rattle.wast_resolve_rules.specs.Demands.{match_if, use_demand, site_demand, site_demands, name_demands, order_demands, demands}
+use Rattle.wast_resolve_rules.specs.Demands.{item_counts, kind_marks, declared_ids, local_counts_in, open_counts_at, open_counts}
+use Rattle.wast_resolve_rules.specs.Demands.{body_counts_in, body_counts}
 use Rattle.wat_syntax.specs.Tree.{Index, FunctionType, TypeUse, FuncKind, ModuleField}
 use Rattle.wat_syntax.specs.Tree.space
 use Rattle.wat_syntax.specs.Tree.func

@@ -13,14 +13,17 @@ use Rattle.wast_base.specs.Spaces.{same_space}
 use Rattle.wast_tree_nodes.specs.Imports.{item_sigs}
 use Rattle.wast_tree_nodes.specs.Instrs.{needs_data_count}
 use Rattle.wast_core_conv.specs.FieldEntries.{as_imports, table_of, memory_of, value_of}
-use Rattle.wast_core_conv.specs.Values.{index_value, as_block_type, use_as_block, as_val_type, as_field_type, as_inner_type, as_sub_type, as_tag_type, as_entity_type, as_instr, as_expression, as_body}
+use Rattle.wast_core_conv.specs.Values.{index_value, as_block_type, use_as_block, as_val_type, as_field_type, as_inner_type, as_sub_type}
+use Rattle.wast_core_conv.specs.Values.{as_tag_type, as_entity_type, as_instr, as_expression, as_body}
 use Rattle.wast_core_name_section.specs.GivenNames.{named_from}
 use Rattle.wast_core_name_section.proofs.Each.{each_like}
 use Rattle.wast_core_sections.specs.DataCounts.{instrs_of, body_needs_count, needs_count}
 use Rattle.wast_core_sections.specs.Hints.{if_hinted, imported_func, functions_in, hinted_functions}
 use Rattle.wast_core_sections.specs.Sections.{contribution_of, no_contribution, as_data, as_element_mode, as_element_items, as_data_mode}
 use Rattle.wast_core.proofs.ToldTypes.{each_alike, option_alike}
-use Rattle.wat_syntax.specs.Tree.{Id, Index, NameAnnotation, ValType, StructField, FunctionType, InnerTypeKind, TypeDef, BlockType, Instruction, Expression, TagType, ItemKind, ImportItems, Local, FuncKind, TableKind, MemoryKind, GlobalKind, ElemKind, ElemPayload, Data, DataKind, ModuleField}
+use Rattle.wat_syntax.specs.Tree.{Id, Index, NameAnnotation, ValType, StructField, FunctionType, InnerTypeKind, TypeDef, BlockType}
+use Rattle.wat_syntax.specs.Tree.{Instruction, Expression, TagType, ItemKind, ImportItems, Local, FuncKind, TableKind, MemoryKind}
+use Rattle.wat_syntax.specs.Tree.{GlobalKind, ElemKind, ElemPayload, Data, DataKind, ModuleField}
 use Rattle.wat_syntax.specs.Tree.space
 use Rattle.wat_syntax.specs.Tree.ty
 use Rattle.wat_syntax.specs.Tree.instr
@@ -32,7 +35,10 @@ use Rattle.wat_syntax.specs.Tree.elem
 use Rattle.wat_syntax.specs.Tree.data_kind
 use Rattle.wat_syntax.specs.Tree.field
 use Rattle.wat_syntax.specs.BareFields.{bare_memory_kind}
-use Rattle.wat_ready.specs.Shown.{shown_block, shown_composite, shown_data, shown_data_kind, shown_elem_kind, shown_expression, shown_field, shown_fields, shown_func_kind, shown_function_type, shown_global_kind, shown_instr, shown_item_kind, shown_item_sig, shown_items, shown_local, shown_param, shown_payload, shown_struct_field, shown_table_kind, shown_tag_type, shown_type, shown_type_def}
+use Rattle.wat_ready.specs.Shown.{shown_block, shown_composite, shown_data, shown_data_kind, shown_elem_kind, shown_expression, shown_field}
+use Rattle.wat_ready.specs.Shown.{shown_fields, shown_func_kind, shown_function_type, shown_global_kind, shown_instr, shown_item_kind}
+use Rattle.wat_ready.specs.Shown.{shown_item_sig, shown_items, shown_local, shown_param, shown_payload, shown_struct_field}
+use Rattle.wat_ready.specs.Shown.{shown_table_kind, shown_tag_type, shown_type, shown_type_def}
 use Rattle.wat_meaning.proofs.ShownInline.{bytes_shown}
 use Rattle.wat_meaning.proofs.ShownItems.{kind_space, sigs_shown}
 

@@ -13,10 +13,12 @@ use Rattle.wast_base.specs.Filling.{one_if, given_if, with_ids_from, missing_id_
 use Rattle.wast_tree_nodes.specs.DataBytes.{data_bytes, all_bytes}
 use Rattle.wast_tree_nodes.specs.Items.{Item, items_in}
 use Rattle.wast_expand_inline.specs.Segments.{element_count, page_size, page_count, exact_limits, has_bytes, has_elements}
-use Rattle.wast_expand_inline.specs.WriteOut.{Reference, export_of, exports_of, data_in, elem_in, func_alone, table_alone, memory_alone, global_alone, tag_alone, desugar_field}
+use Rattle.wast_expand_inline.specs.WriteOut.{Reference, export_of, exports_of, data_in, elem_in, func_alone, table_alone, memory_alone}
+use Rattle.wast_expand_inline.specs.WriteOut.{global_alone, tag_alone, desugar_field}
 use Rattle.wast_expand_inline.specs.Referring.{by_id, by_position, exports_some, wants_id, with_item_id}
 use Rattle.wast_expand_inline.specs.Written.{with_referred_ids, desugared_from, reference_id_count, written_after, desugared_by_position}
-use Rattle.wat_syntax.specs.Tree.{Span, Index, ElemPayload, DataVal, InlineExport, FuncKind, Func, TableKind, Table, MemoryKind, Memory, GlobalKind, Global, TagKind, Tag, ExportKind, ModuleField}
+use Rattle.wat_syntax.specs.Tree.{Span, Index, ElemPayload, DataVal, InlineExport, FuncKind, Func, TableKind, Table, MemoryKind, Memory}
+use Rattle.wat_syntax.specs.Tree.{GlobalKind, Global, TagKind, Tag, ExportKind, ModuleField}
 use Rattle.wat_syntax.specs.Tree.space
 use Rattle.wat_syntax.specs.Tree.payload
 use Rattle.wat_syntax.specs.Tree.bytes
@@ -29,7 +31,8 @@ use Rattle.wat_syntax.specs.Tree.export
 use Rattle.wat_syntax.specs.Tree.field
 use Rattle.wat_syntax.specs.Bare.{bare_text}
 use Rattle.wat_syntax.specs.BareFields.{bare_data_val, bare_exports, bare_memory_kind, bare_tag_kind}
-use Rattle.wat_ready.specs.Shown.{shown_expression, shown_field, shown_fields, shown_func, shown_func_kind, shown_global, shown_global_kind, shown_memory, shown_payload, shown_table, shown_table_kind, shown_tag}
+use Rattle.wat_ready.specs.Shown.{shown_expression, shown_field, shown_fields, shown_func, shown_func_kind, shown_global, shown_global_kind}
+use Rattle.wat_ready.specs.Shown.{shown_memory, shown_payload, shown_table, shown_table_kind, shown_tag}
 use Rattle.wat_meaning.proofs.ShownInlineLists.{map_changed}
 use Rattle.wat_meaning.proofs.ShownItems.{items_of_shown}
 use Rattle.wat_ready.proofs.ShownLists.{flat_same, flat_changed, both_changed}

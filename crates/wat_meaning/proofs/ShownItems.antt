@@ -21,7 +21,8 @@ use Rattle.wat_syntax.specs.Tree.import_items
 use Rattle.wat_syntax.specs.Tree.field
 use Rattle.wat_syntax.specs.Bare.{bare_text}
 use Rattle.wat_syntax.specs.BareFields.{bare_import_items, bare_item_sig, bare_memory_kind, bare_tag_kind}
-use Rattle.wat_ready.specs.Shown.{shown_field, shown_fields, shown_func_kind, shown_global_kind, shown_item, shown_item_kind, shown_item_sig, shown_items, shown_table_kind, shown_type}
+use Rattle.wat_ready.specs.Shown.{shown_field, shown_fields, shown_func_kind, shown_global_kind, shown_item, shown_item_kind}
+use Rattle.wat_ready.specs.Shown.{shown_item_sig, shown_items, shown_table_kind, shown_type}
 use Rattle.wat_ready.proofs.ShownLists.{flat_same}
 use Rattle.wat_ready.proofs.ShownTypeParts.{fields_shown}
 

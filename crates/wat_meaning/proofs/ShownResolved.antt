@@ -18,7 +18,8 @@ use Rattle.wast_expand_keys.specs.Positioned.{fields_with_type_positions}
 use Rattle.wast_resolve_rules.specs.Explicit.{explicit_fields, by_positions, explicit_fields_from, generated_id_count}
 use Rattle.wast_resolve_rules.specs.Finished.{resolved_fields_from}
 use Rattle.wast_resolve_rules.specs.Resolved.{numbered_at, numbered_use, resolved_use, numbering_change, resolved_fields}
-use Rattle.wast_resolve_rules.specs.Scopes.{Shape, Function, struct_shape, shape_of, shapes_in, shapes_of_types, Scope, module_scope, unsaid_params, implicit_param_count}
+use Rattle.wast_resolve_rules.specs.Scopes.{Shape, Function, struct_shape, shape_of, shapes_in, shapes_of_types, Scope, module_scope}
+use Rattle.wast_resolve_rules.specs.Scopes.{unsaid_params, implicit_param_count}
 use Rattle.wat_syntax.specs.Tree.{Index, FunctionType, TypeUse, InnerTypeKind, ModuleField}
 use Rattle.wat_syntax.specs.Tree.space
 use Rattle.wat_syntax.specs.Tree.inner

@@ -19,7 +19,9 @@ use Rattle.wast_expand_keys.specs.EligibleTypes.{is_eligible, kind_signature, ta
 use Rattle.wast_expand_keys.specs.ImpliedTypes.{eligible_in, eligible_signatures, is_among, first_new, implied_signatures}
 use Rattle.wast_expand_keys.specs.TypeSpace.{types_in, type_space, has_signature, index_for}
 use Rattle.wast_expand_keys.specs.Expanders.{LookUp, index_of}
-use Rattle.wast_expand_keys.specs.Expanded.{lacks_id, with_type_id, unnamed_param, unnamed_type, def_of, start_of_text, implied_types, fields_with_types, binding_of, bindings_in, bindings, found_for, bound_if, bound_index, bound_inline, binding_change, bound_field, expanded_fields, type_id_count}
+use Rattle.wast_expand_keys.specs.Expanded.{lacks_id, with_type_id, unnamed_param, unnamed_type, def_of, start_of_text, implied_types}
+use Rattle.wast_expand_keys.specs.Expanded.{fields_with_types, binding_of, bindings_in, bindings, found_for, bound_if, bound_index}
+use Rattle.wast_expand_keys.specs.Expanded.{bound_inline, binding_change, bound_field, expanded_fields, type_id_count}
 use Rattle.wast_expand_keys.specs.Completed.{fields_with_implied_types}
 use Rattle.wast_expand_keys.specs.Positioned.{position_for, fields_with_type_positions}
 use Rattle.wat_syntax.specs.Tree.{Id, Index, NameAnnotation, ValType, FunctionType, InnerTypeKind, TypeDef, ModuleField}

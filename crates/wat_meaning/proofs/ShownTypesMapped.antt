@@ -9,10 +9,19 @@ use Rattle.std.specs.Borrow.{Bor}
 use Rattle.std.proofs.Common.{◌≡◌, ℕ, List, [], ◌∷◌, ◌++◌, map, Option, option_map, refl, ap, ◌∙◌}
 use Rattle.wast_base.specs.Blocks.{Blocks}
 use Rattle.wast_base.specs.Ids.{Mark}
-use Rattle.wast_tree_nodes.specs.Sites.{Where, OfItem, OfCall, OfBlock, Locals, BodyContext, constant_context, context_after, param_marks, local_marks, body_here}
+use Rattle.wast_tree_nodes.specs.Sites.{Where, OfItem, OfCall, OfBlock, Locals, BodyContext, constant_context, context_after, param_marks}
+use Rattle.wast_tree_nodes.specs.Sites.{local_marks, body_here}
 use Rattle.wast_tree_map.specs.Laws.{all_mapped}
-use Rattle.wast_tree_map.specs.Mapped.{Indices, Change, mapped_val, named_param, named_signature, named_struct_field, named_inner, named_def, mapped_type, mapped_tag_type, mapped_indirect, mapped_block, mapped_try_table, mapped_instr, mapped_instrs, mapped_expression, mapped_constant, mapped_local, mapped_func_kind, mapped_func, mapped_item_kind, mapped_sig, mapped_shared_id, mapped_import_items, mapped_ref, mapped_payload, mapped_table_type, mapped_table_kind, mapped_table, mapped_global_kind, mapped_global, mapped_tag, mapped_elem_kind, mapped_elem, mapped_data_kind, mapped_data, mapped_field}
-use Rattle.wat_syntax.specs.Tree.{Id, Index, NameAnnotation, ValType, StructField, FunctionType, TypeUse, InnerTypeKind, TypeDef, BlockType, TryTable, CallIndirect, Instruction, Expression, TagType, ImportItems, ItemSig, ItemKind, Local, FuncKind, Func, TableKind, GlobalKind, ElemKind, ElemPayload, DataKind, ModuleField}
+use Rattle.wast_tree_map.specs.Mapped.{Indices, Change, mapped_val, named_param, named_signature, named_struct_field, named_inner}
+use Rattle.wast_tree_map.specs.Mapped.{named_def, mapped_type, mapped_tag_type, mapped_indirect, mapped_block, mapped_try_table}
+use Rattle.wast_tree_map.specs.Mapped.{mapped_instr, mapped_instrs, mapped_expression, mapped_constant, mapped_local, mapped_func_kind}
+use Rattle.wast_tree_map.specs.Mapped.{mapped_func, mapped_item_kind, mapped_sig, mapped_shared_id, mapped_import_items, mapped_ref}
+use Rattle.wast_tree_map.specs.Mapped.{mapped_payload, mapped_table_type, mapped_table_kind, mapped_table, mapped_global_kind}
+use Rattle.wast_tree_map.specs.Mapped.{mapped_global, mapped_tag, mapped_elem_kind, mapped_elem, mapped_data_kind, mapped_data}
+use Rattle.wast_tree_map.specs.Mapped.{mapped_field}
+use Rattle.wat_syntax.specs.Tree.{Id, Index, NameAnnotation, ValType, StructField, FunctionType, TypeUse, InnerTypeKind, TypeDef, BlockType}
+use Rattle.wat_syntax.specs.Tree.{TryTable, CallIndirect, Instruction, Expression, TagType, ImportItems, ItemSig, ItemKind, Local, FuncKind}
+use Rattle.wat_syntax.specs.Tree.{Func, TableKind, GlobalKind, ElemKind, ElemPayload, DataKind, ModuleField}
 use Rattle.wat_syntax.specs.Tree.space
 use Rattle.wat_syntax.specs.Tree.inner
 use Rattle.wat_syntax.specs.Tree.ty
@@ -28,7 +37,11 @@ use Rattle.wat_syntax.specs.Tree.payload
 use Rattle.wat_syntax.specs.Tree.data_kind
 use Rattle.wat_syntax.specs.Tree.field
 use Rattle.wat_syntax.specs.Bare.{bare_text}
-use Rattle.wat_ready.specs.Shown.{shown_block, shown_call, shown_composite, shown_data, shown_data_kind, shown_elem, shown_elem_kind, shown_expression, shown_field, shown_fields, shown_func, shown_func_kind, shown_function_type, shown_global, shown_global_kind, shown_instr, shown_item, shown_item_kind, shown_item_sig, shown_items, shown_local, shown_param, shown_payload, shown_struct_field, shown_table, shown_table_kind, shown_tag, shown_tag_type, shown_try_table, shown_type, shown_type_def, shown_type_use}
+use Rattle.wat_ready.specs.Shown.{shown_block, shown_call, shown_composite, shown_data, shown_data_kind, shown_elem, shown_elem_kind}
+use Rattle.wat_ready.specs.Shown.{shown_expression, shown_field, shown_fields, shown_func, shown_func_kind, shown_function_type}
+use Rattle.wat_ready.specs.Shown.{shown_global, shown_global_kind, shown_instr, shown_item, shown_item_kind, shown_item_sig, shown_items}
+use Rattle.wat_ready.specs.Shown.{shown_local, shown_param, shown_payload, shown_struct_field, shown_table, shown_table_kind, shown_tag}
+use Rattle.wat_ready.specs.Shown.{shown_tag_type, shown_try_table, shown_type, shown_type_def, shown_type_use}
 use Rattle.wat_ready.specs.ShownSites.{shown_locals, shown_context}
 use Rattle.wat_meaning.proofs.ShownInlineLists.{map_changed, option_mapped}
 use Rattle.wat_ready.proofs.ShownSites.{next_shown}

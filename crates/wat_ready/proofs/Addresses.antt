@@ -5,7 +5,9 @@ use Rattle.std.proofs.lemmas.List.{map-append}
 use Rattle.wast_base.specs.Ids.{Name, Mark, mark_of_option, is_generated, place_of}
 use Rattle.wast_tree_nodes.specs.Items.{items}
 use Rattle.wast_tree_nodes.specs.Known.{id_context}
-use Rattle.wast_tree_nodes.specs.Sites.{Check, ItemIndex, InnerIndex, PlainId, Clause, Covered, Site, Asked, Used, Declared, LocalAt, FieldAt, LabelAt, Repeated, Begins, Ends, in_type_use, mark_asked, asked_in, checks_of, in_module, param_marks}
+use Rattle.wast_tree_nodes.specs.Sites.{Check, ItemIndex, InnerIndex, PlainId, Clause, Covered, Site, Asked, Used, Declared, LocalAt}
+use Rattle.wast_tree_nodes.specs.Sites.{FieldAt, LabelAt, Repeated, Begins, Ends, in_type_use, mark_asked, asked_in, checks_of, in_module}
+use Rattle.wast_tree_nodes.specs.Sites.{param_marks}
 use Rattle.wast_tree_nodes.specs.WellFormed.{is_well_formed, is_written_index}
 use Rattle.wast_tree_map.specs.Named.{RenamesIds, renamed_mark, identity_naming, named_ask, named_site}
 use Rattle.wast_tree_map.proofs.Laws.{stands_named}
@@ -34,7 +36,8 @@ params_kept : (o : Option FunctionType) → param_marks (option_map erased_type 
 params_kept None = refl
 params_kept (Some t) = each t.params
   where
-    each : (ps : List Param) → param_marks (Some (erased_type (record { params = ps; results = t.results }))) ≡ map (renamed_mark identity_naming) (param_marks (Some (record { params = ps; results = t.results })))
+    each : (ps : List Param) → param_marks (Some (erased_type (record { params = ps; results = t.results }))) ≡ map (renamed_mark identity_naming)
+        (param_marks (Some (record { params = ps; results = t.results })))
     each [] = refl
     each (p ∷ ps) = λ i. mark_kept p.0 i ∷ each ps i
 

@@ -11,8 +11,14 @@ use Rattle.wast_base.specs.Ids.{named_by}
 use Rattle.wast_base.specs.declared.ids.Name as code
 use Rattle.wast_base.specs.declared.ids.Name.TheVariants as id_name
 use Rattle.wast_tree_nodes.specs.Sites.{BodyContext, constant_context, context_after, param_marks, local_marks, body_here}
-use Rattle.wast_tree_map.specs.Mapped.{named_param, named_struct_field, named_inner, mapped_type, mapped_rec, mapped_tag_type, mapped_indirect, mapped_block, mapped_instr, mapped_instrs, mapped_expression, mapped_constant, mapped_local, mapped_func_kind, mapped_func, mapped_item_kind, mapped_sig, mapped_import_items, mapped_payload, mapped_table_kind, mapped_table, mapped_global_kind, mapped_global, mapped_tag, mapped_elem_kind, mapped_elem, mapped_data_kind, mapped_data, mapped_field}
-use Rattle.wat_syntax.specs.Tree.{Id, NameAnnotation, ValType, StructField, FunctionType, TypeUse, InnerTypeKind, Rec, BlockType, CallIndirect, Instruction, Expression, TagType, ImportItems, ItemSig, ItemKind, Elem, ElemKind, ElemPayload, Data, DataKind, FuncKind, Func, Table, TableKind, Global, GlobalKind, Tag, ModuleField}
+use Rattle.wast_tree_map.specs.Mapped.{named_param, named_struct_field, named_inner, mapped_type, mapped_rec, mapped_tag_type}
+use Rattle.wast_tree_map.specs.Mapped.{mapped_indirect, mapped_block, mapped_instr, mapped_instrs, mapped_expression, mapped_constant}
+use Rattle.wast_tree_map.specs.Mapped.{mapped_local, mapped_func_kind, mapped_func, mapped_item_kind, mapped_sig, mapped_import_items}
+use Rattle.wast_tree_map.specs.Mapped.{mapped_payload, mapped_table_kind, mapped_table, mapped_global_kind, mapped_global, mapped_tag}
+use Rattle.wast_tree_map.specs.Mapped.{mapped_elem_kind, mapped_elem, mapped_data_kind, mapped_data, mapped_field}
+use Rattle.wat_syntax.specs.Tree.{Id, NameAnnotation, ValType, StructField, FunctionType, TypeUse, InnerTypeKind, Rec, BlockType}
+use Rattle.wat_syntax.specs.Tree.{CallIndirect, Instruction, Expression, TagType, ImportItems, ItemSig, ItemKind, Elem, ElemKind}
+use Rattle.wat_syntax.specs.Tree.{ElemPayload, Data, DataKind, FuncKind, Func, Table, TableKind, Global, GlobalKind, Tag, ModuleField}
 use Rattle.wat_syntax.specs.Tree.inner
 use Rattle.wat_syntax.specs.Tree.ty
 use Rattle.wat_syntax.specs.Tree.instr
@@ -26,10 +32,18 @@ use Rattle.wat_syntax.specs.Tree.func
 use Rattle.wat_syntax.specs.Tree.table
 use Rattle.wat_syntax.specs.Tree.global
 use Rattle.wat_syntax.specs.Tree.field
-use Rattle.wat_syntax.specs.Bare.{bare_id_name, bare_index, bare_index_option, bare_text, bare_ref, bare_vals, bare_param, bare_function_type, bare_type_use, bare_struct_field, bare_composite, bare_type_def, bare_type, bare_rec, bare_table_type, bare_tag_type}
-use Rattle.wat_syntax.specs.BareFields.{bare_data, bare_data_kind, bare_elem, bare_elem_kind, bare_field, bare_fields, bare_func, bare_func_kind, bare_global, bare_global_kind, bare_import_item, bare_import_items, bare_item_kind, bare_item_sig, bare_local, bare_payload, bare_table, bare_table_kind, bare_tag}
+use Rattle.wat_syntax.specs.Bare.{bare_id_name, bare_index, bare_index_option, bare_text, bare_ref, bare_vals, bare_param}
+use Rattle.wat_syntax.specs.Bare.{bare_function_type, bare_type_use, bare_struct_field, bare_composite, bare_type_def, bare_type, bare_rec}
+use Rattle.wat_syntax.specs.Bare.{bare_table_type, bare_tag_type}
+use Rattle.wat_syntax.specs.BareFields.{bare_data, bare_data_kind, bare_elem, bare_elem_kind, bare_field, bare_fields, bare_func}
+use Rattle.wat_syntax.specs.BareFields.{bare_func_kind, bare_global, bare_global_kind, bare_import_item, bare_import_items, bare_item_kind}
+use Rattle.wat_syntax.specs.BareFields.{bare_item_sig, bare_local, bare_payload, bare_table, bare_table_kind, bare_tag}
 use Rattle.wat_syntax.specs.BareInstructions.{bare_block, bare_call, bare_expression, bare_instr, bare_try_table}
-use Rattle.wat_ready.specs.Shown.{shown_block, shown_call, shown_composite, shown_data, shown_data_kind, shown_elem, shown_elem_kind, shown_expression, shown_field, shown_fields, shown_func, shown_func_kind, shown_function_type, shown_global, shown_global_kind, shown_instr, shown_item, shown_item_kind, shown_item_sig, shown_items, shown_local, shown_param, shown_payload, shown_rec, shown_struct_field, shown_table, shown_table_kind, shown_tag, shown_tag_type, shown_type, shown_type_use}
+use Rattle.wat_ready.specs.Shown.{shown_block, shown_call, shown_composite, shown_data, shown_data_kind, shown_elem, shown_elem_kind}
+use Rattle.wat_ready.specs.Shown.{shown_expression, shown_field, shown_fields, shown_func, shown_func_kind, shown_function_type}
+use Rattle.wat_ready.specs.Shown.{shown_global, shown_global_kind, shown_instr, shown_item, shown_item_kind, shown_item_sig, shown_items}
+use Rattle.wat_ready.specs.Shown.{shown_local, shown_param, shown_payload, shown_rec, shown_struct_field, shown_table, shown_table_kind}
+use Rattle.wat_ready.specs.Shown.{shown_tag, shown_tag_type, shown_type, shown_type_use}
 use Rattle.wat_ready.specs.Erasing.{erased, erased_type, erased_use, erased_fields}
 
 -- Each id keeps its name and its position.

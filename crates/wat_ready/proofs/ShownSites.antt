@@ -12,8 +12,19 @@ use Rattle.wast_base.specs.Blocks.{Blocks, is_balanced}
 use Rattle.wast_base.specs.Spaces.{name_if}
 use Rattle.wast_tree_nodes.specs.Clauses.{hints_stand, stand_from, is_segment_type_allowed}
 use Rattle.wast_tree_nodes.specs.Instrs.{turn_of, block_effects}
-use Rattle.wast_tree_nodes.specs.Sites.{Check, Clause, Covered, BodyContext, constant_context, Where, OfItem, OfBlock, Site, Asked, Used, Declared, LabelAt, Begins, context_after_site, after_all, check_sites, if_there, uncovered_check, at_index, at_label, in_heap, in_ref, in_pair, in_mem_arg, in_select, in_cast, in_handlers, in_use, in_caught, in_catch, in_handle, in_try_table, in_br_table, in_instr, context_after, in_instrs, in_expression, in_constant, in_local, param_marks, local_marks, declaration_sites, body_here, in_func_kind, in_func, in_table_type, in_global_type, in_tag_type, in_item_kind, in_sig, in_shared_id, in_import, in_payload, in_table_kind, in_memory_kind, in_global_kind, in_global, in_elem_kind, in_elem, in_type, in_rec, in_data_kind, in_subsection, in_custom, in_field, in_module, asked_in, checks_of}
-use Rattle.wat_syntax.specs.Tree.{Id, TryTable, TryTableCatch, BrTableIndices, Handle, ResumeTable, RefType, Index, TypeUse, FunctionType, Instruction, Expression, Local, FuncKind, Func, ItemKind, ItemSig, ImportItems, TagType, TableKind, MemoryKind, GlobalKind, Global, ElemKind, ElemPayload, Elem, DataKind, Custom, Dylink0Subsection, ModuleField}
+use Rattle.wast_tree_nodes.specs.Sites.{Check, Clause, Covered, BodyContext, constant_context, Where, OfItem, OfBlock, Site, Asked, Used}
+use Rattle.wast_tree_nodes.specs.Sites.{Declared, LabelAt, Begins, context_after_site, after_all, check_sites, if_there, uncovered_check}
+use Rattle.wast_tree_nodes.specs.Sites.{at_index, at_label, in_heap, in_ref, in_pair, in_mem_arg, in_select, in_cast, in_handlers, in_use}
+use Rattle.wast_tree_nodes.specs.Sites.{in_caught, in_catch, in_handle, in_try_table, in_br_table, in_instr, context_after, in_instrs}
+use Rattle.wast_tree_nodes.specs.Sites.{in_expression, in_constant, in_local, param_marks, local_marks, declaration_sites, body_here}
+use Rattle.wast_tree_nodes.specs.Sites.{in_func_kind, in_func, in_table_type, in_global_type, in_tag_type, in_item_kind, in_sig}
+use Rattle.wast_tree_nodes.specs.Sites.{in_shared_id, in_import, in_payload, in_table_kind, in_memory_kind, in_global_kind, in_global}
+use Rattle.wast_tree_nodes.specs.Sites.{in_elem_kind, in_elem, in_type, in_rec, in_data_kind, in_subsection, in_custom, in_field, in_module}
+use Rattle.wast_tree_nodes.specs.Sites.{asked_in, checks_of}
+use Rattle.wat_syntax.specs.Tree.{Id, TryTable, TryTableCatch, BrTableIndices, Handle, ResumeTable, RefType, Index, TypeUse, FunctionType}
+use Rattle.wat_syntax.specs.Tree.{Instruction, Expression, Local, FuncKind, Func, ItemKind, ItemSig, ImportItems, TagType, TableKind}
+use Rattle.wat_syntax.specs.Tree.{MemoryKind, GlobalKind, Global, ElemKind, ElemPayload, Elem, DataKind, Custom, Dylink0Subsection}
+use Rattle.wat_syntax.specs.Tree.{ModuleField}
 use Rattle.wat_syntax.specs.Tree.form
 use Rattle.wat_syntax.specs.Tree.space
 use Rattle.wat_syntax.specs.Tree.handle
@@ -33,7 +44,10 @@ use Rattle.wat_syntax.specs.Tree.dylink
 use Rattle.wat_syntax.specs.Tree.field
 use Rattle.wat_syntax.specs.Bare.{bare_text}
 use Rattle.wat_syntax.specs.BareFields.{bare_custom, bare_memory_kind, bare_subsection}
-use Rattle.wat_ready.specs.Shown.{shown_data_kind, shown_elem, shown_elem_kind, shown_expression, shown_field, shown_fields, shown_func, shown_func_kind, shown_global, shown_global_kind, shown_instr, shown_item, shown_item_kind, shown_items, shown_local, shown_payload, shown_rec, shown_table_kind, shown_tag_type, shown_try_table, shown_type, shown_type_use}
+use Rattle.wat_ready.specs.Shown.{shown_data_kind, shown_elem, shown_elem_kind, shown_expression, shown_field, shown_fields, shown_func}
+use Rattle.wat_ready.specs.Shown.{shown_func_kind, shown_global, shown_global_kind, shown_instr, shown_item, shown_item_kind, shown_items}
+use Rattle.wat_ready.specs.Shown.{shown_local, shown_payload, shown_rec, shown_table_kind, shown_tag_type, shown_try_table, shown_type}
+use Rattle.wat_ready.specs.Shown.{shown_type_use}
 use Rattle.wat_ready.specs.ShownSites.{shown_context, shown_site}
 use Rattle.wat_ready.proofs.ShownLists.{map_same, flat_same, flat_changed, option_changed, both_changed}
 use Rattle.wat_ready.proofs.ShownTypeParts.{use_asks, params_shown, type_asks, rec_asks, locals_asks, locals_shown}

@@ -1,5 +1,6 @@
 -- The tokens of groups: a token by its number, how many there are, and the same tokens after a group is freed.
-use Rattle.std.proofs.Common.{◌≡◌, ◌∙◌, ℕ, zero, suc, ◌+◌, ◌-◌, ◌<◌, ◌≤◌, List, [], ◌∷◌, ◌++◌, length, map, take, drop, get_or, slice_get, None, Some, refl, sym, ap, arith, append-nil, length-append}
+use Rattle.std.proofs.Common.{◌≡◌, ◌∙◌, ℕ, zero, suc, ◌+◌, ◌-◌, ◌<◌, ◌≤◌, List, [], ◌∷◌, ◌++◌, length, map, take, drop, get_or, slice_get}
+use Rattle.std.proofs.Common.{None, Some, refl, sym, ap, arith, append-nil, length-append}
 use Rattle.std.proofs.lemmas.List.{get_or_append_left}
 use Rattle.std.proofs.lemmas.Option.{slice_get_within, slice_get_past, get_or_from_slice_get}
 use Rattle.std.specs.Global.{Vec}
@@ -33,11 +34,13 @@ past (p ∷ ps) (suc n) h = omega (arith, past ps n h)
 
 -- ---- the loop over the groups
 
-pub first_in : (group : Vec Placed) (later : List (Vec Placed)) (n : ℕ) (p : Placed) → n < length group.items → p ≡ get_or group.items n p → token_in (group ∷ later) n ≡ Some p
+pub first_in : (group : Vec Placed) (later : List (Vec Placed)) (n : ℕ) (p : Placed) → n < length group.items → p ≡ get_or group.items n p
+    → token_in (group ∷ later) n ≡ Some p
 unfolding token_in
 first_in group later n p few h = sym (here group.items (all_in later) n p few h)
 
-pub later_in : (group : Vec Placed) (later : List (Vec Placed)) (n : ℕ) → length group.items ≤ n → token_in (group ∷ later) n ≡ token_in later (n - length group.items)
+pub later_in : (group : Vec Placed) (later : List (Vec Placed)) (n : ℕ) → length group.items ≤ n
+    → token_in (group ∷ later) n ≡ token_in later (n - length group.items)
 unfolding token_in
 later_in group later n all = there group.items (all_in later) n (n - length group.items) all refl
 
@@ -92,7 +95,8 @@ exactly_past m n ps all = sym (slice_get_past (exactly m ps) n (omega (arith, le
 
 pub group_length : (found : List Placed) (count : ℕ) (later : List (Vec Placed)) → length (grouped found count later) ≡ length found + (count - length found)
 unfolding grouped
-group_length found count later = length-append found (exactly (count - length found) (all_in later)) ∙ ap (λ n. length found + n) (length_exactly (count - length found) (all_in later))
+group_length found count later = length-append found (exactly (count - length found) (all_in later))
+    ∙ ap (λ n. length found + n) (length_exactly (count - length found) (all_in later))
 
 -- of tokens in one list
 pub one_group : (found : List Placed) (count : ℕ) (later : List (Vec Placed)) → count ≡ length found → grouped found count later ≡ found
@@ -100,7 +104,8 @@ unfolding grouped exactly
 one_group found count later e = let none : count - length found ≡ 0 = omega (arith, e) in ap (λ n. found ++ exactly n (all_in later)) none ∙ append-nil found
 
 -- of groups of which none is read
-pub all_groups : (found : List Placed) (count : ℕ) (groups : List (Vec Placed)) → found ≡ [] → count ≡ length (all_in groups) → grouped found count groups ≡ all_in groups
+pub all_groups : (found : List Placed) (count : ℕ) (groups : List (Vec Placed)) → found ≡ [] → count ≡ length (all_in groups)
+    → grouped found count groups ≡ all_in groups
 unfolding grouped
 all_groups found count groups none e =
     let all : count - 0 ≡ length (all_in groups) = omega (arith, e) in
@@ -109,11 +114,13 @@ all_groups found count groups none e =
 inside : (found : List Placed) (count : ℕ) (later : List (Vec Placed)) (n : ℕ) → n < length found → n < length (grouped found count later)
 inside found count later n few = omega (arith, group_length found count later, few)
 
-same_here : (found : List Placed) (count : ℕ) (later : List (Vec Placed)) (n : ℕ) (p : Placed) → n < length found → p ≡ get_or found n p → p ≡ get_or (grouped found count later) n p
+same_here : (found : List Placed) (count : ℕ) (later : List (Vec Placed)) (n : ℕ) (p : Placed) → n < length found → p ≡ get_or found n p
+    → p ≡ get_or (grouped found count later) n p
 unfolding grouped
 same_here found count later n p few h = h ∙ sym (get_or_append_left found (exactly (count - length found) (all_in later)) p n few)
 
-pub token_here : (found : List Placed) (count : ℕ) (later : List (Vec Placed)) (n : ℕ) (p : Placed) → n < length found → p ≡ get_or found n p → Some p ≡ slice_get (grouped found count later) n
+pub token_here : (found : List Placed) (count : ℕ) (later : List (Vec Placed)) (n : ℕ) (p : Placed) → n < length found → p ≡ get_or found n p
+    → Some p ≡ slice_get (grouped found count later) n
 unfolding grouped
 token_here found count later n p few h = here found (exactly (count - length found) (all_in later)) n p few h
 
@@ -124,11 +131,14 @@ token_there found count later n all = there found (exactly (count - length found
 
 -- ---- the next token, its position, and the position before it
 
-pub peeked_here : (at ahead n : ℕ) (found : List Placed) (count : ℕ) (later : List (Vec Placed)) (p : Placed) → n ≡ at + ahead → n < length found → p ≡ get_or found n p
+pub peeked_here : (at ahead n : ℕ) (found : List Placed) (count : ℕ) (later : List (Vec Placed)) (p : Placed) → n ≡ at + ahead → n < length found
+    → p ≡ get_or found n p
     → Some (bare_token p.token) ≡ first (drop ahead (drop at (map bare_placed (grouped found count later))))
-peeked_here at ahead n found count later p e few h = peeked at ahead n (grouped found count later) p e (inside found count later n few) (same_here found count later n p few h)
+peeked_here at ahead n found count later p e few h = peeked at ahead n (grouped found count later) p e (inside found count later n few)
+    (same_here found count later n p few h)
 
-pub peeked_at : (at ahead n : ℕ) (ps : List Placed) (p : Placed) → n ≡ at + ahead → Some p ≡ slice_get ps n → Some (bare_token p.token) ≡ first (drop ahead (drop at (map bare_placed ps)))
+pub peeked_at : (at ahead n : ℕ) (ps : List Placed) (p : Placed) → n ≡ at + ahead → Some p ≡ slice_get ps n
+    → Some (bare_token p.token) ≡ first (drop ahead (drop at (map bare_placed ps)))
 peeked_at at ahead n ps p e h = peeked at ahead n ps p e (slice_get_within ps n p (sym h)) (sym (get_or_from_slice_get ps n p p (sym h)))
 
 pub none_peeked_at : (at ahead n : ℕ) (ps : List Placed) → n ≡ at + ahead → None ≡ slice_get ps n → None ≡ first (drop ahead (drop at (map bare_placed ps)))
@@ -136,7 +146,8 @@ none_peeked_at at ahead n ps e h = sym (none_peeked at ahead ps (omega (arith, e
 
 pub placed_here : (at : ℕ) (found : List Placed) (count : ℕ) (later : List (Vec Placed)) (end : Span) (p : Placed) → at < length found → p ≡ get_or found at p
     → p.span ≡ position_in (drop at (map bare_placed (grouped found count later))) end
-placed_here at found count later end p few h = placed at (grouped found count later) end p (inside found count later at few) (same_here found count later at p few h)
+placed_here at found count later end p few h = placed at (grouped found count later) end p (inside found count later at few)
+    (same_here found count later at p few h)
 
 pub placed_at : (n : ℕ) (ps : List Placed) (end : Span) (p : Placed) → Some p ≡ slice_get ps n → p.span ≡ position_in (drop n (map bare_placed ps)) end
 placed_at n ps end p h = placed n ps end p (slice_get_within ps n p (sym h)) (sym (get_or_from_slice_get ps n p p (sym h)))
@@ -147,7 +158,8 @@ none_placed_at n ps end h = sym (none_placed n ps end (past ps n h))
 -- ---- one more token is read, and a group is freed
 
 pub skipped_here : (n : ℕ) (found : List Placed) (count : ℕ) (later : List (Vec Placed)) (end : Span) → n < length found
-    → left_of (n + 1) (map bare_placed (grouped found count later)) end ≡ after_first (drop n (map bare_placed (grouped found count later))) (left_of n (map bare_placed (grouped found count later)) end)
+    → left_of (n + 1) (map bare_placed (grouped found count later)) end ≡ after_first (drop n (map bare_placed (grouped found count later)))
+    (left_of n (map bare_placed (grouped found count later)) end)
 skipped_here n found count later end few = skipped n (grouped found count later) end (inside found count later n few)
 
 -- the tokens after those of a list
@@ -157,13 +169,15 @@ beyond zero m (x ∷ xs) ys e = absurd (omega (arith, e))
 beyond (suc n) m (x ∷ xs) ys e = beyond n m xs ys (omega (arith, e))
 
 -- a reader that has read more than a list of tokens, without this list
-freed : (at now : ℕ) (xs ys : List Placed) (end : Span) → length xs < at → now ≡ at - length xs → left_of now (map bare_placed ys) end ≡ left_of at (map bare_placed (xs ++ ys)) end
+freed : (at now : ℕ) (xs ys : List Placed) (end : Span) → length xs < at → now ≡ at - length xs
+    → left_of now (map bare_placed ys) end ≡ left_of at (map bare_placed (xs ++ ys)) end
 freed at now xs ys end read e =
     let before : drop (now - 1) (map bare_placed ys) ≡ drop (at - 1) (map bare_placed (xs ++ ys)) = beyond (at - 1) (now - 1) xs ys (omega (arith, read, e)) in
     let after : drop now (map bare_placed ys) ≡ drop at (map bare_placed (xs ++ ys)) = beyond at now xs ys (omega (arith, read, e)) in
     λ i. record { before = position_in (before i) end; left = after i; end = end }
 
-pub regrouped : (found : List Placed) (count : ℕ) (groups later : List (Vec Placed)) (group : Vec Placed) (tokens : List Placed) (at now read rest : ℕ) (end : Span)
+pub regrouped : (found : List Placed) (count : ℕ) (groups later : List (Vec Placed)) (group : Vec Placed) (tokens : List Placed)
+    (at now read rest : ℕ) (end : Span)
     → groups ≡ group ∷ later → tokens ≡ take rest group.items → read ≡ length found → read < at → now ≡ at - read → rest ≡ count - read
     → left_of now (map bare_placed (grouped tokens rest later)) end ≡ left_of at (map bare_placed (grouped found count groups)) end
 unfolding grouped

@@ -27,7 +27,8 @@ none_peeked zero (suc ahead) (x ∷ xs) h = none_peeked zero ahead xs (omega (ar
 none_peeked (suc at) ahead (x ∷ xs) h = none_peeked at ahead xs (omega (arith, h))
 
 -- the position of the next token
-pub placed : (at : ℕ) (found : List Placed) (end : Span) (p : Placed) → at < length found → p ≡ get_or found at p → p.span ≡ position_in (drop at (map bare_placed found)) end
+pub placed : (at : ℕ) (found : List Placed) (end : Span) (p : Placed) → at < length found → p ≡ get_or found at p
+    → p.span ≡ position_in (drop at (map bare_placed found)) end
 placed at [] end p few h = absurd (omega (arith, few))
 placed zero (x ∷ xs) end p few h = ap (λ (q : Placed). q.span) h
 placed (suc at) (x ∷ xs) end p few h = placed at xs end p (omega (arith, few)) h
@@ -46,7 +47,8 @@ counted zero (x ∷ xs) = omega (arith, counted zero xs)
 counted (suc at) (x ∷ xs) = omega (arith, counted at xs)
 
 -- the tokens that are left after one more token is read
-pub skipped : (n : ℕ) (found : List Placed) (end : Span) → n < length found → left_of (n + 1) (map bare_placed found) end ≡ after_first (drop n (map bare_placed found)) (left_of n (map bare_placed found) end)
+pub skipped : (n : ℕ) (found : List Placed) (end : Span) → n < length found
+    → left_of (n + 1) (map bare_placed found) end ≡ after_first (drop n (map bare_placed found)) (left_of n (map bare_placed found) end)
 skipped n found end few =
     let xs = map bare_placed found in
     let same : (n + 1) - 1 ≡ n = omega arith in
@@ -55,13 +57,18 @@ skipped n found end few =
     ∙ moves n found few (left_of n xs end) refl
   where
     moves : (n : ℕ) (found : List Placed) → n < length found → (toks : Toks) → toks.end ≡ end
-        → record { before = position_in (drop n (map bare_placed found)) end; left = drop (suc n) (map bare_placed found); end = end } ≡ after_first (drop n (map bare_placed found)) toks
+        → record {
+          before = position_in (drop n (map bare_placed found)) end;
+          left = drop (suc n) (map bare_placed found);
+          end = end;
+        } ≡ after_first (drop n (map bare_placed found)) toks
     moves n [] few toks e = absurd (omega (arith, few))
     moves zero (x ∷ xs) few toks e = ap (λ o. record { before = x.span; left = map bare_placed xs; end = o }) (sym e)
     moves (suc n) (x ∷ xs) few toks e = moves n xs (omega (arith, few)) toks e
 
 -- no token is left
-pub none_skipped : (n : ℕ) (found : List Placed) (end : Span) → length found ≤ n → left_of n (map bare_placed found) end ≡ after_first (drop n (map bare_placed found)) (left_of n (map bare_placed found) end)
+pub none_skipped : (n : ℕ) (found : List Placed) (end : Span) → length found ≤ n
+    → left_of n (map bare_placed found) end ≡ after_first (drop n (map bare_placed found)) (left_of n (map bare_placed found) end)
 none_skipped n found end all = stays n found all (left_of n (map bare_placed found) end)
   where
     stays : (n : ℕ) (found : List Placed) → length found ≤ n → (toks : Toks) → toks ≡ after_first (drop n (map bare_placed found)) toks

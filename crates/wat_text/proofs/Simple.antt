@@ -21,7 +21,8 @@ use Rattle.wat_text.specs.declared.bodies.Hint as code
 use Rattle.wat_text.specs.declared.bodies.Open.{Open}
 use Rattle.wat_text.specs.declared.bodies.Body.{Body}
 use Rattle.wat_text.specs.Readers.{left}
-use Rattle.wat_text.specs.Machine.{State, Does, state_of, is_simple, level_of, takes_plain, hint_in, hinted_by, hinted_step, plain, word_by, parted_by, read_instr, step}
+use Rattle.wat_text.specs.Machine.{State, Does, state_of, is_simple, level_of, takes_plain, hint_in, hinted_by, hinted_step, plain, word_by}
+use Rattle.wat_text.specs.Machine.{parted_by, read_instr, step}
 
 no_part : (w : Word) → is_simple w ≡ true → part_of (Some w) ≡ None
 no_part (word.Own own.end_) simple = absurd cc
@@ -48,7 +49,8 @@ module _ (may : Bool) (ls : List Open) (ws : List Instruction) (e : Expression) 
         | false ↦ Some ([], toks)
       ]
 
-  pub simple_is : (w : Word) (name : Bor (List ℕ)) → peek 0 toks ≡ Some (token.Word w name) → is_simple w ≡ true → takes_plain (level_of ls) ≡ true → step may s ≡ read_instr s
+  pub simple_is : (w : Word) (name : Bor (List ℕ)) → peek 0 toks ≡ Some (token.Word w name) → is_simple w ≡ true → takes_plain (level_of ls) ≡ true
+      → step may s ≡ read_instr s
   simple_is w name next simple taken =
       ap (λ r. (r >>= λ h. let o : Option code.Hint × Toks = (hint_in (position toks) h.0, h.1) in Some o)
       >>= λ h. hinted_step h.0 (record { levels = ls; waiting = ws; read = e; toks = h.1 })) (no_hint w name next)
@@ -58,7 +60,8 @@ module _ (may : Bool) (ls : List Open) (ws : List Instruction) (e : Expression) 
       ∙ at_word w simple (ap (λ o. part_of (word_of o)) next)
 
 -- an instruction is read at a simple word
-pub simple_does : (may : Bool) (old new : Reader) (before behind : Body) (w : Word) (name : Bor (List ℕ)) → peek 0 (left old) ≡ Some (token.Word w name) → is_simple w ≡ true
+pub simple_does : (may : Bool) (old new : Reader) (before behind : Body) (w : Word) (name : Bor (List ℕ))
+    → peek 0 (left old) ≡ Some (token.Word w name) → is_simple w ≡ true
     → takes_plain (level_of (reverse before.levels.items)) ≡ true → Does read_instr old new before behind → Does (step may) old new before behind
 simple_does may old new before behind w name next simple taken d = record {
   made = d.made;
@@ -69,4 +72,7 @@ simple_does may old new before behind w name next simple taken d = record {
 }
   where
     same : step may (state_of old before) ≡ read_instr (state_of old before)
-    same = simple_is may (reverse before.levels.items) (map bare_instr before.waiting) (record { instrs = map bare_instr before.instrs; branch_hints = before.hints }) (left old) w name next simple taken
+    same = simple_is may (reverse before.levels.items) (map bare_instr before.waiting) (record {
+      instrs = map bare_instr before.instrs;
+      branch_hints = before.hints;
+    }) (left old) w name next simple taken

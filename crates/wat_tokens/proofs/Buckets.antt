@@ -1,5 +1,6 @@
 -- Closes the look-up of a word: the bucket of a text has the word that the table has.
-use Rattle.std.proofs.Common.{◌≡◌, ◌∙◌, ℕ, zero, suc, ◌+◌, ◌-◌, ◌<◌, ◌≤◌, ◌&&◌, Bool, true, false, List, [], ◌∷◌, length, map, Option, None, Some, slice_index_or, refl, sym, ap, subst, arith}
+use Rattle.std.proofs.Common.{◌≡◌, ◌∙◌, ℕ, zero, suc, ◌+◌, ◌-◌, ◌<◌, ◌≤◌, ◌&&◌, Bool, true, false, List, [], ◌∷◌, length, map, Option, None}
+use Rattle.std.proofs.Common.{Some, slice_index_or, refl, sym, ap, subst, arith}
 use Rattle.std.specs.Prelude.{nat_le, nat_lt, cond, bytes_eq}
 use Rattle.std.proofs.lemmas.Bool.{leb-true, lt-leb, ltb-true, ltb-false}
 use Rattle.std.proofs.lemmas.Slice.Eq.{bytes_eq-Decides}
@@ -26,8 +27,10 @@ both false b h = absurd cc
 
 pub most : (before last i : ℕ) (xs : List ℕ) → rises before last xs ≡ true → i < length xs → slice_index_or xs i 0 ≤ last
 most before last i [] h below = absurd (omega arith)
-most before last zero (x ∷ xs) h below = let p = both (nat_le before x) (nat_le x last && rises x last xs) h in let q = both (nat_le x last) (rises x last xs) p.1 in leb-true x last q.0
-most before last (suc i) (x ∷ xs) h below = let p = both (nat_le before x) (nat_le x last && rises x last xs) h in let q = both (nat_le x last) (rises x last xs) p.1 in most x last i xs q.1 (omega arith)
+most before last zero (x ∷ xs) h below = let p = both (nat_le before x) (nat_le x last && rises x last xs) h
+    in let q = both (nat_le x last) (rises x last xs) p.1 in leb-true x last q.0
+most before last (suc i) (x ∷ xs) h below = let p = both (nat_le before x) (nat_le x last && rises x last xs) h
+    in let q = both (nat_le x last) (rises x last xs) p.1 in most x last i xs q.1 (omega arith)
 
 pub next : (before last i : ℕ) (xs : List ℕ) → rises before last xs ≡ true → suc i < length xs → slice_index_or xs i 0 ≤ slice_index_or xs (suc i) 0
 next before last i [] h below = absurd (omega arith)
@@ -44,7 +47,8 @@ next before last (suc i) (x ∷ y ∷ ys) h below =
 
 pub starts_rise : (n : ℕ) → n < 724 → start_of n ≤ start_of (n + 1)
 unfolding start_of
-starts_rise n below = subst (λ m. slice_index_or STARTS n 0 ≤ slice_index_or STARTS m 0) {x = suc n} {y = n + 1} (omega arith) (next 0 9085 n STARTS refl (omega (arith, below)))
+starts_rise n below = subst (λ m. slice_index_or STARTS n 0 ≤ slice_index_or STARTS m 0) {x = suc n} {y = n + 1} (omega arith)
+    (next 0 9085 n STARTS refl (omega (arith, below)))
 
 pub starts_end : (n : ℕ) → n < 725 → start_of n ≤ length LETTERS.now
 unfolding start_of
@@ -52,7 +56,8 @@ starts_end n below = most 0 9085 n STARTS refl below
 
 pub firsts_rise : (n : ℕ) → n < 1024 → first_word_of n ≤ first_word_of (n + 1)
 unfolding first_word_of
-firsts_rise n below = subst (λ m. slice_index_or FIRSTS n 0 ≤ slice_index_or FIRSTS m 0) {x = suc n} {y = n + 1} (omega arith) (next 0 724 n FIRSTS refl (omega (arith, below)))
+firsts_rise n below = subst (λ m. slice_index_or FIRSTS n 0 ≤ slice_index_or FIRSTS m 0) {x = suc n} {y = n + 1} (omega arith)
+    (next 0 724 n FIRSTS refl (omega (arith, below)))
 
 pub firsts_end : (n : ℕ) → n < 1025 → first_word_of n ≤ 724
 unfolding first_word_of
@@ -73,11 +78,13 @@ tail_of [] = []
 tail_of (x ∷ xs) = xs
 
 -- what is found among the rows is what the look-up says
-pub agreed : (f : List ℕ → Option Word) (name : List ℕ) (w : Word) (found : List (List ℕ × Word)) → Agrees f found → found_in name found ≡ Some w → f name ≡ Some w
+pub agreed : (f : List ℕ → Option Word) (name : List ℕ) (w : Word) (found : List (List ℕ × Word)) → Agrees f found → found_in name found ≡ Some w
+    → f name ≡ Some w
 agreed f name w [] h is = absurd cc
 agreed f name w (row ∷ more) h is = go (bytes_eq row.0 name) refl is (agreed f name w more (ap tail_of h))
   where
-    go : (b : Bool) → bytes_eq row.0 name ≡ b → cond b (Some row.1) (found_in name more) ≡ Some w → (found_in name more ≡ Some w → f name ≡ Some w) → f name ≡ Some w
+    go : (b : Bool) → bytes_eq row.0 name ≡ b → cond b (Some row.1) (found_in name more) ≡ Some w → (found_in name more ≡ Some w → f name ≡ Some w)
+        → f name ≡ Some w
     go true same is later = ap f (sym ((bytes_eq-Decides row.0 name).0 same)) ∙ ap (λ xs. head_or xs None) h ∙ is
     go false same is later = later is
 
@@ -88,9 +95,11 @@ split n end below = omega (arith, below)
 
 pub found_here : (name : List ℕ) (n end : ℕ) → n < end → bytes_eq (text_of n) name ≡ true → found_in name (rows n (end - n)) ≡ Some (word_at n)
 unfolding rows
-found_here name n end below is = ap (λ count. found_in name (rows n count)) (split n end below) ∙ ap (λ b. cond b (Some (word_at n)) (found_in name (rows (suc n) (end - (n + 1))))) is
+found_here name n end below is = ap (λ count. found_in name (rows n count)) (split n end below)
+    ∙ ap (λ b. cond b (Some (word_at n)) (found_in name (rows (suc n) (end - (n + 1))))) is
 
-pub found_on : (name : List ℕ) (n end : ℕ) → n < end → bytes_eq (text_of n) name ≡ false → found_in name (rows n (end - n)) ≡ found_in name (rows (n + 1) (end - (n + 1)))
+pub found_on : (name : List ℕ) (n end : ℕ) → n < end → bytes_eq (text_of n) name ≡ false
+    → found_in name (rows n (end - n)) ≡ found_in name (rows (n + 1) (end - (n + 1)))
 unfolding rows
 found_on name n end below is =
     ap (λ count. found_in name (rows n count)) (split n end below) ∙ ap (λ b. cond b (Some (word_at n)) (found_in name (rows (suc n) (end - (n + 1))))) is
@@ -131,7 +140,8 @@ each_of : (f : List ℕ → Option Word) (n count i : ℕ) → Agrees f (rows n 
 unfolding rows
 each_of f n zero i h below = absurd (omega arith)
 each_of f n (suc count) zero h below = subst (λ m. f (text_of m) ≡ Some (word_at m)) {x = n} {y = n + 0} (omega arith) (ap (λ xs. head_or xs None) h)
-each_of f n (suc count) (suc i) h below = subst (λ m. f (text_of m) ≡ Some (word_at m)) {x = suc n + i} {y = n + suc i} (omega arith) (each_of f (suc n) count i (ap tail_of h) (omega arith))
+each_of f n (suc count) (suc i) h below = subst (λ m. f (text_of m) ≡ Some (word_at m)) {x = suc n + i} {y = n + suc i} (omega arith)
+    (each_of f (suc n) count i (ap tail_of h) (omega arith))
 
 -- and of fewer
 of_part : (f : List ℕ → Option Word) (n count end : ℕ) → n + count ≤ end → ((i : ℕ) → i < end → f (text_of i) ≡ Some (word_at i)) → Agrees f (rows n count)
@@ -142,7 +152,8 @@ of_part f n (suc count) end inside each = λ k. each n (omega (arith, inside)) k
 -- the same by the number of the row
 at_number : (n i : ℕ) → Agrees word_named (rows n 181) → n ≤ i → i < n + 181 → word_named (text_of i) ≡ Some (word_at i)
 at_number n i h from below =
-    subst (λ m. word_named (text_of m) ≡ Some (word_at m)) {x = n + (i - n)} {y = i} (omega (arith, from)) (each_of word_named n 181 (i - n) h (omega (arith, from, below)))
+    subst (λ m. word_named (text_of m) ≡ Some (word_at m)) {x = n + (i - n)} {y = i} (omega (arith, from))
+    (each_of word_named n 181 (i - n) h (omega (arith, from, below)))
 
 in_table : (i : ℕ) → i < 724 → word_named (text_of i) ≡ Some (word_at i)
 in_table i below = by_quarters (nat_lt i 181) (nat_lt i 362) (nat_lt i 543) refl refl refl
@@ -155,7 +166,8 @@ in_table i below = by_quarters (nat_lt i 181) (nat_lt i 362) (nat_lt i 543) refl
 
 part_in_table : (p : ℕ) → p < 1024 → Agrees word_named (words_of p)
 unfolding words_of
-part_in_table p small = of_part word_named (first_word_of p) (first_word_of (p + 1) - first_word_of p) 724 (omega (arith, firsts_rise p small, firsts_end (p + 1) (omega (arith, small)))) in_table
+part_in_table p small = of_part word_named (first_word_of p) (first_word_of (p + 1) - first_word_of p) 724
+    (omega (arith, firsts_rise p small, firsts_end (p + 1) (omega (arith, small)))) in_table
 
 true_false : true ≡ false → ⊥
 true_false e = absurd cc
@@ -176,7 +188,8 @@ in_bucket name small = go (word_named name) (found_in name (words_of (hash_of na
     go None (Some v) e d = absurd (none_some (sym e ∙ agreed word_named name v (words_of (hash_of name)) (part_in_table (hash_of name) small) d))
 
 -- the same by the numbers that the code has
-pub found_at : (name : List ℕ) (p first end : ℕ) → p < 1024 → p ≡ hash_of name → first ≡ first_word_of p → end ≡ first_word_of (p + 1) → found_in name (rows first (end - first)) ≡ word_named name
+pub found_at : (name : List ℕ) (p first end : ℕ) → p < 1024 → p ≡ hash_of name → first ≡ first_word_of p → end ≡ first_word_of (p + 1)
+    → found_in name (rows first (end - first)) ≡ word_named name
 unfolding words_of
 found_at name p first end small bucket begins ends =
     ap (λ n. found_in name (rows n (end - n))) begins ∙ ap (λ n. found_in name (rows (first_word_of p) (n - first_word_of p))) ends

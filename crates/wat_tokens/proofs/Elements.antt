@@ -1,5 +1,7 @@
 -- Closes the loops over the elements of a string: each is read after those before it, and has its place.
-use Rattle.std.proofs.Common.{◌≡◌, ◌∙◌, ℕ, zero, suc, ◌+◌, ◌-◌, ◌*◌, ◌≤◌, ◌==◌, Bool, true, false, List, [], ◌∷◌, ◌++◌, length, drop, take, Option, None, Some, Result, Ok, Err, append_assoc, append-nil, replicate, refl, sym, ap, ap₂, subst, arith, eqb-true}
+use Rattle.std.proofs.Common.{◌≡◌, ◌∙◌, ℕ, zero, suc, ◌+◌, ◌-◌, ◌*◌, ◌≤◌, ◌==◌, Bool, true, false, List, [], ◌∷◌, ◌++◌, length, drop, take}
+use Rattle.std.proofs.Common.{Option, None, Some, Result, Ok, Err, append_assoc, append-nil, replicate, refl, sym, ap, ap₂, subst, arith}
+use Rattle.std.proofs.Common.{eqb-true}
 use Rattle.std.proofs.lemmas.List.{drop-drop, length-drop}
 use Rattle.std.specs.Prelude.{if◌then◌else◌, codes, ◌&&◌, not, nat_le}
 use Rattle.std.specs.Char.{encode_utf8}
@@ -32,7 +34,8 @@ unfolding braced
 braced_suffix [] t h = absurd cc
 braced_suffix (c ∷ cs) t h = go (c == 0x7d) (braced_suffix cs) h
   where
-    go : (b : Bool) → ((t : List ℕ × List ℕ) → braced cs ≡ Some t → Suffix t.1 cs) → elim b as (λ x. Option (List ℕ × List ℕ)) [ true ↦ Some ([], cs) | false ↦ braced cs >>= λ t. Some (c ∷ t.0, t.1) ] ≡ Some t → Suffix t.1 (c ∷ cs)
+    go : (b : Bool) → ((t : List ℕ × List ℕ) → braced cs ≡ Some t → Suffix t.1 cs)
+        → elim b as (λ x. Option (List ℕ × List ℕ)) [ true ↦ Some ([], cs) | false ↦ braced cs >>= λ t. Some (c ∷ t.0, t.1) ] ≡ Some t → Suffix t.1 (c ∷ cs)
     go true inner e = record { n = zero; is = let same : (let p : List ℕ × List ℕ = ([], cs) in p) ≡ t = cc in sym (ap (λ p. p.1) same) }
     go false inner e =
         let b = bound (braced cs) (λ t. let p : List ℕ × List ℕ = (c ∷ t.0, t.1) in Some p) t e in
@@ -69,20 +72,31 @@ after_u (c ∷ []) digits h = go (c == 0x75) h
     go false e = absurd cc
 after_u (c ∷ d ∷ rest) digits h = go (c == 0x75) (d == 0x7b) h
   where
-    go : (a b : Bool) → elim a as (λ x. Option (List ℕ)) [ true ↦ elim b as (λ x. Option (List ℕ)) [ true ↦ Some rest | false ↦ None ] | false ↦ None ] ≡ Some digits → Suffix digits (c ∷ d ∷ rest)
+    go : (a b : Bool) → elim a as (λ x. Option (List ℕ)) [
+      | true ↦ elim b as (λ x. Option (List ℕ)) [ true ↦ Some rest | false ↦ None ]
+      | false ↦ None
+    ] ≡ Some digits → Suffix digits (c ∷ d ∷ rest)
     go true true e = record { n = 1; is = let same : rest ≡ digits = cc in sym same }
     go true false e = absurd cc
     go false b e = absurd cc
 
 inner_suffix : (r digits text : List ℕ) → Suffix r digits → Suffix digits text → Suffix r text
-inner_suffix r digits text a b = record { n = b.n + suc a.n; is = a.is ∙ ap (drop (suc a.n)) b.is ∙ drop-drop (suc a.n) (suc b.n) text ∙ ap (λ k. drop k text) {x = suc b.n + suc a.n} {y = suc (b.n + suc a.n)} (omega arith) }
+inner_suffix r digits text a b = record {
+  n = b.n + suc a.n;
+  is = a.is ∙ ap (drop (suc a.n)) b.is ∙ drop-drop (suc a.n) (suc b.n) text
+      ∙ ap (λ k. drop k text) {x = suc b.n + suc a.n} {y = suc (b.n + suc a.n)} (omega arith);
+}
 
 escape_suffix : (text : List ℕ) (y : List ℕ × List ℕ) → escape text ≡ Some y → Suffix y.1 text
 escape_suffix [] y h = absurd cc
 escape_suffix (c ∷ cs) y h = go (named c) (after (codes "u{") (c ∷ cs)) refl h
   where
     go : (o : Option ℕ) (p : Option (List ℕ)) → after (codes "u{") (c ∷ cs) ≡ p
-        → elim o as (λ x. Option (List ℕ × List ℕ)) [ Some b ↦ Some (b ∷ [], cs) | None ↦ elim p as (λ x. Option (List ℕ × List ℕ)) [ Some digits ↦ unicode digits | None ↦ byte (c ∷ cs) ] ] ≡ Some y → Suffix y.1 (c ∷ cs)
+        → elim o as (λ x. Option (List ℕ × List ℕ)) [
+          | Some b ↦ Some (b ∷ [], cs)
+          | None ↦ elim p as (λ x. Option (List ℕ × List ℕ))
+              [ Some digits ↦ unicode digits | None ↦ byte (c ∷ cs) ]
+        ] ≡ Some y → Suffix y.1 (c ∷ cs)
     go (Some b) p is e = record { n = 0; is = same_rest cs [] (b ∷ []) y e }
     go None (Some digits) is e = inner_suffix y.1 digits (c ∷ cs) (unicode_suffix digits y e) (after_u (c ∷ cs) digits is)
     go None None is e = byte_suffix (c ∷ cs) y e
@@ -91,7 +105,8 @@ element_suffix : (text : List ℕ) (y : List ℕ × List ℕ) → stringelem tex
 element_suffix [] y h = absurd cc
 element_suffix (c ∷ cs) y h = go (c == 0x5c) (is_raw c) h
   where
-    go : (a b : Bool) → elim a as (λ x. Option (List ℕ × List ℕ)) [ true ↦ escape cs | false ↦ if b then Some (c ∷ [], cs) else None ] ≡ Some y → Suffix y.1 (c ∷ cs)
+    go : (a b : Bool) → elim a as (λ x. Option (List ℕ × List ℕ)) [ true ↦ escape cs | false ↦ if b then Some (c ∷ [], cs) else None ] ≡ Some y
+        → Suffix y.1 (c ∷ cs)
     go true b e = after_one c y.1 cs (escape_suffix cs y e)
     go false true e = record { n = 0; is = same_rest cs [] (c ∷ []) y e }
     go false false e = absurd cc
@@ -144,7 +159,8 @@ no_matter zero n (c ∷ cs) h k = absurd (omega (arith, h))
 no_matter (suc m) zero (c ∷ cs) h k = absurd (omega (arith, k))
 no_matter (suc m) (suc n) (c ∷ cs) h k = go (stringelem (c ∷ cs)) refl (λ rest short. no_matter m n rest (omega (arith, short, h)) (omega (arith, short, k)))
   where
-    go : (o : Option (List ℕ × List ℕ)) → stringelem (c ∷ cs) ≡ o → ((rest : List ℕ) → length rest ≤ length cs → elements m rest ≡ elements n rest) → elements (suc m) (c ∷ cs) ≡ elements (suc n) (c ∷ cs)
+    go : (o : Option (List ℕ × List ℕ)) → stringelem (c ∷ cs) ≡ o → ((rest : List ℕ) → length rest ≤ length cs → elements m rest ≡ elements n rest)
+        → elements (suc m) (c ∷ cs) ≡ elements (suc n) (c ∷ cs)
     go None e inner = no_element (suc m) c cs e ∙ sym (no_element (suc n) c cs e)
     go (Some y) e inner =
         let s = element_suffix (c ∷ cs) y e in
@@ -163,11 +179,13 @@ taken old now rest text (Some x) e h =
     let same : (let p : List ℕ × List ℕ = (old ++ x.0, x.1) in p) ≡ (now, rest) = cc in
     record { bytes = x.0; reads = e ∙ ap (λ r. Some (x.0, r)) (ap (λ p. p.1) same); out = sym (ap (λ p. p.0) same) }
 
-one_taken : (n c : ℕ) (cs bytes rest old new : List ℕ) → suc (length cs) ≤ n → length rest ≤ length cs → stringelem (c ∷ cs) ≡ Some (bytes, rest) → new ≡ old ++ bytes
+one_taken : (n c : ℕ) (cs bytes rest old new : List ℕ) → suc (length cs) ≤ n → length rest ≤ length cs → stringelem (c ∷ cs) ≡ Some (bytes, rest)
+    → new ≡ old ++ bytes
     → joined old (elements n (c ∷ cs)) ≡ joined new (elements n rest)
 one_taken zero c cs bytes rest old new enough short reads out = absurd (omega (arith, enough))
 one_taken (suc m) c cs bytes rest old new enough short reads out =
-    ap (joined old) (one_element m c cs bytes rest reads ∙ ap (joined bytes) (no_matter m (suc m) rest (omega (arith, short, enough)) (omega (arith, short, enough))))
+    ap (joined old) (one_element m c cs bytes rest reads
+    ∙ ap (joined bytes) (no_matter m (suc m) rest (omega (arith, short, enough)) (omega (arith, short, enough))))
     ∙ joined_twice old bytes (elements (suc m) rest) ∙ ap (λ x. joined x (elements (suc m) rest)) (sym out)
 
 -- an element is read
@@ -230,8 +248,10 @@ raw_element : (c : ℕ) (cs : List ℕ) → is_raw c ≡ true → stringelem (c 
 raw_element c cs h = go (c == 0x5c) refl
   where
     go : (x : Bool) → c == 0x5c ≡ x → stringelem (c ∷ cs) ≡ Some (c ∷ [], cs)
-    go true e = absurd (last_false (nat_le 0x20 c) (not (c == 0x7f)) (not (c == 0x22)) (subst (λ x. nat_le 0x20 c && (not (c == 0x7f) && (not (c == 0x22) && not x)) ≡ true) e h))
-    go false e = ap (λ b. elim b as (λ x. Option (List ℕ × List ℕ)) [ true ↦ escape cs | false ↦ if is_raw c then Some (c ∷ [], cs) else None ]) e ∙ ap (λ b. if b then (let p : List ℕ × List ℕ = (c ∷ [], cs) in Some p) else None) h
+    go true e = absurd (last_false (nat_le 0x20 c) (not (c == 0x7f)) (not (c == 0x22))
+        (subst (λ x. nat_le 0x20 c && (not (c == 0x7f) && (not (c == 0x22) && not x)) ≡ true) e h))
+    go false e = ap (λ b. elim b as (λ x. Option (List ℕ × List ℕ)) [ true ↦ escape cs | false ↦ if is_raw c then Some (c ∷ [], cs) else None ]) e
+        ∙ ap (λ b. if b then (let p : List ℕ × List ℕ = (c ∷ [], cs) in Some p) else None) h
 
 raw_elements : (n : ℕ) (xs : List ℕ) → length xs ≤ n → elements n xs ≡ joined (front is_raw xs) (elements n (drop (length (front is_raw xs)) xs))
 raw_elements n [] h = joined_none (elements n [])
@@ -244,22 +264,27 @@ raw_elements (suc m) (c ∷ cs) h = go (is_raw c) refl (raw_elements m cs (omega
     go : (b : Bool) → is_raw c ≡ b → elements m cs ≡ joined (front is_raw cs) (elements m (drop (length (front is_raw cs)) cs))
         → elements (suc m) (c ∷ cs) ≡ joined (front is_raw (c ∷ cs)) (elements (suc m) (drop (length (front is_raw (c ∷ cs))) (c ∷ cs)))
     go true e inner =
-        one_element m c cs (c ∷ []) cs (raw_element c cs e) ∙ ap (joined (c ∷ [])) inner ∙ joined_twice (c ∷ []) (front is_raw cs) (elements m (drop (length (front is_raw cs)) cs))
+        one_element m c cs (c ∷ []) cs (raw_element c cs e) ∙ ap (joined (c ∷ [])) inner
+        ∙ joined_twice (c ∷ []) (front is_raw cs) (elements m (drop (length (front is_raw cs)) cs))
         ∙ ap (joined (c ∷ front is_raw cs)) (no_matter m (suc m) (drop (length (front is_raw cs)) cs) few (omega (arith, few)))
         ∙ ap (λ run. joined run (elements (suc m) (drop (length run) (c ∷ cs)))) (sym (begins is_raw c cs e))
-    go false e inner = joined_none (elements (suc m) (c ∷ cs)) ∙ ap (λ run. joined run (elements (suc m) (drop (length run) (c ∷ cs)))) (sym (stops is_raw c cs e))
+    go false e inner = joined_none (elements (suc m) (c ∷ cs))
+        ∙ ap (λ run. joined run (elements (suc m) (drop (length run) (c ∷ cs)))) (sym (stops is_raw c cs e))
 
 -- characters that stand for themselves are read
-takes_raw : (text rest old new : List ℕ) → begins_raw text ≡ true → new ≡ old ++ front is_raw text → rest ≡ drop (length (front is_raw text)) text → Takes text rest old new
+takes_raw : (text rest old new : List ℕ) → begins_raw text ≡ true → new ≡ old ++ front is_raw text → rest ≡ drop (length (front is_raw text)) text
+    → Takes text rest old new
 takes_raw [] rest old new h put left = absurd cc
 takes_raw (c ∷ cs) rest old new h put left = record {
   count = length (front is_raw cs);
   left = left ∙ ap (λ run. drop (length run) (c ∷ cs)) (begins is_raw c cs h);
-  is = λ n enough. ap (joined old) (raw_elements n (c ∷ cs) enough) ∙ joined_twice old (front is_raw (c ∷ cs)) (elements n (drop (length (front is_raw (c ∷ cs))) (c ∷ cs)))
+  is = λ n enough. ap (joined old) (raw_elements n (c ∷ cs) enough)
+      ∙ joined_twice old (front is_raw (c ∷ cs)) (elements n (drop (length (front is_raw (c ∷ cs))) (c ∷ cs)))
       ∙ ap₂ (λ x r. joined x (elements n r)) (sym put) (sym left);
 }
 
-pub takes_run : (text rest old new : List ℕ) (n : ℕ) → begins_raw text ≡ true → n ≡ length (front is_raw text) → new ≡ old ++ take n text → rest ≡ take (length text - n) (drop n text) → Takes text rest old new
+pub takes_run : (text rest old new : List ℕ) (n : ℕ) → begins_raw text ≡ true → n ≡ length (front is_raw text) → new ≡ old ++ take n text
+    → rest ≡ take (length text - n) (drop n text) → Takes text rest old new
 takes_run text rest old new n h long put left = takes_raw text rest old new h
     (put ∙ ap (λ k. old ++ take k text) long ∙ ap (λ x. old ++ x) (front_is is_raw text)) (left ∙ tail_is n text ∙ ap (λ k. drop k text) long)
 
@@ -267,9 +292,11 @@ all_elements : (xs : List ℕ) → length (front is_raw xs) ≡ length xs → el
 all_elements [] h = nothing_left 0
 all_elements (c ∷ cs) h = go (is_raw c) refl (all_elements cs)
   where
-    go : (b : Bool) → is_raw c ≡ b → (length (front is_raw cs) ≡ length cs → elements (length cs) cs ≡ Ok cs) → elements (suc (length cs)) (c ∷ cs) ≡ Ok (c ∷ cs)
+    go : (b : Bool) → is_raw c ≡ b → (length (front is_raw cs) ≡ length cs → elements (length cs) cs ≡ Ok cs)
+        → elements (suc (length cs)) (c ∷ cs) ≡ Ok (c ∷ cs)
     go true e inner = one_element (length cs) c cs (c ∷ []) cs (raw_element c cs e)
-        ∙ ap (joined (c ∷ [])) (inner (let same : suc (length (front is_raw cs)) ≡ suc (length cs) = sym (ap length (begins is_raw c cs e)) ∙ h in omega (arith, same)))
+        ∙ ap (joined (c ∷ [])) (inner (let same : suc (length (front is_raw cs)) ≡ suc (length cs) = sym (ap length (begins is_raw c cs e))
+        ∙ h in omega (arith, same)))
     go false e inner = absurd (let none : 0 ≡ suc (length cs) = sym (ap length (stops is_raw c cs e)) ∙ h in omega (arith, none))
 
 pub all_raw : (xs : List ℕ) → length (front is_raw xs) ≡ length xs → string xs ≡ Ok xs

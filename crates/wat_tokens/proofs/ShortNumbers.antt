@@ -1,5 +1,6 @@
 -- Closes what is left of short numbers, which are digits alone: they are read from the left, and have neither a sign nor `0x`.
-use Rattle.std.proofs.Common.{◌≡◌, ◌∙◌, ℕ, ◌+◌, ◌-◌, ◌*◌, ◌<◌, ◌≤◌, ◌==◌, Bool, true, false, List, [], ◌∷◌, length, take, get_or, ne_eqb, eqb-true, Option, None, Some, Result, Ok, refl, sym, ap, subst, arith}
+use Rattle.std.proofs.Common.{◌≡◌, ◌∙◌, ℕ, ◌+◌, ◌-◌, ◌*◌, ◌<◌, ◌≤◌, ◌==◌, Bool, true, false, List, [], ◌∷◌, length, take, get_or, ne_eqb}
+use Rattle.std.proofs.Common.{eqb-true, Option, None, Some, Result, Ok, refl, sym, ap, subst, arith}
 use Rattle.std.specs.Prelude.{◌^◌, nat_lt, nat_le, if◌then◌else◌, reverse}
 use Rattle.std.specs.Option.{ok_or}
 use Rattle.std.proofs.lemmas.Bool.{lt-ltb, le-leb, and_from}
@@ -28,7 +29,8 @@ pub record Digits (value : ℕ) (done : List ℕ) : Type 0 where
 pub no_digit : Digits 0 []
 no_digit = record { any = false; read = nothing; empty = λ none. refl; fits = omega arith }
 
-pub digit_on : (i value next : ℕ) (text : List ℕ) → i < length text → 0x30 ≤ get_or text i 0 → get_or text i 0 ≤ 0x39 → next ≡ value * 10 + (get_or text i 0 - 0x30) → next < 2 ^ 64
+pub digit_on : (i value next : ℕ) (text : List ℕ) → i < length text → 0x30 ≤ get_or text i 0 → get_or text i 0 ≤ 0x39
+    → next ≡ value * 10 + (get_or text i 0 - 0x30) → next < 2 ^ 64
     → Digits value (take i text) → Digits next (take (i + 1) text)
 digit_on i value next text h low high is small m =
     let same : 10 * value + (get_or text i 0 - 0x30) ≡ next = omega (arith, is) in
@@ -53,13 +55,15 @@ decimal_is : (text : List ℕ) (n : ℕ) → num text ≡ Some n → natural tex
 decimal_is [] n is = is
 decimal_is (c ∷ []) n is = go (c == 0x30)
   where
-    go : (x : Bool) → elim (elim x as (λ x. Option (List ℕ)) [ true ↦ None | false ↦ None ]) as (λ o. Option ℕ) [ Some digits ↦ hexnum digits | None ↦ num (c ∷ []) ] ≡ Some n
+    go : (x : Bool) → elim (elim x as (λ x. Option (List ℕ)) [ true ↦ None | false ↦ None ]) as (λ o. Option ℕ)
+        [ Some digits ↦ hexnum digits | None ↦ num (c ∷ []) ] ≡ Some n
     go true = is
     go false = is
 decimal_is (c ∷ d ∷ ds) n is = go (c == 0x30) refl (d == 0x78) refl
   where
     go : (x : Bool) → c == 0x30 ≡ x → (y : Bool) → d == 0x78 ≡ y
-        → elim (elim x as (λ x. Option (List ℕ)) [ true ↦ elim y as (λ y. Option (List ℕ)) [ true ↦ Some ds | false ↦ None ] | false ↦ None ]) as (λ o. Option ℕ) [ Some digits ↦ hexnum digits | None ↦ num (c ∷ d ∷ ds) ] ≡ Some n
+        → elim (elim x as (λ x. Option (List ℕ)) [ true ↦ elim y as (λ y. Option (List ℕ)) [ true ↦ Some ds | false ↦ None ] | false ↦ None ])
+        as (λ o. Option ℕ) [ Some digits ↦ hexnum digits | None ↦ num (c ∷ d ∷ ds) ] ≡ Some n
     go true e true f = absurd (cc (is, ap (λ a. num (a ∷ d ∷ ds)) (eqb-true c 0x30 e) ∙ ap (λ a. num (0x30 ∷ a ∷ ds)) (eqb-true d 0x78 f) ∙ no_prefix ds))
     go true e false f = is
     go false e y f = is
@@ -77,7 +81,8 @@ digits_end i value text all some m = decimal_is text value (go m.any refl)
 -- a short number of 64 bits
 pub natural_short : (text : List ℕ) (n : ℕ) → natural text ≡ Some n → n < 2 ^ 64 → Ok n ≡ answer (natural text) (uN 64 text)
 natural_short text n is small =
-    sym (ap (λ o. answer o (o >>= λ m. if nat_lt m (2 ^ 64) then Some m else None)) is ∙ ap (λ b. answer (Some n) (if b then Some n else None)) (lt-ltb n (2 ^ 64) small))
+    sym (ap (λ o. answer o (o >>= λ m. if nat_lt m (2 ^ 64) then Some m else None)) is
+    ∙ ap (λ b. answer (Some n) (if b then Some n else None)) (lt-ltb n (2 ^ 64) small))
 
 -- a short number has no sign
 signless : (text : List ℕ) (n : ℕ) → natural text ≡ Some n → sign text ≡ (false, text)
@@ -89,7 +94,8 @@ signless (c ∷ cs) n is = go (c == 0x2d) refl (c == 0x2b) refl
     go false e true f = absurd (cc (is, ap (λ a. natural (a ∷ cs)) (eqb-true c 0x2b f) ∙ no_plus cs))
     go false e false f = no_sign c cs e f
 
-pub wrapped_short : (half n : ℕ) (text : List ℕ) (bits : Option ℕ) (r : Result ℕ TextFault) → natural text ≡ Some n → bits ≡ bits_in half false n → r ≡ ok_or bits fault.Range
+pub wrapped_short : (half n : ℕ) (text : List ℕ) (bits : Option ℕ) (r : Result ℕ TextFault) → natural text ≡ Some n → bits ≡ bits_in half false n
+    → r ≡ ok_or bits fault.Range
     → r ≡ wrapped half (sign text).0 (natural (sign text).1)
 wrapped_short half n text bits r is of_n was =
     was ∙ ap (λ b. ok_or b fault.Range) of_n ∙ go (bits_in half false n)

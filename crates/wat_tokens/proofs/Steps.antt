@@ -1,5 +1,6 @@
 -- Closes what reading a part of a text leaves: each lemma is one arm of a rule, by the first bytes of the text.
-use Rattle.std.proofs.Common.{◌≡◌, ◌∙◌, ℕ, zero, suc, ◌+◌, ◌-◌, ◌<◌, ◌≤◌, ◌==◌, Bool, true, false, List, [], ◌∷◌, ◌++◌, length, drop, Option, None, Some, refl, sym, ap, arith, append_assoc, append-nil, eqb-true, ◌⊎◌, inl, inr}
+use Rattle.std.proofs.Common.{◌≡◌, ◌∙◌, ℕ, zero, suc, ◌+◌, ◌-◌, ◌<◌, ◌≤◌, ◌==◌, Bool, true, false, List, [], ◌∷◌, ◌++◌, length, drop}
+use Rattle.std.proofs.Common.{Option, None, Some, refl, sym, ap, arith, append_assoc, append-nil, eqb-true, ◌⊎◌, inl, inr}
 use Rattle.std.proofs.lemmas.Bool.{cases_lt}
 use Rattle.std.proofs.lemmas.List.{drop-drop, length-drop}
 use Rattle.std.proofs.lemmas.List.Elements.{All-push}
@@ -7,7 +8,8 @@ use Rattle.std.specs.Prelude.{if◌then◌else◌, ◌&&◌, ◌||◌, All}
 use Rattle.wat_grammar.specs.Parts.{◌>>=◌, front}
 use Rattle.wat_grammar.specs.Space.{is_blank, is_linechar, behind, linecomment, blockcomment}
 use Rattle.wat_grammar.specs.Tokens as grammar
-use Rattle.wat_grammar.specs.Tokens.{Contents, is_idchar, is_reserved, a_string, an_id, begins_comment, skipped_open, skipped_part, skipped, annotation, opened, string_token, id_token, word, part, parts}
+use Rattle.wat_grammar.specs.Tokens.{Contents, is_idchar, is_reserved, a_string, an_id, begins_comment, skipped_open, skipped_part, skipped}
+use Rattle.wat_grammar.specs.Tokens.{annotation, opened, string_token, id_token, word, part, parts}
 use Rattle.wat_tokens.specs.Scans.{first_of, is_first, begins_of, kind_of, opens_of, token_of, placed, seen_all, seen, IsNamed}
 use Rattle.wat_tokens.specs.declared.tokens.Placed.{Placed}
 use Rattle.wat_tokens.specs.declared.tokens.Token.TheVariants as token
@@ -67,29 +69,39 @@ sp_open X (c ∷ cs) h = ap (λ a. sp X c cs a (c == 0x22) (begins_comment c cs)
 
 pub sp_string : (X : Contents) (t : List ℕ) → is_first 0x28 t ≡ false → is_first 0x22 t ≡ true → skipped_part X t ≡ (a_string X (drop 1 t) >>= after_string)
 sp_string X [] h k = absurd cc
-sp_string X (c ∷ cs) h k = ap (λ a. sp X c cs a (c == 0x22) (begins_comment c cs) (is_blank c || is_reserved c) (is_idchar c)) h ∙ ap (λ b. sp X c cs false b (begins_comment c cs) (is_blank c || is_reserved c) (is_idchar c)) k
+sp_string X (c ∷ cs) h k = ap (λ a. sp X c cs a (c == 0x22) (begins_comment c cs) (is_blank c || is_reserved c) (is_idchar c)) h
+    ∙ ap (λ b. sp X c cs false b (begins_comment c cs) (is_blank c || is_reserved c) (is_idchar c)) k
 
-rest_of : (X : Contents) (c : ℕ) (cs : List ℕ) (d : Bool) → c == 0x28 ≡ false → c == 0x22 ≡ false → begins_comment c cs ≡ d → skipped_part X (c ∷ cs) ≡ sp X c cs false false d (is_blank c || is_reserved c) (is_idchar c)
-rest_of X c cs d h k l = ap (λ a. sp X c cs a (c == 0x22) (begins_comment c cs) (is_blank c || is_reserved c) (is_idchar c)) h ∙ ap (λ b. sp X c cs false b (begins_comment c cs) (is_blank c || is_reserved c) (is_idchar c)) k
+rest_of : (X : Contents) (c : ℕ) (cs : List ℕ) (d : Bool) → c == 0x28 ≡ false → c == 0x22 ≡ false → begins_comment c cs ≡ d
+    → skipped_part X (c ∷ cs) ≡ sp X c cs false false d (is_blank c || is_reserved c) (is_idchar c)
+rest_of X c cs d h k l = ap (λ a. sp X c cs a (c == 0x22) (begins_comment c cs) (is_blank c || is_reserved c) (is_idchar c)) h
+    ∙ ap (λ b. sp X c cs false b (begins_comment c cs) (is_blank c || is_reserved c) (is_idchar c)) k
     ∙ ap (λ x. sp X c cs false false x (is_blank c || is_reserved c) (is_idchar c)) l
 
-pub sp_comment : (X : Contents) (t : List ℕ) → is_first 0x28 t ≡ false → is_first 0x22 t ≡ false → begins_of t ≡ true → skipped_part X t ≡ Some (0, linecomment (drop 1 (drop 1 t)))
+pub sp_comment : (X : Contents) (t : List ℕ) → is_first 0x28 t ≡ false → is_first 0x22 t ≡ false → begins_of t ≡ true
+    → skipped_part X t ≡ Some (0, linecomment (drop 1 (drop 1 t)))
 sp_comment X [] h k l = absurd cc
 sp_comment X (c ∷ cs) h k l = rest_of X c cs true h k l
 
-pub sp_blank : (X : Contents) (t : List ℕ) (c : ℕ) → is_first 0x28 t ≡ false → is_first 0x22 t ≡ false → begins_of t ≡ false → first_of t ≡ Some c → (is_blank c || is_reserved c) ≡ true → skipped_part X t ≡ Some (0, drop 1 t)
+pub sp_blank : (X : Contents) (t : List ℕ) (c : ℕ) → is_first 0x28 t ≡ false → is_first 0x22 t ≡ false → begins_of t ≡ false → first_of t ≡ Some c
+    → (is_blank c || is_reserved c) ≡ true → skipped_part X t ≡ Some (0, drop 1 t)
 sp_blank X [] c h k l m n = absurd cc
-sp_blank X (x ∷ cs) c h k l m n = let same : x ≡ c = cc in rest_of X x cs false h k l ∙ ap (λ e. sp X x cs false false false e (is_idchar x)) (ap (λ y. is_blank y || is_reserved y) same ∙ n)
+sp_blank X (x ∷ cs) c h k l m n = let same : x ≡ c = cc in rest_of X x cs false h k l
+    ∙ ap (λ e. sp X x cs false false false e (is_idchar x)) (ap (λ y. is_blank y || is_reserved y) same ∙ n)
 
-pub sp_word : (X : Contents) (t : List ℕ) (c : ℕ) → is_first 0x28 t ≡ false → is_first 0x22 t ≡ false → begins_of t ≡ false → first_of t ≡ Some c → (is_blank c || is_reserved c) ≡ false → is_idchar c ≡ true
+pub sp_word : (X : Contents) (t : List ℕ) (c : ℕ) → is_first 0x28 t ≡ false → is_first 0x22 t ≡ false → begins_of t ≡ false → first_of t ≡ Some c
+    → (is_blank c || is_reserved c) ≡ false → is_idchar c ≡ true
     → skipped_part X t ≡ Some (0, behind is_idchar t)
 sp_word X [] c h k l m n o = absurd cc
-sp_word X (x ∷ cs) c h k l m n o = let same : x ≡ c = cc in rest_of X x cs false h k l ∙ ap (λ e. sp X x cs false false false e (is_idchar x)) (ap (λ y. is_blank y || is_reserved y) same ∙ n)
+sp_word X (x ∷ cs) c h k l m n o = let same : x ≡ c = cc in rest_of X x cs false h k l
+    ∙ ap (λ e. sp X x cs false false false e (is_idchar x)) (ap (λ y. is_blank y || is_reserved y) same ∙ n)
     ∙ ap (λ f. sp X x cs false false false false f) (ap is_idchar same ∙ o)
 
-pub sp_none : (X : Contents) (t : List ℕ) (c : ℕ) → is_first 0x28 t ≡ false → is_first 0x22 t ≡ false → begins_of t ≡ false → first_of t ≡ Some c → (is_blank c || is_reserved c) ≡ false → is_idchar c ≡ false → skipped_part X t ≡ None
+pub sp_none : (X : Contents) (t : List ℕ) (c : ℕ) → is_first 0x28 t ≡ false → is_first 0x22 t ≡ false → begins_of t ≡ false → first_of t ≡ Some c
+    → (is_blank c || is_reserved c) ≡ false → is_idchar c ≡ false → skipped_part X t ≡ None
 sp_none X [] c h k l m n o = absurd cc
-sp_none X (x ∷ cs) c h k l m n o = let same : x ≡ c = cc in rest_of X x cs false h k l ∙ ap (λ e. sp X x cs false false false e (is_idchar x)) (ap (λ y. is_blank y || is_reserved y) same ∙ n)
+sp_none X (x ∷ cs) c h k l m n o = let same : x ≡ c = cc in rest_of X x cs false h k l
+    ∙ ap (λ e. sp X x cs false false false e (is_idchar x)) (ap (λ y. is_blank y || is_reserved y) same ∙ n)
     ∙ ap (λ f. sp X x cs false false false false f) (ap is_idchar same ∙ o)
 
 -- the steps of the loop over such an annotation
@@ -114,19 +126,25 @@ no_step X depth c cs = refl
 
 pub sk_last : (X : Contents) (m n depth : ℕ) (t : List ℕ) → m ≡ suc n → depth ≡ 0 → is_first 0x29 t ≡ true → skipped X m depth t ≡ Some (drop 1 t)
 sk_last X m n depth [] one none h = absurd cc
-sk_last X m n depth (c ∷ cs) one none h = ap (λ k. skipped X k depth (c ∷ cs)) one ∙ ap (λ k. skipped X (suc n) k (c ∷ cs)) none ∙ step_is X n 0 c cs ∙ ap (step X n 0 c cs) h
+sk_last X m n depth (c ∷ cs) one none h = ap (λ k. skipped X k depth (c ∷ cs)) one ∙ ap (λ k. skipped X (suc n) k (c ∷ cs)) none ∙ step_is X n 0 c cs
+    ∙ ap (step X n 0 c cs) h
 
-pub sk_close : (X : Contents) (m n depth less : ℕ) (t : List ℕ) → m ≡ suc n → depth ≡ suc less → is_first 0x29 t ≡ true → skipped X m depth t ≡ skipped X n less (drop 1 t)
+pub sk_close : (X : Contents) (m n depth less : ℕ) (t : List ℕ) → m ≡ suc n → depth ≡ suc less → is_first 0x29 t ≡ true
+    → skipped X m depth t ≡ skipped X n less (drop 1 t)
 sk_close X m n depth less [] one more h = absurd cc
-sk_close X m n depth less (c ∷ cs) one more h = ap (λ k. skipped X k depth (c ∷ cs)) one ∙ ap (λ k. skipped X (suc n) k (c ∷ cs)) more ∙ step_is X n (suc less) c cs ∙ ap (step X n (suc less) c cs) h
+sk_close X m n depth less (c ∷ cs) one more h = ap (λ k. skipped X k depth (c ∷ cs)) one ∙ ap (λ k. skipped X (suc n) k (c ∷ cs)) more
+    ∙ step_is X n (suc less) c cs ∙ ap (step X n (suc less) c cs) h
 
-pub sk_part : (X : Contents) (m n depth opens : ℕ) (t rest : List ℕ) → m ≡ suc n → is_first 0x29 t ≡ false → skipped_part X t ≡ Some (opens, rest) → skipped X m depth t ≡ skipped X n (opens + depth) rest
+pub sk_part : (X : Contents) (m n depth opens : ℕ) (t rest : List ℕ) → m ≡ suc n → is_first 0x29 t ≡ false → skipped_part X t ≡ Some (opens, rest)
+    → skipped X m depth t ≡ skipped X n (opens + depth) rest
 sk_part X m n depth opens [] rest one h is = absurd cc
-sk_part X m n depth opens (c ∷ cs) rest one h is = ap (λ k. skipped X k depth (c ∷ cs)) one ∙ step_is X n depth c cs ∙ ap (step X n depth c cs) h ∙ ap (λ o. o >>= on X n depth) is
+sk_part X m n depth opens (c ∷ cs) rest one h is = ap (λ k. skipped X k depth (c ∷ cs)) one ∙ step_is X n depth c cs ∙ ap (step X n depth c cs) h
+    ∙ ap (λ o. o >>= on X n depth) is
 
 pub sk_none : (X : Contents) (m n depth : ℕ) (t : List ℕ) → m ≡ suc n → is_first 0x29 t ≡ false → skipped_part X t ≡ None → skipped X m depth t ≡ None
 sk_none X m n depth [] one h is = nothing_left X m depth
-sk_none X m n depth (c ∷ cs) one h is = ap (λ k. skipped X k depth (c ∷ cs)) one ∙ step_is X n depth c cs ∙ ap (step X n depth c cs) h ∙ ap (λ o. o >>= on X n depth) is
+sk_none X m n depth (c ∷ cs) one h is = ap (λ k. skipped X k depth (c ∷ cs)) one ∙ step_is X n depth c cs ∙ ap (step X n depth c cs) h
+    ∙ ap (λ o. o >>= on X n depth) is
 
 pub sk_end : (X : Contents) (m depth : ℕ) (t : List ℕ) → t ≡ [] → skipped X m depth t ≡ None
 sk_end X m depth t none = ap (skipped X m depth) none ∙ nothing_left X m depth
@@ -150,13 +168,21 @@ abbrev pub no_tokens : List ℕ → Read
 no_tokens rest = Some ([], rest)
 
 abbrev op : Contents → ℕ → ℕ → List ℕ → Bool → Bool → Read
-op X place c cs a b = elim a [ true ↦ blockcomment 0 cs >>= no_tokens | false ↦ elim b [ true ↦ annotation X (suc place) cs | false ↦ Some ((grammar.Open, place) ∷ [], c ∷ cs) ] ]
+op X place c cs a b = elim a [
+  | true ↦ blockcomment 0 cs >>= no_tokens
+  | false ↦ elim b [
+    | true ↦ annotation X (suc place) cs
+    | false ↦ Some
+        ((grammar.Open, place) ∷ [], c ∷ cs)
+  ]
+]
 
 pub op_comment : (X : Contents) (place : ℕ) (t : List ℕ) → is_first 0x3b t ≡ true → opened X place t ≡ (blockcomment 0 (drop 1 t) >>= no_tokens)
 op_comment X place [] h = absurd cc
 op_comment X place (c ∷ cs) h = ap (λ a. op X place c cs a (c == 0x40)) h
 
-pub op_annotation : (X : Contents) (place : ℕ) (t : List ℕ) → is_first 0x3b t ≡ false → is_first 0x40 t ≡ true → opened X place t ≡ annotation X (suc place) (drop 1 t)
+pub op_annotation : (X : Contents) (place : ℕ) (t : List ℕ) → is_first 0x3b t ≡ false → is_first 0x40 t ≡ true
+    → opened X place t ≡ annotation X (suc place) (drop 1 t)
 op_annotation X place [] h k = absurd cc
 op_annotation X place (c ∷ cs) h k = ap (λ a. op X place c cs a (c == 0x40)) h ∙ ap (λ b. op X place c cs false b) k
 
@@ -191,7 +217,9 @@ chain r1 r2 r3 r4 r5 r6 r7 a1 a2 a3 a4 a5 b i = elim a1 [
 ]
 
 abbrev pub kinds : Bool → Bool → Bool → Bool → Bool → Bool → Bool → Kind
-kinds a1 a2 a3 a4 a5 s i = if a1 then kind.Blank else (if a2 then kind.Open else (if a3 then kind.Close else (if a4 then kind.Quote else (if a5 then kind.Dollar else (if s then kind.Semicolon else (if i then kind.Word else kind.Other))))))
+kinds a1 a2 a3 a4 a5 s i = if a1 then kind.Blank else
+    (if a2 then kind.Open else (if a3 then kind.Close else
+    (if a4 then kind.Quote else (if a5 then kind.Dollar else (if s then kind.Semicolon else (if i then kind.Word else kind.Other))))))
 
 choice : (r1 r2 r3 r4 r5 r6 r7 : Read) (a1 a2 a3 a4 a5 s i b : Bool) → (s ≡ false → b ≡ false) → (s ≡ true → i ≡ false)
     → chain r1 r2 r3 r4 r5 r6 r7 a1 a2 a3 a4 a5 b i ≡ chosen r1 r2 r3 r4 r5 b r6 r7 (kinds a1 a2 a3 a4 a5 s i)
@@ -214,16 +242,21 @@ no_comment c (d ∷ ds) h = ap (λ b. b && d == 0x3b) h
 semicolon : (c : ℕ) → c == 0x3b ≡ true → is_idchar c ≡ false
 semicolon c h = ap is_idchar (eqb-true c 0x3b h)
 
-part_is : (X : Contents) (place c : ℕ) (cs : List ℕ) → part X place (c ∷ cs) ≡ chosen (Some ([], behind is_blank (c ∷ cs))) (opened X place cs) (Some ((grammar.Close, place) ∷ [], cs)) (string_token X place cs)
+part_is : (X : Contents) (place c : ℕ) (cs : List ℕ) → part X place (c ∷ cs) ≡ chosen (Some ([], behind is_blank (c ∷ cs))) (opened X place cs)
+    (Some ((grammar.Close, place) ∷ [], cs)) (string_token X place cs)
     (id_token X place cs) (begins_comment c cs) (Some ([], linecomment (drop 1 cs))) (word place (c ∷ cs)) (kind_of c)
 part_is X place c cs = choice (Some ([], behind is_blank (c ∷ cs))) (opened X place cs) (Some ((grammar.Close, place) ∷ [], cs)) (string_token X place cs)
-    (id_token X place cs) (Some ([], linecomment (drop 1 cs))) (word place (c ∷ cs)) (is_blank c) (c == 0x28) (c == 0x29) (c == 0x22) (c == 0x24) (c == 0x3b) (is_idchar c) (begins_comment c cs)
+    (id_token X place cs) (Some ([], linecomment (drop 1 cs))) (word place (c ∷ cs)) (is_blank c) (c == 0x28) (c == 0x29) (c == 0x22) (c == 0x24)
+    (c == 0x3b) (is_idchar c) (begins_comment c cs)
     (no_comment c cs) (semicolon c)
 
-by_kind : (X : Contents) (place c : ℕ) (t : List ℕ) (k : Kind) → first_of t ≡ Some c → kind_of c ≡ k → part X place t ≡ chosen (Some ([], behind is_blank t)) (opened X place (drop 1 t)) (Some ((grammar.Close, place) ∷ [], drop 1 t)) (string_token X place (drop 1 t))
+by_kind : (X : Contents) (place c : ℕ) (t : List ℕ) (k : Kind) → first_of t ≡ Some c → kind_of c ≡ k
+    → part X place t ≡ chosen (Some ([], behind is_blank t)) (opened X place (drop 1 t)) (Some ((grammar.Close, place) ∷ [], drop 1 t))
+    (string_token X place (drop 1 t))
     (id_token X place (drop 1 t)) (begins_of t) (Some ([], linecomment (drop 1 (drop 1 t)))) (word place t) k
 by_kind X place c [] k h is = absurd cc
-by_kind X place c (x ∷ cs) k h is = let same : x ≡ c = cc in part_is X place x cs ∙ ap (chosen (Some ([], behind is_blank (x ∷ cs))) (opened X place cs) (Some ((grammar.Close, place) ∷ [], cs)) (string_token X place cs)
+by_kind X place c (x ∷ cs) k h is = let same : x ≡ c = cc in part_is X place x cs
+    ∙ ap (chosen (Some ([], behind is_blank (x ∷ cs))) (opened X place cs) (Some ((grammar.Close, place) ∷ [], cs)) (string_token X place cs)
     (id_token X place cs) (begins_comment x cs) (Some ([], linecomment (drop 1 cs))) (word place (x ∷ cs))) (ap kind_of same ∙ is)
 
 pub pt_blank : (X : Contents) (place c : ℕ) (t : List ℕ) → first_of t ≡ Some c → kind_of c ≡ kind.Blank → part X place t ≡ Some ([], behind is_blank t)
@@ -232,7 +265,8 @@ pt_blank X place c t h is = by_kind X place c t kind.Blank h is
 pub pt_open : (X : Contents) (place c : ℕ) (t : List ℕ) → first_of t ≡ Some c → kind_of c ≡ kind.Open → part X place t ≡ opened X place (drop 1 t)
 pt_open X place c t h is = by_kind X place c t kind.Open h is
 
-pub pt_close : (X : Contents) (place c : ℕ) (t : List ℕ) → first_of t ≡ Some c → kind_of c ≡ kind.Close → part X place t ≡ Some ((grammar.Close, place) ∷ [], drop 1 t)
+pub pt_close : (X : Contents) (place c : ℕ) (t : List ℕ) → first_of t ≡ Some c → kind_of c ≡ kind.Close
+    → part X place t ≡ Some ((grammar.Close, place) ∷ [], drop 1 t)
 pt_close X place c t h is = by_kind X place c t kind.Close h is
 
 pub pt_quote : (X : Contents) (place c : ℕ) (t : List ℕ) → first_of t ≡ Some c → kind_of c ≡ kind.Quote → part X place t ≡ string_token X place (drop 1 t)
@@ -241,8 +275,10 @@ pt_quote X place c t h is = by_kind X place c t kind.Quote h is
 pub pt_dollar : (X : Contents) (place c : ℕ) (t : List ℕ) → first_of t ≡ Some c → kind_of c ≡ kind.Dollar → part X place t ≡ id_token X place (drop 1 t)
 pt_dollar X place c t h is = by_kind X place c t kind.Dollar h is
 
-pub pt_comment : (X : Contents) (place c : ℕ) (t : List ℕ) → first_of t ≡ Some c → kind_of c ≡ kind.Semicolon → begins_of t ≡ true → part X place t ≡ Some ([], linecomment (drop 1 (drop 1 t)))
-pt_comment X place c t h is k = by_kind X place c t kind.Semicolon h is ∙ ap (λ b. elim b as (λ x. Read) [ true ↦ Some ([], linecomment (drop 1 (drop 1 t))) | false ↦ None ]) k
+pub pt_comment : (X : Contents) (place c : ℕ) (t : List ℕ) → first_of t ≡ Some c → kind_of c ≡ kind.Semicolon → begins_of t ≡ true
+    → part X place t ≡ Some ([], linecomment (drop 1 (drop 1 t)))
+pt_comment X place c t h is k = by_kind X place c t kind.Semicolon h is
+    ∙ ap (λ b. elim b as (λ x. Read) [ true ↦ Some ([], linecomment (drop 1 (drop 1 t))) | false ↦ None ]) k
 
 pub pt_word : (X : Contents) (place c : ℕ) (t : List ℕ) → first_of t ≡ Some c → kind_of c ≡ kind.Word → part X place t ≡ word place t
 pt_word X place c t h is = by_kind X place c t kind.Word h is
@@ -251,22 +287,29 @@ pub pt_other : (X : Contents) (place c : ℕ) (t : List ℕ) → first_of t ≡ 
 pt_other X place c t h is = by_kind X place c t kind.Other h is
 
 -- the ends of what is read
-pub skipped_is : (T : List ℕ) (opens : Bool) (end e : ℕ) → opens ≡ false → end ≡ e → (let p : ℕ × List ℕ = (0, drop e T) in Some p) ≡ Some (opens_of opens, drop end T)
-skipped_is T opens end e closed same = sym (ap (λ b. (let p : ℕ × List ℕ = (opens_of b, drop end T) in Some p)) closed ∙ ap (λ k. (let p : ℕ × List ℕ = (0, drop k T) in Some p)) same)
+pub skipped_is : (T : List ℕ) (opens : Bool) (end e : ℕ) → opens ≡ false → end ≡ e
+    → (let p : ℕ × List ℕ = (0, drop e T) in Some p) ≡ Some (opens_of opens, drop end T)
+skipped_is T opens end e closed same = sym (ap (λ b. (let p : ℕ × List ℕ = (opens_of b, drop end T) in Some p)) closed
+    ∙ ap (λ k. (let p : ℕ × List ℕ = (0, drop k T) in Some p)) same)
 
 pub line_is : (T : List ℕ) (place : ℕ) → linecomment (drop 1 (drop 1 (drop place T))) ≡ drop (place + 2 + length (front is_linechar (drop (place + 2) T))) T
 line_is T place = ap linecomment (ap (drop 1) (drop_one T place) ∙ drop_two T place) ∙ drop-drop (length (front is_linechar (drop (place + 2) T))) (place + 2) T
 
-pub past : (is : ℕ → Bool) (T : List ℕ) (place c : ℕ) → first_of (drop place T) ≡ Some c → is c ≡ true → behind is (drop place T) ≡ drop (place + 1 + length (front is (drop (place + 1) T))) T
+pub past : (is : ℕ → Bool) (T : List ℕ) (place c : ℕ) → first_of (drop place T) ≡ Some c → is c ≡ true
+    → behind is (drop place T) ≡ drop (place + 1 + length (front is (drop (place + 1) T))) T
 past is T place c h k =
-    let more : length (front is (drop place T)) ≡ suc (length (front is (drop (place + 1) T))) = front_more is place T (below T place c h) (ap is (byte_is T place c h) ∙ k) in
-    drop-drop (length (front is (drop place T))) place T ∙ ap (λ n. drop n T) {x = place + length (front is (drop place T))} {y = place + 1 + length (front is (drop (place + 1) T))} (omega (arith, more))
+    let more : length (front is (drop place T)) ≡ suc (length (front is (drop (place + 1) T))) = front_more is place T (below T place c h)
+    (ap is (byte_is T place c h) ∙ k) in
+    drop-drop (length (front is (drop place T))) place T
+    ∙ ap (λ n. drop n T) {x = place + length (front is (drop place T))} {y = place + 1 + length (front is (drop (place + 1) T))} (omega (arith, more))
 
 abbrev pub token_and : grammar.Placed → List ℕ → Read
 token_and p rest = Some (p ∷ [], rest)
 
-pub closed : (T : List ℕ) (place end : ℕ) (found : Option Placed) → found ≡ Some (placed token.Close place) → end ≡ place + 1 → token_and (grammar.Close, place) (drop (place + 1) T) ≡ Some (token_of found, drop end T)
-closed T place end found is same = sym (ap (λ o. (let p : List grammar.Placed × List ℕ = (token_of o, drop end T) in Some p)) is ∙ ap (λ k. token_and (grammar.Close, place) (drop k T)) same)
+pub closed : (T : List ℕ) (place end : ℕ) (found : Option Placed) → found ≡ Some (placed token.Close place) → end ≡ place + 1
+    → token_and (grammar.Close, place) (drop (place + 1) T) ≡ Some (token_of found, drop end T)
+closed T place end found is same = sym (ap (λ o. (let p : List grammar.Placed × List ℕ = (token_of o, drop end T) in Some p)) is
+    ∙ ap (λ k. token_and (grammar.Close, place) (drop k T)) same)
 
 -- the tokens of a text, part by part
 abbrev pub with_before : List grammar.Placed → Option (List grammar.Placed) → Option (List grammar.Placed)
@@ -291,20 +334,26 @@ parts_over X (suc n) len = refl
 some_left : (T : List ℕ) (place : ℕ) → place < length T → (t : List ℕ) → drop place T ≡ t → length t ≡ length T - place
 some_left T place h t is = sym (ap length is) ∙ length-drop place T
 
-pub pa_step : (X : Contents) (m n place : ℕ) (T : List ℕ) → m ≡ suc n → place < length T → parts X m (length T) (drop place T) ≡ (part X place (drop place T) >>= parted X n (length T))
+pub pa_step : (X : Contents) (m n place : ℕ) (T : List ℕ) → m ≡ suc n → place < length T
+    → parts X m (length T) (drop place T) ≡ (part X place (drop place T) >>= parted X n (length T))
 pa_step X m n place T one below = go (drop place T) refl
   where
     go : (t : List ℕ) → drop place T ≡ t → parts X m (length T) t ≡ (part X place t >>= parted X n (length T))
-    go [] is = absurd (let l : length (drop place T) ≡ length T - place = length-drop place T in let e : length (drop place T) ≡ 0 = ap length is in omega (arith, l, e, below))
+    go [] is = absurd (let l : length (drop place T) ≡ length T - place = length-drop place T in let e : length (drop place T) ≡ 0 = ap length is
+        in omega (arith, l, e, below))
     go (c ∷ cs) is = ap (λ k. parts X k (length T) (c ∷ cs)) one ∙ parts_is X n (length T) c cs
-        ∙ ap (λ k. part X k (c ∷ cs) >>= parted X n (length T)) {x = length T - length (c ∷ cs)} {y = place} (let l : length (c ∷ cs) ≡ length T - place = some_left T place below (c ∷ cs) is in omega (arith, l, below))
+        ∙ ap (λ k. part X k (c ∷ cs) >>= parted X n (length T)) {x = length T - length (c ∷ cs)} {y = place}
+        (let l : length (c ∷ cs) ≡ length T - place = some_left T place below (c ∷ cs) is in omega (arith, l, below))
 
-pub pa_more : (X : Contents) (m n place end : ℕ) (T : List ℕ) (all before ts : List grammar.Placed) → m ≡ suc n → place < length T → part X place (drop place T) ≡ Some (ts, drop end T) → all ≡ before ++ ts
+pub pa_more : (X : Contents) (m n place end : ℕ) (T : List ℕ) (all before ts : List grammar.Placed) → m ≡ suc n → place < length T
+    → part X place (drop place T) ≡ Some (ts, drop end T) → all ≡ before ++ ts
     → with_before before (parts X m (length T) (drop place T)) ≡ with_before all (parts X n (length T) (drop end T))
-pa_more X m n place end T all before ts one below is whole = ap (with_before before) (pa_step X m n place T one below ∙ ap (λ o. o >>= parted X n (length T)) is) ∙ before_twice before ts (parts X n (length T) (drop end T))
+pa_more X m n place end T all before ts one below is whole = ap (with_before before) (pa_step X m n place T one below
+    ∙ ap (λ o. o >>= parted X n (length T)) is) ∙ before_twice before ts (parts X n (length T) (drop end T))
     ∙ ap (λ xs. with_before xs (parts X n (length T) (drop end T))) (sym whole)
 
-pub pa_none : (X : Contents) (m n place : ℕ) (T : List ℕ) (before : List grammar.Placed) → m ≡ suc n → place < length T → part X place (drop place T) ≡ None → with_before before (parts X m (length T) (drop place T)) ≡ None
+pub pa_none : (X : Contents) (m n place : ℕ) (T : List ℕ) (before : List grammar.Placed) → m ≡ suc n → place < length T
+    → part X place (drop place T) ≡ None → with_before before (parts X m (length T) (drop place T)) ≡ None
 pa_none X m n place T before one below none = ap (with_before before) (pa_step X m n place T one below ∙ ap (λ o. o >>= parted X n (length T)) none)
 
 pub pa_end : (X : Contents) (m len : ℕ) (t : List ℕ) (before : List grammar.Placed) → t ≡ [] → with_before before (parts X m len t) ≡ Some before

@@ -13,5 +13,6 @@ pub returns : goal.returns
 returns g c =
     let v = c.args.value.now in
     let size = c.in_ok-size.ensures.ok in
-    puts_as g.S.Sink.rules (Unit {0}) (InRangeSized g.T.Encode.in_range g.T.Encode.spelling v) c.args.out.now c.put_sized.new.out (length_prefixed g.T.Encode.spelling v) c.put_sized.result
+    puts_as g.S.Sink.rules (Unit {0}) (InRangeSized g.T.Encode.in_range g.T.Encode.spelling v) c.args.out.now c.put_sized.new.out
+    (length_prefixed g.T.Encode.spelling v) c.put_sized.result
     (λ u. (omega (arith, size.0), size.1)) (λ i. tt) c.put_sized.ensures

@@ -2,7 +2,8 @@ use Rattle.wasm_ops.proofs.Codes.{name_code}
 use Rattle.wasm_ops.proofs.ControlCodes.{block_type_code, catch_code}
 use Rattle.wasm_ops.proofs.EntityCodes.{table_type_code, memory_type_code, global_type_code, tag_type_code, entity_type_code}
 use Rattle.wasm_ops.proofs.RefTypeCodes.{heap_type_code, ref_type_code}
-use Rattle.wasm_ops.proofs.TypeCodes.{val_type_code, storage_type_code, field_type_code, export_kind_code, func_type_code, struct_type_code, array_type_code, composite_type_code, sub_type_code}
+use Rattle.wasm_ops.proofs.TypeCodes.{val_type_code, storage_type_code, field_type_code, export_kind_code, func_type_code, struct_type_code}
+use Rattle.wasm_ops.proofs.TypeCodes.{array_type_code, composite_type_code, sub_type_code}
 use Rattle.wasm_ops.proofs.laws.type_spelling_law.Goals as goal
 
 pub returns-clause-names : goal.returns-clause-names

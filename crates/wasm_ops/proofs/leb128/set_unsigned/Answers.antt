@@ -18,11 +18,13 @@ digits-preserved c =
     let made = c.in-Ok.ensures in
     let e = ap length (unsigned-large c.digits.rest c.digits-test.true) in
     record {
-      told = ap (λ xs. with_number xs (c.digits.place + 1) (c.digits.rest / 128)) made.items ∙ digit_set c.digits.out.items c.digits.place c.digits.rest (omega (arith, i.within)) c.digits-test.true ∙ i.told;
+      told = ap (λ xs. with_number xs (c.digits.place + 1) (c.digits.rest / 128)) made.items
+          ∙ digit_set c.digits.out.items c.digits.place c.digits.rest (omega (arith, i.within)) c.digits-test.true ∙ i.told;
       within = omega (arith, made.len, i.within);
       room = omega (arith, e, made.len, made.capacity, i.room);
       capacity = omega (arith, made.capacity, i.capacity);
     }
 
 pub returns-clause-items : goal.returns-clause-items
-returns-clause-items c = last_set c.digits.out.items c.digits.place c.digits.rest (omega (arith, c.digits.invariant.within)) c.digits-test.false ∙ c.digits.invariant.told
+returns-clause-items c = last_set c.digits.out.items c.digits.place c.digits.rest (omega (arith, c.digits.invariant.within)) c.digits-test.false
+    ∙ c.digits.invariant.told

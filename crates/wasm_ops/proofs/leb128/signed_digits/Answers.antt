@@ -16,7 +16,10 @@ digits-preserved c =
     let i = c.digits.invariant in
     let large = digits-large c.args.negative c.digits.rest c.digits-test.true in
     record {
-      told = rw (take_more_set c.digits.bytes c.digits.len (128 + c.turn.result) (omega (arith, digits-nonempty c.args.negative c.digits.rest))) (append_assoc (take c.digits.len c.digits.bytes) ((128 + c.turn.result) ∷ []) (digits c.args.negative (c.digits.rest / 128)) ∙ ap (λ bs. take c.digits.len c.digits.bytes ++ bs) (ap (λ d. (128 + d) ∷ digits c.args.negative (c.digits.rest / 128)) c.turn.ensures ∙ sym large) ∙ i.told);
+      told = rw (take_more_set c.digits.bytes c.digits.len (128 + c.turn.result) (omega (arith, digits-nonempty c.args.negative c.digits.rest)))
+          (append_assoc (take c.digits.len c.digits.bytes) ((128 + c.turn.result) ∷ []) (digits c.args.negative (c.digits.rest / 128))
+          ∙ ap (λ bs. take c.digits.len c.digits.bytes ++ bs) (ap (λ d. (128 + d) ∷ digits c.args.negative (c.digits.rest / 128)) c.turn.ensures
+          ∙ sym large) ∙ i.told);
       long = rw length-set i.long;
       room = let e = ap length large in omega (arith, e);
     }
@@ -30,4 +33,6 @@ returns-clause-within c = omega (arith, digits-nonempty c.args.negative c.digits
 pub returns-clause-bytes : goal.returns-clause-bytes
 returns-clause-bytes c =
     let i = c.digits.invariant in
-    rw (take_more_set c.digits.bytes c.digits.len c.turn-2.result (omega (arith, digits-nonempty c.args.negative c.digits.rest))) (ap (λ bs. take c.digits.len c.digits.bytes ++ bs) (ap (λ d. d ∷ []) c.turn-2.ensures ∙ sym (digits-small c.args.negative c.digits.rest c.digits-test.false)) ∙ i.told)
+    rw (take_more_set c.digits.bytes c.digits.len c.turn-2.result (omega (arith, digits-nonempty c.args.negative c.digits.rest)))
+    (ap (λ bs. take c.digits.len c.digits.bytes ++ bs) (ap (λ d. d ∷ []) c.turn-2.ensures
+    ∙ sym (digits-small c.args.negative c.digits.rest c.digits-test.false)) ∙ i.told)

@@ -16,7 +16,9 @@ digits-preserved c =
     let i = c.digits.invariant in
     let large = unsigned-large c.digits.rest c.digits-test.true in
     record {
-      told = rw (take_more_set c.digits.bytes c.digits.len (128 + c.digits.rest % 128) (omega (arith, unsigned-nonempty c.digits.rest))) (append_assoc (take c.digits.len c.digits.bytes) ((128 + c.digits.rest % 128) ∷ []) (unsigned (c.digits.rest / 128)) ∙ ap (λ bs. take c.digits.len c.digits.bytes ++ bs) (sym large) ∙ i.told);
+      told = rw (take_more_set c.digits.bytes c.digits.len (128 + c.digits.rest % 128) (omega (arith, unsigned-nonempty c.digits.rest)))
+          (append_assoc (take c.digits.len c.digits.bytes) ((128 + c.digits.rest % 128) ∷ []) (unsigned (c.digits.rest / 128))
+          ∙ ap (λ bs. take c.digits.len c.digits.bytes ++ bs) (sym large) ∙ i.told);
       long = rw length-set i.long;
       room = let e = ap length large in omega (arith, e);
     }
@@ -30,4 +32,5 @@ returns-clause-within c = omega (arith, unsigned-nonempty c.digits.rest)
 pub returns-clause-bytes : goal.returns-clause-bytes
 returns-clause-bytes c =
     let i = c.digits.invariant in
-    rw (take_more_set c.digits.bytes c.digits.len c.digits.rest (omega (arith, unsigned-nonempty c.digits.rest))) (ap (λ bs. take c.digits.len c.digits.bytes ++ bs) (sym (unsigned-small c.digits.rest c.digits-test.false)) ∙ i.told)
+    rw (take_more_set c.digits.bytes c.digits.len c.digits.rest (omega (arith, unsigned-nonempty c.digits.rest)))
+    (ap (λ bs. take c.digits.len c.digits.bytes ++ bs) (sym (unsigned-small c.digits.rest c.digits-test.false)) ∙ i.told)

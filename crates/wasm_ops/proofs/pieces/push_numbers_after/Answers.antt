@@ -9,4 +9,6 @@ returns-then-second-lt128 g c =
     let first = c.args.first in
     let second = c.args.second in
     rw (unsigned-small first c.if-first-lt128.true, unsigned-small second c.if-second-lt128.true)
-    (puts_as g.S.Sink.rules (Unit {0}) (InRangeU32 first × InRangeU64 second) c.args.out.now c.push_bytes.new.self (c.args.byte ∷ first ∷ second ∷ []) c.push_bytes.result (λ u. (omega (arith, c.if-first-lt128.true), omega (arith, c.if-second-lt128.true))) (λ h. tt) c.push_bytes.ensures)
+    (puts_as g.S.Sink.rules (Unit {0}) (InRangeU32 first × InRangeU64 second) c.args.out.now c.push_bytes.new.self
+    (c.args.byte ∷ first ∷ second ∷ []) c.push_bytes.result (λ u. (omega (arith, c.if-first-lt128.true), omega (arith, c.if-second-lt128.true)))
+    (λ h. tt) c.push_bytes.ensures)

@@ -12,4 +12,5 @@ returns-then-second-lt16384 g c =
     let second = c.args.second in
     let bytes = byte ∷ first ∷ (128 + second % 128) ∷ second / 128 ∷ [] in
     rw (unsigned-small first c.if-first-lt128.true, unsigned-two second c.if-second-ge128.true c.if-second-lt16384.true)
-    (puts_as g.S.Sink.rules (Unit {0}) (InRangeU32 first × InRangeU64 second) c.args.out.now c.push_bytes.new.self bytes c.push_bytes.result (λ u. (omega (arith, c.if-first-lt128.true), omega (arith, c.if-second-lt16384.true))) (λ h. tt) c.push_bytes.ensures)
+    (puts_as g.S.Sink.rules (Unit {0}) (InRangeU32 first × InRangeU64 second) c.args.out.now c.push_bytes.new.self bytes c.push_bytes.result
+    (λ u. (omega (arith, c.if-first-lt128.true), omega (arith, c.if-second-lt16384.true))) (λ h. tt) c.push_bytes.ensures)

@@ -12,5 +12,8 @@ returns-in-Err g c =
     let runs = local_runs types in
     let y = flat_map (λ x. (local_run x).bytes) runs in
     let n = c.args.count in
-    cut_back {A = Unit {0}} g.S.Sink.rules (All (λ x. (local_run x).in_range) runs) (All (λ x. (local_run x).in_range) runs) c.args.out.now c.push_number.new.self c.put_runs-runs.new.out c.cut.new.self (unsigned n) y (locals types) c.size-start.result (Err c.in-Err.refusal)
-    g.met.S.Sink.laws (omega (arith, length-append (unsigned (length runs)) y, ap (λ m. length (unsigned m)) c.requires.count)) (λ i. i) c.in_ok-push_number.ensures.0 c.in-Err.ensures.runs refl c.size-start.ensures c.cut.ensures
+    cut_back {A = Unit {0}} g.S.Sink.rules (All (λ x. (local_run x).in_range) runs)
+    (All (λ x. (local_run x).in_range) runs) c.args.out.now c.push_number.new.self c.put_runs-runs.new.out c.cut.new.self (unsigned n) y
+    (locals types) c.size-start.result (Err c.in-Err.refusal)
+    g.met.S.Sink.laws (omega (arith, length-append (unsigned (length runs)) y, ap (λ m. length (unsigned m)) c.requires.count))
+    (λ i. i) c.in_ok-push_number.ensures.0 c.in-Err.ensures.runs refl c.size-start.ensures c.cut.ensures

@@ -31,9 +31,11 @@ loop-at-preserved-then-is_same g c =
     let xs = c.args.items.now in
     let run = c.loop-at.run in
     let i = c.loop-at.invariant in
-    let grown = run_grows ty xs c.loop-at.at run.0 run.1 c.local_type-next.result c.index-items-at.result c.loop-at-test.true c.index-items-at.is c.local_type-next.ensures (sym c.is_same.ensures ∙ c.if-is_same.true) in
+    let grown = run_grows ty xs c.loop-at.at run.0 run.1 c.local_type-next.result c.index-items-at.result c.loop-at-test.true c.index-items-at.is
+    c.local_type-next.ensures (sym c.is_same.ensures ∙ c.if-is_same.true) in
     record {
-      told = subst (λ left. Written g.S.Sink.rules (λ x. (local_run x).bytes) (λ x. (local_run x).in_range) (local_runs (map ty xs)) left c.args.out.now c.loop-at.out) grown i.told;
+      told = subst (λ left. Written g.S.Sink.rules (λ x. (local_run x).bytes) (λ x. (local_run x).in_range)
+          (local_runs (map ty xs)) left c.args.out.now c.loop-at.out) grown i.told;
       counted = omega (arith, i.counted, ap length grown);
       some = omega (arith, i.some);
       few = omega (arith, i.few);
@@ -48,8 +50,10 @@ returns-in-Err-clause-runs g c =
     let xs = c.args.items.now in
     let run = c.loop-at.run in
     let i = c.loop-at.invariant in
-    let ended = run_ends ty xs c.loop-at.at run.0 run.1 c.local_type-next.result c.index-items-at.result i.some c.loop-at-test.true c.index-items-at.is c.local_type-next.ensures (sym c.is_same.ensures ∙ c.if-is_same.false) in
-    written_not {A = Unit {0}} g.S.Sink.rules (λ x. (local_run x).bytes) (λ x. (local_run x).in_range) (local_runs (map ty xs)) (local_runs (replicate run.0 run.1 ++ map ty (drop c.loop-at.at xs))) (local_runs (c.local_type-next.result ∷ map ty (drop (c.loop-at.at + 1) xs)))
+    let ended = run_ends ty xs c.loop-at.at run.0 run.1 c.local_type-next.result c.index-items-at.result i.some c.loop-at-test.true
+    c.index-items-at.is c.local_type-next.ensures (sym c.is_same.ensures ∙ c.if-is_same.false) in
+    written_not {A = Unit {0}} g.S.Sink.rules (λ x. (local_run x).bytes) (λ x. (local_run x).in_range) (local_runs (map ty xs))
+    (local_runs (replicate run.0 run.1 ++ map ty (drop c.loop-at.at xs))) (local_runs (c.local_type-next.result ∷ map ty (drop (c.loop-at.at + 1) xs)))
     c.args.out.now c.loop-at.out c.put_run-result.new.out c.cut.new.self run c.size-start.result (Err c.in-Err.refusal)
     g.met.S.Sink.laws i.told ended c.in-Err.ensures refl i.start c.cut.ensures
 
@@ -60,9 +64,11 @@ loop-at-preserved g c =
     let xs = c.args.items.now in
     let run = c.loop-at.run in
     let i = c.loop-at.invariant in
-    let ended = run_ends ty xs c.loop-at.at run.0 run.1 c.local_type-next.result c.index-items-at.result i.some c.loop-at-test.true c.index-items-at.is c.local_type-next.ensures (sym c.is_same.ensures ∙ c.if-is_same.false) in
+    let ended = run_ends ty xs c.loop-at.at run.0 run.1 c.local_type-next.result c.index-items-at.result i.some c.loop-at-test.true
+    c.index-items-at.is c.local_type-next.ensures (sym c.is_same.ensures ∙ c.if-is_same.false) in
     record {
-      told = written_more {A = Unit {0}} g.S.Sink.rules (λ x. (local_run x).bytes) (λ x. (local_run x).in_range) (local_runs (map ty xs)) (local_runs (replicate run.0 run.1 ++ map ty (drop c.loop-at.at xs))) (local_runs (c.local_type-next.result ∷ map ty (drop (c.loop-at.at + 1) xs)))
+      told = written_more {A = Unit {0}} g.S.Sink.rules (λ x. (local_run x).bytes) (λ x. (local_run x).in_range) (local_runs (map ty xs))
+          (local_runs (replicate run.0 run.1 ++ map ty (drop c.loop-at.at xs))) (local_runs (c.local_type-next.result ∷ map ty (drop (c.loop-at.at + 1) xs)))
           c.args.out.now c.loop-at.out c.put_run-result.new.out run (Ok c.in_default.field-0)
           g.met.S.Sink.laws i.told ended c.in_default.ensures refl;
       counted = omega (arith, i.counted, ap length ended);
@@ -70,7 +76,8 @@ loop-at-preserved g c =
       few = omega arith;
       fewer = omega (arith, i.fewer);
       covered = ap (λ x. (val_type x).is_covered) (c.local_type-next.ensures ∙ ap ty c.index-items-at.is)
-          ∙ second_passes (g.W.LocalType.is_ready way) (λ x. (val_type (ty x)).is_covered) xs c.loop-at.at c.index-items-at.result c.loop-at-test.true c.requires.ready;
+          ∙ second_passes (g.W.LocalType.is_ready way)
+          (λ x. (val_type (ty x)).is_covered) xs c.loop-at.at c.index-items-at.result c.loop-at-test.true c.requires.ready;
       start = i.start;
     }
 
@@ -80,7 +87,8 @@ returns-in-Err-last-clause-runs g c =
     let xs = c.args.items.now in
     let run = c.loop-at.run in
     let i = c.loop-at.invariant in
-    written_not {A = Unit {0}} g.S.Sink.rules (λ x. (local_run x).bytes) (λ x. (local_run x).in_range) (local_runs (map ty xs)) (local_runs (replicate run.0 run.1 ++ map ty (drop c.loop-at.at xs))) []
+    written_not {A = Unit {0}} g.S.Sink.rules (λ x. (local_run x).bytes) (λ x. (local_run x).in_range) (local_runs (map ty xs))
+    (local_runs (replicate run.0 run.1 ++ map ty (drop c.loop-at.at xs))) []
     c.args.out.now c.loop-at.out c.put_run-last.new.out c.cut-in-Err-last.new.self run c.size-start.result (Err c.in-Err-last.refusal)
     g.met.S.Sink.laws i.told (run_last ty xs c.loop-at.at run.0 run.1 i.some c.loop-at-test.false) c.in-Err-last.ensures refl i.start c.cut-in-Err-last.ensures
 
@@ -90,7 +98,8 @@ returns-clause-runs g c =
     let xs = c.args.items.now in
     let run = c.loop-at.run in
     let i = c.loop-at.invariant in
-    written_last {A = Unit {0}} g.S.Sink.rules (λ x. (local_run x).bytes) (λ x. (local_run x).in_range) (local_runs (map ty xs)) (local_runs (replicate run.0 run.1 ++ map ty (drop c.loop-at.at xs)))
+    written_last {A = Unit {0}} g.S.Sink.rules (λ x. (local_run x).bytes) (λ x. (local_run x).in_range) (local_runs (map ty xs))
+    (local_runs (replicate run.0 run.1 ++ map ty (drop c.loop-at.at xs)))
     c.args.out.now c.loop-at.out c.put_run-last.new.out run (Ok c.in_default-last.field-0)
     g.met.S.Sink.laws i.told (run_last ty xs c.loop-at.at run.0 run.1 i.some c.loop-at-test.false) c.in_default-last.ensures refl
 

@@ -27,11 +27,13 @@ halve-preserved-then-is_lt g c =
     let at = c.halve.low + (c.halve.high - c.halve.low) / 2 in
     let many = as_many called xs in
     let lt : at < length xs = omega (arith, c.halve.invariant.within, c.halve-test.true, many) in
-    let less = ap (λ (n : Name). is_lt (key_cmp (key_of n) (key_of name))) (sym c.id.ensures) ∙ ap is_lt (sym c.compare_names.ensures) ∙ sym c.is_lt.ensures ∙ c.if-is_lt.true in
+    let less = ap (λ (n : Name). is_lt (key_cmp (key_of n) (key_of name))) (sym c.id.ensures) ∙ ap is_lt (sym c.compare_names.ensures)
+    ∙ sym c.is_lt.ensures ∙ c.if-is_lt.true in
     record {
       order = omega (arith, c.halve-test.true);
       within = c.halve.invariant.within;
-      before = raised (map called xs) name c.requires at (omega (arith, lt, many)) (tested_there called xs at _ name true lt (ap (λ x. is_lt (key_cmp (key_of (called x)) (key_of name))) (sym c.index-named-mid.is) ∙ less));
+      before = raised (map called xs) name c.requires at (omega (arith, lt, many))
+          (tested_there called xs at _ name true lt (ap (λ x. is_lt (key_cmp (key_of (called x)) (key_of name))) (sym c.index-named-mid.is) ∙ less));
       behind = c.halve.invariant.behind;
     }
 
@@ -43,12 +45,14 @@ halve-preserved g c =
     let at = c.halve.low + (c.halve.high - c.halve.low) / 2 in
     let many = as_many called xs in
     let lt : at < length xs = omega (arith, c.halve.invariant.within, c.halve-test.true, many) in
-    let less = ap (λ (n : Name). is_lt (key_cmp (key_of n) (key_of name))) (sym c.id.ensures) ∙ ap is_lt (sym c.compare_names.ensures) ∙ sym c.is_lt.ensures ∙ c.if-is_lt.false in
+    let less = ap (λ (n : Name). is_lt (key_cmp (key_of n) (key_of name))) (sym c.id.ensures) ∙ ap is_lt (sym c.compare_names.ensures)
+    ∙ sym c.is_lt.ensures ∙ c.if-is_lt.false in
     record {
       order = omega arith;
       within = omega (arith, c.halve.invariant.within, c.halve-test.true);
       before = c.halve.invariant.before;
-      behind = lowered (map called xs) name c.requires at (tested_there called xs at _ name false lt (ap (λ x. is_lt (key_cmp (key_of (called x)) (key_of name))) (sym c.index-named-mid.is) ∙ less));
+      behind = lowered (map called xs) name c.requires at
+          (tested_there called xs at _ name false lt (ap (λ x. is_lt (key_cmp (key_of (called x)) (key_of name))) (sym c.index-named-mid.is) ∙ less));
     }
 
 pub returns : goal.returns

@@ -11,7 +11,8 @@ pub inner_type-requires : goal.inner_type-requires
 inner_type-requires c = (def_parts is_numbered c.args.ty.now c.requires).kind
 
 pub converted-requires : goal.converted-requires
-converted-requires c = ap (list_all is_number) c.as_slice.ensures ∙ (sym (numbers_in space.Ty c.args.ty.now.parents) ∙ (def_parts is_numbered c.args.ty.now c.requires).parents)
+converted-requires c = ap (list_all is_number) c.as_slice.ensures
+    ∙ (sym (numbers_in space.Ty c.args.ty.now.parents) ∙ (def_parts is_numbered c.args.ty.now c.requires).parents)
 
 pub optional_index-requires : goal.optional_index-requires
 optional_index-requires c = number_of c.args.ty.now.descriptor (def_parts is_numbered c.args.ty.now c.requires).descriptor

@@ -7,4 +7,5 @@ use Rattle.wast_core_conv.proofs.conv_immediates.short_type.Goals as goal
 
 pub given-requires : goal.given-requires
 given-requires c =
-    ap (list_all (λ t. are_numbered (in_val t))) c.as_slice.ensures ∙ (signature_parts is_numbered c.in-Some.ty (subst (λ o. are_numbered (if_there in_signature o) ≡ true) c.in-Some.is c.requires)).1
+    ap (list_all (λ t. are_numbered (in_val t))) c.as_slice.ensures
+    ∙ (signature_parts is_numbered c.in-Some.ty (subst (λ o. are_numbered (if_there in_signature o) ≡ true) c.in-Some.is c.requires)).1

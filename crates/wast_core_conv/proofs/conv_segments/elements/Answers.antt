@@ -14,16 +14,20 @@ converted-requires c =
 
 pub const_exprs-requires : goal.const_exprs-requires
 const_exprs-requires c =
-    ap (list_all is_encodable_expression) c.as_slice-in-Exprs.ensures ∙ (exprs_parts c.in-Exprs.ty c.in-Exprs.exprs (subst (λ p. is_encodable_payload p ≡ true) c.in-Exprs.is c.requires)).1
+    ap (list_all is_encodable_expression) c.as_slice-in-Exprs.ensures
+    ∙ (exprs_parts c.in-Exprs.ty c.in-Exprs.exprs (subst (λ p. is_encodable_payload p ≡ true) c.in-Exprs.is c.requires)).1
 
 pub returns-in_err-expressions-in-Exprs-clause-refusal :
     goal.returns-in_err-expressions-in-Exprs-clause-refusal
 returns-in_err-expressions-in-Exprs-clause-refusal c =
     let p = err_from_is_err_and c.from_residual-in_err-expressions-in-Exprs.result c.from_residual-in_err-expressions-in-Exprs.ensures.1 in
-    rw (p.1, p.2, c.in-Exprs.is) (payload_refused c.in-Exprs.ty c.as_slice-in-Exprs.result.now c.in-Exprs.exprs c.in_err-expressions-in-Exprs.field-0.0 c.as_slice-in-Exprs.ensures c.in_err-expressions-in-Exprs.ensures.refusal)
+    rw (p.1, p.2, c.in-Exprs.is) (payload_refused c.in-Exprs.ty c.as_slice-in-Exprs.result.now c.in-Exprs.exprs
+    c.in_err-expressions-in-Exprs.field-0.0 c.as_slice-in-Exprs.ensures c.in_err-expressions-in-Exprs.ensures.refusal)
 
 pub returns-in_ok-expressions-in-Exprs-clause-value :
     goal.returns-in_ok-expressions-in-Exprs-clause-value
 returns-in_ok-expressions-in-Exprs-clause-value c =
     rw c.in-Exprs.is (are_payload c.in-Exprs.ty c.as_slice-in-Exprs.result.now c.in-Exprs.exprs c.ref_type.result c.into_vec-in-Exprs.result
-    (exprs_parts c.in-Exprs.ty c.in-Exprs.exprs (subst (λ p. is_encodable_payload p ≡ true) c.in-Exprs.is c.requires)).0 c.ref_type.ensures c.as_slice-in-Exprs.ensures (subst (AreExpressions c.as_slice-in-Exprs.result.now) (sym c.into_vec-in-Exprs.ensures) c.in_ok-expressions-in-Exprs.ensures.value))
+    (exprs_parts c.in-Exprs.ty c.in-Exprs.exprs (subst (λ p. is_encodable_payload p ≡ true) c.in-Exprs.is c.requires)).0 c.ref_type.ensures
+    c.as_slice-in-Exprs.ensures (subst (AreExpressions c.as_slice-in-Exprs.result.now)
+    (sym c.into_vec-in-Exprs.ensures) c.in_ok-expressions-in-Exprs.ensures.value))

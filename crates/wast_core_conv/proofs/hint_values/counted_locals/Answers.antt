@@ -10,7 +10,8 @@ use Rattle.wast_core_conv.proofs.hint_values.counted_locals.Goals as goal
 
 pub encode-requires : goal.encode-requires
 encode-requires c =
-    each_then (λ l. are_encodable (in_local l)) (λ l. are_encodable (in_local l) && (val_type (meaning.as_val_type l.ty)).is_covered) (λ l h. both_true _ _ h (local_covered l h)) c.args.locals.now c.requires
+    each_then (λ l. are_encodable (in_local l)) (λ l. are_encodable (in_local l) && (val_type (meaning.as_val_type l.ty)).is_covered)
+    (λ l h. both_true _ _ h (local_covered l h)) c.args.locals.now c.requires
 
 pub returns-in_err-encode-clause-err : goal.returns-in_err-encode-clause-err
 returns-in_err-encode-clause-err c =

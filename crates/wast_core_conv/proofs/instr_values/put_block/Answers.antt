@@ -11,4 +11,5 @@ pub block_type-requires : goal.block_type-requires
 block_type-requires g c = ap (λ b. are_resolved (in_use OfBlock b.ty)) c.get.ensures ∙ sites_resolved (in_use OfBlock c.args.block.now.ty) c.requires
 
 pub encode-requires : goal.encode-requires
-encode-requires g c = ap (λ x. (block_type x).is_covered) (c.block_type.ensures ∙ ap meaning.as_block_type c.get.ensures) ∙ block_covered c.args.block.now c.requires
+encode-requires g c = ap (λ x. (block_type x).is_covered) (c.block_type.ensures ∙ ap meaning.as_block_type c.get.ensures)
+    ∙ block_covered c.args.block.now c.requires

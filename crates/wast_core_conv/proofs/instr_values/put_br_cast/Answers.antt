@@ -19,4 +19,5 @@ ref_type-requires-2 g c = asks_numbered (in_ref c.args.to.now) (cast_parts c.arg
 pub encode-requires : goal.encode-requires
 encode-requires g c =
     let parts = cast_parts c.args.label.now c.args.to.now c.args.from.now c.requires in
-    both_true _ _ (ap (λ x. (ref_type x).is_covered) c.ref_type.ensures ∙ heap_covered c.args.from.now.heap parts.from) (ap (λ x. (ref_type x).is_covered) c.ref_type-2.ensures ∙ heap_covered c.args.to.now.heap parts.to)
+    both_true _ _ (ap (λ x. (ref_type x).is_covered) c.ref_type.ensures ∙ heap_covered c.args.from.now.heap parts.from)
+    (ap (λ x. (ref_type x).is_covered) c.ref_type-2.ensures ∙ heap_covered c.args.to.now.heap parts.to)

@@ -14,4 +14,5 @@ encode-requires g c = ap (list_all is_number) c.as_slice.ensures ∙ (br_table_p
 pub returns : goal.returns
 returns g c =
     rw (← c.index.ensures)
-    (branches_written g.S.Sink.rules c.args.out.now c.encode.new.out c.as_slice.result.now c.args.table.now.labels c.index.result c.encode.result c.as_slice.ensures c.encode.ensures)
+    (branches_written g.S.Sink.rules c.args.out.now c.encode.new.out c.as_slice.result.now c.args.table.now.labels c.index.result c.encode.result
+    c.as_slice.ensures c.encode.ensures)

@@ -11,4 +11,5 @@ mem_arg-requires g c = (mem_arg_parts c.args.arg.now c.requires).numbered
 pub encode-requires : goal.encode-requires
 encode-requires g c =
     let parts = mem_arg_parts c.args.arg.now c.requires in
-    both_true _ _ (lt-ltb c.mem_arg.result.align 64 (c.mem_arg.ensures.aligned parts.aligned)) (ap (λ x. (memarg x).is_covered) c.mem_arg.ensures.value ∙ parts.covered)
+    both_true _ _ (lt-ltb c.mem_arg.result.align 64 (c.mem_arg.ensures.aligned parts.aligned))
+    (ap (λ x. (memarg x).is_covered) c.mem_arg.ensures.value ∙ parts.covered)

@@ -11,7 +11,8 @@ use Rattle.wast_core_conv.proofs.instr_values.put_select.Goals as goal
 
 pub encode-requires-in-Some : goal.encode-requires-in-Some
 encode-requires-in-Some g c =
-    rw c.as_slice.ensures (sym (each_passes is_encodable_ask in_val c.in-Some.written) ∙ subst (λ o. are_encodable (if_there (flat_map in_val) o) ≡ true) c.in-Some.is c.requires)
+    rw c.as_slice.ensures (sym (each_passes is_encodable_ask in_val c.in-Some.written)
+    ∙ subst (λ o. are_encodable (if_there (flat_map in_val) o) ≡ true) c.in-Some.is c.requires)
 
 pub returns-in-None : goal.returns-in-None
 returns-in-None g c = rw c.in-None.is c.encode.ensures
@@ -20,4 +21,6 @@ pub returns-in-Some : goal.returns-in-Some
 returns-in-Some g c =
     rw c.in-Some.is
     (select_written g.S.Sink.rules c.args.out.now c.encode-in-Some.new.out (map meaning.as_val_type c.in-Some.written) c.encode-in-Some.result
-    (list_written g.S.Sink.rules c.args.out.now c.encode-in-Some.new.out 0x1c (λ x. (val_type x).bytes) (λ x. (val_type x).in_range) meaning.as_val_type c.as_slice.result.now c.in-Some.written c.encode-in-Some.result c.as_slice.ensures c.encode-in-Some.ensures))
+    (list_written g.S.Sink.rules c.args.out.now c.encode-in-Some.new.out 0x1c (λ x. (val_type x).bytes)
+    (λ x. (val_type x).in_range) meaning.as_val_type c.as_slice.result.now c.in-Some.written c.encode-in-Some.result c.as_slice.ensures
+    c.encode-in-Some.ensures))

@@ -16,8 +16,10 @@ returns-in_ok-offset-in-Active c =
     let list = listed_in c.args.elements.now in
     let counted = InRangeU32 (c.args.section.now.count + 1) in
     let held = InRangeElements c.args.elements.now in
-    rw (c.in-Active.is, ← c.optional_index.ensures) (adds_as (counted × ((table_index table).in_range × held)) (counted × (((table_index table).in_range × (expression offset).in_range) × held))
-    c.args.section.now c.active.new.self (active_bytes table (ended c.in_ok-offset-in-Active.offset) kind list) (active_bytes table (expression offset).bytes kind list) c.active.result
+    rw (c.in-Active.is, ← c.optional_index.ensures) (adds_as (counted × ((table_index table).in_range × held))
+    (counted × (((table_index table).in_range × (expression offset).in_range) × held))
+    c.args.section.now c.active.new.self (active_bytes table (ended c.in_ok-offset-in-Active.offset) kind list)
+    (active_bytes table (expression offset).bytes kind list) c.active.result
     (ap (λ b. active_bytes table (ended b) kind list) made.0)
     (λ p. (p.0, ((p.1.0, made.1), p.1.1)))
     (λ q. (q.0, (q.1.0.0, q.1.1)))

@@ -11,7 +11,8 @@ use Rattle.wast_core_conv.proofs.values.put_content.Goals as goal
 pub encode-requires : goal.encode-requires
 encode-requires g c =
     both_true _ _
-    (each_then (λ l. are_encodable (in_local l)) (λ l. are_encodable (in_local l) && (val_type (meaning.as_val_type l.ty)).is_covered) (λ l h. both_true _ _ h (local_covered l h)) c.args.locals.now c.requires.locals)
+    (each_then (λ l. are_encodable (in_local l)) (λ l. are_encodable (in_local l) && (val_type (meaning.as_val_type l.ty)).is_covered)
+    (λ l h. both_true _ _ h (local_covered l h)) c.args.locals.now c.requires.locals)
     (and_true _ c.requires.instrs)
 
 pub returns : goal.returns

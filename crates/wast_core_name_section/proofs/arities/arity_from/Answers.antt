@@ -17,4 +17,5 @@ returns-in-Ok g c =
 
 pub returns : goal.returns
 returns g c =
-    ap arity_of (sym (found_past g.T.FieldTypes.types c.args.fields.now c.loop-field.field-index c.loop-field.left c.args.index c.loop-field-test.false c.loop-field.invariant))
+    ap arity_of (sym (found_past g.T.FieldTypes.types c.args.fields.now c.loop-field.field-index c.loop-field.left c.args.index
+    c.loop-field-test.false c.loop-field.invariant))

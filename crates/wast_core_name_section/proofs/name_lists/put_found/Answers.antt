@@ -12,7 +12,9 @@ returns-then-not-is_named-clause-written g c =
     let l = c.from_first-listed.result in
     let es = names_listed l in
     rw (c.in-Some.is, sym c.from_first-listed.ensures, not_named es (sym c.is_named.ensures ∙ c.if-not-is_named.true))
-    (none_written ℕ g.S.Sink.rules (entry_spelling (λ (n : CountedNames). vec (λ x. (name_entry x).bytes) (names_listed n.0))) (InRangeEntryOf (λ (n : CountedNames). InRangeVec (λ x. (name_entry x).in_range) (names_listed n.0))) (λ x. (map_entry x).bytes) (λ x. (map_entry x).in_range) c.args.out.now c.put_entry.new.out
+    (none_written ℕ g.S.Sink.rules (entry_spelling (λ (n : CountedNames). vec (λ x. (name_entry x).bytes) (names_listed n.0)))
+    (InRangeEntryOf (λ (n : CountedNames). InRangeVec (λ x. (name_entry x).in_range) (names_listed n.0))) (λ x. (map_entry x).bytes)
+    (λ x. (map_entry x).in_range) c.args.out.now c.put_entry.new.out
     c.args.position c.put_entry.result c.put_entry.ensures.written)
 
 pub returns-clause-written : goal.returns-clause-written
@@ -20,5 +22,7 @@ returns-clause-written g c =
     let l = c.from_first-listed.result in
     let es = names_listed l in
     rw (c.in-Some.is, sym c.from_first-listed.ensures, is_named es (sym c.is_named.ensures ∙ c.if-not-is_named.false))
-    (entry_as g.S.Sink.rules (entry_spelling (λ (n : CountedNames). vec (λ x. (name_entry x).bytes) (names_listed n.0))) (InRangeEntryOf (λ (n : CountedNames). InRangeVec (λ x. (name_entry x).in_range) (names_listed n.0))) (λ x. (map_entry x).bytes) (λ x. (map_entry x).in_range) c.args.out.now c.put_entry-2.new.out
+    (entry_as g.S.Sink.rules (entry_spelling (λ (n : CountedNames). vec (λ x. (name_entry x).bytes) (names_listed n.0)))
+    (InRangeEntryOf (λ (n : CountedNames). InRangeVec (λ x. (name_entry x).in_range) (names_listed n.0))) (λ x. (map_entry x).bytes)
+    (λ x. (map_entry x).in_range) c.args.out.now c.put_entry-2.new.out
     (record { 0 = l }) es c.args.position c.put_entry-2.result (λ n. refl) (λ n h. h) (λ n h. h) c.put_entry-2.ensures.written)

@@ -9,7 +9,9 @@ pub cut-requires : goal.cut-requires
 cut-requires g c =
     let f = g.W.NameItems.items c.args.way.now in
     let i = c.loop-part.invariant in
-    names_kept g.S.Sink.rules g.W.NameItems.entry g.W.NameItems.in_range c.args.out.now c.loop-part.out c.put.new.out (flat_map f (take c.loop-part.part-index c.args.parts.now)) (f c.part-item.result) c.args.first c.loop-part.position c.size-start.result c.loop-part.position c.in-Err.refusal
+    names_kept g.S.Sink.rules g.W.NameItems.entry g.W.NameItems.in_range c.args.out.now c.loop-part.out c.put.new.out
+    (flat_map f (take c.loop-part.part-index c.args.parts.now))
+    (f c.part-item.result) c.args.first c.loop-part.position c.size-start.result c.loop-part.position c.in-Err.refusal
     g.met.S.Sink.laws (omega arith) i.written i.next c.in-Err.ensures.written i.at
 
 pub returns-in-Err-clause-written : goal.returns-in-Err-clause-written
@@ -19,7 +21,9 @@ returns-in-Err-clause-written g c =
     let k = c.loop-part.part-index in
     let x = c.part-item.result in
     let i = c.loop-part.invariant in
-    names_back g.S.Sink.rules g.W.NameItems.entry g.W.NameItems.in_range c.args.out.now c.loop-part.out c.put.new.out c.cut.new.self (flat_map f (take k xs)) (f x) (flat_map f (drop (k + 1) xs)) (flat_map f xs) c.args.first c.loop-part.position c.size-start.result c.loop-part.position c.in-Err.refusal
+    names_back g.S.Sink.rules g.W.NameItems.entry g.W.NameItems.in_range c.args.out.now c.loop-part.out c.put.new.out c.cut.new.self
+    (flat_map f (take k xs)) (f x) (flat_map f (drop (k + 1) xs))
+    (flat_map f xs) c.args.first c.loop-part.position c.size-start.result c.loop-part.position c.in-Err.refusal
     g.met.S.Sink.laws (each_around f xs k x (f x) c.loop-part-test.true c.part-item.is refl) i.written i.next c.in-Err.ensures.written i.at c.cut.ensures
 
 pub loop-part-preserved : goal.loop-part-preserved
@@ -33,8 +37,11 @@ loop-part-preserved g c =
     let i = c.loop-part.invariant in
     let more = each_more f xs k x (f x) c.loop-part-test.true c.part-item.is refl in
     record {
-      written = subst (λ z. WritesItems {R = ℕ} rules g.W.NameItems.entry g.W.NameItems.in_range z c.args.first c.args.out.now c.put.new.out (Ok c.in-Ok.next)) (sym more)
-          (names_after rules g.W.NameItems.entry g.W.NameItems.in_range c.args.out.now c.loop-part.out c.put.new.out names (f x) c.args.first c.loop-part.position c.loop-part.position c.in-Ok.next c.in-Ok.next g.met.S.Sink.laws i.written i.next c.in-Ok.ensures.written);
+      written = subst (λ z. WritesItems {R = ℕ} rules g.W.NameItems.entry g.W.NameItems.in_range z c.args.first c.args.out.now c.put.new.out
+          (Ok c.in-Ok.next)) (sym more)
+          (names_after rules g.W.NameItems.entry g.W.NameItems.in_range c.args.out.now c.loop-part.out c.put.new.out names
+          (f x) c.args.first c.loop-part.position c.loop-part.position c.in-Ok.next c.in-Ok.next g.met.S.Sink.laws i.written i.next
+          c.in-Ok.ensures.written);
       next = let now = c.in-Ok.ensures.next in let before = i.next in omega (arith, ap length more, length-append names (f x));
       at = i.at;
     }

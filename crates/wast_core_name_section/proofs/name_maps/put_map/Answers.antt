@@ -11,12 +11,16 @@ returns-then-count-eq0 g c =
 
 pub returns-in_default : goal.returns-in_default
 returns-in_default g c =
-    let es = named_from 0 (flat_map (g.W.NameItems.items c.args.way) c.args.parts.now) in
-    (g.met.S.Sink.laws.none c.args.out.now, inr (refl, λ h. c.in_default.ensures (map_counted g.W.NameItems.entry g.W.NameItems.in_range es c.args.count c.requires (omega arith) h)))
+    let es = named_from 0 (flat_map (g.W.NameItems.items c.args.way) c.args.parts.now) in (
+      g.met.S.Sink.laws.none c.args.out.now,
+      inr
+          (refl, λ h. c.in_default.ensures (map_counted g.W.NameItems.entry g.W.NameItems.in_range es c.args.count c.requires (omega arith) h)),
+    )
 
 pub returns : goal.returns
 returns g c =
     let es = named_from 0 (flat_map (g.W.NameItems.items c.args.way) c.args.parts.now) in
     let small = c.in-Ok.ensures in
     let counted = c.requires in
-    map_put g.S.Sink.rules g.W.NameItems.entry g.W.NameItems.in_range c.args.out.now c.encode.new.out es c.args.id c.in-Ok.count c.encode.result (omega arith) (omega arith) c.encode.ensures
+    map_put g.S.Sink.rules g.W.NameItems.entry g.W.NameItems.in_range c.args.out.now c.encode.new.out es c.args.id c.in-Ok.count c.encode.result
+    (omega arith) (omega arith) c.encode.ensures

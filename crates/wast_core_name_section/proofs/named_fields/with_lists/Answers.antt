@@ -11,4 +11,5 @@ pub returns : goal.returns
 returns c =
     let w = c.args.within in
     let fields = c.args.fields.now in
-    rw c.of.ensures (λ types. all_there (lists_within types w) (has_lists w) fields c.reach_within.result (no_lists_elsewhere types w) (c.reach_within.ensures fields c.requires))
+    rw c.of.ensures (λ types. all_there (lists_within types w) (has_lists w) fields c.reach_within.result (no_lists_elsewhere types w)
+    (c.reach_within.ensures fields c.requires))

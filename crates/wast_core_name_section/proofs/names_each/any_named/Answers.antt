@@ -14,7 +14,8 @@ returns-then-names_in-ne0 g c =
     let k = c.loop-part.part-index in
     let x = c.part-item.result in
     let count = c.names_in.ensures ∙ ap (λ items. saturated_count (length (named_from 0 items))) c.item.ensures in
-    some_more (flat_map f (take k xs)) (f x) (flat_map f (drop (k + 1) xs)) (flat_map f xs) c.names_in.result (each_around f xs k x (f x) c.loop-part-test.true c.part-item.is refl) count c.if-names_in-ne0.true
+    some_more (flat_map f (take k xs)) (f x) (flat_map f (drop (k + 1) xs)) (flat_map f xs) c.names_in.result
+    (each_around f xs k x (f x) c.loop-part-test.true c.part-item.is refl) count c.if-names_in-ne0.true
 
 pub loop-part-preserved : goal.loop-part-preserved
 loop-part-preserved g c =
@@ -23,10 +24,12 @@ loop-part-preserved g c =
     let k = c.loop-part.part-index in
     let x = c.part-item.result in
     let count = c.names_in.ensures ∙ ap (λ items. saturated_count (length (named_from 0 items))) c.item.ensures in
-    ap (named_from 0) (each_more f xs k x (f x) c.loop-part-test.true c.part-item.is refl) ∙ none_more (flat_map f (take k xs)) (f x) c.names_in.result c.loop-part.invariant count c.if-names_in-ne0.false
+    ap (named_from 0) (each_more f xs k x (f x) c.loop-part-test.true c.part-item.is refl)
+    ∙ none_more (flat_map f (take k xs)) (f x) c.names_in.result c.loop-part.invariant count c.if-names_in-ne0.false
 
 pub returns : goal.returns
 returns g c =
     let f = g.T.MayHaveName.names in
     let xs = c.args.parts.now in
-    ap (λ es. nat_lt 0 (length es)) (sym (ap (λ ys. named_from 0 (flat_map f ys)) (sym (take_all c.loop-part.part-index xs c.loop-part-test.false)) ∙ c.loop-part.invariant))
+    ap (λ es. nat_lt 0 (length es)) (sym (ap (λ ys. named_from 0 (flat_map f ys)) (sym (take_all c.loop-part.part-index xs c.loop-part-test.false))
+    ∙ c.loop-part.invariant))

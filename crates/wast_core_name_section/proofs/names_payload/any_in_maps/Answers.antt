@@ -12,7 +12,8 @@ returns-then-any_in_map c =
 
 pub loop-i-preserved : goal.loop-i-preserved
 loop-i-preserved c =
-    none_of_each (map_names c.args.fields.now) c.args.maps.now c.loop-i.i first_map (omega arith) c.loop-i.invariant (sym c.any_in_map.ensures ∙ c.if-any_in_map.false)
+    none_of_each (map_names c.args.fields.now) c.args.maps.now c.loop-i.i first_map (omega arith) c.loop-i.invariant (sym c.any_in_map.ensures
+    ∙ c.if-any_in_map.false)
 
 pub returns : goal.returns
 returns c =

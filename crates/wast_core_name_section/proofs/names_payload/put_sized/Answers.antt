@@ -5,4 +5,5 @@ use Rattle.wast_core_name_section.proofs.names_payload.put_sized.Goals as goal
 
 pub returns : goal.returns
 returns g c =
-    sized_written (map_names c.args.fields.now) (module_name (text_seen c.args.name)) name_maps g.S.Sink.rules c.args.out.now c.put_behind.new.out c.args.size c.put_behind.result c.requires.size c.put_behind.ensures
+    sized_written (map_names c.args.fields.now) (module_name (text_seen c.args.name)) name_maps g.S.Sink.rules c.args.out.now c.put_behind.new.out
+    c.args.size c.put_behind.result c.requires.size c.put_behind.ensures

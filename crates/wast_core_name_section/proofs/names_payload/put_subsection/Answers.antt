@@ -13,8 +13,11 @@ returns-in-Items g c =
     let rules = g.S.Sink.rules in
     let space = c.in-Items.space in
     let id = c.id_of.result in
-    rw c.in-Items.is (direct_written rules c.args.out.now c.put_counted.new.out (named_of space) (named_items space c.args.fields.now) id c.put_counted.result c.id_of.ensures
-    (subst (λ xs. Writes rules (InRangeMap (λ x. (name_entry x).bytes) (λ x. (name_entry x).in_range) (named_from 0 xs)) c.args.out.now c.put_counted.new.out (map_bytes id (λ x. (name_entry x).bytes) (named_from 0 xs)) c.put_counted.result) c.with_items-there.ensures c.put_counted.ensures))
+    rw c.in-Items.is (direct_written rules c.args.out.now c.put_counted.new.out (named_of space)
+    (named_items space c.args.fields.now) id c.put_counted.result c.id_of.ensures
+    (subst (λ xs. Writes rules (InRangeMap (λ x. (name_entry x).bytes) (λ x. (name_entry x).in_range)
+    (named_from 0 xs)) c.args.out.now c.put_counted.new.out (map_bytes id (λ x. (name_entry x).bytes) (named_from 0 xs)) c.put_counted.result)
+    c.with_items-there.ensures c.put_counted.ensures))
 
 pub returns-in-Within : goal.returns-in-Within
 returns-in-Within g c =
@@ -24,4 +27,6 @@ returns-in-Within g c =
     let r = c.put_lists.result in
     let id = subsection_id (named_within w) in
     rw c.in-Within.is (indirect_written rules c.args.out.now c.put_lists.new.out (named_within w) (named_lists w fields) id r refl
-    (subst (λ xs. Writes rules (InRangeMap (λ x. (map_entry x).bytes) (λ x. (map_entry x).in_range) (named_from 0 xs)) c.args.out.now c.put_lists.new.out (map_bytes id (λ x. (map_entry x).bytes) (named_from 0 xs)) r) (c.with_lists-there.ensures (types_of fields)) c.put_lists.ensures))
+    (subst (λ xs. Writes rules (InRangeMap (λ x. (map_entry x).bytes) (λ x. (map_entry x).in_range)
+    (named_from 0 xs)) c.args.out.now c.put_lists.new.out (map_bytes id (λ x. (map_entry x).bytes) (named_from 0 xs)) r)
+    (c.with_lists-there.ensures (types_of fields)) c.put_lists.ensures))

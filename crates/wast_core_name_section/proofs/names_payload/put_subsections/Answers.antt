@@ -20,8 +20,10 @@ returns-then-is_err g c =
     let x = flat_map f (take k xs) in
     let it = get_or xs k first_map in
     let lt : k < length xs = omega arith in
-    cut_back rules (All fits xs) (fits it) c.args.out.now c.loop-i.out c.put_subsection-result.new.out c.cut.new.self x (f it) (flat_map f xs) c.size-start.result c.put_subsection-result.result
-    g.met.S.Sink.laws (length-flat_map-take f xs k first_map lt) (λ t. t k first_map lt) c.loop-i.invariant.told c.put_subsection-result.ensures (sym c.is_err.ensures.value ∙ c.if-is_err.true) c.size-start.ensures c.cut.ensures
+    cut_back rules (All fits xs) (fits it) c.args.out.now c.loop-i.out c.put_subsection-result.new.out c.cut.new.self x (f it)
+    (flat_map f xs) c.size-start.result c.put_subsection-result.result
+    g.met.S.Sink.laws (length-flat_map-take f xs k first_map lt) (λ t. t k first_map lt) c.loop-i.invariant.told c.put_subsection-result.ensures
+    (sym c.is_err.ensures.value ∙ c.if-is_err.true) c.size-start.ensures c.cut.ensures
 
 pub loop-i-preserved : goal.loop-i-preserved
 loop-i-preserved g c =
@@ -31,6 +33,9 @@ loop-i-preserved g c =
     let it = get_or xs k first_map in
     let i = c.loop-i.invariant in
     let lt : k < length xs = omega arith in
-    let more = one_item_more rules (λ m. flat_map (λ x. (name_subsection x).bytes) (map_names c.args.fields.now m)) (λ m. All (λ x. (name_subsection x).in_range) (map_names c.args.fields.now m)) c.args.out.now c.loop-i.out c.put_subsection-result.new.out xs k it c.put_subsection-result.result
-    g.met.S.Sink.laws lt (get_or_default xs k first_map it lt) i.told i.fitting c.put_subsection-result.ensures (sym c.is_err.ensures.value ∙ c.if-is_err.false) in
+    let more = one_item_more rules (λ m. flat_map (λ x. (name_subsection x).bytes) (map_names c.args.fields.now m))
+    (λ m. All (λ x. (name_subsection x).in_range) (map_names c.args.fields.now m)) c.args.out.now c.loop-i.out c.put_subsection-result.new.out xs
+    k it c.put_subsection-result.result
+    g.met.S.Sink.laws lt (get_or_default xs k first_map it lt) i.told i.fitting c.put_subsection-result.ensures (sym c.is_err.ensures.value
+    ∙ c.if-is_err.false) in
     record { told = more.0; fitting = more.1; at = i.at }

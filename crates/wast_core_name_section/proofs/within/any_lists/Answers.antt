@@ -14,8 +14,10 @@ returns-then-count_lists-ne0 g c =
     let xs = c.args.there.now in
     let k = c.loop-part.part-index in
     let x = c.part-item.result in
-    let here = c.count_lists.ensures ∙ ap (λ fs. saturated_count (length (named_from 0 (lists (flat_map g.T.FieldTypes.types fs) c.args.within x)))) c.new-arities.ensures in
-    some_more (flat_map f (take k xs)) (f x) (flat_map f (drop (k + 1) xs)) (flat_map f xs) c.count_lists.result (each_around f xs k x (f x) c.loop-part-test.true c.part-item.is refl) here c.if-count_lists-ne0.true
+    let here = c.count_lists.ensures
+    ∙ ap (λ fs. saturated_count (length (named_from 0 (lists (flat_map g.T.FieldTypes.types fs) c.args.within x)))) c.new-arities.ensures in
+    some_more (flat_map f (take k xs)) (f x) (flat_map f (drop (k + 1) xs)) (flat_map f xs) c.count_lists.result
+    (each_around f xs k x (f x) c.loop-part-test.true c.part-item.is refl) here c.if-count_lists-ne0.true
 
 pub loop-part-preserved : goal.loop-part-preserved
 loop-part-preserved g c =
@@ -24,11 +26,14 @@ loop-part-preserved g c =
     let xs = c.args.there.now in
     let k = c.loop-part.part-index in
     let x = c.part-item.result in
-    let here = c.count_lists.ensures ∙ ap (λ fs. saturated_count (length (named_from 0 (lists (flat_map g.T.FieldTypes.types fs) c.args.within x)))) c.new-arities.ensures in
-    ap (named_from 0) (each_more f xs k x (f x) c.loop-part-test.true c.part-item.is refl) ∙ none_more (flat_map f (take k xs)) (f x) c.count_lists.result c.loop-part.invariant here c.if-count_lists-ne0.false
+    let here = c.count_lists.ensures
+    ∙ ap (λ fs. saturated_count (length (named_from 0 (lists (flat_map g.T.FieldTypes.types fs) c.args.within x)))) c.new-arities.ensures in
+    ap (named_from 0) (each_more f xs k x (f x) c.loop-part-test.true c.part-item.is refl)
+    ∙ none_more (flat_map f (take k xs)) (f x) c.count_lists.result c.loop-part.invariant here c.if-count_lists-ne0.false
 
 pub returns : goal.returns
 returns g c =
     let f = g.T.CountLists.lists (flat_map g.T.FieldTypes.types c.args.fields.now) c.args.within in
     let xs = c.args.there.now in
-    ap (λ es. nat_lt 0 (length es)) (sym (ap (λ ys. named_from 0 (flat_map f ys)) (sym (take_all c.loop-part.part-index xs c.loop-part-test.false)) ∙ c.loop-part.invariant))
+    ap (λ es. nat_lt 0 (length es)) (sym (ap (λ ys. named_from 0 (flat_map f ys)) (sym (take_all c.loop-part.part-index xs c.loop-part-test.false))
+    ∙ c.loop-part.invariant))

@@ -13,7 +13,8 @@ loop-part-preserved g c =
     let xs = c.args.there.now in
     let k = c.loop-part.part-index in
     let x = c.part-item.result in
-    let here = c.count_lists.ensures ∙ ap (λ fs. saturated_count (length (named_from 0 (lists (flat_map g.T.FieldTypes.types fs) c.args.within x)))) c.new-arities.ensures in
+    let here = c.count_lists.ensures
+    ∙ ap (λ fs. saturated_count (length (named_from 0 (lists (flat_map g.T.FieldTypes.types fs) c.args.within x)))) c.new-arities.ensures in
     c.saturating_add-sum.ensures
     ∙ count_more (flat_map f (take k xs)) (f x) c.loop-part.sum c.count_lists.result c.loop-part.invariant here
     ∙ ap (λ z. saturated_count (length (named_from 0 z))) (sym (each_more f xs k x (f x) c.loop-part-test.true c.part-item.is refl))

@@ -9,7 +9,8 @@ returns-in-Some g c =
 
 pub returns-then-not-any_named : goal.returns-then-not-any_named
 returns-then-not-any_named g c =
-    rw (c.none.ensures, c.in_default.is) (nothing_named (arity_at (g.A.Arities.types c.args.arities.now) c.args.ty.now.index) c.args.locals.now (sym c.if-not-any_named.true ∙ c.any_named.ensures))
+    rw (c.none.ensures, c.in_default.is) (nothing_named (arity_at (g.A.Arities.types c.args.arities.now) c.args.ty.now.index) c.args.locals.now
+    (sym c.if-not-any_named.true ∙ c.any_named.ensures))
 
 pub returns-in-Some-arity_at : goal.returns-in-Some-arity_at
 returns-in-Some-arity_at g c =

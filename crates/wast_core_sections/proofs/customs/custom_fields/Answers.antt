@@ -13,10 +13,12 @@ pub returns-clause-same : goal.returns-clause-same
 returns-clause-same c =
     let fields = c.args.fields.now in
     let place = c.args.place in
-    rw c.of.ensures (all_there (customs_in place) (is_of (kind.Custom place)) fields c.of_kind.result (no_custom_elsewhere place) (c.of_kind.ensures fields c.requires))
+    rw c.of.ensures (all_there (customs_in place) (is_of (kind.Custom place)) fields c.of_kind.result (no_custom_elsewhere place)
+    (c.of_kind.ensures fields c.requires))
 
 pub returns-clause-ready : goal.returns-clause-ready
 returns-clause-ready c h =
     let fields = c.args.fields.now in
     let place = c.args.place in
-    rw c.of.ensures (all_pass_there is_encodable_field fields c.of_kind.result (is_inside_of (is_of (kind.Custom place)) fields c.of_kind.result (c.of_kind.ensures fields c.requires)) h)
+    rw c.of.ensures (all_pass_there is_encodable_field fields c.of_kind.result (is_inside_of (is_of (kind.Custom place)) fields c.of_kind.result
+    (c.of_kind.ensures fields c.requires)) h)

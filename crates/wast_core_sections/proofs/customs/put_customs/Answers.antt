@@ -15,5 +15,7 @@ put_items-requires g c = c.custom_fields.ensures.ready c.requires.ready
 pub returns : goal.returns
 returns g c =
     let rules = g.S.Sink.rules in
-    let written = each_written rules InRangeCustom custom_section (customs_in c.args.place) c.custom_fields.result.now c.args.out.now c.put_items.new.out c.put_items.result c.put_items.ensures in
-    subst (λ (cs : List Custom). Writes rules (All InRangeCustom cs) c.args.out.now c.put_items.new.out (flat_map custom_section cs) c.put_items.result) c.custom_fields.ensures.same written
+    let written = each_written rules InRangeCustom custom_section
+    (customs_in c.args.place) c.custom_fields.result.now c.args.out.now c.put_items.new.out c.put_items.result c.put_items.ensures in
+    subst (λ (cs : List Custom). Writes rules (All InRangeCustom cs) c.args.out.now c.put_items.new.out
+    (flat_map custom_section cs) c.put_items.result) c.custom_fields.ensures.same written

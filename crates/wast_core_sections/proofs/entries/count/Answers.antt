@@ -10,7 +10,8 @@ returns-in_default-clause-none c = λ e lt.
     let xs = c.args.fields.now in
     let i = c.loop-field.field-index in
     let f = entries_in (section_kind c.args.kind) in
-    let bound = subst (λ v. length (flat_map f (take i xs)) + length (f v) ≤ length (flat_map f xs)) (sym c.field-item.is) (length-flat_map-take f xs i c.field-item.result c.loop-field-test.true) in
+    let bound = subst (λ v. length (flat_map f (take i xs)) + length (f v) ≤ length (flat_map f xs)) (sym c.field-item.is)
+    (length-flat_map-take f xs i c.field-item.result c.loop-field-test.true) in
     let invariant : c.loop-field.sum ≡ length (flat_map f (take i xs)) = c.loop-field.invariant in
     let counted : c.entries_of.result ≡ length (f c.field-item.result) = c.entries_of.ensures in
     let small : length (flat_map f xs) < 4294967296 = lt in

@@ -40,51 +40,74 @@ encode-requires-in-Data-Data g c = data_ready c.in-Data-Data.«data» (subst (λ
 -- The one entry of a field.
 pub returns-in-Types-Ty : goal.returns-in-Types-Ty
 returns-in-Types-Ty g c =
-    rw (c.in-Types-Ty.is-0, c.in-Types-Ty.is-1) (one_written g.S.Sink.rules (entry Types) (InRangeEntry Types) c.args.out.now c.encode.new.out (Single (meaning.as_sub_type c.in-Types-Ty.ty.def)) c.encode.result c.encode.ensures)
+    rw (c.in-Types-Ty.is-0, c.in-Types-Ty.is-1) (one_written g.S.Sink.rules (entry Types) (InRangeEntry Types) c.args.out.now c.encode.new.out
+    (Single (meaning.as_sub_type c.in-Types-Ty.ty.def)) c.encode.result c.encode.ensures)
 
 pub returns-in-Types-Rec : goal.returns-in-Types-Rec
 returns-in-Types-Rec g c =
-    rw (c.in-Types-Rec.is-0, c.in-Types-Rec.is-1) (one_written g.S.Sink.rules (entry Types) (InRangeEntry Types) c.args.out.now c.encode-in-Types-Rec.new.out (meaning.as_group c.in-Types-Rec.rec) c.encode-in-Types-Rec.result c.encode-in-Types-Rec.ensures)
+    rw (c.in-Types-Rec.is-0, c.in-Types-Rec.is-1)
+    (one_written g.S.Sink.rules (entry Types) (InRangeEntry Types) c.args.out.now c.encode-in-Types-Rec.new.out
+    (meaning.as_group c.in-Types-Rec.rec) c.encode-in-Types-Rec.result c.encode-in-Types-Rec.ensures)
 
 pub returns-in-Imports-Import : goal.returns-in-Imports-Import
 returns-in-Imports-Import g c =
-    rw (c.in-Imports-Import.is-0, c.in-Imports-Import.is-1) (one_written g.S.Sink.rules (entry Imports) (InRangeEntry Imports) c.args.out.now c.encode-in-Imports-Import.new.out (meaning.as_import c.in-Imports-Import.imports) c.encode-in-Imports-Import.result c.encode-in-Imports-Import.ensures)
+    rw (c.in-Imports-Import.is-0, c.in-Imports-Import.is-1)
+    (one_written g.S.Sink.rules (entry Imports) (InRangeEntry Imports) c.args.out.now c.encode-in-Imports-Import.new.out
+    (meaning.as_import c.in-Imports-Import.imports) c.encode-in-Imports-Import.result c.encode-in-Imports-Import.ensures)
 
 pub returns-in-Functions-Func : goal.returns-in-Functions-Func
 returns-in-Functions-Func g c =
-    rw (c.in-Functions-Func.is-0, c.in-Functions-Func.is-1) (one_written g.S.Sink.rules (entry Functions) (InRangeEntry Functions) c.args.out.now c.encode-in-Functions-Func.new.out (meaning.type_index c.in-Functions-Func.func.ty) c.encode-in-Functions-Func.result c.encode-in-Functions-Func.ensures)
+    rw (c.in-Functions-Func.is-0, c.in-Functions-Func.is-1)
+    (one_written g.S.Sink.rules (entry Functions) (InRangeEntry Functions) c.args.out.now c.encode-in-Functions-Func.new.out
+    (meaning.type_index c.in-Functions-Func.func.ty) c.encode-in-Functions-Func.result c.encode-in-Functions-Func.ensures)
 
 pub returns-in-Tables-Table : goal.returns-in-Tables-Table
 returns-in-Tables-Table g c =
-    rw (c.in-Tables-Table.is-0, c.in-Tables-Table.is-1) (one_written g.S.Sink.rules (entry Tables) (InRangeEntry Tables) c.args.out.now c.encode-in-Tables-Table.new.out (meaning.as_table c.in-Tables-Table.table) c.encode-in-Tables-Table.result c.encode-in-Tables-Table.ensures)
+    rw (c.in-Tables-Table.is-0, c.in-Tables-Table.is-1)
+    (one_written g.S.Sink.rules (entry Tables) (InRangeEntry Tables) c.args.out.now c.encode-in-Tables-Table.new.out
+    (meaning.as_table c.in-Tables-Table.table) c.encode-in-Tables-Table.result c.encode-in-Tables-Table.ensures)
 
 pub returns-in-Memories-Memory : goal.returns-in-Memories-Memory
 returns-in-Memories-Memory g c =
-    rw (c.in-Memories-Memory.is-0, c.in-Memories-Memory.is-1) (one_written g.S.Sink.rules (entry Memories) (InRangeEntry Memories) c.args.out.now c.encode-in-Memories-Memory.new.out (meaning.as_memory c.in-Memories-Memory.memory) c.encode-in-Memories-Memory.result c.encode-in-Memories-Memory.ensures)
+    rw (c.in-Memories-Memory.is-0, c.in-Memories-Memory.is-1)
+    (one_written g.S.Sink.rules (entry Memories) (InRangeEntry Memories) c.args.out.now c.encode-in-Memories-Memory.new.out
+    (meaning.as_memory c.in-Memories-Memory.memory) c.encode-in-Memories-Memory.result c.encode-in-Memories-Memory.ensures)
 
 pub returns-in-Tags-Tag : goal.returns-in-Tags-Tag
 returns-in-Tags-Tag g c =
-    rw (c.in-Tags-Tag.is-0, c.in-Tags-Tag.is-1) (one_written g.S.Sink.rules (entry Tags) (InRangeEntry Tags) c.args.out.now c.encode-in-Tags-Tag.new.out (meaning.as_tag c.in-Tags-Tag.tag) c.encode-in-Tags-Tag.result c.encode-in-Tags-Tag.ensures)
+    rw (c.in-Tags-Tag.is-0, c.in-Tags-Tag.is-1)
+    (one_written g.S.Sink.rules (entry Tags) (InRangeEntry Tags) c.args.out.now c.encode-in-Tags-Tag.new.out
+    (meaning.as_tag c.in-Tags-Tag.tag) c.encode-in-Tags-Tag.result c.encode-in-Tags-Tag.ensures)
 
 pub returns-in-Globals-Global : goal.returns-in-Globals-Global
 returns-in-Globals-Global g c =
-    rw (c.in-Globals-Global.is-0, c.in-Globals-Global.is-1) (one_written g.S.Sink.rules (entry Globals) (InRangeEntry Globals) c.args.out.now c.encode-in-Globals-Global.new.out (meaning.as_global c.in-Globals-Global.global) c.encode-in-Globals-Global.result c.encode-in-Globals-Global.ensures)
+    rw (c.in-Globals-Global.is-0, c.in-Globals-Global.is-1)
+    (one_written g.S.Sink.rules (entry Globals) (InRangeEntry Globals) c.args.out.now c.encode-in-Globals-Global.new.out
+    (meaning.as_global c.in-Globals-Global.global) c.encode-in-Globals-Global.result c.encode-in-Globals-Global.ensures)
 
 pub returns-in-Exports-Export : goal.returns-in-Exports-Export
 returns-in-Exports-Export g c =
-    rw (c.in-Exports-Export.is-0, c.in-Exports-Export.is-1) (one_written g.S.Sink.rules (entry Exports) (InRangeEntry Exports) c.args.out.now c.encode-in-Exports-Export.new.out (meaning.as_export c.in-Exports-Export.export) c.encode-in-Exports-Export.result c.encode-in-Exports-Export.ensures)
+    rw (c.in-Exports-Export.is-0, c.in-Exports-Export.is-1)
+    (one_written g.S.Sink.rules (entry Exports) (InRangeEntry Exports) c.args.out.now c.encode-in-Exports-Export.new.out
+    (meaning.as_export c.in-Exports-Export.export) c.encode-in-Exports-Export.result c.encode-in-Exports-Export.ensures)
 
 pub returns-in-Elements-Elem : goal.returns-in-Elements-Elem
 returns-in-Elements-Elem g c =
-    rw (c.in-Elements-Elem.is-0, c.in-Elements-Elem.is-1) (one_written g.S.Sink.rules (entry Elements) (InRangeEntry Elements) c.args.out.now c.encode-in-Elements-Elem.new.out (meaning.as_element c.in-Elements-Elem.elem) c.encode-in-Elements-Elem.result c.encode-in-Elements-Elem.ensures)
+    rw (c.in-Elements-Elem.is-0, c.in-Elements-Elem.is-1)
+    (one_written g.S.Sink.rules (entry Elements) (InRangeEntry Elements) c.args.out.now c.encode-in-Elements-Elem.new.out
+    (meaning.as_element c.in-Elements-Elem.elem) c.encode-in-Elements-Elem.result c.encode-in-Elements-Elem.ensures)
 
 pub returns-in-Code-Func : goal.returns-in-Code-Func
 returns-in-Code-Func g c =
-    rw (c.in-Code-Func.is-0, c.in-Code-Func.is-1) (one_written g.S.Sink.rules (entry Code) (InRangeEntry Code) c.args.out.now c.encode-in-Code-Func.new.out (meaning.as_body c.in-Code-Func.func.kind) c.encode-in-Code-Func.result c.encode-in-Code-Func.ensures)
+    rw (c.in-Code-Func.is-0, c.in-Code-Func.is-1)
+    (one_written g.S.Sink.rules (entry Code) (InRangeEntry Code) c.args.out.now c.encode-in-Code-Func.new.out
+    (meaning.as_body c.in-Code-Func.func.kind) c.encode-in-Code-Func.result c.encode-in-Code-Func.ensures)
 
 pub returns-in-Data-Data : goal.returns-in-Data-Data
 returns-in-Data-Data g c =
-    rw (c.in-Data-Data.is-0, c.in-Data-Data.is-1) (one_written g.S.Sink.rules (entry Data) (InRangeEntry Data) c.args.out.now c.encode-in-Data-Data.new.out (meaning.as_data c.in-Data-Data.«data») c.encode-in-Data-Data.result c.encode-in-Data-Data.ensures)
+    rw (c.in-Data-Data.is-0, c.in-Data-Data.is-1)
+    (one_written g.S.Sink.rules (entry Data) (InRangeEntry Data) c.args.out.now c.encode-in-Data-Data.new.out
+    (meaning.as_data c.in-Data-Data.«data») c.encode-in-Data-Data.result c.encode-in-Data-Data.ensures)
 
 -- Or no entry.
 pub returns-in_default : goal.returns-in_default

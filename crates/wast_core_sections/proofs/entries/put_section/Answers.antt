@@ -12,7 +12,8 @@ pub returns-in_default : goal.returns-in_default
 returns-in_default g c =
     let k = section_kind c.args.kind in
     let there = entries k c.args.fields.now in
-    too_large g.S.Sink.rules (All InRangePart (section_part k there)) c.args.out.now (flat_map part (section_part k there)) g.met.S.Sink.laws (λ h. c.in_default.ensures.none refl (counted_in_range k there h))
+    too_large g.S.Sink.rules (All InRangePart (section_part k there)) c.args.out.now (flat_map part (section_part k there)) g.met.S.Sink.laws
+    (λ h. c.in_default.ensures.none refl (counted_in_range k there h))
 
 pub returns-then-count-eq0 : goal.returns-then-count-eq0
 returns-then-count-eq0 g c =
@@ -24,5 +25,6 @@ put_listed-requires g c = c.section_fields-there.ensures.ready c.requires.ready
 
 pub returns : goal.returns
 returns g c =
-    listed_written g.S.Sink.rules (section_kind c.args.kind) c.args.fields.now c.section_fields-there.result.now c.args.out.now c.put_listed.new.out c.id-id.result c.in-Some.count c.put_listed.result
+    listed_written g.S.Sink.rules (section_kind c.args.kind) c.args.fields.now c.section_fields-there.result.now c.args.out.now c.put_listed.new.out
+    c.id-id.result c.in-Some.count c.put_listed.result
     c.id-id.ensures c.section_fields-there.ensures.same c.in-Some.ensures.some c.if-count-eq0.false c.put_listed.ensures

@@ -18,4 +18,5 @@ returns-clause-same c =
 pub returns-clause-ready : goal.returns-clause-ready
 returns-clause-ready c h =
     let fields = c.args.fields.now in
-    rw c.of.ensures (all_pass_there is_encodable_field fields c.reach_of.result (is_inside_of (can_contribute (section_kind c.args.kind)) fields c.reach_of.result (c.reach_of.ensures fields c.requires)) h)
+    rw c.of.ensures (all_pass_there is_encodable_field fields c.reach_of.result
+    (is_inside_of (can_contribute (section_kind c.args.kind)) fields c.reach_of.result (c.reach_of.ensures fields c.requires)) h)

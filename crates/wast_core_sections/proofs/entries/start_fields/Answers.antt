@@ -17,4 +17,5 @@ returns-clause-same c =
 pub returns-clause-ready : goal.returns-clause-ready
 returns-clause-ready c h =
     let fields = c.args.fields.now in
-    rw c.of.ensures (all_pass_there is_encodable_field fields c.of_kind.result (is_inside_of (is_of kind.Start) fields c.of_kind.result (c.of_kind.ensures fields c.requires)) h)
+    rw c.of.ensures (all_pass_there is_encodable_field fields c.of_kind.result
+    (is_inside_of (is_of kind.Start) fields c.of_kind.result (c.of_kind.ensures fields c.requires)) h)

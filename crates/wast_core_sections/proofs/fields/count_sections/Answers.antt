@@ -5,4 +5,5 @@ use Rattle.wast_core_sections.proofs.fields.count_sections.Goals as goal
 
 pub returns-in-Err : goal.returns-in-Err
 returns-in-Err c =
-    refused_by_count {A = Unit {0}} (text_seen c.args.name) c.args.fields.now c.new-length.result c.put_sections.new.out (Err c.in-Err.refusal) c.new-length.ensures c.in-Err.ensures
+    refused_by_count {A = Unit {0}} (text_seen c.args.name) c.args.fields.now c.new-length.result c.put_sections.new.out
+    (Err c.in-Err.refusal) c.new-length.ensures c.in-Err.ensures

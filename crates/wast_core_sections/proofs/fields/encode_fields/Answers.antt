@@ -13,7 +13,8 @@ returns-clause-bytes c =
     let fields = c.args.fields.now in
     let put = c.in_ok-bytes.ensures.bytes in
     let small : All (λ x. x < 256) c.as_it_is-written.result.items = λ k d lt. omega arith in
-    reads_module name fields c.as_it_is-written.result.items c.requires.encodable c.requires.names put.1 (ap (λ v. v.items) c.as_it_is-written.ensures ∙ put.0) small
+    reads_module name fields c.as_it_is-written.result.items c.requires.encodable c.requires.names put.1
+    (ap (λ v. v.items) c.as_it_is-written.ensures ∙ put.0) small
 
 pub returns-in_err-bytes-clause-refusal : goal.returns-in_err-bytes-clause-refusal
 returns-in_err-bytes-clause-refusal c =

@@ -20,9 +20,12 @@ pub returns-in_err-put_sections-in-None : goal.returns-in_err-put_sections-in-No
 returns-in_err-put_sections-in-None g c =
     let p = err_from_is_err_and c.from_residual.result c.from_residual.ensures.1 in
     rw p.1
-    (fields_refused g.S.Sink.rules c.args.out.now c.put_sections.new.out (text_seen c.args.name) (text_seen c.args.name) c.args.fields.now c.args.fields.now c.in_err-put_sections-in-None.field-0.0 p.0 refl refl
+    (fields_refused g.S.Sink.rules c.args.out.now c.put_sections.new.out (text_seen c.args.name)
+    (text_seen c.args.name) c.args.fields.now c.args.fields.now c.in_err-put_sections-in-None.field-0.0 p.0 refl refl
     (sym c.scan_for_encoding-seen.ensures.uncovered ∙ c.in-None.is) p.2 c.in_err-put_sections-in-None.ensures)
 
 pub returns-in_ok-put_sections-in-None : goal.returns-in_ok-put_sections-in-None
 returns-in_ok-put_sections-in-None g c =
-    fields_put g.S.Sink.rules c.args.out.now c.put_sections.new.out (text_seen c.args.name) (text_seen c.args.name) c.args.fields.now c.args.fields.now refl refl (sym c.scan_for_encoding-seen.ensures.uncovered ∙ c.in-None.is) c.in_ok-put_sections-in-None.ensures
+    fields_put g.S.Sink.rules c.args.out.now c.put_sections.new.out (text_seen c.args.name)
+    (text_seen c.args.name) c.args.fields.now c.args.fields.now refl refl (sym c.scan_for_encoding-seen.ensures.uncovered
+    ∙ c.in-None.is) c.in_ok-put_sections-in-None.ensures

@@ -18,9 +18,11 @@ returns-in_err-out-clause-refusal c =
 
 pub returns-in-Ok-clause-bytes : goal.returns-in-Ok-clause-bytes
 returns-in-Ok-clause-bytes c =
-    let whole = whole_or_refused {A = Unit {0}} (λ s. s.bytes.items) c.in_ok-out.out c.put_sections.new.out (text_seen c.args.name) c.args.fields.now (Ok tt) c.in_ok-out.ensures.ok c.in-Ok.ensures in
+    let whole = whole_or_refused {A = Unit {0}} (λ s. s.bytes.items) c.in_ok-out.out c.put_sections.new.out (text_seen c.args.name) c.args.fields.now
+    (Ok tt) c.in_ok-out.ensures.ok c.in-Ok.ensures in
     (ap (λ v. v.items) c.finish.ensures ∙ whole.0.0, whole.0.1)
 
 pub returns-in-Err-clause-refusal : goal.returns-in-Err-clause-refusal
 returns-in-Err-clause-refusal c =
-    (whole_or_refused {A = Unit {0}} (λ s. s.bytes.items) c.in_ok-out.out c.put_sections.new.out (text_seen c.args.name) c.args.fields.now (Err c.in-Err.refusal) c.in_ok-out.ensures.ok c.in-Err.ensures).1
+    (whole_or_refused {A = Unit {0}} (λ s. s.bytes.items) c.in_ok-out.out c.put_sections.new.out (text_seen c.args.name) c.args.fields.now
+    (Err c.in-Err.refusal) c.in_ok-out.ensures.ok c.in-Err.ensures).1

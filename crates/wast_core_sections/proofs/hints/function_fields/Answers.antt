@@ -9,14 +9,18 @@ use Rattle.wast_core_sections.proofs.hints.function_fields.Goals as goal
 pub of-requires : goal.of-requires
 of-requires c =
     let fields = c.args.fields.now in
-    is_inside_of is_function_or_import fields c.union.result (c.union.ensures (is_of kind.Func) (is_of kind.Import) fields (c.of_kind.ensures fields c.requires) (c.of_kind-imports.ensures fields c.requires))
+    is_inside_of is_function_or_import fields c.union.result (c.union.ensures (is_of kind.Func) (is_of kind.Import) fields
+    (c.of_kind.ensures fields c.requires) (c.of_kind-imports.ensures fields c.requires))
 
 pub returns-clause-same : goal.returns-clause-same
 returns-clause-same c =
     let fields = c.args.fields.now in
-    rw c.of.ensures (all_there functions_in is_function_or_import fields c.union.result no_function_elsewhere (c.union.ensures (is_of kind.Func) (is_of kind.Import) fields (c.of_kind.ensures fields c.requires) (c.of_kind-imports.ensures fields c.requires)))
+    rw c.of.ensures (all_there functions_in is_function_or_import fields c.union.result no_function_elsewhere
+    (c.union.ensures (is_of kind.Func) (is_of kind.Import) fields (c.of_kind.ensures fields c.requires) (c.of_kind-imports.ensures fields c.requires)))
 
 pub returns-clause-ready : goal.returns-clause-ready
 returns-clause-ready c h =
     let fields = c.args.fields.now in
-    rw c.of.ensures (all_pass_there is_encodable_field fields c.union.result (is_inside_of is_function_or_import fields c.union.result (c.union.ensures (is_of kind.Func) (is_of kind.Import) fields (c.of_kind.ensures fields c.requires) (c.of_kind-imports.ensures fields c.requires))) h)
+    rw c.of.ensures (all_pass_there is_encodable_field fields c.union.result
+    (is_inside_of is_function_or_import fields c.union.result (c.union.ensures (is_of kind.Func) (is_of kind.Import) fields
+    (c.of_kind.ensures fields c.requires) (c.of_kind-imports.ensures fields c.requires))) h)

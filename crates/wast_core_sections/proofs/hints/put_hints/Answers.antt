@@ -14,7 +14,8 @@ returns-in_default g c =
     let fields = c.args.fields.now in
     let all = hinted_functions fields in
     too_large g.S.Sink.rules (All InRangePart (hints_part all) × InRangeHints all) c.args.out.now (flat_map part (hints_part all)) g.met.S.Sink.laws
-    (λ h. c.in_default.ensures.none refl (subst (λ fs. InRangeU32 (length fs)) (sym (alike fields c.function_fields-there.result.now c.function_fields-there.ensures.same)) h.1.0))
+    (λ h. c.in_default.ensures.none refl
+    (subst (λ fs. InRangeU32 (length fs)) (sym (alike fields c.function_fields-there.result.now c.function_fields-there.ensures.same)) h.1.0))
 
 pub put_counted-requires-clause-ready : goal.put_counted-requires-clause-ready
 put_counted-requires-clause-ready g c = c.function_fields-there.ensures.ready c.requires.ready

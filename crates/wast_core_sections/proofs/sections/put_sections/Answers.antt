@@ -19,9 +19,12 @@ returns-then-is_err g c =
     let fields = c.args.fields.now in
     let fits : Type 0 = InRangeModule name fields in
     let y : List ℕ = flat_map part (parts name fields) in
-    let second = subst (λ (l : List ℕ). Writes rules fits c.encode.new.out c.put_slots-second.new.out l c.put_slots-second.result) (flat_in_flat part (in_slot name fields) order) c.put_slots-second.ensures in
-    cut_back rules fits fits c.args.out.now c.encode.new.out c.put_slots-second.new.out c.cut.new.self header y (header ++ y) c.size-start.result c.put_slots-second.result
-    g.met.S.Sink.laws (omega (arith, length-append header y)) (λ t. t) c.in_ok-encode.ensures.0 second (sym c.is_err.ensures.value ∙ c.if-is_err.true) c.size-start.ensures c.cut.ensures
+    let second = subst (λ (l : List ℕ). Writes rules fits c.encode.new.out c.put_slots-second.new.out l c.put_slots-second.result)
+    (flat_in_flat part (in_slot name fields) order) c.put_slots-second.ensures in
+    cut_back rules fits fits c.args.out.now c.encode.new.out c.put_slots-second.new.out c.cut.new.self header y
+    (header ++ y) c.size-start.result c.put_slots-second.result
+    g.met.S.Sink.laws (omega (arith, length-append header y)) (λ t. t) c.in_ok-encode.ensures.0 second (sym c.is_err.ensures.value
+    ∙ c.if-is_err.true) c.size-start.ensures c.cut.ensures
 
 pub returns-else-is_err : goal.returns-else-is_err
 returns-else-is_err g c =
@@ -30,6 +33,7 @@ returns-else-is_err g c =
     let fields = c.args.fields.now in
     let fits : Type 0 = InRangeModule name fields in
     let y : List ℕ = flat_map part (parts name fields) in
-    let second = subst (λ (l : List ℕ). Writes rules fits c.encode.new.out c.put_slots-second.new.out l c.put_slots-second.result) (flat_in_flat part (in_slot name fields) order) c.put_slots-second.ensures in
+    let second = subst (λ (l : List ℕ). Writes rules fits c.encode.new.out c.put_slots-second.new.out l c.put_slots-second.result)
+    (flat_in_flat part (in_slot name fields) order) c.put_slots-second.ensures in
     written_behind rules fits c.args.out.now c.encode.new.out c.put_slots-second.new.out header y c.put_slots-second.result
     g.met.S.Sink.laws c.in_ok-encode.ensures.0 second (sym c.is_err.ensures.value ∙ c.if-is_err.false)

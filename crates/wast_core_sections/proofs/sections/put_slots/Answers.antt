@@ -22,8 +22,11 @@ returns-then-is_err g c =
     let fits : Slot → Type 0 = λ s. InRangeSlot (text_seen c.args.name) c.args.fields.now s in
     let x = flat_map f (take k xs) in
     let it = get_or xs k (slot.Custom at.BeforeFirst) in
-    cut_back rules (All fits xs) (fits it) c.args.out.now c.loop-slot.out c.put_slot-result.new.out c.cut.new.self x (f it) (flat_map f xs) c.size-start.result c.put_slot-result.result
-    g.met.S.Sink.laws (length-flat_map-take f xs k (slot.Custom at.BeforeFirst) c.loop-slot-test.true) (λ t. t k (slot.Custom at.BeforeFirst) c.loop-slot-test.true) c.loop-slot.invariant.told c.put_slot-result.ensures (sym c.is_err.ensures.value ∙ c.if-is_err.true) c.size-start.ensures c.cut.ensures
+    cut_back rules (All fits xs) (fits it) c.args.out.now c.loop-slot.out c.put_slot-result.new.out c.cut.new.self x (f it)
+    (flat_map f xs) c.size-start.result c.put_slot-result.result
+    g.met.S.Sink.laws (length-flat_map-take f xs k (slot.Custom at.BeforeFirst) c.loop-slot-test.true)
+    (λ t. t k (slot.Custom at.BeforeFirst) c.loop-slot-test.true) c.loop-slot.invariant.told c.put_slot-result.ensures
+    (sym c.is_err.ensures.value ∙ c.if-is_err.true) c.size-start.ensures c.cut.ensures
 
 pub loop-slot-preserved : goal.loop-slot-preserved
 loop-slot-preserved g c =
@@ -32,8 +35,11 @@ loop-slot-preserved g c =
     let k = c.loop-slot.slot-index in
     let it = get_or xs k (slot.Custom at.BeforeFirst) in
     let i = c.loop-slot.invariant in
-    let more = one_item_more rules (λ s. flat_map part (in_slot (text_seen c.args.name) c.args.fields.now s)) (λ s. InRangeSlot (text_seen c.args.name) c.args.fields.now s) c.args.out.now c.loop-slot.out c.put_slot-result.new.out xs k it c.put_slot-result.result
-    g.met.S.Sink.laws c.loop-slot-test.true (get_or_default xs k (slot.Custom at.BeforeFirst) it c.loop-slot-test.true) i.told i.fitting c.put_slot-result.ensures (sym c.is_err.ensures.value ∙ c.if-is_err.false) in
+    let more = one_item_more rules (λ s. flat_map part (in_slot (text_seen c.args.name) c.args.fields.now s))
+    (λ s. InRangeSlot (text_seen c.args.name) c.args.fields.now s) c.args.out.now c.loop-slot.out c.put_slot-result.new.out xs k it c.put_slot-result.result
+    g.met.S.Sink.laws c.loop-slot-test.true
+    (get_or_default xs k (slot.Custom at.BeforeFirst) it c.loop-slot-test.true) i.told i.fitting c.put_slot-result.ensures
+    (sym c.is_err.ensures.value ∙ c.if-is_err.false) in
     record { told = more.0; fitting = more.1; at = i.at }
 
 pub returns : goal.returns

@@ -6,4 +6,5 @@ use Rattle.wast_expand_keys.proofs.keys.types_of.Given as goal
 
 abbrev pub invariant-loop-param : goal.invariant-loop-param
 invariant-loop-param l =
-    l.types.items ++ map (numbered_val (numbers_in l.cx)) (map type_of_param (drop l.param-index l.params)) ≡ map (numbered_val (numbers_in l.cx)) (map type_of_param l.params)
+    l.types.items ++ map (numbered_val (numbers_in l.cx)) (map type_of_param (drop l.param-index l.params)) ≡ map (numbered_val (numbers_in l.cx))
+    (map type_of_param l.params)

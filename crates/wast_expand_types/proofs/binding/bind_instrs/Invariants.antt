@@ -6,4 +6,5 @@ use Rattle.wast_expand_types.proofs.Halfway.{IsHalfway}
 use Rattle.wast_expand_types.proofs.binding.bind_instrs.Given as goal
 
 abbrev pub invariant-loop-i : goal.invariant-loop-i
-invariant-loop-i l = IsHalfway (λ i. needed_in (in_instr constant_context i)) (λ find. mapped_instr (binding_change find) constant_context) l.fn.instrs l.instrs l.i l.fn.binder l.binder
+invariant-loop-i l = IsHalfway (λ i. needed_in (in_instr constant_context i))
+    (λ find. mapped_instr (binding_change find) constant_context) l.fn.instrs l.instrs l.i l.fn.binder l.binder

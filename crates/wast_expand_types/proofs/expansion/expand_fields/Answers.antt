@@ -14,8 +14,11 @@ pub returns-clause-refusal : goal.returns-clause-refusal
 returns-clause-refusal c =
     let e = c.in_ok-name_types.ensures in
     let knows : (q : Name) → numbers_in c.with_names-cx.result q ≡ type_names c.args.fields.now q =
-    λ q. ap (λ (cx : Bound). numbers_in cx q) c.with_names-cx.ensures ∙ ap (position_of q) (e.names ∙ ap (λ (ns : List (Option Name)). ns ++ names_in space.Ty (items c.args.fields.now)) c.none-names.ensures) in
-    let total = counts c.args.gensym.now c.args.fields.now c.name_types.new.fields c.as_slice.result.now c.with_names-cx.result (record { alloc = c.args.alloc; cx = c.bind_types.new.cx; implied = c.new.result; gensym = c.replace.result }) e.fields (c.replace.ensures.value ∙ e.counted) c.as_slice.ensures
+    λ q. ap (λ (cx : Bound). numbers_in cx q) c.with_names-cx.ensures
+    ∙ ap (position_of q) (e.names ∙ ap (λ (ns : List (Option Name)). ns ++ names_in space.Ty (items c.args.fields.now)) c.none-names.ensures) in
+    let total = counts c.args.gensym.now c.args.fields.now c.name_types.new.fields c.as_slice.result.now c.with_names-cx.result
+    (record { alloc = c.args.alloc; cx = c.bind_types.new.cx; implied = c.new.result; gensym = c.replace.result }) e.fields
+    (c.replace.ensures.value ∙ e.counted) c.as_slice.ensures
     knows (ap (λ (cx : Bound). cx.bound) c.with_names-cx.ensures) c.new.ensures c.in_ok-bind_types.ensures.names c.in_ok-bind_types.ensures.ok in
     inl (subst (λ n. RunsOut n c.in-Err.e) total c.in-Err.ensures.refusal)
 
@@ -23,8 +26,14 @@ pub returns-in-Ok-clause-list : goal.returns-in-Ok-clause-list
 returns-in-Ok-clause-list c =
     let e = c.in_ok-name_types.ensures in
     let knows : (q : Name) → numbers_in c.with_names-cx.result q ≡ type_names c.args.fields.now q =
-    λ q. ap (λ (cx : Bound). numbers_in cx q) c.with_names-cx.ensures ∙ ap (position_of q) (e.names ∙ ap (λ (ns : List (Option Name)). ns ++ names_in space.Ty (items c.args.fields.now)) c.none-names.ensures) in
-    lists c.args.gensym.now c.args.fields.now c.name_types.new.fields c.as_slice.result.now c.with_names-cx.result (record { alloc = c.args.alloc; cx = c.bind_types.new.cx; implied = c.new.result; gensym = c.replace.result }) e.fields (c.replace.ensures.value ∙ e.counted) c.as_slice.ensures
+    λ q. ap (λ (cx : Bound). numbers_in cx q) c.with_names-cx.ensures
+    ∙ ap (position_of q) (e.names ∙ ap (λ (ns : List (Option Name)). ns ++ names_in space.Ty (items c.args.fields.now)) c.none-names.ensures) in
+    lists c.args.gensym.now c.args.fields.now c.name_types.new.fields c.as_slice.result.now c.with_names-cx.result (record {
+      alloc = c.args.alloc;
+      cx = c.bind_types.new.cx;
+      implied = c.new.result;
+      gensym = c.replace.result;
+    }) e.fields (c.replace.ensures.value ∙ e.counted) c.as_slice.ensures
     knows (ap (λ (cx : Bound). cx.bound) c.with_names-cx.ensures) c.new.ensures c.in_ok-bind_types.ensures.names c.in_ok-bind_types.ensures.ok
     c.in-Ok.ensures.adds c.in-Ok.ensures.bound c.in_ok-append-in-Ok.ensures.ok
 
@@ -32,7 +41,13 @@ pub returns-in-Ok-clause-counted : goal.returns-in-Ok-clause-counted
 returns-in-Ok-clause-counted c =
     let e = c.in_ok-name_types.ensures in
     let knows : (q : Name) → numbers_in c.with_names-cx.result q ≡ type_names c.args.fields.now q =
-    λ q. ap (λ (cx : Bound). numbers_in cx q) c.with_names-cx.ensures ∙ ap (position_of q) (e.names ∙ ap (λ (ns : List (Option Name)). ns ++ names_in space.Ty (items c.args.fields.now)) c.none-names.ensures) in
+    λ q. ap (λ (cx : Bound). numbers_in cx q) c.with_names-cx.ensures
+    ∙ ap (position_of q) (e.names ∙ ap (λ (ns : List (Option Name)). ns ++ names_in space.Ty (items c.args.fields.now)) c.none-names.ensures) in
     c.in-Ok.ensures.adds.counter
-    ∙ counts c.args.gensym.now c.args.fields.now c.name_types.new.fields c.as_slice.result.now c.with_names-cx.result (record { alloc = c.args.alloc; cx = c.bind_types.new.cx; implied = c.new.result; gensym = c.replace.result }) e.fields (c.replace.ensures.value ∙ e.counted) c.as_slice.ensures
+    ∙ counts c.args.gensym.now c.args.fields.now c.name_types.new.fields c.as_slice.result.now c.with_names-cx.result (record {
+      alloc = c.args.alloc;
+      cx = c.bind_types.new.cx;
+      implied = c.new.result;
+      gensym = c.replace.result;
+    }) e.fields (c.replace.ensures.value ∙ e.counted) c.as_slice.ensures
     knows (ap (λ (cx : Bound). cx.bound) c.with_names-cx.ensures) c.new.ensures c.in_ok-bind_types.ensures.names c.in_ok-bind_types.ensures.ok

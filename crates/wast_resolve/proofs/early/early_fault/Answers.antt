@@ -10,13 +10,15 @@ pub returns-in_err-check_order-clause-refusal : goal.returns-in_err-check_order-
 returns-in_err-check_order-clause-refusal c =
     let fs = c.args.fields.now in
     let p = err_from_is_err_and c.from_residual.result c.from_residual.ensures.1 in
-    rw (p.1, p.2) (answers_first (diagnostic_of c.in_err-check_order.field-0.0) (order_demands fs) (item_demands (items fs)) (λ l. absurd l) (λ m. absurd m) c.in_err-check_order.ensures)
+    rw (p.1, p.2) (answers_first (diagnostic_of c.in_err-check_order.field-0.0) (order_demands fs) (item_demands (items fs)) (λ l. absurd l)
+    (λ m. absurd m) c.in_err-check_order.ensures)
 
 pub returns-in_err-name_spaces-clause-refusal : goal.returns-in_err-name_spaces-clause-refusal
 returns-in_err-name_spaces-clause-refusal c =
     let fs = c.args.fields.now in
     let p = err_from_is_err_and c.from_residual-in_err-name_spaces.result c.from_residual-in_err-name_spaces.ensures.1 in
-    rw (p.1, p.2) (answers_after (diagnostic_of c.in_err-name_spaces.field-0.0) (order_demands fs) (item_demands (items fs)) (λ l. l) (λ m. m) c.in_ok-check_order.ensures c.in_err-name_spaces.ensures.refusal)
+    rw (p.1, p.2) (answers_after (diagnostic_of c.in_err-name_spaces.field-0.0) (order_demands fs) (item_demands (items fs)) (λ l. l)
+    (λ m. m) c.in_ok-check_order.ensures c.in_err-name_spaces.ensures.refusal)
 
 pub returns-clause-met : goal.returns-clause-met
 returns-clause-met c =

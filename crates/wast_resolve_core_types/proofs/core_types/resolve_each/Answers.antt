@@ -4,15 +4,18 @@ use Rattle.wast_resolve_core_types.proofs.CallingEach.{next_needs, next_called, 
 use Rattle.wast_resolve_core_types.proofs.core_types.resolve_each.Goals as goal
 
 pub resolve_with-requires : goal.resolve_with-requires
-resolve_with-requires g c = let needs = next_needs c.loop-i.invariant (omega (arith, c.loop-i-test.true, c.len-i-end.ensures)) c.at_mut.ensures.value c.requires in search rules
+resolve_with-requires g c = let needs =
+    next_needs c.loop-i.invariant (omega (arith, c.loop-i-test.true, c.len-i-end.ensures)) c.at_mut.ensures.value c.requires in search rules
 
 pub returns-in_err-resolve_with-clause-calls : goal.returns-in_err-resolve_with-clause-calls
 returns-in_err-resolve_with-clause-calls g c =
     let p = err_from_is_err_and c.from_residual.result c.from_residual.ensures.1 in
-    rw (p.1, p.2) (next_refused c.loop-i.invariant (omega (arith, c.loop-i-test.true, c.len-i-end.ensures)) c.at_mut.ensures.value c.in_err-resolve_with.ensures.calls)
+    rw (p.1, p.2) (next_refused c.loop-i.invariant
+    (omega (arith, c.loop-i-test.true, c.len-i-end.ensures)) c.at_mut.ensures.value c.in_err-resolve_with.ensures.calls)
 
 pub returns-in_err-resolve_with-clause-rest : goal.returns-in_err-resolve_with-clause-rest
-returns-in_err-resolve_with-clause-rest g c = rest_stays c.loop-i.invariant (omega (arith, c.loop-i-test.true, c.len-i-end.ensures)) c.at_mut.ensures.value c.in_err-resolve_with.ensures.rest
+returns-in_err-resolve_with-clause-rest g c =
+    rest_stays c.loop-i.invariant (omega (arith, c.loop-i-test.true, c.len-i-end.ensures)) c.at_mut.ensures.value c.in_err-resolve_with.ensures.rest
 
 pub loop-i-preserved : goal.loop-i-preserved
 loop-i-preserved g c =

@@ -18,7 +18,8 @@ returns-in_err-owner c =
     let asked = ask_demand s.known (ItemIndex space.Ty a.owner) in
     let t = diagnostic_of c.in_err-owner.field-0.0 in
     let p = err_from_is_err_and c.from_residual.result c.from_residual.ensures.1 in
-    rw (p.1, p.2) (answers_first t asked (field_at s.types (denoted (s.known.number space.Ty) a.owner) a.field) (λ l. l) (λ m. m) (subst (λ ds. Answers ⊥ ⊥ t (first_unmet ds)) (append-nil asked) c.in_err-owner.ensures.refusal))
+    rw (p.1, p.2) (answers_first t asked (field_at s.types (denoted (s.known.number space.Ty) a.owner) a.field) (λ l. l) (λ m. m)
+    (subst (λ ds. Answers ⊥ ⊥ t (first_unmet ds)) (append-nil asked) c.in_err-owner.ensures.refusal))
 
 pub returns-in_err-number_field : goal.returns-in_err-number_field
 returns-in_err-number_field c =
@@ -27,7 +28,8 @@ returns-in_err-number_field c =
     let number = c.in_ok-owner.ensures.number in
     let t = diagnostic_of c.in_err-number_field.field-0.0 in
     let p = err_from_is_err_and c.from_residual-in_err-number_field.result c.from_residual-in_err-number_field.ensures.1 in
-    rw (p.1, p.2) (answers_after t (ask_demand s.known (ItemIndex space.Ty a.owner)) (field_at s.types (denoted (s.known.number space.Ty) a.owner) a.field) (λ l. l) (λ m. m) (owner_met s a.owner number)
+    rw (p.1, p.2) (answers_after t (ask_demand s.known (ItemIndex space.Ty a.owner))
+    (field_at s.types (denoted (s.known.number space.Ty) a.owner) a.field) (λ l. l) (λ m. m) (owner_met s a.owner number)
     (subst (λ o. Answers ⊥ ⊥ t (first_unmet (field_at s.types o a.field))) (sym number) c.in_err-number_field.ensures))
 
 pub returns : goal.returns
@@ -36,7 +38,8 @@ returns c =
     let a = c.args.access.now in
     let number = c.in_ok-owner.ensures.number in
     let found = c.in_ok-number_field.ensures in (
-      first_unmet-append (ask_demand s.known (ItemIndex space.Ty a.owner)) (field_at s.types (denoted (s.known.number space.Ty) a.owner) a.field) (owner_met s a.owner number)
+      first_unmet-append (ask_demand s.known (ItemIndex space.Ty a.owner)) (field_at s.types (denoted (s.known.number space.Ty) a.owner) a.field)
+          (owner_met s a.owner number)
           ∙ (ap (λ o. first_unmet (field_at s.types o a.field)) number ∙ found.0),
       λ i. record { owner = c.number.ensures.index i; field = (found.1 ∙ ap (λ o. resolved_index (field_in (type_at s.types o)) a.field) (sym number)) i },
     )

@@ -13,12 +13,14 @@ each-preserved c =
       | then-not-is_eq+in_ok-push-2 w ↦ record {
         begun = omega arith;
         rest = subst (λ xs. IsLeft es xs (n + 1)) (sym (ap (λ v. v.items) w.firsts-is ∙ w.in_ok-push-2.ensures.items))
-            (keep_one es c.each.firsts.items n c.each.invariant.begun _ _ _ lt (ap is_eq (sym c.compare_names.ensures) ∙ sym c.is_eq.ensures ∙ w.if-not-is_eq.true) c.each.invariant.rest);
+            (keep_one es c.each.firsts.items n c.each.invariant.begun _ _ _ lt (ap is_eq (sym c.compare_names.ensures) ∙ sym c.is_eq.ensures
+            ∙ w.if-not-is_eq.true) c.each.invariant.rest);
       }
       | else-not-is_eq w ↦ record {
         begun = omega arith;
         rest = subst (λ xs. IsLeft es xs (n + 1)) (sym (ap (λ v. v.items) w.firsts-is))
-            (skip_one es c.each.firsts.items n c.each.invariant.begun _ _ lt (ap is_eq (sym c.compare_names.ensures) ∙ sym c.is_eq.ensures ∙ w.if-not-is_eq.false) c.each.invariant.rest);
+            (skip_one es c.each.firsts.items n c.each.invariant.begun _ _ lt (ap is_eq (sym c.compare_names.ensures) ∙ sym c.is_eq.ensures
+            ∙ w.if-not-is_eq.false) c.each.invariant.rest);
       }
     ]
 

@@ -14,6 +14,7 @@ returns-then-is_same c =
 pub returns-else-at-names : goal.returns-else-at-names
 returns-else-at-names c =
     nowhere c.args.names.now (name_of c.args.id.now) c.place_among-at.result c.place_among-at.ensures c.requires (λ lt d. elim c.else-at-names.branch [
-      | else-at-names-via-then-at-names+else-is_same w ↦ another_there c.args.names.now c.place_among-at.result _ d c.args.id.now lt (sym w.is_same.ensures ∙ w.if-is_same.false)
+      | else-at-names-via-then-at-names+else-is_same w ↦ another_there c.args.names.now c.place_among-at.result _ d c.args.id.now lt
+          (sym w.is_same.ensures ∙ w.if-is_same.false)
       | else-at-names-via-else-at-names w ↦ absurd (omega (arith, w.if-at-names.false, lt))
     ])

@@ -12,9 +12,11 @@ back-preserved c =
       same = c.swap.ensures.len ∙ c.back.invariant.same;
       permutation = IsPermutation-trans _ _ _ c.back.invariant.permutation c.swap.ensures.permutation;
       heads = heads_swapped c.back.pairs c.swap.new.self c.back.heads c.swap-in-back.new.self (c.args.last + 1) (at - 1) at
-          (omega (arith, next, c.back.invariant.within)) (omega (arith, c.back.invariant.within)) c.swap.ensures.by_index c.swap-in-back.ensures.by_index c.back.invariant.heads;
+          (omega (arith, next, c.back.invariant.within))
+          (omega (arith, c.back.invariant.within)) c.swap.ensures.by_index c.swap-in-back.ensures.by_index c.back.invariant.heads;
       way = step_back c.back.pairs c.swap.new.self (c.args.last + 1) at (at - 1) next c.swap.ensures.by_index _ _
-          (omega (arith, c.back.invariant.within, c.back.invariant.same, c.requires.within)) (sym c.comes_before.ensures ∙ c.if-not-comes_before.false) c.back.invariant.way;
+          (omega (arith, c.back.invariant.within, c.back.invariant.same, c.requires.within)) (sym c.comes_before.ensures
+          ∙ c.if-not-comes_before.false) c.back.invariant.way;
     }
 
 pub returns-then-not-comes_before-clause-sorted : goal.returns-then-not-comes_before-clause-sorted

@@ -5,4 +5,5 @@ use Rattle.wast_resolve_names.proofs.Parts.{walks_asking}
 use Rattle.wast_resolve_passes.proofs.apart.walk_outside_index.Goals as goal
 
 pub returns : goal.returns
-returns c = walks_asking (scope_of c.args.names.now) (in_index c.args.space c.args.index.now) (numbered_at (known_of c.args.names.now) c.args.space c.args.index.now) c.walk_index.new.index c.walk_index.result c.walk_index.ensures
+returns c = walks_asking (scope_of c.args.names.now) (in_index c.args.space c.args.index.now)
+    (numbered_at (known_of c.args.names.now) c.args.space c.args.index.now) c.walk_index.new.index c.walk_index.result c.walk_index.ensures

@@ -15,9 +15,11 @@ returns-in_err-walk_constants g c =
     let olds = c.args.parts.now in
     let x = c.at_mut.result.now in
     let lt : c.loop-i.i < length c.args.parts.now = omega (arith, c.loop-i-test.true, c.len-i-end.ensures) in
-    rw (p.1, p.2) (answers_more t _ _ (λ m. m) (many_sites (flat_map stands olds) (flat_map stands (take c.loop-i.i olds)) (stands x) (flat_map stands (drop (suc c.loop-i.i) olds)) (split stands c.loop-i.invariant lt c.at_mut.ensures.value)) (λ f h. h)
+    rw (p.1, p.2) (answers_more t _ _ (λ m. m) (many_sites (flat_map stands olds) (flat_map stands (take c.loop-i.i olds)) (stands x)
+    (flat_map stands (drop (suc c.loop-i.i) olds)) (split stands c.loop-i.invariant lt c.at_mut.ensures.value)) (λ f h. h)
     (stops_with _ _ t c.loop-i.invariant lt c.at_mut.ensures.value c.in_err-walk_constants.ensures))
 
 pub loop-i-preserved : goal.loop-i-preserved
 loop-i-preserved g c =
-    goes_on c.loop-i.invariant (omega (arith, c.loop-i-test.true, c.len-i-end.ensures)) c.at_mut.ensures.value c.in_ok-walk_constants.ensures.0 c.in_ok-walk_constants.ensures.1
+    goes_on c.loop-i.invariant (omega (arith, c.loop-i-test.true, c.len-i-end.ensures)) c.at_mut.ensures.value
+    c.in_ok-walk_constants.ensures.0 c.in_ok-walk_constants.ensures.1

@@ -5,4 +5,5 @@ use Rattle.wast_resolve_passes.proofs.Each.{IsHalfway}
 use Rattle.wast_resolve_passes.proofs.constants.walk_each_constants.Given as goal
 
 abbrev pub invariant-loop-i : goal.invariant-loop-i
-invariant-loop-i g l = IsHalfway (site_demand (scope_of l.names)) g.T.WalkConstants.stands (g.T.WalkConstants.mapped (numbering_change (scope_of l.names))) l.fn.parts l.parts l.i
+invariant-loop-i g l = IsHalfway (site_demand (scope_of l.names)) g.T.WalkConstants.stands
+    (g.T.WalkConstants.mapped (numbering_change (scope_of l.names))) l.fn.parts l.parts l.i

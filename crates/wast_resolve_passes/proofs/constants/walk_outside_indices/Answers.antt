@@ -14,5 +14,6 @@ returns c =
     let sites = flat_map (at_index c.args.space) is in
     let want = map (numbered_at (known_of c.args.names.now) c.args.space) is in
     let new = c.walk_indices.new.indices in
-    walks_as {L = ⊤} {N = HasMany (open_counts sites)} (λ l. absurd l) (λ m. absurd m) (ask_demands s.known (flat_map (in_index c.args.space) is)) (site_demands s sites) want new want new c.walk_indices.result
+    walks_as {L = ⊤} {N = HasMany (open_counts sites)} (λ l. absurd l) (λ m. absurd m) (ask_demands s.known (flat_map (in_index c.args.space) is))
+    (site_demands s sites) want new want new c.walk_indices.result
     (ap first_unmet (sym (indices_demands s c.args.space is))) (λ h. h) c.walk_indices.ensures

@@ -13,5 +13,6 @@ returns c =
     let o = c.args.index.now in
     let want = option_map (numbered_at (known_of c.args.names.now) c.args.space) o in
     let new = c.walk_optional.new.index in
-    walks_as {L = ⊥} {N = ⊥} (λ l. l) (λ m. m) (ask_demands s.known (if_there (in_index c.args.space) o)) (site_demands s (if_there (at_index c.args.space) o)) want new want new c.walk_optional.result
+    walks_as {L = ⊥} {N = ⊥} (λ l. l) (λ m. m) (ask_demands s.known (if_there (in_index c.args.space) o))
+    (site_demands s (if_there (at_index c.args.space) o)) want new want new c.walk_optional.result
     (ap first_unmet (sym (optional_demands s c.args.space o))) (λ h. h) c.walk_optional.ensures

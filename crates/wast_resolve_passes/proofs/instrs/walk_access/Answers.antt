@@ -13,5 +13,6 @@ returns c =
     let s = scope_of c.args.names.now in
     let a = c.args.access.now in
     let want = mapped_access (numbering_change s) a in
-    walks_as {L = ⊤} {N = HasMany []} (λ l. absurd l) (λ m. absurd m) (access_demand s a.owner a.field) (site_demands s (in_access a)) want c.number_access.new.access want c.number_access.new.access c.number_access.result
+    walks_as {L = ⊤} {N = HasMany []} (λ l. absurd l) (λ m. absurd m) (access_demand s a.owner a.field)
+    (site_demands s (in_access a)) want c.number_access.new.access want c.number_access.new.access c.number_access.result
     (ap first_unmet (sym (append-nil (access_demand s a.owner a.field)))) (λ h. h) c.number_access.ensures

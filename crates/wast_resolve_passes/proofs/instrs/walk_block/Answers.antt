@@ -16,7 +16,8 @@ returns-in_err-walk_block_type-clause-walks c =
     let x = c.args.block.now in
     let blocks = c.args.labels.now in
     let p = err_from_is_err_and c.from_residual.result c.from_residual.ensures.1 in
-    rw (p.1, p.2) (fails_first ⊤ (HasMany (open_counts (in_block blocks x))) (scope_of c.args.names.now) (in_use OfBlock x.ty) (Begins blocks (mark_of_option x.label) ∷ []) (diagnostic_of c.in_err-walk_block_type.field-0.0)
+    rw (p.1, p.2) (fails_first ⊤ (HasMany (open_counts (in_block blocks x))) (scope_of c.args.names.now) (in_use OfBlock x.ty)
+    (Begins blocks (mark_of_option x.label) ∷ []) (diagnostic_of c.in_err-walk_block_type.field-0.0)
     c.in_err-walk_block_type.ensures)
 
 pub returns-in_err-open_label-clause-walks : goal.returns-in_err-open_label-clause-walks
@@ -24,7 +25,8 @@ returns-in_err-open_label-clause-walks c =
     let x = c.args.block.now in
     let blocks = c.args.labels.now in
     let p = err_from_is_err_and c.from_residual-in_err-open_label.result c.from_residual-in_err-open_label.ensures.1 in
-    rw (p.1, p.2) (fails_second ⊤ (HasMany (open_counts (in_block blocks x))) (scope_of c.args.names.now) (in_use OfBlock x.ty) (Begins blocks (mark_of_option x.label) ∷ []) (diagnostic_of c.in_err-open_label.field-0.0)
+    rw (p.1, p.2) (fails_second ⊤ (HasMany (open_counts (in_block blocks x))) (scope_of c.args.names.now) (in_use OfBlock x.ty)
+    (Begins blocks (mark_of_option x.label) ∷ []) (diagnostic_of c.in_err-open_label.field-0.0)
     c.in_ok-walk_block_type.ensures.0 (c.in_err-open_label.ensures.walks c.args.names.now))
 
 pub returns-clause-walks : goal.returns-clause-walks

@@ -10,5 +10,6 @@ use Rattle.wast_resolve_passes.proofs.instrs.walk_branch.Goals as goal
 pub returns : goal.returns
 returns c names =
     let blocks = c.args.labels.now in
-    more_refused ⊤ (HasMany []) (site_demands (scope_of names) (at_label blocks c.args.label.now)) (resolved_index (λ name. label_depth name blocks) c.args.label.now)
+    more_refused ⊤ (HasMany []) (site_demands (scope_of names) (at_label blocks c.args.label.now))
+    (resolved_index (λ name. label_depth name blocks) c.args.label.now)
     c.walk_label.new.label c.walk_label.result (c.walk_label.ensures names)

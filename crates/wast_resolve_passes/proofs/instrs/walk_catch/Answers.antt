@@ -30,6 +30,7 @@ returns c =
     let x = c.args.catch.now in
     let s = scope_of c.args.names.now in
     let named = c.in_ok-walk_label.ensures c.args.names.now in (
-      both_met (site_demand s) (check_sites (in_caught x.kind)) (at_label c.args.labels.now x.label) (ap first_unmet (asking_demands s (in_caught x.kind)) ∙ c.in_ok-walk_caught.ensures.0) named.0,
+      both_met (site_demand s) (check_sites (in_caught x.kind)) (at_label c.args.labels.now x.label)
+          (ap first_unmet (asking_demands s (in_caught x.kind)) ∙ c.in_ok-walk_caught.ensures.0) named.0,
       λ i. record { kind = c.in_ok-walk_caught.ensures.1 i; label = named.1 i },
     )

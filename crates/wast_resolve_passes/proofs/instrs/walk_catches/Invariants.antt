@@ -7,4 +7,5 @@ use Rattle.wast_resolve_passes.proofs.Each.{IsHalfway}
 use Rattle.wast_resolve_passes.proofs.instrs.walk_catches.Given as goal
 
 abbrev pub invariant-loop-i : goal.invariant-loop-i
-invariant-loop-i l = IsHalfway (site_demand (scope_of l.names)) (in_catch l.labels) (mapped_catch (numbering_change (scope_of l.names)) l.labels) l.fn.catches l.catches l.i
+invariant-loop-i l = IsHalfway (site_demand (scope_of l.names)) (in_catch l.labels)
+    (mapped_catch (numbering_change (scope_of l.names)) l.labels) l.fn.catches l.catches l.i

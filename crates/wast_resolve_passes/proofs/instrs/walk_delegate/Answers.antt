@@ -15,11 +15,13 @@ returns-in_err-walk_label-clause-walks c names =
     let t = diagnostic_of c.in_err-walk_label.field-0.0 in
     let p = err_from_is_err_and c.from_residual.result c.from_residual.ensures.1 in
     rw (p.1, p.2) (answers_more t _ _ (λ l. absurd l) (λ m. absurd m) (λ f h. h)
-    (subst (λ (s : Blocks). Answers ⊥ ⊥ t (first_unmet (site_demands (scope_of names) (at_label s c.args.label.now)))) c.close.ensures (c.in_err-walk_label.ensures names)))
+    (subst (λ (s : Blocks). Answers ⊥ ⊥ t (first_unmet (site_demands (scope_of names) (at_label s c.args.label.now)))) c.close.ensures
+    (c.in_err-walk_label.ensures names)))
 
 pub returns-clause-walks : goal.returns-clause-walks
 returns-clause-walks c names =
-    subst (λ (s : Blocks). (first_unmet (site_demands (scope_of names) (at_label s c.args.label.now)) ≡ None) × (c.walk_label.new.label ≡ resolved_index (λ name. label_depth name s) c.args.label.now))
+    subst (λ (s : Blocks). (first_unmet (site_demands (scope_of names) (at_label s c.args.label.now)) ≡ None) ×
+    (c.walk_label.new.label ≡ resolved_index (λ name. label_depth name s) c.args.label.now))
     c.close.ensures (c.in_ok-walk_label.ensures names)
 
 pub returns-clause-blocks : goal.returns-clause-blocks

@@ -43,6 +43,7 @@ returns c =
     let named = c.in_ok-walk_handler_label.ensures c.args.names.now in
     let same = ap (in_handler_label blocks) tagged.1 ∙ handle_stays (numbering_change s) blocks x in (
       subst (λ (ss : List Site). first_unmet (site_demands s ss) ≡ None) (sym (handle_sites blocks x))
-          (both_met (site_demand s) (in_handler_tag x) (in_handler_label blocks x) tagged.0 (subst (λ (ss : List Site). first_unmet (site_demands s ss) ≡ None) same named.0)),
+          (both_met (site_demand s) (in_handler_tag x)
+          (in_handler_label blocks x) tagged.0 (subst (λ (ss : List Site). first_unmet (site_demands s ss) ≡ None) same named.0)),
       named.1 ∙ (ap (λ (h : Handle). with_handler_label (numbering_change s) blocks h) tagged.1 ∙ handle_becomes (numbering_change s) blocks x),
     )

@@ -11,4 +11,5 @@ pub returns-in-OnLabel : goal.returns-in-OnLabel
 returns-in-OnLabel c names =
     let blocks = c.args.labels.now in
     let l = c.in-OnLabel.label in
-    rw c.in-OnLabel.is (walks_in ⊥ ⊥ (λ (i : Index). handle.OnLabel c.in-OnLabel.tag i) (site_demands (scope_of names) (at_label blocks l)) ((numbering_change (scope_of names)).label blocks l) c.walk_label.new.label c.walk_label.result (c.walk_label.ensures names))
+    rw c.in-OnLabel.is (walks_in ⊥ ⊥ (λ (i : Index). handle.OnLabel c.in-OnLabel.tag i) (site_demands (scope_of names) (at_label blocks l))
+    ((numbering_change (scope_of names)).label blocks l) c.walk_label.new.label c.walk_label.result (c.walk_label.ensures names))

@@ -14,11 +14,14 @@ returns-in_err-walk_handles c =
     let s = scope_of c.args.names.now in
     let t = diagnostic_of c.in_err-walk_handles.field-0.0 in
     let p = err_from_is_err_and c.from_residual.result c.from_residual.ensures.1 in
-    rw (p.1, p.2) (subst (λ ds. Answers ⊥ ⊥ t (first_unmet ds)) (sym (all_but_last s (flat_map (in_handle c.args.labels.now) c.args.table.now.handlers) (Covered form.StackSwitching false) refl)) c.in_err-walk_handles.ensures)
+    rw (p.1, p.2) (subst (λ ds. Answers ⊥ ⊥ t (first_unmet ds))
+    (sym (all_but_last s (flat_map (in_handle c.args.labels.now) c.args.table.now.handlers) (Covered form.StackSwitching false) refl))
+    c.in_err-walk_handles.ensures)
 
 pub returns : goal.returns
 returns c =
     let s = scope_of c.args.names.now in (
-      ap first_unmet (all_but_last s (flat_map (in_handle c.args.labels.now) c.args.table.now.handlers) (Covered form.StackSwitching false) refl) ∙ c.in_ok-walk_handles.ensures.0,
+      ap first_unmet (all_but_last s (flat_map (in_handle c.args.labels.now) c.args.table.now.handlers) (Covered form.StackSwitching false) refl)
+          ∙ c.in_ok-walk_handles.ensures.0,
       λ i. record { handlers = c.in_ok-walk_handles.ensures.1 i },
     )

@@ -30,7 +30,8 @@ loop-i-preserved-then-try_instr c =
       λ l numbers.
           let h = context_of l s in
           let there = stands_by l s (in_instrs h (take c.loop-i.i c.args.instrs.now)) c.loop-i.labels (along.moved l) in
-          let done = subst (λ (g : BodyContext). (first_unmet (site_demands sc (in_instr g x)) ≡ None) × (c.try_instr.new.instr ≡ mapped_instr (numbering_change sc) g x)) there (c.if-try_instr.ensures.walks l numbers) in
+          let done = subst (λ (g : BodyContext). (first_unmet (site_demands sc (in_instr g x)) ≡ None) ×
+          (c.try_instr.new.instr ≡ mapped_instr (numbering_change sc) g x)) there (c.if-try_instr.ensures.walks l numbers) in
           partway_more (c.loop-i.invariant.1 l numbers) lt c.at_mut.ensures.value done.0 done.1,
     )
 
@@ -45,9 +46,11 @@ returns-in_err-walk_instr c l numbers =
     let p = partway_tried (c.loop-i.invariant.1 l numbers) c.at_mut.ensures.value (c.if-try_instr.ensures.stays refl) in
     let still = c.reach_labels.ensures ∙ c.if-try_instr.ensures.blocks in
     let there = ap (context_of l) still ∙ stands_by l s (in_instrs h (take c.loop-i.i c.args.instrs.now)) c.loop-i.labels (c.loop-i.invariant.0.moved l) in
-    let failed = subst (λ (g : BodyContext). Answers ⊤ (HasMany (open_counts (in_instr g x))) e (first_unmet (site_demands sc (in_instr g x)))) there (c.in_err-walk_instr.ensures.walks l numbers) in
+    let failed = subst (λ (g : BodyContext). Answers ⊤ (HasMany (open_counts (in_instr g x))) e (first_unmet (site_demands sc (in_instr g x)))) there
+    (c.in_err-walk_instr.ensures.walks l numbers) in
     let q = err_from_is_err_and c.from_residual-in_err-walk_instr.result c.from_residual-in_err-walk_instr.ensures.1 in
-    rw (q.1, q.2) (partway_stops p lt c.at_mut-in-loop-i.ensures.value ⊤ (HasMany (open_counts (in_instrs h c.args.instrs.now))) e (more_answers ⊤ _ _ e _ (partway_many p lt c.at_mut-in-loop-i.ensures.value) failed))
+    rw (q.1, q.2) (partway_stops p lt c.at_mut-in-loop-i.ensures.value ⊤ (HasMany (open_counts (in_instrs h c.args.instrs.now))) e
+    (more_answers ⊤ _ _ e _ (partway_many p lt c.at_mut-in-loop-i.ensures.value) failed))
 
 pub loop-i-preserved : goal.loop-i-preserved
 loop-i-preserved c =
@@ -61,7 +64,8 @@ loop-i-preserved c =
       λ l numbers.
           let h = context_of l s in
           let there = stands_by l s (in_instrs h (take c.loop-i.i c.args.instrs.now)) c.reach_labels.new.labels (along.moved l) in
-          let done = subst (λ (g : BodyContext). (first_unmet (site_demands sc (in_instr g x)) ≡ None) × (c.walk_instr.new.instr ≡ mapped_instr (numbering_change sc) g x)) there (c.in_ok-walk_instr.ensures.walks l numbers) in
+          let done = subst (λ (g : BodyContext). (first_unmet (site_demands sc (in_instr g x)) ≡ None) ×
+          (c.walk_instr.new.instr ≡ mapped_instr (numbering_change sc) g x)) there (c.in_ok-walk_instr.ensures.walks l numbers) in
           partway_more (partway_tried (c.loop-i.invariant.1 l numbers) c.at_mut.ensures.value same) lt c.at_mut-in-loop-i.ensures.value done.0 done.1,
     )
 

@@ -9,7 +9,8 @@ pub returns-in_err-walk_label : goal.returns-in_err-walk_label
 returns-in_err-walk_label c names =
     let before = tried (c.loop-i.invariant names) c.at_mut.ensures.value (c.if-try_label.ensures names) in
     let p = err_from_is_err_and c.from_residual.result c.from_residual.ensures.1 in
-    rw (p.1, p.2) (stops (diagnostic_of c.in_err-walk_label.field-0.0) before (omega (arith, c.loop-i-test.true, c.len-i-end.ensures)) c.at_mut-in-loop-i.ensures.value (c.in_err-walk_label.ensures names))
+    rw (p.1, p.2) (stops (diagnostic_of c.in_err-walk_label.field-0.0) before
+    (omega (arith, c.loop-i-test.true, c.len-i-end.ensures)) c.at_mut-in-loop-i.ensures.value (c.in_err-walk_label.ensures names))
 
 pub returns : goal.returns
 returns c names =

@@ -7,4 +7,5 @@ use Rattle.wast_resolve_passes.proofs.Each.{IsHalfway}
 use Rattle.wast_resolve_passes.proofs.instrs.walk_labels.Given as goal
 
 abbrev pub invariant-loop-i : goal.invariant-loop-i
-invariant-loop-i l = (names : Resolution) → IsHalfway (site_demand (scope_of names)) (at_label l.labels) (resolved_index (λ name. label_depth name l.labels)) l.fn.indices l.indices l.i
+invariant-loop-i l = (names : Resolution)
+    → IsHalfway (site_demand (scope_of names)) (at_label l.labels) (resolved_index (λ name. label_depth name l.labels)) l.fn.indices l.indices l.i

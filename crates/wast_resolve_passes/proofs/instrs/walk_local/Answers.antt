@@ -6,4 +6,5 @@ use Rattle.wast_resolve_passes.proofs.instrs.walk_local.Goals as goal
 
 pub returns : goal.returns
 returns c names l numbers =
-    local_walked (HasMany []) (scope_of names) l c.args.locals.now c.args.index.now c.number.new.idx c.number.result numbers c.number.ensures.answer c.number.ensures.index
+    local_walked (HasMany []) (scope_of names) l c.args.locals.now c.args.index.now c.number.new.idx c.number.result numbers c.number.ensures.answer
+    c.number.ensures.index

@@ -8,5 +8,6 @@ use Rattle.wast_resolve_passes.proofs.instrs.walk_number.Goals as goal
 
 pub returns : goal.returns
 returns c =
-    more_refused ⊤ (HasMany []) (site_demands (scope_of c.args.names.now) (at_index c.args.space c.args.index.now)) (numbered_at (known_of c.args.names.now) c.args.space c.args.index.now)
+    more_refused ⊤ (HasMany []) (site_demands (scope_of c.args.names.now) (at_index c.args.space c.args.index.now))
+    (numbered_at (known_of c.args.names.now) c.args.space c.args.index.now)
     c.walk_outside_index.new.index c.walk_outside_index.result c.walk_outside_index.ensures

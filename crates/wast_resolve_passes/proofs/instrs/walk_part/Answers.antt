@@ -11,4 +11,5 @@ returns g c =
     let x = c.args.part.now in
     let s = scope_of c.args.names.now in
     let sites = check_sites (g.T.Walk.asks x) in
-    more_refused ⊤ (HasMany (open_counts sites)) (site_demands s sites) (g.T.Walk.mapped (numbering_change s) x) c.walk_outside.new.part c.walk_outside.result c.walk_outside.ensures
+    more_refused ⊤ (HasMany (open_counts sites)) (site_demands s sites)
+    (g.T.Walk.mapped (numbering_change s) x) c.walk_outside.new.part c.walk_outside.result c.walk_outside.ensures

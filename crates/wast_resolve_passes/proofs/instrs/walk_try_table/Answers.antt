@@ -21,7 +21,8 @@ returns-in_err-walk_block_type-clause-walks c =
     let x = c.args.table.now in
     let blocks = c.args.labels.now in
     let p = err_from_is_err_and c.from_residual.result c.from_residual.ensures.1 in
-    rw (p.1, p.2) (fails_first ⊤ (HasMany (open_counts (in_try_table blocks x))) (scope_of c.args.names.now) (in_use OfBlock x.block.ty) (flat_map (in_catch blocks) x.catches ++ Begins blocks (mark_of_option x.block.label) ∷ []) (diagnostic_of c.in_err-walk_block_type.field-0.0)
+    rw (p.1, p.2) (fails_first ⊤ (HasMany (open_counts (in_try_table blocks x))) (scope_of c.args.names.now) (in_use OfBlock x.block.ty)
+    (flat_map (in_catch blocks) x.catches ++ Begins blocks (mark_of_option x.block.label) ∷ []) (diagnostic_of c.in_err-walk_block_type.field-0.0)
     c.in_err-walk_block_type.ensures)
 
 pub returns-in_err-walk_catches-clause-walks : goal.returns-in_err-walk_catches-clause-walks
@@ -49,7 +50,8 @@ returns-in_err-open_label-clause-walks c =
     let p = err_from_is_err_and c.from_residual-in_err-open_label.result c.from_residual-in_err-open_label.ensures.1 in
     rw (p.1, p.2) (fails_second ⊤ many s (in_use OfBlock x.block.ty) (caught ++ begins) t c.in_ok-walk_block_type.ensures.0
     (fails_second ⊤ many s caught begins t c.in_ok-walk_catches.ensures.0
-    (more_answers ⊤ (HasMany (open_counts begins)) many t _ (λ m. subst HasMany (sym all) (many_right (open_counts caught) (open_counts begins) m)) (c.in_err-open_label.ensures.walks c.args.names.now))))
+    (more_answers ⊤ (HasMany (open_counts begins)) many t _ (λ m. subst HasMany (sym all) (many_right (open_counts caught) (open_counts begins) m))
+    (c.in_err-open_label.ensures.walks c.args.names.now))))
 
 pub returns-clause-walks : goal.returns-clause-walks
 returns-clause-walks c =
@@ -60,8 +62,13 @@ returns-clause-walks c =
     let named = c.in_ok-walk_catches.ensures in
     let opened = c.in_ok-open_label.ensures.walks c.args.names.now in
     let begins = Begins blocks (mark_of_option x.block.label) ∷ [] in
-    let caught = flat_map (in_catch blocks) x.catches in
-    (both_met d (in_use OfBlock x.block.ty) (caught ++ begins) typed.0 (both_met d caught begins named.0 opened.0), λ i. record { block = typed.1 i; catches = named.1 i })
+    let caught = flat_map (in_catch blocks) x.catches in (
+      both_met d (in_use OfBlock x.block.ty) (caught ++ begins) typed.0 (both_met d caught begins named.0 opened.0),
+      λ i. record {
+        block = typed.1 i;
+        catches = named.1 i;
+      },
+    )
 
 pub returns-clause-blocks : goal.returns-clause-blocks
 returns-clause-blocks c l =
@@ -71,5 +78,6 @@ returns-clause-blocks c l =
     let begins = Begins s (mark_of_option x.block.label) ∷ [] in
     let caught = flat_map (in_catch s) x.catches in
     let same = ap (λ (b : BlockType). b.label) (c.get.ensures ∙ c.in_ok-walk_block_type.ensures.1) in
-    let stays : after_all h (caught ++ begins) ≡ after_all h begins = after-append h caught begins ∙ ap (λ (g : BodyContext). after_all g begins) (catches_stay h s x.catches) in
+    let stays : after_all h (caught ++ begins) ≡ after_all h begins = after-append h caught begins
+    ∙ ap (λ (g : BodyContext). after_all g begins) (catches_stay h s x.catches) in
     c.in_ok-open_label.ensures.blocks l ∙ (ap (λ o. name_if (mark_of_option o) ∷ s) same ∙ sym (ap (λ (g : BodyContext). g.blocks) stays))

@@ -9,4 +9,5 @@ returns-in-None-clause-names c s =
 
 pub returns-in-Some-clause-names : goal.returns-in-Some-clause-names
 returns-in-Some-clause-names c s =
-    params_answer s c.args.nameless _ _ c.args.locals.now c.name_each-in-Some.result (c.as_slice.ensures ∙ sym (ap params_in c.in-Some.is)) (c.name_each-in-Some.ensures.names s)
+    params_answer s c.args.nameless _ _ c.args.locals.now c.name_each-in-Some.result (c.as_slice.ensures
+    ∙ sym (ap params_in c.in-Some.is)) (c.name_each-in-Some.ensures.names s)

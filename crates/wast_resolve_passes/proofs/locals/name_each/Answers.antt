@@ -16,5 +16,8 @@ returns-in-Ok-clause-names c s =
 pub returns-in-Some-clause-names : goal.returns-in-Some-clause-names
 returns-in-Some-clause-names c s =
     let ms = marks_of c.args.params.now c.args.locals.now in
-    let first : IsFirstClash (names ms) c.in-Err.at = subst (FillsSpace (names ms)) c.in-Err.is c.in_ok-space.ensures.found in
-    (tt, clash_told ⊤ (2 ^ 32 ≤ c.args.nameless + length ms) s ms c.in-Err.at (mark_of c.in-Some.id) (diagnostic_of c.new.result) first c.in-Some.ensures (ap diagnostic_of c.new.ensures ∙ ap (λ p. At (Duplicate (codes "local")) p) c.span.ensures))
+    let first : IsFirstClash (names ms) c.in-Err.at = subst (FillsSpace (names ms)) c.in-Err.is c.in_ok-space.ensures.found in (
+      tt,
+      clash_told ⊤ (2 ^ 32 ≤ c.args.nameless + length ms) s ms c.in-Err.at (mark_of c.in-Some.id)
+          (diagnostic_of c.new.result) first c.in-Some.ensures (ap diagnostic_of c.new.ensures ∙ ap (λ p. At (Duplicate (codes "local")) p) c.span.ensures),
+    )

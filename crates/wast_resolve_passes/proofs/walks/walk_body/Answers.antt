@@ -23,7 +23,8 @@ returns-in-Inline c l numbers =
     let named = subst (λ (k : FuncKind). NumbersIn s l k c.args.locals.now) c.in-Inline.is numbers in
     let body = func.Inline c.in-Inline.locals in
     rw c.in-Inline.is
-    (walks_as {K = ⊤} {L = ⊤} {M = HasMany (open_counts sites)} {N = HasMany (open_counts (in_expression (initial_context l) e))} (λ m. m) (subst HasMany (sym (all_counts_but_last sites last)))
+    (walks_as {K = ⊤} {L = ⊤} {M = HasMany (open_counts sites)} {N = HasMany (open_counts (in_expression (initial_context l) e))} (λ m. m)
+    (subst HasMany (sym (all_counts_but_last sites last)))
     (site_demands s sites) (site_demands s (in_expression (initial_context l) e))
     (mapped_expression (numbering_change s) (initial_context l) e) c.walk_expression.new.expression
     (body (mapped_expression (numbering_change s) (initial_context l) e)) (body c.walk_expression.new.expression) c.walk_expression.result

@@ -7,7 +7,9 @@ use Rattle.wast_resolve_passes.proofs.walks.walk_each.Goals as goal
 pub returns-in_err-walk : goal.returns-in_err-walk
 returns-in_err-walk g c =
     let p = err_from_is_err_and c.from_residual.result c.from_residual.ensures.1 in
-    rw (p.1, p.2) (stops (diagnostic_of c.in_err-walk.field-0.0) c.loop-i.invariant (omega (arith, c.loop-i-test.true, c.len-i-end.ensures)) c.at_mut.ensures.value c.in_err-walk.ensures)
+    rw (p.1, p.2) (stops (diagnostic_of c.in_err-walk.field-0.0) c.loop-i.invariant
+    (omega (arith, c.loop-i-test.true, c.len-i-end.ensures)) c.at_mut.ensures.value c.in_err-walk.ensures)
 
 pub loop-i-preserved : goal.loop-i-preserved
-loop-i-preserved g c = goes_on c.loop-i.invariant (omega (arith, c.loop-i-test.true, c.len-i-end.ensures)) c.at_mut.ensures.value c.in_ok-walk.ensures.0 c.in_ok-walk.ensures.1
+loop-i-preserved g c = goes_on c.loop-i.invariant
+    (omega (arith, c.loop-i-test.true, c.len-i-end.ensures)) c.at_mut.ensures.value c.in_ok-walk.ensures.0 c.in_ok-walk.ensures.1

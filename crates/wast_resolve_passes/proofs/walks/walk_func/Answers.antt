@@ -14,7 +14,8 @@ returns-in_err-walk_type_use c =
     let f = c.args.func.now in
     let s = scope_of c.args.names.now in
     let p = err_from_is_err_and c.from_residual.result c.from_residual.ensures.1 in
-    rw (p.1, p.2) (fails_first ⊤ (HasMany (body_counts_in s (field.Func f))) s (in_use OfItem f.ty) (in_func_kind f.ty f.kind) (diagnostic_of c.in_err-walk_type_use.field-0.0) c.in_err-walk_type_use.ensures)
+    rw (p.1, p.2) (fails_first ⊤ (HasMany (body_counts_in s (field.Func f))) s (in_use OfItem f.ty) (in_func_kind f.ty f.kind)
+    (diagnostic_of c.in_err-walk_type_use.field-0.0) c.in_err-walk_type_use.ensures)
 
 pub returns-in_err-walk_kind : goal.returns-in_err-walk_kind
 returns-in_err-walk_kind c =
@@ -22,7 +23,8 @@ returns-in_err-walk_kind c =
     let s = scope_of c.args.names.now in
     let p = err_from_is_err_and c.from_residual-in_err-walk_kind.result c.from_residual-in_err-walk_kind.ensures.1 in
     let says = numbered_says s f.ty c.walk_type_use.new.ty c.in_ok-walk_type_use.ensures.1 in
-    rw (p.1, p.2) (fails_second ⊤ (HasMany (body_counts_in s (field.Func f))) s (in_use OfItem f.ty) (in_func_kind f.ty f.kind) (diagnostic_of c.in_err-walk_kind.field-0.0) c.in_ok-walk_type_use.ensures.0
+    rw (p.1, p.2) (fails_second ⊤ (HasMany (body_counts_in s (field.Func f))) s (in_use OfItem f.ty) (in_func_kind f.ty f.kind)
+    (diagnostic_of c.in_err-walk_kind.field-0.0) c.in_ok-walk_type_use.ensures.0
     (c.in_err-walk_kind.ensures f.ty says))
 
 pub returns : goal.returns

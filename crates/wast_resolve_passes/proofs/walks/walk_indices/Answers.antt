@@ -7,7 +7,9 @@ use Rattle.wast_resolve_passes.proofs.walks.walk_indices.Goals as goal
 pub returns-in_err-walk_index : goal.returns-in_err-walk_index
 returns-in_err-walk_index c =
     let p = err_from_is_err_and c.from_residual.result c.from_residual.ensures.1 in
-    rw (p.1, p.2) (stops (diagnostic_of c.in_err-walk_index.field-0.0) c.loop-i.invariant (omega (arith, c.loop-i-test.true, c.len-i-end.ensures)) c.at_mut.ensures.value c.in_err-walk_index.ensures)
+    rw (p.1, p.2) (stops (diagnostic_of c.in_err-walk_index.field-0.0) c.loop-i.invariant
+    (omega (arith, c.loop-i-test.true, c.len-i-end.ensures)) c.at_mut.ensures.value c.in_err-walk_index.ensures)
 
 pub loop-i-preserved : goal.loop-i-preserved
-loop-i-preserved c = goes_on c.loop-i.invariant (omega (arith, c.loop-i-test.true, c.len-i-end.ensures)) c.at_mut.ensures.value c.in_ok-walk_index.ensures.0 c.in_ok-walk_index.ensures.1
+loop-i-preserved c = goes_on c.loop-i.invariant
+    (omega (arith, c.loop-i-test.true, c.len-i-end.ensures)) c.at_mut.ensures.value c.in_ok-walk_index.ensures.0 c.in_ok-walk_index.ensures.1

@@ -12,7 +12,8 @@ use Rattle.wast_resolve_rules.specs.Scopes.{implicit_param_count}
 use Rattle.wast_resolve_passes.specs.TwoSteps.{in_locals, in_body, with_body}
 use Rattle.wast_resolve_rules.proofs.Numbering.{numbering_keeps}
 use Rattle.wast_resolve_rules.proofs.Unmet.{answers_first, answers_after, first_unmet-append}
-use Rattle.wast_resolve_passes.proofs.Functions.{inside, kind_demands, many_blocks, many_locals, numbers_still, body_stays, kind_stays, opening_stays, kind_becomes}
+use Rattle.wast_resolve_passes.proofs.Functions.{inside, kind_demands, many_blocks, many_locals, numbers_still, body_stays, kind_stays}
+use Rattle.wast_resolve_passes.proofs.Functions.{opening_stays, kind_becomes}
 use Rattle.wast_resolve_passes.proofs.walks.walk_kind.Goals as goal
 
 pub returns-in_err-walk_locals : goal.returns-in_err-walk_locals
@@ -23,7 +24,8 @@ returns-in_err-walk_locals c u says =
     let many = HasMany (kind_counts s u k) in
     let p = err_from_is_err_and c.from_residual.result c.from_residual.ensures.1 in
     rw (p.1, p.2) (subst (λ ds. Answers ⊤ many e (first_unmet ds)) (sym (kind_demands s u k))
-    (answers_first e (ask_demands s.known (in_locals k)) (site_demands s (body_declarations (param_marks u.inline) k) ++ site_demands s (in_body (inside u k) k)) (λ l. absurd l) (λ m. absurd m) c.in_err-walk_locals.ensures))
+    (answers_first e (ask_demands s.known (in_locals k)) (site_demands s (body_declarations (param_marks u.inline) k) ++ site_demands s
+    (in_body (inside u k) k)) (λ l. absurd l) (λ m. absurd m) c.in_err-walk_locals.ensures))
 
 pub returns-in_err-locals : goal.returns-in_err-locals
 returns-in_err-locals c u says =
@@ -36,14 +38,19 @@ returns-in_err-locals c u says =
     let many = HasMany (kind_counts s u k) in
     let p = err_from_is_err_and c.from_residual-in_err-locals.result c.from_residual-in_err-locals.ensures.1 in
     let is = c.in_ok-walk_locals.ensures.1 in
-    let long = ap (λ (x : FuncKind). length (declared_ids v.inline x)) is ∙ (ap (λ ms. length (param_marks v.inline ++ ms)) (kind_stays f keeps k) ∙ ap (λ ps. length (ps ++ kind_marks k)) says.marks) in
-    let opened = ap (body_declarations (param_marks v.inline)) is ∙ (opening_stays f keeps (param_marks v.inline) k ∙ ap (λ ps. body_declarations ps k) says.marks) in
+    let long = ap (λ (x : FuncKind). length (declared_ids v.inline x)) is ∙ (ap (λ ms. length (param_marks v.inline ++ ms)) (kind_stays f keeps k)
+    ∙ ap (λ ps. length (ps ++ kind_marks k)) says.marks) in
+    let opened = ap (body_declarations (param_marks v.inline)) is
+    ∙ (opening_stays f keeps (param_marks v.inline) k ∙ ap (λ ps. body_declarations ps k) says.marks) in
     rw (p.1, p.2) (subst (λ ds. Answers ⊤ many e (first_unmet ds)) (sym (kind_demands s u k))
-    (answers_after e (ask_demands s.known (in_locals k)) (site_demands s (body_declarations (param_marks u.inline) k) ++ site_demands s (in_body (inside u k) k)) (λ l. l) (λ m. m) c.in_ok-walk_locals.ensures.0
+    (answers_after e (ask_demands s.known (in_locals k)) (site_demands s (body_declarations (param_marks u.inline) k) ++ site_demands s
+    (in_body (inside u k) k)) (λ l. l) (λ m. m) c.in_ok-walk_locals.ensures.0
     (answers_first e (site_demands s (body_declarations (param_marks u.inline) k)) (site_demands s (in_body (inside u k) k)) (λ l. l) (many_locals s u k)
     (subst (λ ss. Answers ⊤ (2 ^ 32 ≤ implicit_param_count s (Some u) + length (declared_ids u.inline k)) e (first_unmet (site_demands s ss))) opened
-    (subst (λ n. Answers ⊤ (2 ^ 32 ≤ n + length (declared_ids u.inline k)) e (first_unmet (site_demands s (body_declarations (param_marks v.inline) c.walk_locals.new.kind)))) says.nameless
-    (subst (λ n. Answers ⊤ (2 ^ 32 ≤ implicit_param_count s (Some v) + n) e (first_unmet (site_demands s (body_declarations (param_marks v.inline) c.walk_locals.new.kind)))) long (c.in_err-locals.ensures.names s).1))))))
+    (subst (λ n. Answers ⊤ (2 ^ 32 ≤ n + length (declared_ids u.inline k)) e
+    (first_unmet (site_demands s (body_declarations (param_marks v.inline) c.walk_locals.new.kind)))) says.nameless
+    (subst (λ n. Answers ⊤ (2 ^ 32 ≤ implicit_param_count s (Some v) + n) e
+    (first_unmet (site_demands s (body_declarations (param_marks v.inline) c.walk_locals.new.kind)))) long (c.in_err-locals.ensures.names s).1))))))
 
 pub returns-in_err-walk_body : goal.returns-in_err-walk_body
 returns-in_err-walk_body c u says =
@@ -57,13 +64,17 @@ returns-in_err-walk_body c u says =
     let many = HasMany (kind_counts s u k) in
     let p = err_from_is_err_and c.from_residual-in_err-walk_body.result c.from_residual-in_err-walk_body.ensures.1 in
     let is = c.in_ok-walk_locals.ensures.1 in
-    let opened = ap (body_declarations (param_marks v.inline)) is ∙ (opening_stays f keeps (param_marks v.inline) k ∙ ap (λ ps. body_declarations ps k) says.marks) in
-    let called = ap (λ (x : FuncKind). names (declared_ids v.inline x)) is ∙ (ap (λ ms. names (param_marks v.inline ++ ms)) (kind_stays f keeps k) ∙ ap (λ ps. names (ps ++ kind_marks k)) says.marks) in
+    let opened = ap (body_declarations (param_marks v.inline)) is
+    ∙ (opening_stays f keeps (param_marks v.inline) k ∙ ap (λ ps. body_declarations ps k) says.marks) in
+    let called = ap (λ (x : FuncKind). names (declared_ids v.inline x)) is ∙ (ap (λ ms. names (param_marks v.inline ++ ms)) (kind_stays f keeps k)
+    ∙ ap (λ ps. names (ps ++ kind_marks k)) says.marks) in
     let body = ap (in_body here) is ∙ body_stays f here k in
     let met = subst (λ ss. first_unmet (site_demands s ss) ≡ None) opened (c.in_ok-locals.ensures.names s).0 in
-    let numbers = numbers_still s (locals_in v c.walk_locals.new.kind) (locals_in u k) c.walk_locals.new.kind c.in_ok-locals.locals says.nameless called c.in_ok-locals.ensures.numbers in
+    let numbers = numbers_still s (locals_in v c.walk_locals.new.kind)
+    (locals_in u k) c.walk_locals.new.kind c.in_ok-locals.locals says.nameless called c.in_ok-locals.ensures.numbers in
     rw (p.1, p.2) (subst (λ ds. Answers ⊤ many e (first_unmet ds)) (sym (kind_demands s u k))
-    (answers_after e (ask_demands s.known (in_locals k)) (site_demands s (body_declarations (param_marks u.inline) k) ++ site_demands s (in_body here k)) (λ l. l) (λ m. m) c.in_ok-walk_locals.ensures.0
+    (answers_after e (ask_demands s.known (in_locals k)) (site_demands s (body_declarations (param_marks u.inline) k) ++ site_demands s
+    (in_body here k)) (λ l. l) (λ m. m) c.in_ok-walk_locals.ensures.0
     (answers_after e (site_demands s (body_declarations (param_marks u.inline) k)) (site_demands s (in_body here k)) (λ l. l) (many_blocks s u k) met
     (subst (λ ss. Answers ⊤ (HasMany (open_counts ss)) e (first_unmet (site_demands s ss))) body (c.in_err-walk_body.ensures (locals_in u k) numbers)))))
 
@@ -76,14 +87,19 @@ returns c u says =
     let keeps = numbering_keeps s in
     let here = inside u k in
     let is = c.in_ok-walk_locals.ensures.1 in
-    let opened = ap (body_declarations (param_marks v.inline)) is ∙ (opening_stays f keeps (param_marks v.inline) k ∙ ap (λ ps. body_declarations ps k) says.marks) in
-    let called = ap (λ (x : FuncKind). names (declared_ids v.inline x)) is ∙ (ap (λ ms. names (param_marks v.inline ++ ms)) (kind_stays f keeps k) ∙ ap (λ ps. names (ps ++ kind_marks k)) says.marks) in
+    let opened = ap (body_declarations (param_marks v.inline)) is
+    ∙ (opening_stays f keeps (param_marks v.inline) k ∙ ap (λ ps. body_declarations ps k) says.marks) in
+    let called = ap (λ (x : FuncKind). names (declared_ids v.inline x)) is ∙ (ap (λ ms. names (param_marks v.inline ++ ms)) (kind_stays f keeps k)
+    ∙ ap (λ ps. names (ps ++ kind_marks k)) says.marks) in
     let stays = ap (in_body here) is ∙ body_stays f here k in
     let met = subst (λ ss. first_unmet (site_demands s ss) ≡ None) opened (c.in_ok-locals.ensures.names s).0 in
-    let numbers = numbers_still s (locals_in v c.walk_locals.new.kind) (locals_in u k) c.walk_locals.new.kind c.in_ok-locals.locals says.nameless called c.in_ok-locals.ensures.numbers in
+    let numbers = numbers_still s (locals_in v c.walk_locals.new.kind)
+    (locals_in u k) c.walk_locals.new.kind c.in_ok-locals.locals says.nameless called c.in_ok-locals.ensures.numbers in
     let body = c.in_ok-walk_body.ensures (locals_in u k) numbers in (
       ap first_unmet (kind_demands s u k)
-          ∙ (first_unmet-append (ask_demands s.known (in_locals k)) (site_demands s (body_declarations (param_marks u.inline) k) ++ site_demands s (in_body here k)) c.in_ok-walk_locals.ensures.0
-          ∙ (first_unmet-append (site_demands s (body_declarations (param_marks u.inline) k)) (site_demands s (in_body here k)) met ∙ (ap (λ ss. first_unmet (site_demands s ss)) (sym stays) ∙ body.0))),
+          ∙ (first_unmet-append (ask_demands s.known (in_locals k)) (site_demands s (body_declarations (param_marks u.inline) k) ++ site_demands s
+          (in_body here k)) c.in_ok-walk_locals.ensures.0
+          ∙ (first_unmet-append (site_demands s (body_declarations (param_marks u.inline) k)) (site_demands s (in_body here k)) met
+          ∙ (ap (λ ss. first_unmet (site_demands s ss)) (sym stays) ∙ body.0))),
       body.1 ∙ (ap (with_body f here) is ∙ kind_becomes f u k),
     )

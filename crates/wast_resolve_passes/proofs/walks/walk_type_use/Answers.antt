@@ -15,7 +15,8 @@ returns-in_err-walk c =
     let s = scope_of c.args.names.now in
     let e = diagnostic_of c.in_err-walk.field-0.0 in
     let p = err_from_is_err_and c.from_residual.result c.from_residual.ensures.1 in
-    rw (p.1, p.2) (subst (λ ds. Answers ⊥ ⊥ e (first_unmet ds)) (sym (append-nil (use_demand s u))) (answers_first e (ask_demands s.known (in_type_use u)) (match_if s u.index u.inline) (λ l. l) (λ m. m) c.in_err-walk.ensures))
+    rw (p.1, p.2) (subst (λ ds. Answers ⊥ ⊥ e (first_unmet ds)) (sym (append-nil (use_demand s u)))
+    (answers_first e (ask_demands s.known (in_type_use u)) (match_if s u.index u.inline) (λ l. l) (λ m. m) c.in_err-walk.ensures))
 
 pub returns-in_err-check_type_use : goal.returns-in_err-check_type_use
 returns-in_err-check_type_use c =
@@ -34,6 +35,7 @@ returns c =
     let s = scope_of c.args.names.now in
     let same = ap (λ (v : TypeUse FunctionType). match_if s v.index v.inline) c.in_ok-walk.ensures.1 ∙ matched_still s u in (
       ap first_unmet (append-nil (use_demand s u))
-          ∙ (first_unmet-append (ask_demands s.known (in_type_use u)) (match_if s u.index u.inline) c.in_ok-walk.ensures.0 ∙ (ap first_unmet (sym same) ∙ c.in_ok-check_type_use.ensures)),
+          ∙ (first_unmet-append (ask_demands s.known (in_type_use u)) (match_if s u.index u.inline) c.in_ok-walk.ensures.0 ∙ (ap first_unmet
+          (sym same) ∙ c.in_ok-check_type_use.ensures)),
       c.in_ok-walk.ensures.1,
     )

@@ -24,4 +24,5 @@ pub returns-in_ok-at-in-Ok : goal.returns-in_ok-at-in-Ok
 returns-in_ok-at-in-Ok c =
     let fs = c.args.fields.now in
     let ids = field_ids fs in
-    finds_clash ids refl (subst (HasFirstClash (map name_if ids)) c.in_ok-at-in-Ok.was c.in-Ok.ensures.found) (sym (get_or-map (λ f. mark_of_option f.id) fs c.in_ok-at-in-Ok.field-0 _)) c.field_clash.ensures
+    finds_clash ids refl (subst (HasFirstClash (map name_if ids)) c.in_ok-at-in-Ok.was c.in-Ok.ensures.found)
+    (sym (get_or-map (λ f. mark_of_option f.id) fs c.in_ok-at-in-Ok.field-0 _)) c.field_clash.ensures

@@ -15,6 +15,7 @@ pub returns-clause-each : goal.returns-clause-each
 returns-clause-each c s =
     let started = c.in_ok-start_each.field-0.items in
     let eight = c.in_ok-start_each.ensures.slots in
-    let none = All-get_or (Gathers (Ok []) []) started (rank_of s) (Ok []) (subst (λ n. rank_of s < n) (sym eight) (below_8 s)) c.in_ok-start_each.ensures.each in
+    let none = All-get_or (Gathers (Ok []) []) started (rank_of s) (Ok [])
+    (subst (λ n. rank_of s < n) (sym eight) (below_8 s)) c.in_ok-start_each.ensures.each in
     gathers_both (Ok []) (gathered_of started s) (gathered_of c.visit_items-2.new.visitor.gathered.items s) [] (names_in s (items c.args.fields.now)) none
     ((gathered_told (λ v. v.gathered.items) c.visit_items-2.ensures eight).1 s)

@@ -12,10 +12,12 @@ add_type-requires c = (next_met c.args.types.now c.loop-ty.ty-index c.ty-item.re
 pub returns-in_err-add_type-clause-refusal : goal.returns-in_err-add_type-clause-refusal
 returns-in_err-add_type-clause-refusal c =
     let p = err_from_is_err_and c.from_residual.result c.from_residual.ensures.1 in
-    rw (p.1, p.2) (refused_more c.in_err-add_type.field-0.0 (many_here c.args.types.now c.loop-ty.ty-index c.ty-item.result c.loop-ty-test.true c.ty-item.is type_fields) c.in_err-add_type.ensures.refusal)
+    rw (p.1, p.2) (refused_more c.in_err-add_type.field-0.0 (many_here c.args.types.now c.loop-ty.ty-index c.ty-item.result c.loop-ty-test.true
+    c.ty-item.is type_fields) c.in_err-add_type.ensures.refusal)
 
 pub loop-ty-preserved : goal.loop-ty-preserved
 loop-ty-preserved c = (
-  next_one c.args.types.now c.loop-ty.ty-index c.ty-item.result c.loop-ty-test.true c.ty-item.is (λ t. shape_of t.def.kind) (map read_shape c.add_type.new.read.items) (map read_shape c.loop-ty.read.items) _ c.in_ok-add_type.ensures.ok c.loop-ty.invariant.0,
+  next_one c.args.types.now c.loop-ty.ty-index c.ty-item.result c.loop-ty-test.true c.ty-item.is (λ t. shape_of t.def.kind)
+      (map read_shape c.add_type.new.read.items) (map read_shape c.loop-ty.read.items) _ c.in_ok-add_type.ensures.ok c.loop-ty.invariant.0,
   (next_met c.args.types.now c.loop-ty.ty-index c.ty-item.result c.loop-ty-test.true c.ty-item.is type_demands c.loop-ty.invariant.1).1,
 )

@@ -8,5 +8,6 @@ use Rattle.wast_resolve_spaces.proofs.shapes.add_types.Given as goal
 
 abbrev pub invariant-loop-ty : goal.invariant-loop-ty
 invariant-loop-ty l =
-    (map read_shape l.read.items ++ map (λ t. shape_of t.def.kind) (drop l.ty-index l.types) ≡ map read_shape l.fn.read.items ++ map (λ t. shape_of t.def.kind) l.types)
+    (map read_shape l.read.items ++ map (λ t. shape_of t.def.kind) (drop l.ty-index l.types) ≡ map read_shape l.fn.read.items ++ map
+    (λ t. shape_of t.def.kind) l.types)
     × (first_unmet (flat_map type_demands (drop l.ty-index l.types)) ≡ None)

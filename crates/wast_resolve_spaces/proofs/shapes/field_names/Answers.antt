@@ -13,7 +13,8 @@ pub returns-in_err-gather_fields-clause-refusal : goal.returns-in_err-gather_fie
 returns-in_err-gather_fields-clause-refusal c =
     let ids = field_ids c.args.fields.now in
     let p = err_from_is_err_and c.from_residual.result c.from_residual.ensures.1 in
-    rw (p.1, p.2) (stops_refused (diagnostic_of c.in_err-gather_fields.field-0.0) 0 (length (map name_if ids)) (length ids) (length-map ids name_if) c.in_err-gather_fields.ensures)
+    rw (p.1, p.2) (stops_refused (diagnostic_of c.in_err-gather_fields.field-0.0) 0 (length (map name_if ids)) (length ids)
+    (length-map ids name_if) c.in_err-gather_fields.ensures)
 
 pub returns-clause-names : goal.returns-clause-names
 returns-clause-names c = λ name.
@@ -22,4 +23,5 @@ returns-clause-names c = λ name.
 
 pub unreachable-requires : goal.unreachable-requires
 unreachable-requires c =
-    no_clash (field_ids c.args.fields.now) c.in_ok-gather_fields.ensures (subst (FillsSpace c.in_ok-gather_fields.field-0) c.in-Err.is c.in_ok-names.ensures) c.requires
+    no_clash (field_ids c.args.fields.now) c.in_ok-gather_fields.ensures
+    (subst (FillsSpace c.in_ok-gather_fields.field-0) c.in-Err.is c.in_ok-names.ensures) c.requires

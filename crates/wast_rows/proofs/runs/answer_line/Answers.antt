@@ -7,4 +7,6 @@ use Rattle.wast_rows.proofs.runs.answer_line.Goals as goal
 pub returns-clause-err : goal.returns-clause-err
 returns-clause-err g c =
     let same : c.as_bytes.result.now ≡ ended_line (string_bytes c.in_ok-text.text) = search rules in
-    when_written c.write_bytes.result _ (on_err_weaker c.write_bytes.result (λ begun. BeginsLine-partly _ _ _ _ _ _ c.in_ok-text.ensures.told same begun) c.write_bytes.ensures.err) c.write_bytes.ensures.error
+    when_written c.write_bytes.result _
+    (on_err_weaker c.write_bytes.result (λ begun. BeginsLine-partly _ _ _ _ _ _ c.in_ok-text.ensures.told same begun) c.write_bytes.ensures.err)
+    c.write_bytes.ensures.error

@@ -5,4 +5,5 @@ use Rattle.wast_rows.proofs.runs.feed.Given as goal
 
 abbrev pub invariant-loop-byte : goal.invariant-loop-byte
 invariant-loop-byte g l =
-    EndedWriter (TellsLine (goal.F-post g l.sample)) (l.fn.pending.items ++ take l.byte-index l.bytes) l.pending.items (g.W.Write.contents l.fn.writer) (g.W.Write.contents l.writer)
+    EndedWriter (TellsLine (goal.F-post g l.sample)) (l.fn.pending.items ++ take l.byte-index l.bytes) l.pending.items
+    (g.W.Write.contents l.fn.writer) (g.W.Write.contents l.writer)

@@ -9,16 +9,22 @@ pub loop-init : goal.loop-init
 loop-init g c = (rw c.new-pending.ensures.items (StopsReading-nil _ _ _), refl)
 
 pub loop-preserved : goal.loop-preserved
-loop-preserved g c = (StopsReading-more _ _ _ _ _ _ _ _ _ _ c.loop.invariant.0 (rw c.in-Some.is at c.in_ok-piece.ensures.piece) c.in_ok-feed.ensures.ok, search rules)
+loop-preserved g c = (
+  StopsReading-more _ _ _ _ _ _ _ _ _ _ c.loop.invariant.0 (rw c.in-Some.is at c.in_ok-piece.ensures.piece)
+      c.in_ok-feed.ensures.ok,
+  search rules,
+)
 
 pub returns-in_err-piece-clause-err : goal.returns-in_err-piece-clause-err
 returns-in_err-piece-clause-err g c =
-    if_raised c.from_residual.result _ error.Read (rw c.in_err-piece.ensures.error at c.from_residual.ensures.1) (_, StopsReading-kept _ _ _ _ _ _ _ c.loop.invariant.0 c.in_err-piece.ensures.err)
+    if_raised c.from_residual.result _ error.Read (rw c.in_err-piece.ensures.error at c.from_residual.ensures.1)
+    (_, StopsReading-kept _ _ _ _ _ _ _ c.loop.invariant.0 c.in_err-piece.ensures.err)
 
 pub returns-in_default-clause-ok : goal.returns-in_default-clause-ok
 returns-in_default-clause-ok g c =
     on_ok_weaker c.finish.result
-    (λ last. Ran-end _ _ _ _ _ _ _ _ c.loop.invariant.0 (rw c.in_default.is at c.in_ok-piece.ensures.no_more) (rw c.in_default.is at c.in_ok-piece.ensures.end) (rw c.as_slice.ensures.value at last))
+    (λ last. Ran-end _ _ _ _ _ _ _ _ c.loop.invariant.0 (rw c.in_default.is at c.in_ok-piece.ensures.no_more)
+    (rw c.in_default.is at c.in_ok-piece.ensures.end) (rw c.as_slice.ensures.value at last))
     c.finish.ensures.ok
 
 pub returns-in_default-clause-err : goal.returns-in_default-clause-err

@@ -16,4 +16,5 @@ returns-in_err-answer_line-clause-err g c =
 
 pub returns-clause-ok : goal.returns-clause-ok
 returns-clause-ok g c =
-    rw (c.if-byte-ne10.false, c.clear.ensures.items) (EndedWriter-feed _ _ _ _ c.requires.still_open (rw c.as_slice.ensures.value at c.in_ok-answer_line.ensures.ok))
+    rw (c.if-byte-ne10.false, c.clear.ensures.items)
+    (EndedWriter-feed _ _ _ _ c.requires.still_open (rw c.as_slice.ensures.value at c.in_ok-answer_line.ensures.ok))

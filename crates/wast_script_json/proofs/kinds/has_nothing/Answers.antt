@@ -8,8 +8,10 @@ use Rattle.wast_script_json.proofs.kinds.has_nothing.Goals as goal
 pub returns-in-Some : goal.returns-in-Some
 returns-in-Some c =
     c.is_nothing.ensures
-    ∙ starts_with c.args.script.now.text.now c.args.script.now.commands.items c.in-Some.command.now (c.in-Some.ensures.value ∙ ap (λ (cs : List Command). slice_get cs 0) c.as_slice.ensures.value)
+    ∙ starts_with c.args.script.now.text.now c.args.script.now.commands.items c.in-Some.command.now (c.in-Some.ensures.value
+    ∙ ap (λ (cs : List Command). slice_get cs 0) c.as_slice.ensures.value)
 
 pub returns-in-None : goal.returns-in-None
 returns-in-None c =
-    starts_without c.args.script.now.text.now c.args.script.now.commands.items (c.in-None.ensures.value ∙ ap (λ (cs : List Command). slice_get cs 0) c.as_slice.ensures.value)
+    starts_without c.args.script.now.text.now c.args.script.now.commands.items (c.in-None.ensures.value
+    ∙ ap (λ (cs : List Command). slice_get cs 0) c.as_slice.ensures.value)

@@ -9,8 +9,10 @@ loop-lane-init c = ap (λ (l : List ℕ). written c.args.json.now ++ l) (all_lan
 
 pub loop-lane-preserved : goal.loop-lane-preserved
 loop-lane-preserved c =
-    lane_written c.args.lanes.now c.loop-lane.lane-index _ c.loop-lane.is_joined (written c.loop-lane.json) (written c.write_comma.new.json) (written c.write_number.new.json) _
+    lane_written c.args.lanes.now c.loop-lane.lane-index _ c.loop-lane.is_joined (written c.loop-lane.json) (written c.write_comma.new.json)
+    (written c.write_number.new.json) _
     c.loop-lane-test.true c.in_ok-write_comma.ensures c.in_ok-write_number.ensures c.loop-lane.invariant
 
 pub returns : goal.returns
-returns c = lanes_written c.args.lanes.now c.loop-lane.lane-index c.loop-lane.is_joined (written c.loop-lane.json) _ c.loop-lane-test.false c.loop-lane.invariant
+returns c = lanes_written c.args.lanes.now c.loop-lane.lane-index c.loop-lane.is_joined
+    (written c.loop-lane.json) _ c.loop-lane-test.false c.loop-lane.invariant

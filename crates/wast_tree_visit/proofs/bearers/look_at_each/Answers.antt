@@ -10,7 +10,8 @@ returns-then-item-list-clause-items g c = as_many g.T.IsItem.item c.args.list.no
 pub returns-then-item-list-clause-found : goal.returns-then-item-list-clause-found
 returns-then-item-list-clause-found g c =
     let x = c.index-list-item.result in
-    of_each (bears c.args.space (name_of c.args.id.now)) g.T.IsItem.item c.args.list.now c.args.item x x c.bears.result c.if-item-list.true c.index-list-item.is c.bears.ensures
+    of_each (bears c.args.space (name_of c.args.id.now)) g.T.IsItem.item c.args.list.now c.args.item x x c.bears.result c.if-item-list.true
+    c.index-list-item.is c.bears.ensures
 
 pub returns-else-item-list-clause-items : goal.returns-else-item-list-clause-items
 returns-else-item-list-clause-items g c = as_many g.T.IsItem.item c.args.list.now

@@ -20,7 +20,8 @@ returns-then-look-le1-clause-borne g c =
     let o : c.args.place.item ≡ 0 = omega (arith, c.if-place-gt0.false) in
     ap (λ f. list_any p (items_before g.T.HasItems.items c.args.fields.now (record { field = f; item = c.args.place.item }))) e
     ∙ (ap (λ i. list_any p (items_before g.T.HasItems.items c.args.fields.now (record { field = c.args.place.field - 1 + 1; item = i }))) o
-    ∙ stepped_over g.T.HasItems.items c.args.fields.now p (c.args.place.field - 1) c.look_at-look.result.found (omega (arith, c.if-look-le1.true, c.look_at-look.ensures.items)) c.look_at-look.ensures.found)
+    ∙ stepped_over g.T.HasItems.items c.args.fields.now p (c.args.place.field - 1) c.look_at-look.result.found
+    (omega (arith, c.if-look-le1.true, c.look_at-look.ensures.items)) c.look_at-look.ensures.found)
 
 pub returns-then-look-le1-clause-nearer : goal.returns-then-look-le1-clause-nearer
 returns-then-look-le1-clause-nearer g c =
@@ -38,13 +39,15 @@ returns-clause-borne g c =
     let o : c.args.place.item ≡ 0 = omega (arith, c.if-place-gt0.false) in
     ap (λ f. list_any p (items_before g.T.HasItems.items c.args.fields.now (record { field = f; item = c.args.place.item }))) e
     ∙ (ap (λ i. list_any p (items_before g.T.HasItems.items c.args.fields.now (record { field = c.args.place.field - 1 + 1; item = i }))) o
-    ∙ ap (list_any p) (field_before g.T.HasItems.items c.args.fields.now (c.args.place.field - 1) c.look_at-look.result.items (omega (arith, c.look_at-look.ensures.items))))
+    ∙ ap (list_any p) (field_before g.T.HasItems.items c.args.fields.now (c.args.place.field - 1) c.look_at-look.result.items
+    (omega (arith, c.look_at-look.ensures.items))))
 
 pub returns-clause-nearer : goal.returns-clause-nearer
 returns-clause-nearer g c =
     let e : c.args.place.field ≡ c.args.place.field - 1 + 1 = omega (arith, c.if-place-eq0.false) in
     let o : c.args.place.item ≡ 0 = omega (arith, c.if-place-gt0.false) in
-    let h = nearer_back g.T.HasItems.items c.args.fields.now (c.args.place.field - 1) c.look_at-look.result.items (omega (arith, c.look_at-look.ensures.items)) in
+    let h = nearer_back g.T.HasItems.items c.args.fields.now (c.args.place.field - 1) c.look_at-look.result.items
+    (omega (arith, c.look_at-look.ensures.items)) in
     let k = ap (λ f. steps_back g.T.HasItems.items c.args.fields.now (record { field = f; item = 0 })) e in
     let m = ap (λ i. steps_back g.T.HasItems.items c.args.fields.now (record { field = c.args.place.field; item = i })) o in
     omega (arith, h, k, m)

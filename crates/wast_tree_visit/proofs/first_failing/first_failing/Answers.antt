@@ -11,5 +11,6 @@ loop-part-preserved g c =
       c.look.ensures.found
           ∙ (ap (λ l. first_of c.loop-part.first.found (failing_from l (g.T.Searchable.place part) (g.T.Searchable.asks part))) c.loop-part.invariant.0
           ∙ (ap (λ o. first_of o (failing_from k (g.T.Searchable.place part) (g.T.Searchable.asks part))) c.loop-part.invariant.1
-          ∙ first_more_in (λ x. failing_from k (g.T.Searchable.place x) (g.T.Searchable.asks x)) c.args.parts.now c.loop-part.part-index part part (omega arith) c.part-item.is)),
+          ∙ first_more_in (λ x. failing_from k (g.T.Searchable.place x) (g.T.Searchable.asks x)) c.args.parts.now c.loop-part.part-index part part
+          (omega arith) c.part-item.is)),
     )

@@ -12,4 +12,5 @@ loop-part-preserved g c =
     located uncovered_at (λ v. v.span) (λ v. v.found) c.visit.ensures
     ∙ (ap (λ place. first_of c.loop-part.finder.found (found_from uncovered_at place (g.T.Visit.asks part))) c.place-finder.ensures
     ∙ (ap (λ o. first_of o (found_from uncovered_at (g.T.Placed.place part) (g.T.Visit.asks part))) c.loop-part.invariant
-    ∙ first_more_in (λ x. found_from uncovered_at (g.T.Placed.place x) (g.T.Visit.asks x)) c.args.parts.now c.loop-part.part-index part part (omega arith) c.part-item.is))
+    ∙ first_more_in (λ x. found_from uncovered_at (g.T.Placed.place x) (g.T.Visit.asks x)) c.args.parts.now c.loop-part.part-index part part
+    (omega arith) c.part-item.is))

@@ -12,19 +12,26 @@ loop-command-init g c s is_first at =
     let ms = c.args.modules.now in
     let all = with_modules (commands_in c.args.script.now) ms in
     let now = g.W.Write.contents c.args.writer.now in
-    subst (λ (cs : List Command). Reached c.args.script.now s is_first all (with_modules cs ms) c.args.json.now c.args.json.now now now) (sym c.commands_of-commands.ensures)
+    subst (λ (cs : List Command). Reached c.args.script.now s is_first all (with_modules cs ms) c.args.json.now c.args.json.now now now)
+    (sym c.commands_of-commands.ensures)
     (reached_none c.args.script.now s is_first all c.args.json.now now at)
 
 pub loop-command-preserved : goal.loop-command-preserved
 loop-command-preserved g c s is_first at =
-    reached_next c.args.script.now s is_first (with_modules (commands_in c.args.script.now) c.args.modules.now) c.commands_of-commands.result.now c.loop-command.rest.now
-    c.split_module.result.1.now c.loop-command.command-index _ c.is_some-is_needed.result (option_copied c.split_module.result.0) c.args.json.now c.loop-command.json
-    c.write_command.new.json (g.W.Write.contents c.args.writer.now) (g.W.Write.contents c.loop-command.writer) (g.W.Write.contents c.write_command.new.writer) c.loop-command-test.true
-    (c.is_some-is_needed.ensures ∙ ap is_some c.module_of.ensures) c.split_module.ensures.first c.split_module.ensures.rest (c.loop-command.invariant s is_first at)
+    reached_next c.args.script.now s is_first (with_modules (commands_in c.args.script.now) c.args.modules.now) c.commands_of-commands.result.now
+    c.loop-command.rest.now
+    c.split_module.result.1.now c.loop-command.command-index _ c.is_some-is_needed.result
+    (option_copied c.split_module.result.0) c.args.json.now c.loop-command.json
+    c.write_command.new.json (g.W.Write.contents c.args.writer.now) (g.W.Write.contents c.loop-command.writer)
+    (g.W.Write.contents c.write_command.new.writer) c.loop-command-test.true
+    (c.is_some-is_needed.ensures ∙ ap is_some c.module_of.ensures) c.split_module.ensures.first c.split_module.ensures.rest
+    (c.loop-command.invariant s is_first at)
     c.in_ok-write_command.ensures
 
 pub returns : goal.returns
 returns g c s is_first at =
-    reached_all c.args.script.now s is_first (with_modules (commands_in c.args.script.now) c.args.modules.now) c.commands_of-commands.result.now c.loop-command.rest.now
-    c.loop-command.command-index c.args.json.now c.loop-command.json (g.W.Write.contents c.args.writer.now) (g.W.Write.contents c.loop-command.writer) c.loop-command-test.false
+    reached_all c.args.script.now s is_first (with_modules (commands_in c.args.script.now) c.args.modules.now) c.commands_of-commands.result.now
+    c.loop-command.rest.now
+    c.loop-command.command-index c.args.json.now c.loop-command.json (g.W.Write.contents c.args.writer.now)
+    (g.W.Write.contents c.loop-command.writer) c.loop-command-test.false
     (c.loop-command.invariant s is_first at)

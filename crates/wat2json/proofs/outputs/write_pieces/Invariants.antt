@@ -9,5 +9,6 @@ use Rattle.wat2json.proofs.outputs.write_pieces.Given as goal
 abbrev pub invariant-loop-command : goal.invariant-loop-command
 invariant-loop-command g l =
     (s : State) (is_first : Bool) → Stands l.script.text.now s is_first l.fn.json
-    → Reached l.script s is_first (with_modules (commands_in l.script) l.modules) (with_modules (drop l.command-index l.commands) l.rest) l.fn.json l.json (g.W.Write.contents l.fn.writer)
+    → Reached l.script s is_first (with_modules (commands_in l.script) l.modules)
+    (with_modules (drop l.command-index l.commands) l.rest) l.fn.json l.json (g.W.Write.contents l.fn.writer)
     (g.W.Write.contents l.writer)

@@ -5,7 +5,8 @@ use Rattle.wat_text.proofs.Opened.{text_err, text_first}
 use Rattle.wat_text.proofs.modules.read.Goals as goal
 
 pub returns-in-Ok-clause-refuses : goal.returns-in-Ok-clause-refuses
-returns-in-Ok-clause-refuses c = text_err c.args.text.now (all_in c.in-Ok.groups.groups.items) (record { offset = length c.args.text.now }) refl c.in-Ok.ensures.read c.in-Ok.ensures.words
+returns-in-Ok-clause-refuses c = text_err c.args.text.now (all_in c.in-Ok.groups.groups.items)
+    (record { offset = length c.args.text.now }) refl c.in-Ok.ensures.read c.in-Ok.ensures.words
     c.module_of_groups_up_to.result c.module_of_groups_up_to.ensures.refuses
 
 pub returns-in-Err-clause-refuses : goal.returns-in-Err-clause-refuses

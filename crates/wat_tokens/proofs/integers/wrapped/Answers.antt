@@ -5,5 +5,6 @@ use Rattle.wat_tokens.proofs.ShortNumbers.{wrapped_short}
 use Rattle.wat_tokens.proofs.integers.wrapped.Goals as goal
 
 pub returns-in-Some-clause-value : goal.returns-in-Some-clause-value
-returns-in-Some-clause-value c = wrapped_short c.args.half c.in-Some.value c.args.text.now c.bits.result c.ok_or.result (ap natural (sym c.as_bytes.ensures.value) ∙ c.in-Some.ensures.value)
+returns-in-Some-clause-value c = wrapped_short c.args.half c.in-Some.value c.args.text.now c.bits.result c.ok_or.result
+    (ap natural (sym c.as_bytes.ensures.value) ∙ c.in-Some.ensures.value)
     c.bits.ensures c.ok_or.ensures.value

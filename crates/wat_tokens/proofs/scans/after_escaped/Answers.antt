@@ -16,4 +16,5 @@ pub returns-in-92-clause-past : goal.returns-in-92-clause-past
 returns-in-92-clause-past c = one_past c.args.text.now (omega (arith, ltb-false))
 
 pub returns-in-len1-up-rest-clause-past : goal.returns-in-len1-up-rest-clause-past
-returns-in-len1-up-rest-clause-past c = two_past c.args.text.now (omega (arith, ltb-false)) (omega (arith, ltb-false)) (λ e. omega (arith, e)) (λ e. omega (arith, e))
+returns-in-len1-up-rest-clause-past c = two_past c.args.text.now (omega (arith, ltb-false)) (omega (arith, ltb-false)) (λ e. omega (arith, e))
+    (λ e. omega (arith, e))

@@ -11,7 +11,8 @@ either true false = refl
 either false true = refl
 either false false = refl
 
-tops : (one other : ℕ) (cs : List ℕ) → map (top 7) (map (λ c. bit_or (cond (eqb c one) 255 0) (cond (eqb c other) 255 0)) cs) ≡ map (λ c. eqb c one || eqb c other) cs
+tops : (one other : ℕ) (cs : List ℕ) → map (top 7) (map (λ c. bit_or (cond (eqb c one) 255 0) (cond (eqb c other) 255 0)) cs) ≡ map
+    (λ c. eqb c one || eqb c other) cs
 tops one other [] = refl
 tops one other (c ∷ cs) = ap₂ (λ b bs. b ∷ bs) (either (eqb c one) (eqb c other)) (tops one other cs)
 

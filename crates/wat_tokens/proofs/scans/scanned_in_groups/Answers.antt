@@ -28,7 +28,8 @@ loop-preserved c =
     record {
       inside = c.in-Ok.ensures.end.1;
       enough = omega (arith, c.loop.invariant.enough, c.in-Ok.ensures.end.0, one);
-      same = c.loop.invariant.same ∙ pa_more X N M c.loop.place c.in-Ok.part.end T (seen_all (tokens_in c.put.new.self)) (seen_all (tokens_in c.loop.found)) (token_of c.in-Ok.part.token) one below c.in-Ok.ensures.read c.in-Ok-put.ensures.put;
+      same = c.loop.invariant.same ∙ pa_more X N M c.loop.place c.in-Ok.part.end T (seen_all (tokens_in c.put.new.self))
+          (seen_all (tokens_in c.loop.found)) (token_of c.in-Ok.part.token) one below c.in-Ok.ensures.read c.in-Ok-put.ensures.put;
       words = c.in-Ok-put.ensures.words c.in-Ok.ensures.words c.loop.invariant.words;
       count = c.in-Ok-put.ensures.count c.loop.invariant.count;
     }
@@ -39,6 +40,9 @@ returns-clause-read c =
     let X = contents_of c.args.strings in
     let N = length T - c.loop.counter in
     elim c.loop-test.branch [
-      | else-loop-test w ↦ c.loop.invariant.same ∙ pa_end X N (length T) (drop c.loop.place T) (seen_all (tokens_in c.loop.found)) (all_read c.loop.place T (omega (arith, w.loop-test.false, c.loop.invariant.enough)))
-      | then-loop-test+then-place-text w ↦ c.loop.invariant.same ∙ pa_end X N (length T) (drop c.loop.place T) (seen_all (tokens_in c.loop.found)) (all_read c.loop.place T (omega (arith, w.if-place-text.true)))
+      | else-loop-test w ↦ c.loop.invariant.same
+          ∙ pa_end X N (length T) (drop c.loop.place T) (seen_all (tokens_in c.loop.found))
+          (all_read c.loop.place T (omega (arith, w.loop-test.false, c.loop.invariant.enough)))
+      | then-loop-test+then-place-text w ↦ c.loop.invariant.same
+          ∙ pa_end X N (length T) (drop c.loop.place T) (seen_all (tokens_in c.loop.found)) (all_read c.loop.place T (omega (arith, w.if-place-text.true)))
     ]

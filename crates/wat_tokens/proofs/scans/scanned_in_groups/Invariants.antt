@@ -11,7 +11,8 @@ abbrev pub invariant-loop : goal.invariant-loop
 invariant-loop l = record {
   inside : l.place ≤ length l.text;
   enough : length l.text - l.place ≤ l.end - l.counter;
-  same : parts (contents_of l.strings) (length l.text) (length l.text) l.text ≡ with_before (seen_all (tokens_in l.found)) (parts (contents_of l.strings) (l.end - l.counter) (length l.text) (drop l.place l.text));
+  same : parts (contents_of l.strings) (length l.text) (length l.text) l.text ≡ with_before (seen_all (tokens_in l.found))
+      (parts (contents_of l.strings) (l.end - l.counter) (length l.text) (drop l.place l.text));
   words : All (λ p. IsNamed p.token) (tokens_in l.found);
   count : IsCounted l.found.full;
 }

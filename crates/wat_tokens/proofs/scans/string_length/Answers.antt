@@ -26,7 +26,8 @@ loop-preserved c =
             shorter = omega (arith, long, a, w.after_escaped-rest.ensures.short);
             enough = omega (arith, long, a, w.after_escaped-rest.ensures.short);
             same = c.loop.invariant.same
-                ∙ escape_past (length T) rest w.after_escaped-rest.result.now some (omega arith) c.loop.invariant.shorter w.after_escaped-rest.ensures.short w.after_escaped-rest.ensures.past
+                ∙ escape_past (length T) rest w.after_escaped-rest.result.now some
+                (omega arith) c.loop.invariant.shorter w.after_escaped-rest.ensures.short w.after_escaped-rest.ensures.past
                 ∙ sym (ap (λ (r : Bor (List ℕ)). after_these (length T - length r.now) (string_length false r.now)) w.rest-is);
           }
       | in-len1-up w ↦
@@ -37,7 +38,8 @@ loop-preserved c =
             shorter = omega (arith, long, a);
             enough = omega (arith, long, a);
             same = c.loop.invariant.same
-                ∙ plain_past (length T) w.neither_length.result rest some (λ e. omega (arith, e)) (λ e. omega (arith, e)) c.loop.invariant.shorter w.neither_length.ensures.front
+                ∙ plain_past (length T) w.neither_length.result rest some (λ e. omega (arith, e))
+                (λ e. omega (arith, e)) c.loop.invariant.shorter w.neither_length.ensures.front
                 ∙ sym (ap (λ (r : Bor (List ℕ)). after_these (length T - length r.now) (string_length false r.now)) w.rest-is);
           }
     ]

@@ -27,6 +27,7 @@ returns c =
     let long = c.fits-bytes.0 in
     let two = zip2_of_maps bit_or (λ x. below x 0x20) (λ x. equal x 0x7f) bytes (zip2_splat below bytes 16 0x20 long) (zip2_splat equal bytes 16 0x7f long) in
     let three = zip2_of_maps bit_or (λ x. bit_or (below x 0x20) (equal x 0x7f)) (λ x. equal x 0x22) bytes two (zip2_splat equal bytes 16 0x22 long) in
-    let lanes = zip2_of_maps bit_or (λ x. bit_or (bit_or (below x 0x20) (equal x 0x7f)) (equal x 0x22)) (λ x. equal x 0x5c) bytes three (zip2_splat equal bytes 16 0x5c long) in
+    let lanes = zip2_of_maps bit_or (λ x. bit_or (bit_or (below x 0x20) (equal x 0x7f)) (equal x 0x22)) (λ x. equal x 0x5c) bytes three
+    (zip2_splat equal bytes 16 0x5c long) in
     ap (λ l. mask_l (map (top 7) l) % 2 ^ 64) lanes ∙ ap (λ l. mask_l l % 2 ^ 64) (tops bytes c.fits-bytes.1)
     ∙ mask_l-mod (map (λ x. not (is_raw x)) bytes) 64 (omega (arith, length-map bytes (λ x. not (is_raw x)), long))

@@ -14,8 +14,10 @@ twice false = refl
 passed : (T : List ℕ) → length (front (λ c. not (not (is_raw c))) T) ≡ length (front is_raw T)
 passed T = λ i. length (front (λ c. twice (is_raw c) i) T)
 
-first_not_raw : (T : List ℕ) (found : ℕ) → 16 ≤ length T → found ≡ mask_l (map (λ c. not (is_raw c)) (chunk 0 16 T)) → 0 < found → count_trailing_zeros 64 found ≤ length (front is_raw T)
-first_not_raw T found long is set = subst (λ n. count_trailing_zeros 64 found ≤ n) (passed T) (first_found (λ c. not (is_raw c)) 16 T found long (omega arith) is set)
+first_not_raw : (T : List ℕ) (found : ℕ) → 16 ≤ length T → found ≡ mask_l (map (λ c. not (is_raw c)) (chunk 0 16 T)) → 0 < found
+    → count_trailing_zeros 64 found ≤ length (front is_raw T)
+first_not_raw T found long is set = subst (λ n. count_trailing_zeros 64 found ≤ n) (passed T)
+    (first_found (λ c. not (is_raw c)) 16 T found long (omega arith) is set)
 
 all_raw : (T : List ℕ) (found : ℕ) → 16 ≤ length T → found ≡ mask_l (map (λ c. not (is_raw c)) (chunk 0 16 T)) → found ≡ 0 → 16 ≤ length (front is_raw T)
 all_raw T found long is none = subst (λ n. 16 ≤ n) (passed T) (none_found (λ c. not (is_raw c)) 16 T found long is none)

@@ -15,4 +15,5 @@ returns-in-Err-clause-read c = λ known.
     (s.0, none.0 ∙ s.1)
 
 pub returns-clause-read : goal.returns-clause-read
-returns-clause-read c = run_out c.args.content.now c.loop.out.items c.loop.rest.now (length c.args.content.now - c.loop.counter) (omega (arith, c.loop-test.false)) c.loop.invariant
+returns-clause-read c = run_out c.args.content.now c.loop.out.items c.loop.rest.now (length c.args.content.now - c.loop.counter)
+    (omega (arith, c.loop-test.false)) c.loop.invariant

@@ -10,4 +10,5 @@ returns g c =
     let i = c.args.self.now in
     let h = i.ty.heap_type in
     one_written rules c.args.out.now c.encode.new.out (cast_key i.op i.ty.nullable) Heap h (heap_type h).in_range c.encode.result (λ p. p) (λ p. p)
-    (opcode_written rules c.args.out.now c.encode.new.out c.opcode.result (cast_key i.op i.ty.nullable) (heap_type h).in_range (heap_type h).bytes c.encode.result c.opcode.ensures c.encode.ensures)
+    (opcode_written rules c.args.out.now c.encode.new.out c.opcode.result (cast_key i.op i.ty.nullable) (heap_type h).in_range
+    (heap_type h).bytes c.encode.result c.opcode.ensures c.encode.ensures)

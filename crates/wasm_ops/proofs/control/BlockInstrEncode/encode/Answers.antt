@@ -9,4 +9,5 @@ returns g c =
     let rules = g.S.Sink.rules in
     let i = c.args.self.now in
     one_written rules c.args.out.now c.encode.new.out (block_key i.op) Block i.ty (block_type i.ty).in_range c.encode.result (λ h. h) (λ h. h)
-    (opcode_written rules c.args.out.now c.encode.new.out c.opcode.result (block_key i.op) (block_type i.ty).in_range (block_type i.ty).bytes c.encode.result c.opcode.ensures c.encode.ensures)
+    (opcode_written rules c.args.out.now c.encode.new.out c.opcode.result (block_key i.op) (block_type i.ty).in_range
+    (block_type i.ty).bytes c.encode.result c.opcode.ensures c.encode.ensures)

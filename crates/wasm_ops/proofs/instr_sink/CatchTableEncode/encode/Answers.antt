@@ -11,4 +11,5 @@ encode-requires g c = rw (c.requires, all_covered (λ _. true) c.args.self.now.1
 pub returns : goal.returns
 returns g c =
     let clauses = c.args.self.now.1.now in
-    try_table_written g.S.Sink.rules c.args.out.now c.encode.new.out c.args.self.now.0 clauses (vec (λ x. (catch_clause x).bytes) clauses) (InRangeVec (λ x. (catch_clause x).in_range) clauses) c.encode.result refl (λ h. h) (λ h. h) c.encode.ensures
+    try_table_written g.S.Sink.rules c.args.out.now c.encode.new.out c.args.self.now.0 clauses (vec (λ x. (catch_clause x).bytes) clauses)
+    (InRangeVec (λ x. (catch_clause x).in_range) clauses) c.encode.result refl (λ h. h) (λ h. h) c.encode.ensures

@@ -11,4 +11,5 @@ encode-requires g c = all_covered (λ _. true) c.args.self.now.0.now (λ x. refl
 pub returns : goal.returns
 returns g c =
     let labels = c.args.self.now.0.now in
-    br_table_written g.S.Sink.rules c.args.out.now c.encode.new.out labels c.args.self.now.1 (vec unsigned labels) (InRangeVec InRangeU32 labels) c.encode.result refl (λ h. h) (λ h. h) c.encode.ensures
+    br_table_written g.S.Sink.rules c.args.out.now c.encode.new.out labels c.args.self.now.1 (vec unsigned labels)
+    (InRangeVec InRangeU32 labels) c.encode.result refl (λ h. h) (λ h. h) c.encode.ensures

@@ -9,4 +9,6 @@ use Rattle.wasm_ops.proofs.instr_sink.TypedSelectEncode.encode.Goals as goal
 pub returns-in-Some : goal.returns-in-Some
 returns-in-Some g c =
     rw c.in-Some.is
-    (select_written {X = Counted ValType AsItself} g.S.Sink.rules (λ list. vec (λ x. (val_type x).bytes) list.0.now) (λ list. InRangeVec (λ x. (val_type x).in_range) list.0.now) (λ list. list.0.now) c.args.out.now c.encode-in-Some.new.out (Some _) c.encode-in-Some.result (λ x. refl) (λ x h. h) (λ x h. h) c.encode-in-Some.ensures)
+    (select_written {X = Counted ValType AsItself} g.S.Sink.rules (λ list. vec (λ x. (val_type x).bytes) list.0.now)
+    (λ list. InRangeVec (λ x. (val_type x).in_range) list.0.now) (λ list. list.0.now) c.args.out.now c.encode-in-Some.new.out
+    (Some _) c.encode-in-Some.result (λ x. refl) (λ x h. h) (λ x h. h) c.encode-in-Some.ensures)

@@ -12,4 +12,5 @@ returns g c =
     let i = c.args.self.now in
     let InRange = InRangeU32 i.first × InRangeU32 i.second in
     two_written rules c.args.out.now c.encode.new.out (index_pair_key i.op) Index Index i.first i.second InRange c.encode.result (λ h. h) (λ h. h)
-    (opcode_written rules c.args.out.now c.encode.new.out c.opcode.result (index_pair_key i.op) InRange (unsigned i.first ++ unsigned i.second) c.encode.result c.opcode.ensures c.encode.ensures)
+    (opcode_written rules c.args.out.now c.encode.new.out c.opcode.result (index_pair_key i.op) InRange
+    (unsigned i.first ++ unsigned i.second) c.encode.result c.opcode.ensures c.encode.ensures)

@@ -11,4 +11,5 @@ returns g c =
     let i = c.args.self.now in
     let InRange = (memarg i.memarg).in_range × Unit {0} in
     two_written rules c.args.out.now c.encode.new.out (mem_lane_key i.op) Memarg Lane i.memarg i.lane InRange c.encode.result (λ h. h) (λ h. h)
-    (opcode_written rules c.args.out.now c.encode.new.out c.mem_lane_opcode.result (mem_lane_key i.op) InRange ((memarg i.memarg).bytes ++ (i.lane ∷ [])) c.encode.result c.mem_lane_opcode.ensures c.encode.ensures)
+    (opcode_written rules c.args.out.now c.encode.new.out c.mem_lane_opcode.result (mem_lane_key i.op) InRange
+    ((memarg i.memarg).bytes ++ (i.lane ∷ [])) c.encode.result c.mem_lane_opcode.ensures c.encode.ensures)

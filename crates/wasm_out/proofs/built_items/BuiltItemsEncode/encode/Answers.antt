@@ -12,5 +12,6 @@ returns g c =
     let count = c.self.inside.count in
     let bytes = unsigned count ++ c.deref.result.now in
     let is_counted : bytes ≡ behind_count c.args.self.now = ap (λ l. unsigned count ++ l) c.deref.ensures.value ∙ ap behind_count c.self.view_is in
-    let put = puts_as rules (InRangeU32 count × Unit {0}) (Unit {0}) c.args.out.now c.encode.new.out bytes c.encode.result (λ r. tt) (λ r. (c.self.invariant, tt)) c.encode.ensures in
+    let put = puts_as rules (InRangeU32 count × Unit {0}) (Unit {0}) c.args.out.now c.encode.new.out bytes c.encode.result (λ r. tt)
+    (λ r. (c.self.invariant, tt)) c.encode.ensures in
     subst (λ l. Writes rules (Unit {0}) c.args.out.now c.encode.new.out l c.encode.result) is_counted put

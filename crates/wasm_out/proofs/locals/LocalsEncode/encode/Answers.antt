@@ -19,7 +19,8 @@ returns-then-is_empty g c =
     let xs = c.args.self.now.0.now in
     let none : length xs ≡ 0 = search rules in
     let empty = sym (none_there xs none) in
-    written_as g.S.Sink.rules (Unit {0}) (InRangeVec (λ x. (val_type x).in_range) (map ty xs)) c.args.out.now c.push_number.new.self (unsigned 0) (locals (map ty xs)) c.push_number.result
+    written_as g.S.Sink.rules (Unit {0}) (InRangeVec (λ x. (val_type x).in_range) (map ty xs)) c.args.out.now c.push_number.new.self (unsigned 0)
+    (locals (map ty xs)) c.push_number.result
     (λ u. subst (λ ys. InRangeVec (λ x. (val_type x).in_range) (map ty ys)) empty (omega arith, All-nil (λ x. (val_type x).in_range))) (λ i. tt)
     (sym (append-nil (unsigned 0)) ∙ ap (λ ys. locals (map ty ys)) empty) c.push_number.ensures
 
@@ -30,7 +31,8 @@ returns g c =
     let types = map ty xs in
     let few : InRangeU32 (length xs) = search rules in
     let runs = local_runs types in
-    written_as g.S.Sink.rules (All (λ x. (local_run x).in_range) runs) (InRangeVec (λ x. (val_type x).in_range) types) c.args.out.now c.put_locals.new.out (locals types) (locals types) c.put_locals.result
+    written_as g.S.Sink.rules (All (λ x. (local_run x).in_range) runs)
+    (InRangeVec (λ x. (val_type x).in_range) types) c.args.out.now c.put_locals.new.out (locals types) (locals types) c.put_locals.result
     (λ p. types_in_range (λ x. (val_type x).in_range) types (subst InRangeU32 (sym (length-map xs ty)) few) (omega (arith, few_runs ty xs, few), p))
     (λ p. (runs_in_range (λ x. (val_type x).in_range) types p).1)
     refl c.put_locals.ensures

@@ -22,8 +22,10 @@ returns-in-Producers g c =
     let rules = g.S.Sink.rules in
     let fields = c.in-Producers.made.fields in
     let text = c.name.result.now in
-    let written = listed_behind rules c.args.out.now c.encode-in-Producers.new.out (name text) (InRangeName text) (λ x. (producer_field x).bytes) (λ x. (producer_field x).in_range) as_producer_field c.as_slice-in-Producers.result.now fields c.encode-in-Producers.result
+    let written = listed_behind rules c.args.out.now c.encode-in-Producers.new.out (name text) (InRangeName text) (λ x. (producer_field x).bytes)
+    (λ x. (producer_field x).in_range) as_producer_field c.as_slice-in-Producers.result.now fields c.encode-in-Producers.result
     c.as_slice-in-Producers.ensures c.encode-in-Producers.ensures in
     rw c.in-Producers.is (subst
-    (λ (t : List ℕ). Writes rules (InRangeName t × InRangeVec (λ x. (producer_field x).in_range) (map as_producer_field fields)) c.args.out.now c.encode-in-Producers.new.out (name t ++ vec (λ x. (producer_field x).bytes) (map as_producer_field fields)) c.encode-in-Producers.result)
+    (λ (t : List ℕ). Writes rules (InRangeName t × InRangeVec (λ x. (producer_field x).in_range) (map as_producer_field fields)) c.args.out.now
+    c.encode-in-Producers.new.out (name t ++ vec (λ x. (producer_field x).bytes) (map as_producer_field fields)) c.encode-in-Producers.result)
     (c.name.ensures ∙ ap custom_name c.in-Producers.is) written)

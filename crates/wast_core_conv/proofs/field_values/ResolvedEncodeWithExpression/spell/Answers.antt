@@ -10,4 +10,5 @@ pub encode-requires : goal.encode-requires
 encode-requires g c = and_true _ (ap (list_all is_encodable_instr) c.as_slice.ensures ∙ ready_instrs c.args.expression.now c.requires)
 
 pub returns : goal.returns
-returns g c = expression_written g.S.Sink.rules c.args.out.now c.encode.new.out c.as_slice.result.now c.args.expression.now.instrs c.encode.result c.as_slice.ensures c.encode.ensures
+returns g c = expression_written g.S.Sink.rules c.args.out.now c.encode.new.out c.as_slice.result.now c.args.expression.now.instrs c.encode.result
+    c.as_slice.ensures c.encode.ensures

@@ -41,9 +41,12 @@ returns-then-is_err g c =
     let f : BranchHint → List ℕ = λ h. (branch_hint (as_branch_hint body h)).bytes in
     let i = c.loop-hint.invariant in
     let stands = hint_stands (length s.instrs.now) n xs k none c.loop-hint-test.true i.standing in
-    let one = hint_written rules c.loop-hint.out c.put_hint-result.new.out s.locals.now s.instrs.now it n c.loop-hint.before c.put_hint-result.result stands.behind i.counted i.first c.put_hint-result.ensures.written in
-    cut_back rules (InRangeHintsOf body xs) (InRangeHintOf body it) c.args.out.now c.loop-hint.out c.put_hint-result.new.out c.cut.new.self (flat_map f (take k xs)) (f it) (flat_map f xs) c.size-start.result c.put_hint-result.result
-    g.met.S.Sink.laws (length-flat_map-take f xs k none c.loop-hint-test.true) (λ t. t.1 k none c.loop-hint-test.true) i.told one (sym c.is_err.ensures.value ∙ c.if-is_err.true) c.size-start.ensures c.cut.ensures
+    let one = hint_written rules c.loop-hint.out c.put_hint-result.new.out s.locals.now s.instrs.now it n c.loop-hint.before c.put_hint-result.result
+    stands.behind i.counted i.first c.put_hint-result.ensures.written in
+    cut_back rules (InRangeHintsOf body xs) (InRangeHintOf body it) c.args.out.now c.loop-hint.out c.put_hint-result.new.out c.cut.new.self
+    (flat_map f (take k xs)) (f it) (flat_map f xs) c.size-start.result c.put_hint-result.result
+    g.met.S.Sink.laws (length-flat_map-take f xs k none c.loop-hint-test.true) (λ t. t.1 k none c.loop-hint-test.true) i.told one
+    (sym c.is_err.ensures.value ∙ c.if-is_err.true) c.size-start.ensures c.cut.ensures
 
 pub loop-hint-preserved : goal.loop-hint-preserved
 loop-hint-preserved g c =
@@ -59,14 +62,16 @@ loop-hint-preserved g c =
     let i = c.loop-hint.invariant in
     let good = sym c.is_err.ensures.value ∙ c.if-is_err.false in
     let stands = hint_stands (length s.instrs.now) n xs k none c.loop-hint-test.true i.standing in
-    let one = hint_written rules c.loop-hint.out c.put_hint-result.new.out s.locals.now s.instrs.now it n c.loop-hint.before c.put_hint-result.result stands.behind i.counted i.first c.put_hint-result.ensures.written in
+    let one = hint_written rules c.loop-hint.out c.put_hint-result.new.out s.locals.now s.instrs.now it n c.loop-hint.before c.put_hint-result.result
+    stands.behind i.counted i.first c.put_hint-result.ensures.written in
     let more = one_item_more rules f (InRangeHintOf body) c.args.out.now c.loop-hint.out c.put_hint-result.new.out xs k it c.put_hint-result.result
     g.met.S.Sink.laws c.loop-hint-test.true (get_or_default xs k none it c.loop-hint-test.true) i.told i.fitting one good in
     record {
       told = more.0;
       fitting = more.1;
       at = i.at;
-      counted = if_no_error _ c.put_hint-result.result good c.put_hint-result.ensures.counted ∙ counted_before s.locals.now s.instrs.now n it.instr_index c.loop-hint.before stands.behind i.counted;
+      counted = if_no_error _ c.put_hint-result.result good c.put_hint-result.ensures.counted
+          ∙ counted_before s.locals.now s.instrs.now n it.instr_index c.loop-hint.before stands.behind i.counted;
       first = (written_in_range rules (InRangeHintOf body it) c.loop-hint.out c.put_hint-result.new.out (f it) c.put_hint-result.result one good).0;
       standing = stand_sooner (length s.instrs.now) it.instr_index (drop (k + 1) xs) stands.rest;
     }

@@ -60,7 +60,8 @@ pub put_br_on_cast_fail-requires : goal.put_br_on_cast_fail-requires
 put_br_on_cast_fail-requires g c = subst (λ i. is_encodable_instr i ≡ true) c.in-br_on_cast_fail.is c.requires
 
 pub put_fence-requires : goal.put_fence-requires
-put_fence-requires g c = (both_pass (is_sequential c.in-atomic_fence.ordering) true (subst (λ i. is_encodable_instr i ≡ true) c.in-atomic_fence.is c.requires)).0
+put_fence-requires g c = (both_pass (is_sequential c.in-atomic_fence.ordering) true
+    (subst (λ i. is_encodable_instr i ≡ true) c.in-atomic_fence.is c.requires)).0
 
 pub returns-in-Mem : goal.returns-in-Mem
 returns-in-Mem g c = rw c.in-Mem.is c.put_mem.ensures
@@ -101,12 +102,14 @@ returns-in-select g c = rw c.in-select.is c.put_select.ensures
 pub returns-in-i32_const : goal.returns-in-i32_const
 returns-in-i32_const g c =
     let fits : SFits w32 c.in-i32_const.value = search rules in
-    rw c.in-i32_const.is (subst (λ z. Writes g.S.Sink.rules (instr (i32_const_instr z)).in_range c.args.out.now c.encode-in-i32_const.new.out (instr (i32_const_instr z)).bytes c.encode-in-i32_const.result) (to_z-of_z w32 c.in-i32_const.value fits) c.encode-in-i32_const.ensures)
+    rw c.in-i32_const.is (subst (λ z. Writes g.S.Sink.rules (instr (i32_const_instr z)).in_range c.args.out.now c.encode-in-i32_const.new.out
+    (instr (i32_const_instr z)).bytes c.encode-in-i32_const.result) (to_z-of_z w32 c.in-i32_const.value fits) c.encode-in-i32_const.ensures)
 
 pub returns-in-i64_const : goal.returns-in-i64_const
 returns-in-i64_const g c =
     let fits : SFits w64 c.in-i64_const.value = search rules in
-    rw c.in-i64_const.is (subst (λ z. Writes g.S.Sink.rules (instr (i64_const_instr z)).in_range c.args.out.now c.encode-in-i64_const.new.out (instr (i64_const_instr z)).bytes c.encode-in-i64_const.result) (to_z-of_z w64 c.in-i64_const.value fits) c.encode-in-i64_const.ensures)
+    rw c.in-i64_const.is (subst (λ z. Writes g.S.Sink.rules (instr (i64_const_instr z)).in_range c.args.out.now c.encode-in-i64_const.new.out
+    (instr (i64_const_instr z)).bytes c.encode-in-i64_const.result) (to_z-of_z w64 c.in-i64_const.value fits) c.encode-in-i64_const.ensures)
 
 pub returns-in-f32_const : goal.returns-in-f32_const
 returns-in-f32_const g c = rw c.in-f32_const.is c.encode-in-f32_const.ensures

@@ -15,7 +15,8 @@ sub_type-requires c = asks_numbered (in_type c.in-Ty.ty.now) (subst (λ e. is_en
 
 pub subtype-requires : goal.subtype-requires
 subtype-requires c =
-    ap (λ x. (sub_type x).is_covered) c.in_ok-sub_type-in-Ty.ensures.value ∙ def_covered c.in-Ty.ty.now.def (subst (λ e. is_encodable_entry e ≡ true) c.in-Ty.is c.requires)
+    ap (λ x. (sub_type x).is_covered) c.in_ok-sub_type-in-Ty.ensures.value
+    ∙ def_covered c.in-Ty.ty.now.def (subst (λ e. is_encodable_entry e ≡ true) c.in-Ty.is c.requires)
 
 pub group-requires : goal.group-requires
 group-requires c =

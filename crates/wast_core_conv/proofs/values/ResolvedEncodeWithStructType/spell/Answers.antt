@@ -11,4 +11,5 @@ pub encode-requires : goal.encode-requires
 encode-requires g c = rw c.as_slice.ensures (sym (each_passes is_encodable_ask in_struct_field c.args.ty.now.fields) ∙ c.requires)
 
 pub returns : goal.returns
-returns g c = list_written g.S.Sink.rules c.args.out.now c.encode.new.out 0x5f (λ x. (field_type x).bytes) (λ x. (field_type x).in_range) meaning.as_field_type c.as_slice.result.now c.args.ty.now.fields c.encode.result c.as_slice.ensures c.encode.ensures
+returns g c = list_written g.S.Sink.rules c.args.out.now c.encode.new.out 0x5f (λ x. (field_type x).bytes)
+    (λ x. (field_type x).in_range) meaning.as_field_type c.as_slice.result.now c.args.ty.now.fields c.encode.result c.as_slice.ensures c.encode.ensures

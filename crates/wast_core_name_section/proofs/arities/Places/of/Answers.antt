@@ -6,7 +6,8 @@ use Rattle.wast_core_name_section.proofs.arities.Places.of.Goals.{then-i-next+th
 
 pub loop-i-init : goal.loop-i-init
 loop-i-init g c = record {
-  filled = filled_first g.T.FieldTypes.types c.args.fields.now c.args.first c.saturating_add-every.result c.args.room.now (omega (arith, c.requires.inside.0, c.requires.inside.1)) c.requires.front c.requires.room;
+  filled = filled_first g.T.FieldTypes.types c.args.fields.now c.args.first c.saturating_add-every.result c.args.room.now
+      (omega (arith, c.requires.inside.0, c.requires.inside.1)) c.requires.front c.requires.room;
   next = λ h. omega arith;
   sum = λ h. ap length (sym c.requires.front);
   inside = c.requires.inside.0;
@@ -22,13 +23,17 @@ loop-i-preserved g c =
     let i = c.loop-i.invariant in
     let inside : at + 1 ≤ c.args.end = omega (arith, c.loop-i-test.true) in
     let lt : at < length fields = omega (arith, inside, c.requires.inside.1) in
-    let sum = sum_more types fields at c.loop-i.sum c.count_types.result c.saturating_add-sum.result c.index-fields-i.result lt c.index-fields-i.is i.sum c.count_types.ensures c.saturating_add-sum.ensures in
+    let sum = sum_more types fields at c.loop-i.sum c.count_types.result c.saturating_add-sum.result c.index-fields-i.result lt c.index-fields-i.is
+    i.sum c.count_types.ensures c.saturating_add-sum.ensures in
     elim c.if-i-next.branch [
       | then-i-next+then-count-room+then-sum w ↦
           let here : at ≡ first + c.loop-i.count * every = w.if-i-next.true ∙ i.next (omega (arith, lt)) in
           record {
-            filled = subst₂ (λ n room. IsFilled types fields first every n room) (sym w.count-is) (sym w.room-is) (filled_more types fields first every c.loop-i.count c.loop-i.room at c.loop-i.sum w.if-count-room.true here (omega (arith, lt)) (i.sum (omega (arith, w.if-sum.true))) i.filled);
-            next = λ h. let was : c.loop-i.next ≡ first + c.loop-i.count * every = i.next (omega (arith, lt)) in omega (arith, h, was, w.next-is, w.saturating_add-next-then-sum.ensures, ap (λ n. n * every) w.count-is);
+            filled = subst₂ (λ n room. IsFilled types fields first every n room) (sym w.count-is) (sym w.room-is)
+                (filled_more types fields first every c.loop-i.count c.loop-i.room at c.loop-i.sum w.if-count-room.true here (omega (arith, lt))
+                (i.sum (omega (arith, w.if-sum.true))) i.filled);
+            next = λ h. let was : c.loop-i.next ≡ first + c.loop-i.count * every = i.next (omega (arith, lt))
+                in omega (arith, h, was, w.next-is, w.saturating_add-next-then-sum.ensures, ap (λ n. n * every) w.count-is);
             sum = sum;
             inside = inside;
           }
@@ -46,4 +51,5 @@ returns g c =
     let fields = c.args.fields.now in
     let i = c.loop-i.invariant in
     let all : c.loop-i.i ≡ c.args.end = omega (arith, i.inside, c.loop-i-test.false) in
-    tells_filled types fields c.loop-i.room _ i.filled (λ h. counted_all types fields c.args.end c.loop-i.sum c.requires.back (i.sum h ∙ ap (λ n. length (flat_map types (take n fields))) all))
+    tells_filled types fields c.loop-i.room _ i.filled (λ h. counted_all types fields c.args.end c.loop-i.sum c.requires.back (i.sum h
+    ∙ ap (λ n. length (flat_map types (take n fields))) all))

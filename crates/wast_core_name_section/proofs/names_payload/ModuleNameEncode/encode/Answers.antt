@@ -10,4 +10,5 @@ returns-in-Some g c =
     let rules = g.S.Sink.rules in
     let s : NameSubsection = record { of = Whole; content = One c.in-Some.text.now } in
     rw c.in-Some.is (subsection_written rules c.args.out.now c.encode.new.out s 0 c.encode.result refl
-    (puts_as rules (Unit {0} × (name_subsection s).in_range) (name_subsection s).in_range c.args.out.now c.encode.new.out (0 ∷ length_prefixed (λ x. (name_content x).bytes) s.content) c.encode.result (λ h. h.1) (λ h. (tt, h)) c.encode.ensures))
+    (puts_as rules (Unit {0} × (name_subsection s).in_range) (name_subsection s).in_range c.args.out.now c.encode.new.out
+    (0 ∷ length_prefixed (λ x. (name_content x).bytes) s.content) c.encode.result (λ h. h.1) (λ h. (tt, h)) c.encode.ensures))

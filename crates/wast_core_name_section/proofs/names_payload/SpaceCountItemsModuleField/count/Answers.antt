@@ -8,8 +8,10 @@ use Rattle.wast_core_name_section.proofs.names_payload.SpaceCountItemsModuleFiel
 
 pub returns-in-Types : goal.returns-in-Types
 returns-in-Types c =
-    c.count_each.ensures ∙ ap (λ z. saturated_count (length (named_from 0 z))) (sym (names_of_each c.args.self.now type_name c.in-Types.types.now (item_names_in c.args.part.now) c.in-Types.ensures))
+    c.count_each.ensures ∙ ap (λ z. saturated_count (length (named_from 0 z)))
+    (sym (names_of_each c.args.self.now type_name c.in-Types.types.now (item_names_in c.args.part.now) c.in-Types.ensures))
 
 pub returns-in-Imported : goal.returns-in-Imported
 returns-in-Imported c =
-    c.count_imported.ensures ∙ ap (λ z. saturated_count (length (named_from 0 z))) (sym (names_of_each c.args.self.now sig_name (item_sigs c.in-Imported.items.now) (item_names_in c.args.part.now) c.in-Imported.ensures))
+    c.count_imported.ensures ∙ ap (λ z. saturated_count (length (named_from 0 z)))
+    (sym (names_of_each c.args.self.now sig_name (item_sigs c.in-Imported.items.now) (item_names_in c.args.part.now) c.in-Imported.ensures))

@@ -12,4 +12,5 @@ pub returns : goal.returns
 returns c p q fields h k =
     let inside = (reach_parts p fields c.args.self h).inside in
     let also = (reach_parts q fields c.args.other k).inside in
-    both_within p q fields c.args.self c.args.other c.min.result c.max.result (omega (arith, c.min.ensures)) (omega (arith, c.min.ensures)) (omega (arith, c.max.ensures)) (omega (arith, c.max.ensures)) (omega (arith, c.max.ensures, inside, also)) h k
+    both_within p q fields c.args.self c.args.other c.min.result c.max.result (omega (arith, c.min.ensures)) (omega (arith, c.min.ensures))
+    (omega (arith, c.max.ensures)) (omega (arith, c.max.ensures)) (omega (arith, c.max.ensures, inside, also)) h k

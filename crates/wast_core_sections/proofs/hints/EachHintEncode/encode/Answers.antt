@@ -18,7 +18,9 @@ pub cut-requires : goal.cut-requires
 cut-requires g c =
     let f = g.F.PutHints.functions in
     let i = c.loop-field.invariant in
-    names_kept g.S.Sink.rules hinted_function InRangeHinted c.args.out.now c.loop-field.out c.put_hints.new.out (flat_map f (take c.loop-field.field-index c.args.self.now.0.now)) (f c.field-item.result) 0 c.loop-field.index c.size-start.result c.loop-field.index c.in-Err.refusal
+    names_kept g.S.Sink.rules hinted_function InRangeHinted c.args.out.now c.loop-field.out c.put_hints.new.out
+    (flat_map f (take c.loop-field.field-index c.args.self.now.0.now))
+    (f c.field-item.result) 0 c.loop-field.index c.size-start.result c.loop-field.index c.in-Err.refusal
     g.met.S.Sink.laws (omega arith) i.written i.next c.in-Err.ensures.written i.at
 
 pub returns-in-Err : goal.returns-in-Err
@@ -28,8 +30,11 @@ returns-in-Err g c =
     let k = c.loop-field.field-index in
     let x = c.field-item.result in
     let i = c.loop-field.invariant in
-    names_back {R = ℕ} g.S.Sink.rules hinted_function InRangeHinted c.args.out.now c.loop-field.out c.put_hints.new.out c.cut.new.self (flat_map f (take k xs)) (f x) (flat_map f (drop (k + 1) xs)) (flat_map f xs) 0 c.loop-field.index c.size-start.result c.loop-field.index c.in-Err.refusal
-    g.met.S.Sink.laws (each_around f xs k x (f x) c.loop-field-test.true c.field-item.is refl) i.written i.next c.in-Err.ensures.written i.at c.cut.ensures 0 (omega arith)
+    names_back {R = ℕ} g.S.Sink.rules hinted_function InRangeHinted c.args.out.now c.loop-field.out c.put_hints.new.out c.cut.new.self
+    (flat_map f (take k xs)) (f x) (flat_map f (drop (k + 1) xs))
+    (flat_map f xs) 0 c.loop-field.index c.size-start.result c.loop-field.index c.in-Err.refusal
+    g.met.S.Sink.laws (each_around f xs k x (f x) c.loop-field-test.true c.field-item.is refl) i.written i.next c.in-Err.ensures.written i.at
+    c.cut.ensures 0 (omega arith)
 
 pub loop-field-preserved : goal.loop-field-preserved
 loop-field-preserved g c =
@@ -43,7 +48,8 @@ loop-field-preserved g c =
     let more = each_more f xs k x (f x) c.loop-field-test.true c.field-item.is refl in
     record {
       written = subst (λ z. WritesItems {R = ℕ} rules hinted_function InRangeHinted z 0 c.args.out.now c.put_hints.new.out (Ok c.in-Ok.next)) (sym more)
-          (names_after rules hinted_function InRangeHinted c.args.out.now c.loop-field.out c.put_hints.new.out names (f x) 0 c.loop-field.index c.loop-field.index c.in-Ok.next c.in-Ok.next g.met.S.Sink.laws i.written i.next c.in-Ok.ensures.written);
+          (names_after rules hinted_function InRangeHinted c.args.out.now c.loop-field.out c.put_hints.new.out names
+          (f x) 0 c.loop-field.index c.loop-field.index c.in-Ok.next c.in-Ok.next g.met.S.Sink.laws i.written i.next c.in-Ok.ensures.written);
       next = let now = c.in-Ok.ensures.next in let before = i.next in omega (arith, ap length more, length-append names (f x));
       at = i.at;
     }
@@ -51,4 +57,5 @@ loop-field-preserved g c =
 pub returns : goal.returns
 returns g c =
     let all = take_all c.loop-field.field-index c.args.self.now.0.now (omega (arith, c.loop-field-test.false)) in
-    subst (λ xs. WritesItems {R = ℕ} g.S.Sink.rules hinted_function InRangeHinted (flat_map g.F.PutHints.functions xs) 0 c.args.out.now c.loop-field.out (Ok c.loop-field.index)) all c.loop-field.invariant.written 0 (omega arith)
+    subst (λ xs. WritesItems {R = ℕ} g.S.Sink.rules hinted_function InRangeHinted
+    (flat_map g.F.PutHints.functions xs) 0 c.args.out.now c.loop-field.out (Ok c.loop-field.index)) all c.loop-field.invariant.written 0 (omega arith)

@@ -7,7 +7,8 @@ use Rattle.wast_core_sections.proofs.hints.EachHintEncode.encode.Given as goal
 
 abbrev pub invariant-loop-field : goal.invariant-loop-field
 invariant-loop-field g l = record {
-  written : WritesItems g.S.Sink.rules hinted_function InRangeHinted (flat_map g.F.PutHints.functions (take l.field-index l.field-items)) 0 l.fn.out l.out (Ok l.index);
+  written : WritesItems g.S.Sink.rules hinted_function InRangeHinted
+      (flat_map g.F.PutHints.functions (take l.field-index l.field-items)) 0 l.fn.out l.out (Ok l.index);
   next : l.index ≡ saturated_count (0 + length (flat_map g.F.PutHints.functions (take l.field-index l.field-items)));
   at : l.start ≡ g.S.Sink.rules.size_of l.fn.out;
 }

@@ -21,5 +21,7 @@ pub returns-clause-adds : goal.returns-clause-adds
 returns-clause-adds c =
     let e = c.in_ok-index-in-None.ensures in
     let k = c.in_ok-key.ensures in
-    let bound = λ (cx : Bound). Extends cx.bound c.add_type.new.self.cx.bound ((c.in_ok-key.key, index.Id (gensym_id c.args.self.now.gensym start_of_text)) ∷ []) in
-    adds_one k.ok (ap (λ (cx : Bound). index_of cx.bound c.in_ok-key.key) (sym k.stays) ∙ sym c.in-None.ensures) (e.names ∙ ap (λ (cx : Bound). cx.names) k.stays) (subst bound k.stays e.types) e.implied e.counted
+    let bound = λ (cx : Bound). Extends cx.bound c.add_type.new.self.cx.bound
+    ((c.in_ok-key.key, index.Id (gensym_id c.args.self.now.gensym start_of_text)) ∷ []) in
+    adds_one k.ok (ap (λ (cx : Bound). index_of cx.bound c.in_ok-key.key) (sym k.stays) ∙ sym c.in-None.ensures) (e.names
+    ∙ ap (λ (cx : Bound). cx.names) k.stays) (subst bound k.stays e.types) e.implied e.counted

@@ -14,7 +14,8 @@ pub returns-in_err-bind-2-clause-refusal : goal.returns-in_err-bind-2-clause-ref
 returns-in_err-bind-2-clause-refusal c =
     let p = err_from_is_err_and c.from_residual-in_err-bind-2.result c.from_residual-in_err-bind-2.ensures.1 in
     rw (p.1, p.2) (subst (λ n. RunsOut n c.in_err-bind-2.field-0.0)
-    (sym (ap (next_after c.args.binder.now) (needed_func c.args.self.now) ∙ count_then c.in_ok-bind.ensures.adds (needed_in (in_func_kind no_use c.args.self.now.kind))))
+    (sym (ap (next_after c.args.binder.now) (needed_func c.args.self.now)
+    ∙ count_then c.in_ok-bind.ensures.adds (needed_in (in_func_kind no_use c.args.self.now.kind))))
     c.in_err-bind-2.ensures.refusal)
 
 pub returns-clause-bound : goal.returns-clause-bound

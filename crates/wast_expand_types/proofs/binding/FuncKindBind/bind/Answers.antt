@@ -17,13 +17,16 @@ pub returns-in_err-bind-in-Inline-clause-refusal : goal.returns-in_err-bind-in-I
 returns-in_err-bind-in-Inline-clause-refusal c =
     let p = err_from_is_err_and c.from_residual.result c.from_residual.ensures.1 in
     rw (p.1, p.2) (subst (λ ss. RunsOut (next_after c.args.binder.now ss) c.in_err-bind-in-Inline.field-0.0)
-    (sym (ap (λ k. needed_in (in_func_kind no_use k)) c.in-Inline.is ∙ needed_inline no_use c.in-Inline.locals c.in-Inline.expression)) c.in_err-bind-in-Inline.ensures.refusal)
+    (sym (ap (λ k. needed_in (in_func_kind no_use k)) c.in-Inline.is
+    ∙ needed_inline no_use c.in-Inline.locals c.in-Inline.expression)) c.in_err-bind-in-Inline.ensures.refusal)
 
 pub returns-in_ok-bind-in-Inline-clause-bound : goal.returns-in_ok-bind-in-Inline-clause-bound
 returns-in_ok-bind-in-Inline-clause-bound c = λ more.
     ap (λ (e : Expression). func.Inline c.in-Inline.locals e) (c.in_ok-bind-in-Inline.ensures.bound more)
-    ∙ (sym (inline_bound (found_in c.bind.new.binder.cx more) no_use c.in-Inline.locals c.in-Inline.expression) ∙ sym (ap (mapped_func_kind (binding_change (found_in c.bind.new.binder.cx more)) no_use) c.in-Inline.is))
+    ∙ (sym (inline_bound (found_in c.bind.new.binder.cx more) no_use c.in-Inline.locals c.in-Inline.expression)
+    ∙ sym (ap (mapped_func_kind (binding_change (found_in c.bind.new.binder.cx more)) no_use) c.in-Inline.is))
 
 pub returns-in_ok-bind-in-Inline-clause-adds : goal.returns-in_ok-bind-in-Inline-clause-adds
 returns-in_ok-bind-in-Inline-clause-adds c =
-    adds_as (sym (ap (λ k. needed_in (in_func_kind no_use k)) c.in-Inline.is ∙ needed_inline no_use c.in-Inline.locals c.in-Inline.expression)) c.in_ok-bind-in-Inline.ensures.adds
+    adds_as (sym (ap (λ k. needed_in (in_func_kind no_use k)) c.in-Inline.is
+    ∙ needed_inline no_use c.in-Inline.locals c.in-Inline.expression)) c.in_ok-bind-in-Inline.ensures.adds

@@ -10,37 +10,46 @@ use Rattle.wast_expand_types.proofs.Staying.{stays_as, asking_says}
 use Rattle.wast_expand_types.proofs.binding.ModuleFieldBind.bind.Goals as goal
 
 pub returns-in_ok-bind-in-Func-clause-bound : goal.returns-in_ok-bind-in-Func-clause-bound
-returns-in_ok-bind-in-Func-clause-bound c = λ more. ap field.Func (c.in_ok-bind-in-Func.ensures.bound more) ∙ sym (ap (bound_field (found_in c.bind-in-Func.new.binder.cx more)) c.in-Func.is)
+returns-in_ok-bind-in-Func-clause-bound c = λ more. ap field.Func (c.in_ok-bind-in-Func.ensures.bound more)
+    ∙ sym (ap (bound_field (found_in c.bind-in-Func.new.binder.cx more)) c.in-Func.is)
 
 pub returns-in_ok-bind-in-Import-clause-bound : goal.returns-in_ok-bind-in-Import-clause-bound
-returns-in_ok-bind-in-Import-clause-bound c = λ more. ap field.Import (c.in_ok-bind-in-Import.ensures.bound more) ∙ sym (ap (bound_field (found_in c.bind.new.binder.cx more)) c.in-Import.is)
+returns-in_ok-bind-in-Import-clause-bound c = λ more. ap field.Import (c.in_ok-bind-in-Import.ensures.bound more)
+    ∙ sym (ap (bound_field (found_in c.bind.new.binder.cx more)) c.in-Import.is)
 
 pub returns-in_ok-bind-in-Tag-clause-bound : goal.returns-in_ok-bind-in-Tag-clause-bound
-returns-in_ok-bind-in-Tag-clause-bound c = λ more. ap field.Tag (c.in_ok-bind-in-Tag.ensures.bound more) ∙ sym (ap (bound_field (found_in c.bind-in-Tag.new.binder.cx more)) c.in-Tag.is)
+returns-in_ok-bind-in-Tag-clause-bound c = λ more. ap field.Tag (c.in_ok-bind-in-Tag.ensures.bound more)
+    ∙ sym (ap (bound_field (found_in c.bind-in-Tag.new.binder.cx more)) c.in-Tag.is)
 
 pub returns-in-Ty-clause-bound : goal.returns-in-Ty-clause-bound
-returns-in-Ty-clause-bound c = λ more. stays_as (found_in c.args.binder.now.cx more) c.in-Ty.is (ty_none c.in-Ty.field-0) (asking_says (in_type c.in-Ty.field-0))
+returns-in-Ty-clause-bound c = λ more. stays_as (found_in c.args.binder.now.cx more) c.in-Ty.is (ty_none c.in-Ty.field-0)
+    (asking_says (in_type c.in-Ty.field-0))
 
 pub returns-in-Ty-clause-adds : goal.returns-in-Ty-clause-adds
 returns-in-Ty-clause-adds c = adds_nothing c.args.binder.now (ap (λ x. needed_in (in_field x)) c.in-Ty.is ∙ ty_none c.in-Ty.field-0)
 
 pub returns-in-Rec-clause-bound : goal.returns-in-Rec-clause-bound
-returns-in-Rec-clause-bound c = λ more. stays_as (found_in c.args.binder.now.cx more) c.in-Rec.is (rec_none c.in-Rec.field-0) (asking_says (in_rec c.in-Rec.field-0))
+returns-in-Rec-clause-bound c = λ more. stays_as (found_in c.args.binder.now.cx more) c.in-Rec.is (rec_none c.in-Rec.field-0)
+    (asking_says (in_rec c.in-Rec.field-0))
 
 pub returns-in-Rec-clause-adds : goal.returns-in-Rec-clause-adds
 returns-in-Rec-clause-adds c = adds_nothing c.args.binder.now (ap (λ x. needed_in (in_field x)) c.in-Rec.is ∙ rec_none c.in-Rec.field-0)
 
 pub returns-in_ok-bind-in-Table-clause-bound : goal.returns-in_ok-bind-in-Table-clause-bound
-returns-in_ok-bind-in-Table-clause-bound c = λ more. ap field.Table (c.in_ok-bind-in-Table.ensures.bound more) ∙ sym (ap (bound_field (found_in c.bind-in-Table.new.binder.cx more)) c.in-Table.is)
+returns-in_ok-bind-in-Table-clause-bound c = λ more. ap field.Table (c.in_ok-bind-in-Table.ensures.bound more)
+    ∙ sym (ap (bound_field (found_in c.bind-in-Table.new.binder.cx more)) c.in-Table.is)
 
 pub returns-in_ok-bind-in-Global-clause-bound : goal.returns-in_ok-bind-in-Global-clause-bound
-returns-in_ok-bind-in-Global-clause-bound c = λ more. ap field.Global (c.in_ok-bind-in-Global.ensures.bound more) ∙ sym (ap (bound_field (found_in c.bind-in-Global.new.binder.cx more)) c.in-Global.is)
+returns-in_ok-bind-in-Global-clause-bound c = λ more. ap field.Global (c.in_ok-bind-in-Global.ensures.bound more)
+    ∙ sym (ap (bound_field (found_in c.bind-in-Global.new.binder.cx more)) c.in-Global.is)
 
 pub returns-in_ok-bind-in-Elem-clause-bound : goal.returns-in_ok-bind-in-Elem-clause-bound
-returns-in_ok-bind-in-Elem-clause-bound c = λ more. ap field.Elem (c.in_ok-bind-in-Elem.ensures.bound more) ∙ sym (ap (bound_field (found_in c.bind-in-Elem.new.binder.cx more)) c.in-Elem.is)
+returns-in_ok-bind-in-Elem-clause-bound c = λ more. ap field.Elem (c.in_ok-bind-in-Elem.ensures.bound more)
+    ∙ sym (ap (bound_field (found_in c.bind-in-Elem.new.binder.cx more)) c.in-Elem.is)
 
 pub returns-in_ok-bind-in-Data-clause-bound : goal.returns-in_ok-bind-in-Data-clause-bound
-returns-in_ok-bind-in-Data-clause-bound c = λ more. ap field.Data (c.in_ok-bind-in-Data.ensures.bound more) ∙ sym (ap (bound_field (found_in c.bind-in-Data.new.binder.cx more)) c.in-Data.is)
+returns-in_ok-bind-in-Data-clause-bound c = λ more. ap field.Data (c.in_ok-bind-in-Data.ensures.bound more)
+    ∙ sym (ap (bound_field (found_in c.bind-in-Data.new.binder.cx more)) c.in-Data.is)
 
 pub returns-in-Custom-clause-adds : goal.returns-in-Custom-clause-adds
 returns-in-Custom-clause-adds c = adds_nothing c.args.binder.now (ap (λ x. needed_in (in_field x)) c.in-Custom.is ∙ custom_none c.in-Custom.field-0)

@@ -16,4 +16,5 @@ returns-clause-bound c = λ more t. record {
 
 pub returns-clause-adds : goal.returns-clause-adds
 returns-clause-adds c =
-    adds_as (ap (λ b. needed_in (in_block [] b)) c.get_mut.ensures.value ∙ (needed_block [] c.args.self.now.block ∙ sym (needed_try_table [] c.args.self.now))) c.in_ok-bind.ensures.adds
+    adds_as (ap (λ b. needed_in (in_block [] b)) c.get_mut.ensures.value
+    ∙ (needed_block [] c.args.self.now.block ∙ sym (needed_try_table [] c.args.self.now))) c.in_ok-bind.ensures.adds

@@ -8,4 +8,5 @@ use Rattle.wast_expand_types.proofs.constants.DataKindBind.bind.Goals as goal
 
 pub returns-in_ok-bind-in-Active-clause-bound : goal.returns-in_ok-bind-in-Active-clause-bound
 returns-in_ok-bind-in-Active-clause-bound c = λ more.
-    ap (λ (e : Expression). data_kind.Active c.in-Active.memory e) (c.in_ok-bind-in-Active.ensures.bound more) ∙ sym (ap (mapped_data_kind (binding_change (found_in c.bind.new.binder.cx more))) c.in-Active.is)
+    ap (λ (e : Expression). data_kind.Active c.in-Active.memory e) (c.in_ok-bind-in-Active.ensures.bound more)
+    ∙ sym (ap (mapped_data_kind (binding_change (found_in c.bind.new.binder.cx more))) c.in-Active.is)

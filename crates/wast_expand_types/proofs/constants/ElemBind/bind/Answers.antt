@@ -21,7 +21,8 @@ pub returns-in_err-bind-2-clause-refusal : goal.returns-in_err-bind-2-clause-ref
 returns-in_err-bind-2-clause-refusal c =
     let p = err_from_is_err_and c.from_residual-in_err-bind-2.result c.from_residual-in_err-bind-2.ensures.1 in
     rw (p.1, p.2) (subst (λ n. RunsOut n c.in_err-bind-2.field-0.0)
-    (sym (ap (next_after c.args.binder.now) (elem_needs c.args.self.now) ∙ count_then c.in_ok-bind.ensures.adds (needed_in (in_payload c.args.self.now.payload))))
+    (sym (ap (next_after c.args.binder.now) (elem_needs c.args.self.now)
+    ∙ count_then c.in_ok-bind.ensures.adds (needed_in (in_payload c.args.self.now.payload))))
     c.in_err-bind-2.ensures.refusal)
 
 pub returns-clause-bound : goal.returns-clause-bound

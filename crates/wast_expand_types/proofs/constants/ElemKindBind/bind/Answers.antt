@@ -22,7 +22,9 @@ returns-in_err-bind-in-Active-clause-refusal c =
 pub returns-in_ok-bind-in-Active-clause-bound : goal.returns-in_ok-bind-in-Active-clause-bound
 returns-in_ok-bind-in-Active-clause-bound c = λ more.
     let find : LookUp = found_in c.bind.new.binder.cx more in
-    ap (λ (e : Expression). elem.Active c.in-Active.table e) (c.in_ok-bind-in-Active.ensures.bound more) ∙ (sym (active_bound find c.in-Active.table c.in-Active.offset) ∙ sym (ap (mapped_elem_kind (binding_change find)) c.in-Active.is))
+    ap (λ (e : Expression). elem.Active c.in-Active.table e) (c.in_ok-bind-in-Active.ensures.bound more)
+    ∙ (sym (active_bound find c.in-Active.table c.in-Active.offset) ∙ sym (ap (mapped_elem_kind (binding_change find)) c.in-Active.is))
 
 pub returns-in_ok-bind-in-Active-clause-adds : goal.returns-in_ok-bind-in-Active-clause-adds
-returns-in_ok-bind-in-Active-clause-adds c = adds_as (sym (ap (λ k. needed_in (in_elem_kind k)) c.in-Active.is ∙ active_needs c.in-Active.table c.in-Active.offset)) c.in_ok-bind-in-Active.ensures.adds
+returns-in_ok-bind-in-Active-clause-adds c =
+    adds_as (sym (ap (λ k. needed_in (in_elem_kind k)) c.in-Active.is ∙ active_needs c.in-Active.table c.in-Active.offset)) c.in_ok-bind-in-Active.ensures.adds

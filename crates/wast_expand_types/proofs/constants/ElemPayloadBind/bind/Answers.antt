@@ -30,7 +30,9 @@ returns-in_err-bind_each-in-Exprs-clause-refusal c =
 pub returns-in_ok-bind_each-in-Exprs-clause-bound : goal.returns-in_ok-bind_each-in-Exprs-clause-bound
 returns-in_ok-bind_each-in-Exprs-clause-bound c = λ more.
     let find : LookUp = found_in c.bind_each.new.binder.cx more in
-    ap (λ (es : List Expression). payload.Exprs c.in-Exprs.ty es) (c.in_ok-bind_each-in-Exprs.ensures.bound more) ∙ (sym (exprs_bound find c.in-Exprs.ty c.in-Exprs.exprs) ∙ sym (ap (mapped_payload (binding_change find)) c.in-Exprs.is))
+    ap (λ (es : List Expression). payload.Exprs c.in-Exprs.ty es) (c.in_ok-bind_each-in-Exprs.ensures.bound more)
+    ∙ (sym (exprs_bound find c.in-Exprs.ty c.in-Exprs.exprs) ∙ sym (ap (mapped_payload (binding_change find)) c.in-Exprs.is))
 
 pub returns-in_ok-bind_each-in-Exprs-clause-adds : goal.returns-in_ok-bind_each-in-Exprs-clause-adds
-returns-in_ok-bind_each-in-Exprs-clause-adds c = adds_as (sym (ap (λ k. needed_in (in_payload k)) c.in-Exprs.is ∙ exprs_need c.in-Exprs.ty c.in-Exprs.exprs)) c.in_ok-bind_each-in-Exprs.ensures.adds
+returns-in_ok-bind_each-in-Exprs-clause-adds c =
+    adds_as (sym (ap (λ k. needed_in (in_payload k)) c.in-Exprs.is ∙ exprs_need c.in-Exprs.ty c.in-Exprs.exprs)) c.in_ok-bind_each-in-Exprs.ensures.adds

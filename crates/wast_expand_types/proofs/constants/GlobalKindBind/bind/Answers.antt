@@ -6,4 +6,5 @@ use Rattle.wast_expand_keys.specs.Expanded.{binding_change}
 use Rattle.wast_expand_types.proofs.constants.GlobalKindBind.bind.Goals as goal
 
 pub returns-in_ok-bind-in-Inline-clause-bound : goal.returns-in_ok-bind-in-Inline-clause-bound
-returns-in_ok-bind-in-Inline-clause-bound c = λ more. ap global.Inline (c.in_ok-bind-in-Inline.ensures.bound more) ∙ sym (ap (mapped_global_kind (binding_change (found_in c.bind.new.binder.cx more))) c.in-Inline.is)
+returns-in_ok-bind-in-Inline-clause-bound c = λ more. ap global.Inline (c.in_ok-bind-in-Inline.ensures.bound more)
+    ∙ sym (ap (mapped_global_kind (binding_change (found_in c.bind.new.binder.cx more))) c.in-Inline.is)

@@ -8,4 +8,5 @@ use Rattle.wast_expand_types.proofs.constants.OptionExpressionBind.bind.Goals as
 
 pub returns-in_ok-bind-in-Some-clause-bound : goal.returns-in_ok-bind-in-Some-clause-bound
 returns-in_ok-bind-in-Some-clause-bound c = λ more.
-    ap Some (c.in_ok-bind-in-Some.ensures.bound more) ∙ sym (ap (λ (o : Option Expression). option_map (mapped_constant (binding_change (found_in c.bind.new.binder.cx more))) o) c.in-Some.is)
+    ap Some (c.in_ok-bind-in-Some.ensures.bound more)
+    ∙ sym (ap (λ (o : Option Expression). option_map (mapped_constant (binding_change (found_in c.bind.new.binder.cx more))) o) c.in-Some.is)

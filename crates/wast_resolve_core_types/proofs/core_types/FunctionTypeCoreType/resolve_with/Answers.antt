@@ -7,4 +7,5 @@ pub resolve_each-requires : goal.resolve_each-requires
 resolve_each-requires g c = let needs = needs_first (flat_map in_val c.args.self.now.results) c.requires in search rules
 
 pub resolve_each-requires-2 : goal.resolve_each-requires-2
-resolve_each-requires-2 g c = let needs = needs_kept c.in_ok-resolve_each.ensures.kept (needs_second (flat_map in_param c.args.self.now.params) c.requires) in search rules
+resolve_each-requires-2 g c = let needs =
+    needs_kept c.in_ok-resolve_each.ensures.kept (needs_second (flat_map in_param c.args.self.now.params) c.requires) in search rules

@@ -11,4 +11,5 @@ use Rattle.wast_resolve_names.proofs.resolver.Resolver.find.Goals as goal
 pub returns-else-rank-len : goal.returns-else-rank-len
 returns-else-rank-len c =
     let spaces : length c.self.inside.spaces.items ≡ length c.args.self.now.spaces = ap (λ (r : Resolution). length r.spaces) c.self.view_is in
-    sym (get-empty key_cmp (key_of (name_of c.args.id.now))) ∙ sym (ap (λ s. number_in s (name_of c.args.id.now)) (get_or-eq_default c.args.self.now.spaces (empty_from 0) {n = rank_of c.args.space} (omega arith)))
+    sym (get-empty key_cmp (key_of (name_of c.args.id.now)))
+    ∙ sym (ap (λ s. number_in s (name_of c.args.id.now)) (get_or-eq_default c.args.self.now.spaces (empty_from 0) {n = rank_of c.args.space} (omega arith)))

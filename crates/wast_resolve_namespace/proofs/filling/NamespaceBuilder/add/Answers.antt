@@ -11,7 +11,8 @@ grown c =
     let ds = c.self.inside.pairs.items in
     let n = c.self.inside.count in
     elim c.match-id.branch [
-      | in-Some+in_ok-push w ↦ subst (λ es. IsOneMore ds n c.args.id es (n + 1)) (sym (ap (λ (s : Inside). s.pairs.items) w.self-inside-is ∙ w.in_ok-push.ensures.items))
+      | in-Some+in_ok-push w ↦ subst (λ es. IsOneMore ds n c.args.id es (n + 1)) (sym (ap (λ (s : Inside). s.pairs.items) w.self-inside-is
+          ∙ w.in_ok-push.ensures.items))
           (one_named ds n c.args.id w.in-Some.id w.in-Some.is c.self.invariant)
       | in_default w ↦ subst (λ es. IsOneMore ds n c.args.id es (n + 1)) (sym (ap (λ (s : Inside). s.pairs.items) w.self-inside-is))
           (one_unnamed ds n c.args.id w.in_default.is c.self.invariant)

@@ -29,4 +29,5 @@ returns c =
     let free : IsFirstTie (entries_of es) None = rw c.deref.ensures.value at c.in_default.ensures in
     let long = gathered_length 0 own.pairs.items own.count c.self.invariant in
     let seen = ap length c.self.view_is in
-    filled_space c.args.self own.pairs.items es are c.in_ok-pairs.ensures.permutation c.in_ok-pairs.ensures.sorted free own.count (omega (arith, long, seen)) c.from_sorted.result c.from_sorted.ensures
+    filled_space c.args.self own.pairs.items es are c.in_ok-pairs.ensures.permutation c.in_ok-pairs.ensures.sorted free own.count
+    (omega (arith, long, seen)) c.from_sorted.result c.from_sorted.ensures

@@ -12,7 +12,8 @@ from_sorted-requires c =
     let own = c.self.inside in
     let copied = ap entries_of (c.in_ok-pairs.ensures.items ∙ c.deref.ensures.value) in
     let are = copied ∙ (gathered_entries 0 own.pairs.items own.count c.self.invariant ∙ ap (λ names. numbered_from 0 (keys_of names)) c.self.view_is) in
-    firsts_sorted c.args.self.now c.in_ok-pairs.pairs.items c.in_ok-pairs-2.pairs.items are c.in_ok-pairs-2.ensures.permutation c.in_ok-pairs-2.ensures.sorted c.in_ok-firsts.firsts.items
+    firsts_sorted c.args.self.now c.in_ok-pairs.pairs.items c.in_ok-pairs-2.pairs.items are c.in_ok-pairs-2.ensures.permutation
+    c.in_ok-pairs-2.ensures.sorted c.in_ok-firsts.firsts.items
     (c.in_ok-firsts.ensures ∙ ap (λ xs. first_of_each key_cmp (entries_of xs)) c.deref-2.ensures.value)
 
 pub returns-clause-names : goal.returns-clause-names
@@ -20,7 +21,8 @@ returns-clause-names c =
     let own = c.self.inside in
     let copied = ap entries_of (c.in_ok-pairs.ensures.items ∙ c.deref.ensures.value) in
     let are = copied ∙ (gathered_entries 0 own.pairs.items own.count c.self.invariant ∙ ap (λ names. numbered_from 0 (keys_of names)) c.self.view_is) in
-    firsts_known c.args.self.now c.in_ok-pairs.pairs.items c.in_ok-pairs-2.pairs.items are c.in_ok-pairs-2.ensures.permutation c.in_ok-pairs-2.ensures.sorted c.in_ok-firsts.firsts.items
+    firsts_known c.args.self.now c.in_ok-pairs.pairs.items c.in_ok-pairs-2.pairs.items are c.in_ok-pairs-2.ensures.permutation
+    c.in_ok-pairs-2.ensures.sorted c.in_ok-firsts.firsts.items
     (c.in_ok-firsts.ensures ∙ ap (λ xs. first_of_each key_cmp (entries_of xs)) c.deref-2.ensures.value) own.count c.from_sorted.result c.from_sorted.ensures
 
 pub returns-clause-count : goal.returns-clause-count

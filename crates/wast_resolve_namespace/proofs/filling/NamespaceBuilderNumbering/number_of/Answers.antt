@@ -9,4 +9,5 @@ pub returns : goal.returns
 returns c =
     let own = c.self.inside in
     let q = name_of c.args.id.now in
-    c.first_number.ensures ∙ (ap (first_number q) c.deref.ensures.value ∙ (sym (first_bearer q own.pairs.items own.count c.self.invariant) ∙ ap (position_of q) c.self.view_is))
+    c.first_number.ensures ∙ (ap (first_number q) c.deref.ensures.value ∙ (sym (first_bearer q own.pairs.items own.count c.self.invariant)
+    ∙ ap (position_of q) c.self.view_is))

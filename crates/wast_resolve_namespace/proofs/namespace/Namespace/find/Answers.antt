@@ -12,7 +12,8 @@ returns-in-Ok c =
     let name = key_of (name_of c.args.id.now) in
     let es = c.self.inside.names.items in
     let at : IsAt es name c.in-Ok.at = rw c.deref.ensures.value at c.in-Ok.ensures in
-    ap (λ (e : _). Some e.1) c.index.ensures ∙ sym (find_at name es c.in-Ok.at c.index.result.now at) ∙ sym (get_sorted es name c.self.invariant) ∙ ap (λ (s : NameSpace). get s.names name) c.self.view_is
+    ap (λ (e : _). Some e.1) c.index.ensures ∙ sym (find_at name es c.in-Ok.at c.index.result.now at) ∙ sym (get_sorted es name c.self.invariant)
+    ∙ ap (λ (s : NameSpace). get s.names name) c.self.view_is
 
 pub returns-in-Err : goal.returns-in-Err
 returns-in-Err c =

@@ -7,7 +7,8 @@ use Rattle.wast_resolve_namespace.proofs.Searches.{get_sorted, insert_sorted, st
 use Rattle.wast_resolve_namespace.proofs.namespace.Namespace.put.Goals as goal
 
 pub invariant_of-self-2 : goal.invariant_of-self-2
-invariant_of-self-2 c = still_sorted c.self.inside.names.items c.put_among.new.names.items (key_of (name_of c.args.id)) c.args.number c.self.invariant (sym c.in_ok-before.ensures.ok)
+invariant_of-self-2 c = still_sorted c.self.inside.names.items c.put_among.new.names.items
+    (key_of (name_of c.args.id)) c.args.number c.self.invariant (sym c.in_ok-before.ensures.ok)
 
 pub returns-clause-before : goal.returns-clause-before
 returns-clause-before c =

@@ -17,7 +17,8 @@ pub returns-in-Group1 : goal.returns-in-Group1
 returns-in-Group1 c =
     let x = c.in-Group1.items in
     let s = scope_of c.args.names.now in
-    rw c.in-Group1.is (walks_before ⊥ ⊥ s (flat_map (λ p. in_sig p.1) x) (Covered form.CompactImports false) refl (λ items. import_items.Group1 c.in-Group1.«module» items) _ c.walk_each_apart.new.parts c.walk_each_apart.result c.walk_each_apart.ensures)
+    rw c.in-Group1.is (walks_before ⊥ ⊥ s (flat_map (λ p. in_sig p.1) x) (Covered form.CompactImports false) refl
+    (λ items. import_items.Group1 c.in-Group1.«module» items) _ c.walk_each_apart.new.parts c.walk_each_apart.result c.walk_each_apart.ensures)
 
 pub returns-in-Group2 : goal.returns-in-Group2
 returns-in-Group2 c =
@@ -27,6 +28,8 @@ returns-in-Group2 c =
     let f = numbering_change s in
     let of_sig = λ (x : ItemSig). import_items.Group2 c.in-Group2.«module» x names in
     let asks = in_shared_id names sig.id ++ uncovered_check form.CompactImports in
-    rw c.in-Group2.is (subst (λ id. Walks ⊥ ⊥ (site_demands s (in_sig sig ++ check_sites asks)) (of_sig (record sig { id = id; kind = mapped_item_kind f sig.kind })) (of_sig c.walk_apart-in-Group2.new.self) c.walk_apart-in-Group2.result)
+    rw c.in-Group2.is (subst (λ id. Walks ⊥ ⊥ (site_demands s (in_sig sig ++ check_sites asks))
+    (of_sig (record sig { id = id; kind = mapped_item_kind f sig.kind })) (of_sig c.walk_apart-in-Group2.new.self) c.walk_apart-in-Group2.result)
     (sym (shared_id_stays f (λ o. refl) (λ o. refl) names sig.id))
-    (walks_before_asks ⊥ ⊥ s (in_sig sig) asks (shared_id_met s.known names sig.id form.CompactImports) of_sig (mapped_sig f sig) c.walk_apart-in-Group2.new.self c.walk_apart-in-Group2.result c.walk_apart-in-Group2.ensures))
+    (walks_before_asks ⊥ ⊥ s (in_sig sig) asks (shared_id_met s.known names sig.id form.CompactImports) of_sig
+    (mapped_sig f sig) c.walk_apart-in-Group2.new.self c.walk_apart-in-Group2.result c.walk_apart-in-Group2.ensures))

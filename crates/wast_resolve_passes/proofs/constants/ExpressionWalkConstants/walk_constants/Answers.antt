@@ -19,8 +19,10 @@ returns-in_err-walk_expression c =
     let last = Clause 5 (is_balanced (block_effects x.instrs)) in
     let p = err_from_is_err_and c.from_residual.result c.from_residual.ensures.1 in
     let failed = c.in_err-walk_expression.ensures constant_context.locals (none_numbers s c.none.result c.none.ensures) in
-    rw (p.1, p.2) (subst (λ ns. Answers ⊤ (HasMany ns) e (first_unmet (site_demands s (in_constant x)))) (sym (all_counts_but_last (in_instrs constant_context x.instrs) last))
-    (subst (λ ds. Answers ⊤ (HasMany (open_counts (in_instrs constant_context x.instrs))) e (first_unmet ds)) (sym (all_but_last s (in_instrs constant_context x.instrs) last refl)) failed))
+    rw (p.1, p.2) (subst (λ ns. Answers ⊤ (HasMany ns) e (first_unmet (site_demands s (in_constant x))))
+    (sym (all_counts_but_last (in_instrs constant_context x.instrs) last))
+    (subst (λ ds. Answers ⊤ (HasMany (open_counts (in_instrs constant_context x.instrs))) e (first_unmet ds))
+    (sym (all_but_last s (in_instrs constant_context x.instrs) last refl)) failed))
 
 pub returns : goal.returns
 returns c =

@@ -9,13 +9,15 @@ use Rattle.wast_resolve_passes.proofs.constants.GlobalWalkConstants.walk_constan
 pub returns-in_err-walk_outside : goal.returns-in_err-walk_outside
 returns-in_err-walk_outside c =
     let p = err_from_is_err_and c.from_residual.result c.from_residual.ensures.1 in
-    rw (p.1, p.2) (first_fails (global_parts (scope_of c.args.names.now) c.args.self.now) (diagnostic_of c.in_err-walk_outside.field-0.0) c.in_err-walk_outside.ensures)
+    rw (p.1, p.2) (first_fails (global_parts (scope_of c.args.names.now) c.args.self.now)
+    (diagnostic_of c.in_err-walk_outside.field-0.0) c.in_err-walk_outside.ensures)
 
 pub returns-in_err-walk_constants : goal.returns-in_err-walk_constants
 returns-in_err-walk_constants c =
     let x = c.args.self.now in
     let p = err_from_is_err_and c.from_residual-in_err-walk_constants.result c.from_residual-in_err-walk_constants.ensures.1 in
-    rw (p.1, p.2) (second_stops (global_parts (scope_of c.args.names.now) x) (diagnostic_of c.in_err-walk_constants.field-0.0) (in_global_kind x.kind) refl c.in_ok-walk_outside.ensures.0 c.in_err-walk_constants.ensures)
+    rw (p.1, p.2) (second_stops (global_parts (scope_of c.args.names.now) x) (diagnostic_of c.in_err-walk_constants.field-0.0)
+    (in_global_kind x.kind) refl c.in_ok-walk_outside.ensures.0 c.in_err-walk_constants.ensures)
 
 pub returns : goal.returns
 returns c =

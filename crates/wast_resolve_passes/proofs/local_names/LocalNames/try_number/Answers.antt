@@ -10,4 +10,5 @@ pub returns : goal.returns
 returns c =
     let f = local_in c.args.self.now in
     let i = c.args.idx.now in
-    subst (λ (b : Bool). Tries (known_index f (codes "local") i) (resolved_index f i) i c.try_number.new.idx b) (sym c.is_some.ensures) (tries_index f (codes "local") i c.try_number.new.idx c.try_number.result c.try_number.ensures.number c.try_number.ensures.index)
+    subst (λ (b : Bool). Tries (known_index f (codes "local") i) (resolved_index f i) i c.try_number.new.idx b) (sym c.is_some.ensures)
+    (tries_index f (codes "local") i c.try_number.new.idx c.try_number.result c.try_number.ensures.number c.try_number.ensures.index)

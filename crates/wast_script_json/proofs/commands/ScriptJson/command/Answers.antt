@@ -17,7 +17,8 @@ returns c = record {
         after = next.1;
         stands = record { counts = c.write_object.ensures.counts at.counts; knows = next.2; first = c.opens-self.ensures };
         text = c.in_ok-write_object.ensures.text s at.knows at.counts
-            ∙ ap (λ (l : List ℕ). l ++ object) (c.in_ok-write_separator.ensures ∙ ap (λ (b : Bool). before ++ before_command c.args.self.now.is_first b) c.closes.ensures
+            ∙ ap (λ (l : List ℕ). l ++ object) (c.in_ok-write_separator.ensures
+            ∙ ap (λ (b : Bool). before ++ before_command c.args.self.now.is_first b) c.closes.ensures
             ∙ ap (λ (b : Bool). before ++ before_command b is_end) at.first)
             ∙ append_assoc before (before_command is_first is_end) object;
       };

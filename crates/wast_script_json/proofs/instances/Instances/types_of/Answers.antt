@@ -9,4 +9,5 @@ pub returns : goal.returns
 returns c s k =
     let same = ap (λ (xs : List (Option Interface)). option_and_then (slice_get xs) c.instance.result) c.as_slice.ensures.value in
     c.types_in.ensures
-    ∙ ap (λ (i : Option (Option Interface)). types_in i c.args.name.now) (c.interface_at-interface.ensures ∙ same ∙ looked_up c.args.self.now s _ _ k (c.instance.ensures s.reach k.reach))
+    ∙ ap (λ (i : Option (Option Interface)). types_in i c.args.name.now) (c.interface_at-interface.ensures ∙ same
+    ∙ looked_up c.args.self.now s _ _ k (c.instance.ensures s.reach k.reach))

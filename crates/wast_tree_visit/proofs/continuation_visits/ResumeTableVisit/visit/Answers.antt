@@ -5,4 +5,5 @@ use Rattle.wast_tree_visit.proofs.continuation_visits.ResumeTableVisit.visit.Goa
 
 pub returns : goal.returns
 returns g c =
-    subst (λ asks. Visits g.V.Visitor.told c.args.visitor.now asks c.covered.new.self) (sym (asked_handlers [] c.args.self.now)) (visits_both c.visit.ensures (visits_one c.covered.ensures))
+    subst (λ asks. Visits g.V.Visitor.told c.args.visitor.now asks c.covered.new.self) (sym (asked_handlers [] c.args.self.now))
+    (visits_both c.visit.ensures (visits_one c.covered.ensures))

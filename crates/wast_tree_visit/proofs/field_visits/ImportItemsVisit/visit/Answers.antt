@@ -17,5 +17,6 @@ returns-in-Group2 g c =
     let sig = c.in-Group2.sig in
     let asks = λ (names : List (Bor (List ℕ))). in_shared_id names sig.id ++ uncovered_check form.CompactImports in
     subst (λ asks. Visits g.V.Visitor.told c.args.visitor.now asks c.covered-in-Group2.new.self)
-    (sym (ap (λ i. checks_of (in_import i)) c.in-Group2.is ∙ (asked_behind (in_sig sig) (asks c.in-Group2.items) ∙ ap (λ names. checks_of (in_sig sig) ++ asks names) (sym c.as_slice.ensures))))
+    (sym (ap (λ i. checks_of (in_import i)) c.in-Group2.is
+    ∙ (asked_behind (in_sig sig) (asks c.in-Group2.items) ∙ ap (λ names. checks_of (in_sig sig) ++ asks names) (sym c.as_slice.ensures))))
     (visits_both c.visit-in-Group2.ensures (visits_both c.visit_shared_id.ensures (visits_one c.covered-in-Group2.ensures)))

@@ -12,4 +12,5 @@ pub returns-clause-found : goal.returns-clause-found
 returns-clause-found g c =
     let first = c.args.first.now in
     found_told (λ v. g.S.IdResolver.known v.settler) (λ v. v.span) (λ v. v.found) c.visit.ensures
-    ∙ ap (λ place. first_of first.found (failing_from (g.S.IdResolver.known first.settler) place (checks_of (in_field c.args.self.now)))) c.field_place-first.ensures
+    ∙ ap (λ place. first_of first.found (failing_from (g.S.IdResolver.known first.settler) place (checks_of (in_field c.args.self.now))))
+    c.field_place-first.ensures

@@ -8,4 +8,5 @@ use Rattle.wat_text.proofs.reader.Reader.skip.Goals as goal
 -- `search` does not see that one more token is skipped
 pub returns-then-self-len-clause-left : goal.returns-then-self-len-clause-left
 unfolding left after
-returns-then-self-len-clause-left c = skipped_here c.args.self.now.at c.args.self.now.tokens.items c.args.self.now.count c.args.self.now.later.items c.args.self.now.end (search rules)
+returns-then-self-len-clause-left c =
+    skipped_here c.args.self.now.at c.args.self.now.tokens.items c.args.self.now.count c.args.self.now.later.items c.args.self.now.end (search rules)

@@ -11,4 +11,5 @@ returns-in_default c =
     let operator = c.operator-instruction in
     let plain : is_plaininstr c.args.word ≡ true = grind (arith, c.in_default.not-Block, c.in_default.not-Key) in
     put instruction c.args.self.now operator.new.self c.push_instruction.new.self operator.result c.args.instrs.now c.push_instruction.new.instrs
-    (by_word c.args.word (bare_text c.args.name) c.args.self.now skip.new.self operator.new.self _ c.requires plain skip.ensures.left skip.ensures.fault skip.ensures.make operator.ensures) c.push_instruction.ensures
+    (by_word c.args.word (bare_text c.args.name) c.args.self.now skip.new.self operator.new.self _ c.requires plain skip.ensures.left
+    skip.ensures.fault skip.ensures.make operator.ensures) c.push_instruction.ensures

@@ -13,6 +13,7 @@ returns-in-Ok-from_utf8 c =
 
 pub returns-in-Err-from_utf8 : goal.returns-in-Err-from_utf8
 returns-in-Err-from_utf8 c = record {
-  refused = λ known. no_name (contents_of c.args.self.now.strings) c.args.self.now.text.now c.args.begin c.in-Ok.string.end c.in-Ok.string.bytes.now c.in-Err-from_utf8.ensures.cases.0 c.in-Ok.ensures;
+  refused = λ known. no_name (contents_of c.args.self.now.strings) c.args.self.now.text.now c.args.begin c.in-Ok.string.end c.in-Ok.string.bytes.now
+      c.in-Err-from_utf8.ensures.cases.0 c.in-Ok.ensures;
   inside = omega (arith, c.fault_at.ensures.place, c.requires.place, c.requires.begin);
 }

@@ -23,5 +23,6 @@ returns-then-is_at-2-clause-read c =
     let T = c.args.self.now.text.now in
     let X = contents_of c.args.self.now.strings in
     subst (λ o. Reads o T c.annotation_at.result)
-    (sym (op_annotation X c.args.place (drop (c.args.place + 1) T) (sym c.is_at.ensures ∙ c.if-is_at.false) (sym c.is_at-2.ensures ∙ c.if-is_at-2.true) ∙ ap (annotation X (suc c.args.place)) (drop_two T c.args.place)))
+    (sym (op_annotation X c.args.place (drop (c.args.place + 1) T) (sym c.is_at.ensures ∙ c.if-is_at.false) (sym c.is_at-2.ensures
+    ∙ c.if-is_at-2.true) ∙ ap (annotation X (suc c.args.place)) (drop_two T c.args.place)))
     c.annotation_at.ensures.read

@@ -6,7 +6,8 @@ use Rattle.wat_tokens.proofs.Ascii.{first_below}
 use Rattle.wat_tokens.proofs.Comments.{all_read}
 use Rattle.wat_tokens.proofs.Steps.{sk_last, sk_close, sk_part, sk_none, sk_end, sk_over, drop_one, moved, one_less}
 use Rattle.wat_tokens.proofs.scans.Source.skipped.Goals as goal
-use Rattle.wat_tokens.proofs.scans.Source.skipped.Goals.{then-is_at+else-depth-eq0, else-is_at+in-Ok+then-part, else-is_at+in-Ok+else-part, else-loop-test, then-loop-test+then-at-self}
+use Rattle.wat_tokens.proofs.scans.Source.skipped.Goals.{then-is_at+else-depth-eq0, else-is_at+in-Ok+then-part, else-is_at+in-Ok+else-part}
+use Rattle.wat_tokens.proofs.scans.Source.skipped.Goals.{else-loop-test, then-loop-test+then-at-self}
 
 pub returns-then-depth-eq0-clause-read : goal.returns-then-depth-eq0-clause-read
 returns-then-depth-eq0-clause-read c =
@@ -45,7 +46,8 @@ loop-preserved c =
             after = omega (arith, c.loop.invariant.after, w.at-is);
             few = omega (arith, c.loop.invariant.few, w.at-is, w.depth-is);
             enough = omega (arith, c.loop.invariant.enough, w.at-is, one);
-            same = c.loop.invariant.same ∙ sk_close X N M c.loop.depth (c.loop.depth - 1) t one (one_less c.loop.depth w.if-depth-eq0.false) h ∙ ap (skipped X M (c.loop.depth - 1)) (drop_one T c.loop.at)
+            same = c.loop.invariant.same ∙ sk_close X N M c.loop.depth (c.loop.depth - 1) t one (one_less c.loop.depth w.if-depth-eq0.false) h
+                ∙ ap (skipped X M (c.loop.depth - 1)) (drop_one T c.loop.at)
                 ∙ moved X M (c.loop.depth - 1) c.if-is_at.depth (c.loop.at + 1) c.if-is_at.at T (sym w.depth-is) (sym w.at-is);
           }
       | else-is_at+in-Ok+then-part w ↦

@@ -10,5 +10,6 @@ invariant-loop l = record {
   after : l.place ≤ l.at;
   few : l.depth ≤ l.at;
   enough : length l.self.text.now - l.at ≤ l.end - l.counter;
-  same : skipped (contents_of l.self.strings) (length (drop l.place l.self.text.now)) 0 (drop l.place l.self.text.now) ≡ skipped (contents_of l.self.strings) (l.end - l.counter) l.depth (drop l.at l.self.text.now);
+  same : skipped (contents_of l.self.strings) (length (drop l.place l.self.text.now)) 0 (drop l.place l.self.text.now) ≡ skipped
+      (contents_of l.self.strings) (l.end - l.counter) l.depth (drop l.at l.self.text.now);
 }

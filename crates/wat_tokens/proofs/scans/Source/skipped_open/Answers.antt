@@ -10,13 +10,15 @@ pub returns-in-Ok-clause-read : goal.returns-in-Ok-clause-read
 returns-in-Ok-clause-read c =
     let T = c.args.self.now.text.now in
     let X = contents_of c.args.self.now.strings in
-    so_comment X (drop (c.args.place + 1) T) (sym c.is_at.ensures ∙ c.if-is_at.true) ∙ ap (λ o. o >>= none_opened) (ap (blockcomment 0) (drop_two T c.args.place) ∙ c.in-Ok.ensures.0)
+    so_comment X (drop (c.args.place + 1) T) (sym c.is_at.ensures ∙ c.if-is_at.true)
+    ∙ ap (λ o. o >>= none_opened) (ap (blockcomment 0) (drop_two T c.args.place) ∙ c.in-Ok.ensures.0)
 
 pub returns-in-Err-clause-read : goal.returns-in-Err-clause-read
 returns-in-Err-clause-read c = λ known.
     let T = c.args.self.now.text.now in
     let X = contents_of c.args.self.now.strings in
-    so_comment X (drop (c.args.place + 1) T) (sym c.is_at.ensures ∙ c.if-is_at.true) ∙ ap (λ o. o >>= none_opened) (ap (blockcomment 0) (drop_two T c.args.place) ∙ c.in-Err.ensures.refused known)
+    so_comment X (drop (c.args.place + 1) T) (sym c.is_at.ensures ∙ c.if-is_at.true)
+    ∙ ap (λ o. o >>= none_opened) (ap (blockcomment 0) (drop_two T c.args.place) ∙ c.in-Err.ensures.refused known)
 
 pub returns-in-Ok-annotation_id_at-clause-read : goal.returns-in-Ok-annotation_id_at-clause-read
 returns-in-Ok-annotation_id_at-clause-read c =
