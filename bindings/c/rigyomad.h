@@ -1,7 +1,7 @@
 /* Rigyomad for C: turns a module in the text format of WebAssembly into the bytes of the binary
  * format.
  *
- * Link librigyomad.a: cc program.c $(pkg-config --cflags --libs rigyomad) (docs/BINDINGS.md). No
+ * Link librigyomad.a: cc program.c $(pkg-config --cflags --libs rigyomad) (docs/C.md). No
  * call keeps state: any thread may make any call at any time, but a signal handler may not. A call
  * takes memory from malloc, and frees all of it before it returns.
  *
