@@ -1,4 +1,4 @@
-// Calls of the archive in WebAssembly. docs/BINDINGS.md, "From JavaScript", has what they return.
+// Calls of the archive in WebAssembly. docs/JAVASCRIPT.md has what they return.
 
 /** The number of the declarations of the archive that this file calls. */
 const DECLARATIONS = 2;

@@ -99,7 +99,7 @@ worker.onmessage = ({ data }) => {
   show(data);
   document.documentElement.dataset.shown = String(serial);
 };
-worker.onerror = () => { state.textContent = "the encoder was not loaded: this page needs a server (docs/BINDINGS.md)"; };
+worker.onerror = () => { state.textContent = "the encoder was not loaded: this page needs a server (docs/JAVASCRIPT.md)"; };
 
 function show({ error, took, version, isProved, ...module }) {
   runner?.terminate();
