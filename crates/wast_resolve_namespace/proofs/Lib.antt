@@ -4,6 +4,7 @@ pub mod FilledSpaces
 pub mod FirstNumbers
 mod Firsts
 pub mod Gathered
+pub mod Groups
 pub mod HeadOrder
 pub mod Insertions
 pub mod LeastTie

@@ -13,7 +13,7 @@
 //!
 //! - `namespace`: look-ups, and adding one item at a time.
 //! - `filling`: building a namespace from all items, and finding the first duplicate id.
-//! - `sorting`, `heads`: sorting names, by their first eight bytes as one number if possible.
+//! - `sorting`, `heads`: sorting names, by eight bytes as one number if possible.
 //!
 //! # Guarantees
 //!

@@ -107,7 +107,13 @@ fn many_names_are_told_apart(rt: HostRuntime) {
         for text in texts.iter().take(few) {
             ids.push(written(text.as_str())).expect(&rt, "memory");
         }
-        for other in [written("gensym"), written("other"), written("")] {
+        // the keys of the last one and of generated ids are not in the order of their names
+        for other in [
+            written("gensym"),
+            written("other"),
+            written(""),
+            written("gensym\0\0\0\0\0\0\0\0\0\u{1}"),
+        ] {
             ids.push(other).expect(&rt, "memory");
         }
         for generation in [7, 1, 300, 2] {
