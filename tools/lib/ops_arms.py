@@ -191,7 +191,9 @@ pub returns-in-{0}-clause-walks : goal.returns-in-{0}-clause-walks
 returns-in-{0}-clause-walks c l numbers =
     let names = c.args.names.now in
     let {1} in
-    rw c.in-{0}.is (walks_in ⊤ (HasMany []) instr.{0} (site_demands (scope_of names) ({2})) ((numbering_change (scope_of names)).{3}) c.{4}.new.{5} c.{4}.result (c.{4}.ensures {6}))
+    let walk = c.{4} in
+    rw c.in-{0}.is (walks_in ⊤ (HasMany []) instr.{0} (site_demands (scope_of names) ({2}))
+    ((numbering_change (scope_of names)).{3}) walk.new.{5} walk.result (walk.ensures {6}))
 """
 
 

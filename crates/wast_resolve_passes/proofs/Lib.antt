@@ -1,3 +1,4 @@
+pub mod Casts
 pub mod Declaring
 pub mod Each
 pub mod Functions
