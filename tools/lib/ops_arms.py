@@ -153,11 +153,6 @@ def visits():
     return joined(8, out)
 
 
-def bindings():
-    """No type use stands in an instruction with indices."""
-    return "".join(arm(12, [f"Instruction::{variant(row.name)}(_)"], "Ok(())") for row in indexed())
-
-
 def walk(row):
     """The call that walks over an instruction."""
     name, place = code_name(row), row.rest[0]

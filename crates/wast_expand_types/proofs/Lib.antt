@@ -1,4 +1,5 @@
 pub mod Needing
+pub mod Unused
 pub mod NumberedTypes
 pub mod TypeItems
 pub mod Naming

@@ -304,10 +304,6 @@ impl<'a> Bind<'a> for Instruction<'a> {
 
     fn bind(&mut self, binder: &mut Binder<'a>) -> Result<(), Error<'a>> {
         match self {
-            Instruction::Plain(_) => Ok(()),
-            Instruction::Mem(..) => Ok(()),
-            Instruction::Lane(..) => Ok(()),
-            Instruction::MemLane(..) => Ok(()),
             Instruction::block(block) => {
                 block.get_mut().bind(binder)?;
                 Ok(())
@@ -320,7 +316,6 @@ impl<'a> Bind<'a> for Instruction<'a> {
                 block.get_mut().bind(binder)?;
                 Ok(())
             }
-            Instruction::else_(_) => Ok(()),
             Instruction::try_(block) => {
                 block.get_mut().bind(binder)?;
                 Ok(())
@@ -329,8 +324,6 @@ impl<'a> Bind<'a> for Instruction<'a> {
                 table.bind(binder)?;
                 Ok(())
             }
-            Instruction::end_(_) => Ok(()),
-            Instruction::br_table(_) => Ok(()),
             Instruction::call_indirect(call) => {
                 call.get_mut().bind(binder)?;
                 Ok(())
@@ -339,91 +332,8 @@ impl<'a> Bind<'a> for Instruction<'a> {
                 call.get_mut().bind(binder)?;
                 Ok(())
             }
-            Instruction::select(_) => Ok(()),
-            Instruction::i32_const(_) => Ok(()),
-            Instruction::i64_const(_) => Ok(()),
-            Instruction::f32_const(_) => Ok(()),
-            Instruction::f64_const(_) => Ok(()),
-            Instruction::ref_null(_) => Ok(()),
-            Instruction::array_new_fixed(_) => Ok(()),
-            Instruction::ref_test(_) => Ok(()),
-            Instruction::ref_cast(_) => Ok(()),
-            Instruction::ref_cast_desc_eq(_) => Ok(()),
-            Instruction::br_on_cast(_) => Ok(()),
-            Instruction::br_on_cast_fail(_) => Ok(()),
-            Instruction::br_on_cast_desc_eq(_) => Ok(()),
-            Instruction::br_on_cast_desc_eq_fail(_) => Ok(()),
-            Instruction::v128_const(_) => Ok(()),
-            Instruction::i8x16_shuffle(_) => Ok(()),
-            Instruction::atomic_fence(_) => Ok(()),
-            Instruction::GlobalAtomic(_) => Ok(()),
-            Instruction::TableAtomic(_) => Ok(()),
-            Instruction::StructAtomic(_) => Ok(()),
-            Instruction::ArrayAtomic(_) => Ok(()),
-            Instruction::resume(_) => Ok(()),
-            Instruction::resume_throw(_) => Ok(()),
-            Instruction::resume_throw_ref(_) => Ok(()),
-            Instruction::Beyond(_) => Ok(()),
-            // Written by tools/ops from here.
-            Instruction::catch(_) => Ok(()),
-            Instruction::throw(_) => Ok(()),
-            Instruction::rethrow(_) => Ok(()),
-            Instruction::br(_) => Ok(()),
-            Instruction::br_if(_) => Ok(()),
-            Instruction::call(_) => Ok(()),
-            Instruction::return_call(_) => Ok(()),
-            Instruction::call_ref(_) => Ok(()),
-            Instruction::return_call_ref(_) => Ok(()),
-            Instruction::delegate(_) => Ok(()),
-            Instruction::local_get(_) => Ok(()),
-            Instruction::local_set(_) => Ok(()),
-            Instruction::local_tee(_) => Ok(()),
-            Instruction::global_get(_) => Ok(()),
-            Instruction::global_set(_) => Ok(()),
-            Instruction::table_get(_) => Ok(()),
-            Instruction::table_set(_) => Ok(()),
-            Instruction::memory_size(_) => Ok(()),
-            Instruction::memory_grow(_) => Ok(()),
-            Instruction::ref_func(_) => Ok(()),
-            Instruction::br_on_null(_) => Ok(()),
-            Instruction::br_on_non_null(_) => Ok(()),
-            Instruction::struct_new(_) => Ok(()),
-            Instruction::struct_new_default(_) => Ok(()),
-            Instruction::struct_get(_) => Ok(()),
-            Instruction::struct_get_s(_) => Ok(()),
-            Instruction::struct_get_u(_) => Ok(()),
-            Instruction::struct_set(_) => Ok(()),
-            Instruction::array_new(_) => Ok(()),
-            Instruction::array_new_default(_) => Ok(()),
-            Instruction::array_new_data(_) => Ok(()),
-            Instruction::array_new_elem(_) => Ok(()),
-            Instruction::array_get(_) => Ok(()),
-            Instruction::array_get_s(_) => Ok(()),
-            Instruction::array_get_u(_) => Ok(()),
-            Instruction::array_set(_) => Ok(()),
-            Instruction::array_fill(_) => Ok(()),
-            Instruction::array_copy(_) => Ok(()),
-            Instruction::array_init_data(_) => Ok(()),
-            Instruction::array_init_elem(_) => Ok(()),
-            Instruction::memory_init(_) => Ok(()),
-            Instruction::data_drop(_) => Ok(()),
-            Instruction::memory_copy(_) => Ok(()),
-            Instruction::memory_fill(_) => Ok(()),
-            Instruction::table_init(_) => Ok(()),
-            Instruction::elem_drop(_) => Ok(()),
-            Instruction::table_copy(_) => Ok(()),
-            Instruction::table_grow(_) => Ok(()),
-            Instruction::table_size(_) => Ok(()),
-            Instruction::table_fill(_) => Ok(()),
-            Instruction::struct_new_desc(_) => Ok(()),
-            Instruction::struct_new_default_desc(_) => Ok(()),
-            Instruction::ref_get_desc(_) => Ok(()),
-            Instruction::cont_new(_) => Ok(()),
-            Instruction::cont_bind(_) => Ok(()),
-            Instruction::suspend(_) => Ok(()),
-            Instruction::switch(_) => Ok(()),
-            Instruction::memory_discard(_) => Ok(()),
-            // To here.
+            // No other instruction has a type use.
+            _ => Ok(()),
         }
     }
 }
