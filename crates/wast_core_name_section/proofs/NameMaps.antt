@@ -1,9 +1,9 @@
 -- Subsections of names, and the name section, as they are written.
-use Rattle.std.proofs.Common.{◌≡◌, ◌<◌, ◌≤◌, ◌+◌, ℕ, Bool, true, false, nat_lt, List, [], ◌∷◌, ◌++◌, length, Option, Result, Ok, Err, inl}
-use Rattle.std.proofs.Common.{inr, refl, sym, ap, ◌∙◌, subst, arith, length-append, append-nil, map, take, get_or}
+use Rattle.std.proofs.Common.{◌≡◌, ◌<◌, ◌+◌, ℕ, true, false, nat_lt, List, [], ◌∷◌, ◌++◌, length, Option, Result, Ok, refl, sym, ap, ◌∙◌}
+use Rattle.std.proofs.Common.{subst, arith, map}
 use Rattle.std.specs.Prelude.{All, codes}
 use Rattle.std.specs.List.{flat_map}
-use Rattle.std.proofs.lemmas.Bool.{lt-ltb, ltb-true, ltb-false}
+use Rattle.std.proofs.lemmas.Bool.{lt-ltb, ltb-false}
 use Rattle.std.proofs.lemmas.Grind.{flat_map-append}
 use Rattle.std.proofs.lemmas.List.{append_assoc}
 use Rattle.std.proofs.lemmas.List.Elements.{All-nil, All-head, All-append}
@@ -12,10 +12,8 @@ use Rattle.std.proofs.lemmas.List.Folds.{flat_map-map}
 use Rattle.wasm_ops.specs.declared.sink.Refusal.{Refusal}
 use Rattle.wasm_ops.specs.Leb128.{unsigned}
 use Rattle.wasm_ops.specs.Spelling.{InRangeSized, InRangeU32, length_prefixed, name, InRangeName}
-use Rattle.wasm_ops.specs.Sinks.{SinkRules, Writes, Sets, AppendLaws}
+use Rattle.wasm_ops.specs.Sinks.{SinkRules, Writes, AppendLaws}
 use Rattle.wasm_ops.proofs.Everywhere.{all_left, all_right, all_one, flat_one, all_in_flat, all_of_flat, flat_in_flat}
-use Rattle.wasm_ops.proofs.Numbers.{unsigned-small}
-use Rattle.wasm_ops.proofs.PutLengths.{number_set}
 use Rattle.wasm_ops.proofs.Sinking.{puts_as, written_as, one_written}
 use Rattle.wasm_out.specs.NameSectionBytes.{Named, Direct, Indirect, NameSubsection, subsection_id, map_entry, name_content, name_entry, name_subsection}
 use Rattle.wasm_out.specs.Parts.{Part, Custom, part, InRangePart}
@@ -28,7 +26,6 @@ use Rattle.wast_core_name_section.specs.Tree.space
 use Rattle.wast_core_name_section.specs.Tree.ty
 use Rattle.wast_core_name_section.specs.FoundNames.{saturated_count, InRangeMap, map_bytes}
 use Rattle.wast_core_name_section.specs.ModuleNames.{given_name_in, type_name, direct, indirect}
-use Rattle.wast_core_name_section.proofs.Each.{each_more, each_around}
 
 -- The names of items, each of one thing in a list.
 pub names_of_each : {X : Type 0} (s : Space) (name_of : X → Space × Option (List ℕ)) (xs : List X) (items : List (Space × Option (List ℕ)))
@@ -116,18 +113,6 @@ pub all_apart : {X Y : Type 0} (InRange : Y → Type 0) (f : X → List Y) (ys :
     → All InRange ys × All (λ x. All InRange (f x)) xs
 all_apart InRange f ys xs h = (all_left InRange ys (flat_map f xs) h, all_of_flat InRange f xs (all_right InRange ys (flat_map f xs) h))
 
--- Writing failed before more was written.
-pub front_refused : {S : Type 0} (rules : SinkRules S) (all part : Type 0) (a b : S) (x whole : List ℕ) (e : Refusal)
-    → AppendLaws rules → length x ≤ length whole → (all → part) → Writes {A = Unit {0}} rules part a b x (Err e)
-    → Writes {A = Unit {0}} rules all a b whole (Err e)
-front_refused rules all part a b x whole e laws le has p = (
-  p.0,
-  elim p.1 [
-    | inl q ↦ inl (q.0, λ f. q.1 (laws.fits_less a (length x) (length whole) le f))
-    | inr q ↦ inr (q.0, λ h. q.1 (has h))
-  ],
-)
-
 -- The subsections after the name of the section.
 module _ {X : Type 0} (f : X → List NameSubsection) (ys : List NameSubsection) (xs : List X) where
   abbrev whole : List NameSubsection
@@ -153,29 +138,16 @@ module _ {X : Type 0} (f : X → List NameSubsection) (ys : List NameSubsection)
   parts_fit : InRangePayload whole → Apart
   parts_fit h = let apart = all_apart (λ x. (name_subsection x).in_range) f ys xs h.1 in ((h.0, apart.0), apart.1)
 
-  pub payload_written : {S A : Type 0} (rules : SinkRules S) (a b : S) (r : Result A Refusal) → Writes rules Apart a b (first ++ rest) r
-      → Writes rules (InRangePayload whole) a b (payload_of whole) r
-  payload_written rules a b r p = written_as rules Apart (InRangePayload whole) a b (first ++ rest) (payload_of whole) r payload_fits parts_fit payload_bytes p
-
-  -- The same after its length.
-  pub sized_written : {S A : Type 0} (rules : SinkRules S) (a b : S) (size : ℕ) (r : Result A Refusal) → size ≡ length (payload_of whole)
-      → Writes rules ((InRangeU32 size × (InRangeName (codes "name") × All (λ x. (name_subsection x).in_range) ys)) × All
-      (λ x. All (λ x. (name_subsection x).in_range) (f x)) xs) a b ((unsigned size ++ first) ++ rest) r
-      → Writes rules (InRangeSized InRangePayload payload_of whole) a b (length_prefixed payload_of whole) r
-  sized_written rules a b size r is p =
-      written_as rules ((InRangeU32 size × (InRangeName (codes "name") × All (λ x. (name_subsection x).in_range) ys)) × All
-      (λ x. All (λ x. (name_subsection x).in_range) (f x)) xs) (InRangeSized InRangePayload payload_of whole) a b
-      ((unsigned size ++ first) ++ rest) (length_prefixed payload_of whole) r
-      (λ h. (subst InRangeU32 is h.0.0, payload_fits (h.0.1, h.1)))
-      (λ h. let parts = parts_fit h.1 in ((subst InRangeU32 (sym is) h.0, parts.0), parts.1))
-      (append_assoc (unsigned size) first rest ∙ ap (λ z. unsigned size ++ z) payload_bytes ∙ ap (λ n. unsigned n ++ payload_of whole) is)
-      p
-
--- A byte 0 that reserves room for a length, overwritten.
-pub byte_kept : {S : Type 0} (rules : SinkRules S) (a b c : S) (n : ℕ) (says : Bool)
-    → AppendLaws rules → rules.appended a b (0 ∷ []) → n ≡ rules.size_of a → Sets rules b c n 0 says → says ≡ true → rules.appended a c (0 ∷ [])
-byte_kept rules a b c n says laws h at set says_yes =
-    subst (rules.appended a c) (append-nil (unsigned 0) ∙ unsigned-small 0 (omega arith)) (number_set rules a b c 0 0 [] n says laws h at set says_yes)
+  -- The payload after the id and the length of the section.
+  pub section_written : {S A : Type 0} (rules : SinkRules S) (a b : S) (r : Result A Refusal)
+      → Writes rules (Unit {0} × (InRangeU32 (length (first ++ rest)) × Apart)) a b (0 ∷ (unsigned (length (first ++ rest)) ++ (first ++ rest))) r
+      → Writes rules (InRangeSized InRangePayload payload_of whole) a b (0 ∷ length_prefixed payload_of whole) r
+  section_written rules a b r p =
+      written_as rules (Unit {0} × (InRangeU32 (length (first ++ rest)) × Apart)) (InRangeSized InRangePayload payload_of whole) a b
+      (0 ∷ (unsigned (length (first ++ rest)) ++ (first ++ rest))) (0 ∷ length_prefixed payload_of whole) r
+      (λ h. (subst (λ (bytes : List ℕ). InRangeU32 (length bytes)) payload_bytes h.1.0, payload_fits h.1.1))
+      (λ h. (tt, (subst (λ (bytes : List ℕ). InRangeU32 (length bytes)) (sym payload_bytes) h.0, parts_fit h.1)))
+      (ap (λ (bytes : List ℕ). 0 ∷ (unsigned (length bytes) ++ bytes)) payload_bytes) p
 
 -- A section is left out if it has no subsections.
 pub names_absent : {S : Type 0} (rules : SinkRules S) (a : S) (subsections : List NameSubsection) → AppendLaws rules → nat_lt 0 (length subsections) ≡ false

@@ -1,13 +1,15 @@
 //! Writes the name section of a module.
 
-ghost use Rattle.std.specs.Prelude.{◌≡◌, ◌<◌, ◌++◌, nat_lt, length, true, All, IfOk, IfErr, IsTrue, ◌∷◌, ◌+◌, ℕ, List, Option, map};
+ghost use Rattle.std.specs.Prelude.{◌≡◌, ◌<◌, ◌++◌, nat_lt, length, Bool, true, All, IfOk, IsTrue, ◌∷◌, ◌+◌, ℕ, List, Option, map};
 ghost use Rattle.std.specs.List.{flat_map};
 ghost use Rattle.wasm_ops.specs.Sinks.{Writes};
 ghost use Rattle.wasm_ops.specs.Spelling.{length_prefixed, InRangeSized};
-ghost use Rattle.wasm_ops.specs.declared.sink.Refusal.TheVariants as refusal;
-ghost use Rattle.wasm_out.specs.NameSectionBytes.{subsection_id, map_entry, name_entry, name_subsection};
+ghost use Rattle.wasm_out.specs.NameSectionBytes.{NameSubsection, subsection_id, map_entry, name_entry, name_subsection};
 ghost use Rattle.wasm_out.specs.Parts.{part, InRangePart};
 ghost use Rattle.wast_core_ranges.specs.FieldRanges.{are_reaches};
+ghost use Rattle.wast_core_ranges.specs.declared.finding.FieldRanges.{FieldRanges};
+ghost use Rattle.wast_core_name_section.specs.Tree.ty;
+ghost use Rattle.wast_core_name_section.specs.declared.names_payload.NameMap.{NameMap};
 ghost use Rattle.wast_core_name_section.specs.Checkpoints.{AreCheckpoints};
 ghost use Rattle.wast_core_name_section.specs.NamesPart.{names_part, payload_of, InRangePayload};
 ghost use Rattle.wast_core_name_section.specs.GivenNames.{id_text, given_name, named_from};
@@ -22,7 +24,8 @@ use crate::name_maps::{
 };
 use crate::named_fields::{reach_of_types, with_items, with_lists};
 use crate::within::{PutLists, Within, WithinItems, any_lists, count_lists};
-use wasm_ops::{Encode, Length, Name, Refusal, Sink, WithLength};
+use std::alloc::AllocError;
+use wasm_ops::{Each, Encode, EncodeWith, Name, Refusal, Sink, WithLength};
 use wast_base::{Id, NameAnnotation, Space};
 use wast_core_ranges::{FieldKind, FieldRanges};
 use wast_tree_nodes::{FieldItems, ItemSig, ModuleField, Type, profile_of};
@@ -268,28 +271,92 @@ fn put_subsection<S: Sink>(
     }
 }
 
-/// Appends the subsections of several name maps of these fields.
-fn put_subsections<S: Sink>(
-    fields: &[ModuleField],
-    maps: &[NameMap],
-    reaches: &FieldRanges,
-    checkpoints: Checkpoints,
-    out: &mut S,
-) -> Result<(), Refusal>
-    requires reaches { IsTrue (are_reaches fields.now reaches.now) }
-    requires checkpoints { AreCheckpoints types_within fields.now checkpoints.places checkpoints.before.now }
-    ensures { Writes S.rules (All (λ m. All (λ x. (name_subsection x).in_range) (map_names fields.now m)) maps.now)
-        out.old out.new (flat_map (λ m. flat_map (λ x. (name_subsection x).bytes) (map_names fields.now m)) maps.now) result }
-{
-    let start = out.size();
-    for i in 0..maps.len() {
-        let result = put_subsection(fields, &maps[i], reaches, checkpoints, out);
-        if result.is_err() {
-            out.cut(start);
-            return result;
+/// A field whose names are written. It is a trait, because a proof would otherwise compare the type
+/// of a list of fields with itself.
+trait PutNames {
+    /// The types of the field.
+    ghost types: { Self → List ty.«Type» };
+
+    /// Whether the ranges are those of these fields.
+    ghost are_ranges: { List Self → FieldRanges → Bool };
+
+    /// The subsection of a name map of these fields. Without entries there is none.
+    ghost names: { List Self → NameMap → List NameSubsection };
+
+    /// Appends that subsection, as [`put_subsection`] does.
+    fn put_map_names<S: Sink>(
+        fields: &[Self],
+        map: &NameMap,
+        reaches: &FieldRanges,
+        checkpoints: Checkpoints,
+        out: &mut S,
+    ) -> Result<(), Refusal>
+        requires reaches { IsTrue (are_ranges fields.now reaches.now) }
+        requires checkpoints { AreCheckpoints types fields.now checkpoints.places checkpoints.before.now }
+        ensures { Writes S.rules (All (λ x. (name_subsection x).in_range) (names fields.now map.now))
+            out.old out.new (flat_map (λ x. (name_subsection x).bytes) (names fields.now map.now)) result };
+}
+
+impl PutNames for ModuleField<'_> {
+    ghost types = { types_within };
+
+    ghost are_ranges = { are_reaches };
+
+    ghost names = { map_names };
+
+    fn put_map_names<S: Sink>(
+        fields: &[Self],
+        map: &NameMap,
+        reaches: &FieldRanges,
+        checkpoints: Checkpoints,
+        out: &mut S,
+    ) -> Result<(), Refusal> {
+        put_subsection(fields, map, reaches, checkpoints, out)
+    }
+}
+
+/// Writes name maps of some fields, each as its subsection.
+struct MapsOf<'b, T: PutNames> {
+    fields: &'b [T],
+    reaches: &'b FieldRanges,
+    checkpoints: Checkpoints<'b>,
+    ghost ranges: { IsTrue (T.are_ranges fields.now reaches.now) },
+    ghost told: { AreCheckpoints T.types fields.now checkpoints.places checkpoints.before.now },
+}
+
+impl<T: PutNames> Clone for MapsOf<'_, T> {
+    fn clone(&self) -> Result<Self, AllocError> {
+        Ok(*self)
+    }
+}
+
+impl<T: PutNames> Copy for MapsOf<'_, T> {}
+
+impl<'b, T: PutNames> MapsOf<'b, T> {
+    /// Pairs fields with their ranges and checkpoints.
+    fn new(fields: &'b [T], reaches: &'b FieldRanges, checkpoints: Checkpoints<'b>) -> Self
+        requires reaches { IsTrue (T.are_ranges fields.now reaches.now) }
+        requires checkpoints { AreCheckpoints T.types fields.now checkpoints.places checkpoints.before.now }
+        ensures { result.fields.now ≡ fields.now }
+    {
+        MapsOf {
+            fields,
+            reaches,
+            checkpoints,
         }
     }
-    Ok(())
+}
+
+impl<T: PutNames> EncodeWith<NameMap> for MapsOf<'_, T> {
+    ghost spelling = { λ w m. flat_map (λ x. (name_subsection x).bytes) (T.names w.fields.now m) };
+
+    ghost in_range = { λ w m. All (λ x. (name_subsection x).in_range) (T.names w.fields.now m) };
+
+    ghost is_ready = { λ _ _. true };
+
+    fn spell<S: Sink>(&self, map: &NameMap, out: &mut S) -> Result<(), Refusal> {
+        T::put_map_names(self.fields, map, self.reaches, self.checkpoints, out)
+    }
 }
 
 /// Returns whether a name map of these fields has entries. Stops at the first field with one.
@@ -390,163 +457,24 @@ fn has_names(
     }
 }
 
-/// Appends a first part, and then the name maps of these fields.
-fn put_behind<P: Encode, S: Sink>(
-    fields: &[ModuleField],
-    front: &P,
-    reaches: &FieldRanges,
-    checkpoints: Checkpoints,
-    out: &mut S,
+/// Appends the name section of these fields: its id, its length and its payload, which is the name
+/// `name` and the subsections.
+fn put_section<'b, T: PutNames, S: Sink>(
+    fields: &'b [T],
+    name: Option<&'b str>,
+    reaches: &'b FieldRanges,
+    checkpoints: Checkpoints<'b>,
+    out: &'b mut S,
 ) -> Result<(), Refusal>
-    requires front { IsTrue (P.is_ready front.now) }
-    requires reaches { IsTrue (are_reaches fields.now reaches.now) }
-    requires checkpoints { AreCheckpoints types_within fields.now checkpoints.places checkpoints.before.now }
-    ensures { Writes S.rules (P.in_range front.now × All (λ m. All (λ x. (name_subsection x).in_range) (map_names fields.now m)) name_maps)
-        out.old out.new (P.spelling front.now ++ flat_map (λ m. flat_map (λ x. (name_subsection x).bytes) (map_names fields.now m)) name_maps) result }
+    requires reaches { IsTrue (T.are_ranges fields.now reaches.now) }
+    requires checkpoints { AreCheckpoints T.types fields.now checkpoints.places checkpoints.before.now }
+    ensures { Writes S.rules (InRangeSized InRangePayload payload_of (module_name (text_seen name.entry) ++ flat_map (T.names fields.now) name_maps))
+        out.old out.new (0 ∷ length_prefixed payload_of (module_name (text_seen name.entry) ++ flat_map (T.names fields.now) name_maps)) result }
 {
-    let start = out.size();
-    front.encode(out)?;
     let maps = NAME_MAPS;
-    let second = put_subsections(fields, &maps, reaches, checkpoints, out);
-    if second.is_err() {
-        out.cut(start);
-    }
-    second
-}
-
-/// Appends the payload of the name section: the section name `name`, and the subsections.
-fn put_payload<S: Sink>(
-    fields: &[ModuleField],
-    name: Option<&str>,
-    reaches: &FieldRanges,
-    checkpoints: Checkpoints,
-    out: &mut S,
-) -> Result<(), Refusal>
-    requires reaches { IsTrue (are_reaches fields.now reaches.now) }
-    requires checkpoints { AreCheckpoints types_within fields.now checkpoints.places checkpoints.before.now }
-    ensures { Writes S.rules (InRangePayload (name_subsections (text_seen name.entry) fields.now))
-        out.old out.new (payload_of (name_subsections (text_seen name.entry) fields.now)) result }
-{
-    let front = (Name("name"), ModuleName(name));
-    put_behind(fields, &front, reaches, checkpoints, out)
-}
-
-/// Appends the payload after its length, which the caller knows.
-fn put_sized<S: Sink>(
-    fields: &[ModuleField],
-    name: Option<&str>,
-    reaches: &FieldRanges,
-    checkpoints: Checkpoints,
-    size: u32,
-    out: &mut S,
-) -> Result<(), Refusal>
-    requires reaches { IsTrue (are_reaches fields.now reaches.now) }
-    requires checkpoints { AreCheckpoints types_within fields.now checkpoints.places checkpoints.before.now }
-    requires size { size ≡ length (payload_of (name_subsections (text_seen name) fields.now)) }
-    ensures { Writes S.rules (InRangeSized InRangePayload payload_of (name_subsections (text_seen name.entry) fields.now))
-        out.old out.new (length_prefixed payload_of (name_subsections (text_seen name.entry) fields.now)) result }
-{
-    let front = (size, (Name("name"), ModuleName(name)));
-    put_behind(fields, &front, reaches, checkpoints, out)
-}
-
-/// Returns the length of the payload, by counting the bytes that would be written. It fails as too
-/// large if a number, count or length in it is out of range, or its own length.
-fn payload_length(
-    fields: &[ModuleField],
-    name: Option<&str>,
-    reaches: &FieldRanges,
-    checkpoints: Checkpoints,
-) -> Result<u32, Refusal>
-    requires reaches { IsTrue (are_reaches fields.now reaches.now) }
-    requires checkpoints { AreCheckpoints types_within fields.now checkpoints.places checkpoints.before.now }
-    ensures ok { IfOk result (λ n. n ≡ length (payload_of (name_subsections (text_seen name.entry) fields.now))) }
-    ensures err { IfErr result (λ e. (e ≡ refusal.TooLarge)
-        × (InRangeSized InRangePayload payload_of (name_subsections (text_seen name.entry) fields.now) → ⊥)) }
-{
-    let mut length = Length::new();
-    put_payload(fields, name, reaches, checkpoints, &mut length)?;
-    match u32::try_from(length.count()) {
-        Ok(count) => Ok(count),
-        Err(_) => Err(Refusal::TooLarge),
-    }
-}
-
-/// Appends the payload after its length, which is counted first. For a sink that cannot overwrite a
-/// number.
-fn put_length_first<S: Sink>(
-    fields: &[ModuleField],
-    name: Option<&str>,
-    reaches: &FieldRanges,
-    checkpoints: Checkpoints,
-    out: &mut S,
-) -> Result<(), Refusal>
-    requires reaches { IsTrue (are_reaches fields.now reaches.now) }
-    requires checkpoints { AreCheckpoints types_within fields.now checkpoints.places checkpoints.before.now }
-    ensures { Writes S.rules (InRangeSized InRangePayload payload_of (name_subsections (text_seen name.entry) fields.now))
-        out.old out.new (length_prefixed payload_of (name_subsections (text_seen name.entry) fields.now)) result }
-{
-    let size = payload_length(fields, name, reaches, checkpoints)?;
-    put_sized(fields, name, reaches, checkpoints, size, out)
-}
-
-/// Appends the payload after its length. As in [`WithLength`], a byte reserves room for the length,
-/// so that the names are walked only once.
-fn put_with_length<S: Sink>(
-    fields: &[ModuleField],
-    name: Option<&str>,
-    reaches: &FieldRanges,
-    checkpoints: Checkpoints,
-    out: &mut S,
-) -> Result<(), Refusal>
-    requires reaches { IsTrue (are_reaches fields.now reaches.now) }
-    requires checkpoints { AreCheckpoints types_within fields.now checkpoints.places checkpoints.before.now }
-    ensures { Writes S.rules (InRangeSized InRangePayload payload_of (name_subsections (text_seen name.entry) fields.now))
-        out.old out.new (length_prefixed payload_of (name_subsections (text_seen name.entry) fields.now)) result }
-{
-    let start = out.size();
-    out.push_bytes(&[0])?;
-    if !out.set_number(start, 0) {
-        out.cut(start);
-        return put_length_first(fields, name, reaches, checkpoints, out);
-    }
-    let payload = put_payload(fields, name, reaches, checkpoints, out);
-    if payload.is_err() {
-        out.cut(start);
-        return payload;
-    }
-    let length = out.size() - start - 1;
-    let Ok(size) = u32::try_from(length) else {
-        out.cut(start);
-        return Err(Refusal::TooLarge);
-    };
-    if out.set_number(start, length) {
-        return Ok(());
-    }
-    out.cut(start);
-    put_sized(fields, name, reaches, checkpoints, size, out)
-}
-
-/// Appends the payload after the id of a custom section and the length.
-fn put_section<S: Sink>(
-    fields: &[ModuleField],
-    name: Option<&str>,
-    reaches: &FieldRanges,
-    checkpoints: Checkpoints,
-    out: &mut S,
-) -> Result<(), Refusal>
-    requires reaches { IsTrue (are_reaches fields.now reaches.now) }
-    requires checkpoints { AreCheckpoints types_within fields.now checkpoints.places checkpoints.before.now }
-    ensures { Writes S.rules (InRangeSized InRangePayload payload_of (name_subsections (text_seen name.entry) fields.now))
-        out.old out.new (0 ∷ length_prefixed payload_of (name_subsections (text_seen name.entry) fields.now)) result }
-{
-    let start = out.size();
-    out.push_bytes(&[0])?;
-    let second = put_with_length(fields, name, reaches, checkpoints, out);
-    if second.is_err() {
-        out.cut(start);
-    }
-    second
+    let way = MapsOf::new(fields, reaches, checkpoints);
+    let payload = ((Name("name"), ModuleName(name)), Each(&maps, way));
+    (0u8, WithLength(payload)).encode(out)
 }
 
 /// Returns the positions of the checkpoints of these fields. Walks only the fields that can have
