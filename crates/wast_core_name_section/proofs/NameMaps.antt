@@ -139,10 +139,10 @@ module _ {X : Type 0} (f : X → List NameSubsection) (ys : List NameSubsection)
   parts_fit h = let apart = all_apart (λ x. (name_subsection x).in_range) f ys xs h.1 in ((h.0, apart.0), apart.1)
 
   -- The payload after the id and the length of the section.
-  pub section_written : {S A : Type 0} (rules : SinkRules S) (a b : S) (r : Result A Refusal)
+  pub name_section_written : {S A : Type 0} (rules : SinkRules S) (a b : S) (r : Result A Refusal)
       → Writes rules (Unit {0} × (InRangeU32 (length (first ++ rest)) × Apart)) a b (0 ∷ (unsigned (length (first ++ rest)) ++ (first ++ rest))) r
       → Writes rules (InRangeSized InRangePayload payload_of whole) a b (0 ∷ length_prefixed payload_of whole) r
-  section_written rules a b r p =
+  name_section_written rules a b r p =
       written_as rules (Unit {0} × (InRangeU32 (length (first ++ rest)) × Apart)) (InRangeSized InRangePayload payload_of whole) a b
       (0 ∷ (unsigned (length (first ++ rest)) ++ (first ++ rest))) (0 ∷ length_prefixed payload_of whole) r
       (λ h. (subst (λ (bytes : List ℕ). InRangeU32 (length bytes)) payload_bytes h.1.0, payload_fits h.1.1))

@@ -159,7 +159,7 @@ pub(crate) fn put_map<'b, T, W: NameItems<T> + Copy, S: Sink>(
 }
 
 /// The same, for items that can be counted.
-pub(crate) fn put_counted<'b, T, W: CountItems<T> + Copy, S: Sink>(
+pub(crate) fn put_counted_map<'b, T, W: CountItems<T> + Copy, S: Sink>(
     id: u8,
     way: W,
     parts: &'b [T],

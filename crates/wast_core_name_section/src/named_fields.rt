@@ -24,7 +24,7 @@ fn either(reaches: &FieldRanges, one: FieldKind, other: FieldKind) -> FieldRange
 }
 
 /// Returns the range of the fields that can have items of an index space.
-fn reach_of(space: Space, reaches: &FieldRanges) -> FieldRange
+fn reach_of_space(space: Space, reaches: &FieldRanges) -> FieldRange
     ensures { (fields : List ModuleField) → IsTrue (are_reaches fields reaches.now)
         → IsTrue (is_reach (has_items space) fields result) }
 {
@@ -49,7 +49,7 @@ pub(crate) fn with_items<'b, 'a>(
     requires { IsTrue (are_reaches fields.now reaches.now) }
     ensures { flat_map (names_given space) result.now ≡ flat_map (names_given space) fields.now }
 {
-    reach_of(space, reaches).of(fields)
+    reach_of_space(space, reaches).of(fields)
 }
 
 /// Returns the range of the fields that can have types.

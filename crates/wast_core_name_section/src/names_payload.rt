@@ -20,7 +20,7 @@ ghost use Rattle.wast_core_name_section.specs.ModuleNames.{type_name, sig_name, 
 use crate::arities::{Checkpoints, FieldTypes, Places, TypesOf};
 use crate::imported::{count_imported, put_imported};
 use crate::name_maps::{
-    CountItems, NameItems, any_of, count_each, put_counted, put_each, put_map, put_name,
+    CountItems, NameItems, any_of, count_each, put_counted_map, put_each, put_map, put_name,
 };
 use crate::named_fields::{reach_of_types, with_items, with_lists};
 use crate::within::{PutLists, Within, WithinItems, any_lists, count_lists};
@@ -261,7 +261,7 @@ fn put_subsection<S: Sink>(
     match map {
         NameMap::Items(space) => {
             let there = with_items(*space, fields, reaches);
-            put_counted(id_of(*space), *space, there, out)
+            put_counted_map(id_of(*space), *space, there, out)
         }
         NameMap::Within(within) => {
             let there = with_lists(*within, fields, reaches);
@@ -459,7 +459,7 @@ fn has_names(
 
 /// Appends the name section of these fields: its id, its length and its payload, which is the name
 /// `name` and the subsections.
-fn put_section<'b, T: PutNames, S: Sink>(
+fn put_name_section<'b, T: PutNames, S: Sink>(
     fields: &'b [T],
     name: Option<&'b str>,
     reaches: &'b FieldRanges,
@@ -522,7 +522,7 @@ fn put_within<S: Sink>(
     if !has_names(fields, name, reaches, checkpoints) {
         return Ok(());
     }
-    put_section(fields, name, reaches, checkpoints, out)
+    put_name_section(fields, name, reaches, checkpoints, out)
 }
 
 /// Appends the name section of a resolved module, if it has any names (custom sections: name

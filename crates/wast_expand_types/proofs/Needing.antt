@@ -159,12 +159,12 @@ select_stays t = (select_at t).still
 -- An instruction is resolved in the same way in any context.
 module _ (find : LookUp) where
   -- of a block with catch clauses only the type
-  catch_stays : (blocks : Blocks) (c : TryTableCatch) → mapped_catch (binding_change find) blocks c ≡ c
-  catch_stays blocks c = λ t. record { kind = (caught_at c.kind).still t; label = c.label }
+  catch_kept : (blocks : Blocks) (c : TryTableCatch) → mapped_catch (binding_change find) blocks c ≡ c
+  catch_kept blocks c = λ t. record { kind = (caught_at c.kind).still t; label = c.label }
 
-  pub catches_stay : (blocks : Blocks) (cs : List TryTableCatch) → map (mapped_catch (binding_change find) blocks) cs ≡ cs
-  catches_stay blocks [] = refl
-  catches_stay blocks (c ∷ cs) = λ t. catch_stays blocks c t ∷ catches_stay blocks cs t
+  pub catches_kept : (blocks : Blocks) (cs : List TryTableCatch) → map (mapped_catch (binding_change find) blocks) cs ≡ cs
+  catches_kept blocks [] = refl
+  catches_kept blocks (c ∷ cs) = λ t. catch_kept blocks c t ∷ catches_kept blocks cs t
 
   bound_anywhere : (h : BodyContext) (i : Instruction) → mapped_instr (binding_change find) h i ≡ mapped_instr (binding_change find) constant_context i
   bound_anywhere h (instr.call f) = refl
@@ -215,13 +215,13 @@ abbrev pub made_type : ℕ → Signature → ty.«Type»
 made_type n s = record { span = start_of_text; id = Some (gensym_id n start_of_text); name = None; def = def_of s false }
 
 -- The handlers of a resumption are unchanged.
-handle_stays : (find : LookUp) (blocks : Blocks) (x : Handle) → mapped_handle (binding_change find) blocks x ≡ x
-handle_stays find blocks (handle.OnLabel e l) = refl
-handle_stays find blocks (handle.OnSwitch e) = refl
+handle_kept : (find : LookUp) (blocks : Blocks) (x : Handle) → mapped_handle (binding_change find) blocks x ≡ x
+handle_kept find blocks (handle.OnLabel e l) = refl
+handle_kept find blocks (handle.OnSwitch e) = refl
 
-handles_stay : (find : LookUp) (blocks : Blocks) (xs : List Handle) → map (mapped_handle (binding_change find) blocks) xs ≡ xs
-handles_stay find blocks [] = refl
-handles_stay find blocks (x ∷ xs) = λ i. handle_stays find blocks x i ∷ handles_stay find blocks xs i
+handles_kept : (find : LookUp) (blocks : Blocks) (xs : List Handle) → map (mapped_handle (binding_change find) blocks) xs ≡ xs
+handles_kept find blocks [] = refl
+handles_kept find blocks (x ∷ xs) = λ i. handle_kept find blocks x i ∷ handles_kept find blocks xs i
 
-pub handlers_stay : (find : LookUp) (blocks : Blocks) (t : ResumeTable) → mapped_handlers (binding_change find) blocks t ≡ t
-handlers_stay find blocks t = ap (λ (xs : List Handle). record { handlers = xs }) (handles_stay find blocks t.handlers)
+pub handlers_kept : (find : LookUp) (blocks : Blocks) (t : ResumeTable) → mapped_handlers (binding_change find) blocks t ≡ t
+handlers_kept find blocks t = ap (λ (xs : List Handle). record { handlers = xs }) (handles_kept find blocks t.handlers)

@@ -10,7 +10,7 @@ use Rattle.wast_expand_types.specs.Tree.instr
 use Rattle.wast_tree_map.proofs.Types.{heap_at, ref_at}
 use Rattle.wast_tree_map.proofs.Fields.{mem_arg_at}
 use Rattle.wast_expand_types.specs.Binding.{IsPassed}
-use Rattle.wast_expand_types.proofs.Needing.{select_stays, handlers_stay, needed_asking, needed_besides, needed_br_table, needed_cast, needed_resume}
+use Rattle.wast_expand_types.proofs.Needing.{select_stays, handlers_kept, needed_asking, needed_besides, needed_br_table, needed_cast, needed_resume}
 
 -- The instruction is of no kind that has a type use.
 record IsUnused (i : Instruction) : Type 0 where
@@ -79,16 +79,16 @@ passed (instr.br_on_cast_desc_eq_fail a) u = record {
 }
 passed (instr.resume a) u = record {
   needs = needed_resume [] (in_index space.Ty a.type_index) a.table;
-  stays = λ find. ap (λ (x : ResumeTable). instr.resume (record { type_index = a.type_index; table = x })) (handlers_stay find [] a.table);
+  stays = λ find. ap (λ (x : ResumeTable). instr.resume (record { type_index = a.type_index; table = x })) (handlers_kept find [] a.table);
 }
 passed (instr.resume_throw a) u = record {
   needs = needed_resume [] (in_pair space.Ty a.type_index space.Tag a.tag_index) a.table;
   stays = λ find. ap (λ (x : ResumeTable). instr.resume_throw (record { type_index = a.type_index; tag_index = a.tag_index; table = x }))
-      (handlers_stay find [] a.table);
+      (handlers_kept find [] a.table);
 }
 passed (instr.resume_throw_ref a) u = record {
   needs = needed_resume [] (in_index space.Ty a.type_index) a.table;
-  stays = λ find. ap (λ (x : ResumeTable). instr.resume_throw_ref (record { type_index = a.type_index; table = x })) (handlers_stay find [] a.table);
+  stays = λ find. ap (λ (x : ResumeTable). instr.resume_throw_ref (record { type_index = a.type_index; table = x })) (handlers_kept find [] a.table);
 }
 passed i u = record { needs = refl; stays = λ find. refl }
 

@@ -13,11 +13,11 @@ returns-in-Items g c =
     let rules = g.S.Sink.rules in
     let space = c.in-Items.space in
     let id = c.id_of.result in
-    rw c.in-Items.is (direct_written rules c.args.out.now c.put_counted.new.out (named_of space)
-    (named_items space c.args.fields.now) id c.put_counted.result c.id_of.ensures
+    rw c.in-Items.is (direct_written rules c.args.out.now c.put_counted_map.new.out (named_of space)
+    (named_items space c.args.fields.now) id c.put_counted_map.result c.id_of.ensures
     (subst (λ xs. Writes rules (InRangeMap (λ x. (name_entry x).bytes) (λ x. (name_entry x).in_range)
-    (named_from 0 xs)) c.args.out.now c.put_counted.new.out (map_bytes id (λ x. (name_entry x).bytes) (named_from 0 xs)) c.put_counted.result)
-    c.with_items-there.ensures c.put_counted.ensures))
+    (named_from 0 xs)) c.args.out.now c.put_counted_map.new.out (map_bytes id (λ x. (name_entry x).bytes) (named_from 0 xs)) c.put_counted_map.result)
+    c.with_items-there.ensures c.put_counted_map.ensures))
 
 pub returns-in-Within : goal.returns-in-Within
 returns-in-Within g c =

@@ -11,6 +11,6 @@ returns-then-not-has_names g c =
 
 pub returns : goal.returns
 returns g c =
-    names_written g.S.Sink.rules c.args.out.now c.put_section.new.out
-    (name_subsections (text_seen c.args.name) c.args.fields.now) c.put_section.result (sym c.has_names.ensures
-    ∙ c.if-not-has_names.false) c.put_section.ensures
+    names_written g.S.Sink.rules c.args.out.now c.put_name_section.new.out
+    (name_subsections (text_seen c.args.name) c.args.fields.now) c.put_name_section.result (sym c.has_names.ensures
+    ∙ c.if-not-has_names.false) c.put_name_section.ensures

@@ -5,8 +5,8 @@ use Rattle.wasm_ops.specs.Spelling.{length_prefixed, InRangeSized}
 use Rattle.wast_core_name_section.specs.FoundNames.{text_seen}
 use Rattle.wast_core_name_section.specs.ModuleNames.{module_name, name_maps}
 use Rattle.wast_core_name_section.specs.NamesPart.{payload_of, InRangePayload}
-use Rattle.wast_core_name_section.proofs.NameMaps.{section_written}
-use Rattle.wast_core_name_section.proofs.names_payload.put_section.Goals as goal
+use Rattle.wast_core_name_section.proofs.NameMaps.{name_section_written}
+use Rattle.wast_core_name_section.proofs.names_payload.put_name_section.Goals as goal
 
 pub returns : goal.returns
 returns g c =
@@ -15,4 +15,4 @@ returns g c =
     subst (λ fs. let all = ys ++ flat_map (g.T.PutNames.names fs) name_maps
     in Writes rules (InRangeSized InRangePayload payload_of all) c.args.out.now c.encode.new.out (0 ∷ length_prefixed payload_of all) c.encode.result)
     c.new-way.ensures
-    (section_written (g.T.PutNames.names c.new-way.result.fields.now) ys name_maps rules c.args.out.now c.encode.new.out c.encode.result c.encode.ensures)
+    (name_section_written (g.T.PutNames.names c.new-way.result.fields.now) ys name_maps rules c.args.out.now c.encode.new.out c.encode.result c.encode.ensures)
