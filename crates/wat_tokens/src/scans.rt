@@ -63,13 +63,16 @@ fn word_length(text: &[u8]) -> usize
     text.len()
 }
 
-/// Returns how many spaces, tabs and line ends a text begins with. It looks for their end first, because most words have one space
-/// before them, and skips four spaces at a time, because most lines of a printed module are indented.
+/// Returns how many spaces, tabs and line ends a text begins with. It looks for their end before the loop too, because most words
+/// have one space before them, and skips four spaces at a time, because most lines of a printed module are indented.
 #[tactic(auto, using(crate::proofs::FirstBytes::dark_stops))]
 fn blank_length(text: &[u8]) -> usize
     ensures short { result ≤ length text.now }
     ensures front { result ≡ length (front is_blank text.now) }
 {
+    if let [b'!'..=0xff, ..] = text {
+        return 0;
+    }
     let mut rest = text;
     for _ in 0..text.len() {
         rest = match rest {
@@ -257,6 +260,7 @@ enum Kind {
 }
 
 /// Returns what a byte begins.
+#[inline(always)]
 fn byte_kind(byte: u8) -> Kind
     ensures { result ≡ kind_of byte }
 {
