@@ -3,7 +3,7 @@
 //! A reader frees each group as soon as it is read, so that what it builds takes the memory of the groups. No list of tokens has to
 //! be moved to a larger place either.
 
-ghost use Rattle.std.specs.Prelude.{◌≡◌, ◌∷◌, ◌++◌, [], All, IfOk, MatchResult};
+ghost use Rattle.std.specs.Prelude.{◌≡◌, ◌<◌, ◌∷◌, ◌++◌, [], All, IfOk, MatchResult, vec_len, vec_capacity};
 ghost use Rattle.wat_tokens.specs.Scans.{seen_all, token_of, IsNamed, IsNamedPart};
 ghost use Rattle.wat_tokens.specs.Groups.{all_in, tokens_in, IsCounted};
 ghost use Rattle.wat_tokens.specs.declared.faults.TextFault.TheVariants as fault;
@@ -113,8 +113,21 @@ impl<'a> Grouping<'a> {
         }
     }
 
-    /// Appends a token. The only error is that memory is refused.
-    fn push(&mut self, token: Placed<'a>) -> Result<(), TextFault>
+    /// Appends a token to the last group. Requires that it has room, so no memory is taken.
+    #[tactic(auto, unfolding(crate::specs::Groups::tokens_in), using(crate::proofs::Grouped::token_put))]
+    fn put_last(&mut self, token: Placed<'a>)
+        requires { vec_len self.old.last < vec_capacity self.old.last }
+        ensures put { tokens_in self.new ≡ tokens_in self.old ++ token.entry ∷ [] }
+        ensures full { self.new.full ≡ self.old.full }
+    {
+        self.last.push_reserved(token);
+    }
+
+    /// Appends a token, as `push` does, and takes memory for it, or begins a new group. The loop over a text does not have this
+    /// in it, so that a token need not be in memory before it is in its group. The only error is that memory is refused.
+    #[cold]
+    #[inline(never)]
+    fn push_further(&mut self, token: Placed<'a>) -> Result<(), TextFault>
         ensures put { MatchResult result (λ u. tokens_in self.new ≡ tokens_in self.old ++ token.entry ∷ []) (λ f. f ≡ fault.Memory) }
         ensures count { IsCounted self.old.full → IfOk result (λ u. IsCounted self.new.full) }
     {
@@ -127,7 +140,21 @@ impl<'a> Grouping<'a> {
         }
     }
 
+    /// Appends a token. The only error is that memory is refused.
+    #[inline(always)]
+    fn push(&mut self, token: Placed<'a>) -> Result<(), TextFault>
+        ensures put { MatchResult result (λ u. tokens_in self.new ≡ tokens_in self.old ++ token.entry ∷ []) (λ f. f ≡ fault.Memory) }
+        ensures count { IsCounted self.old.full → IfOk result (λ u. IsCounted self.new.full) }
+    {
+        if self.last.len() < self.last.capacity() {
+            self.put_last(token);
+            return Ok(());
+        }
+        self.push_further(token)
+    }
+
     /// Appends a token, if there is one. The only error is that memory is refused.
+    #[inline(always)]
     #[tactic(auto, using(crate::proofs::Steps::seen_more, crate::proofs::Steps::named_more))]
     pub(crate) fn put(&mut self, token: Option<Placed<'a>>) -> Result<(), TextFault>
         ensures put { MatchResult result (λ u. seen_all (tokens_in self.new) ≡ seen_all (tokens_in self.old) ++ token_of token.entry) (λ f. f ≡ fault.Memory) }

@@ -823,7 +823,9 @@ fn scanned<'a>(
     Ok(found)
 }
 
-/// Cuts a text into tokens in groups, with its strings as `strings` gives them.
+/// Cuts a text into tokens in groups, with its strings as `strings` gives them. It is not put into its callers, so that its loop
+/// has the registers.
+#[inline(never)]
 fn scanned_in_groups<'a>(
     alloc: Global,
     text: &'a str,
