@@ -286,7 +286,10 @@ impl<'a> Reader<'a> {
         }
     }
 
-    /// Stores an error at a position, unless there already is one.
+    /// Stores an error at a position, unless there already is one. A text has one error at most, so
+    /// what stores it is not put into its callers.
+    #[cold]
+    #[inline(never)]
     pub(crate) fn fail_at(&mut self, span: Span, fault: TextFault)
         ensures { Fails fault span self.old self.new }
     {
@@ -297,6 +300,8 @@ impl<'a> Reader<'a> {
     }
 
     /// Stores an error at the next token, unless there already is one.
+    #[cold]
+    #[inline(never)]
     pub(crate) fn fail(&mut self, fault: TextFault)
         ensures { Fails fault (position (left self.old)) self.old self.new }
     {
