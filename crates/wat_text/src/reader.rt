@@ -186,6 +186,19 @@ impl<'a> Reader<'a> {
         }
     }
 
+    /// Returns the token that [`Reader::look_further`] finds, with its parts in registers. That
+    /// function writes it to memory, which the compiler clears first, and so it would clear it for
+    /// each look if the callers had that memory.
+    #[inline(always)]
+    fn further_token(&self, ahead: usize) -> Option<Token<'a>>
+        ensures { option_map bare_token result ≡ peek ahead (left self.now) }
+    {
+        match self.look_further(ahead) {
+            Some(token) => Some(token),
+            None => None,
+        }
+    }
+
     /// Returns the position of the token with this number in this group and those after it, or the
     /// end if they have not so many.
     #[cold]
@@ -208,7 +221,7 @@ impl<'a> Reader<'a> {
     {
         match self.tokens.get(self.at.saturating_add(ahead)) {
             Some(placed) => Some(placed.token),
-            None => self.look_further(ahead),
+            None => self.further_token(ahead),
         }
     }
 
