@@ -14,6 +14,7 @@ ghost use Rattle.wat_text.specs.Machine.{Does, EndsExpression, in_rule};
 ghost use Rattle.wat_text.specs.Machine as machine;
 ghost use Rattle.wat_tokens.specs.declared.words.Key.TheVariants as key;
 ghost use Rattle.wat_tokens.specs.declared.tokens.Token.TheVariants as token;
+ghost use Rattle.wat_tokens.specs.declared.tokens.Annotation.TheVariants as annotation;
 ghost use Rattle.wat_syntax.specs.Bare.{bare_text};
 ghost use Rattle.wat_syntax.specs.BareInstructions.{bare_expression, bare_instr};
 
@@ -305,15 +306,24 @@ impl<'a> Reader<'a> {
         }
     }
 
-    /// Appends a branch hint for the instruction that is appended next.
+    /// Appends a branch hint for the instruction that is appended next. Few instructions have one, so it is not put into its callers.
+    #[cold]
+    #[inline(never)]
+    fn push_hint(&mut self, body: &mut Body<'a>, hint: Hint)
+        ensures { Does (machine.append_hint (Some hint)) self.old self.new body.old body.new }
+    {
+        let pushed = body
+            .hints
+            .push(BranchHint::new(body.instrs.len(), hint.value));
+        self.took(pushed);
+    }
+
+    /// Appends a branch hint, if there is one, for the instruction that is appended next.
     fn append_hint(&mut self, body: &mut Body<'a>, hint: Option<Hint>)
         ensures { Does (machine.append_hint hint) self.old self.new body.old body.new }
     {
         if let Some(hint) = hint {
-            let pushed = body
-                .hints
-                .push(BranchHint::new(body.instrs.len(), hint.value));
-            self.took(pushed);
+            self.push_hint(body, hint);
         }
     }
 
@@ -372,20 +382,30 @@ impl<'a> Reader<'a> {
         value
     }
 
-    /// Reads `(@metadata.code.branch_hint "\00")`, if it comes next. It belongs to the next instruction (branch hinting).
-    fn hint(&mut self, purpose: Purpose) -> Option<Hint>
+    /// Reads `(@metadata.code.branch_hint "\00")`. Few instructions have a hint, so it is not put into its callers. Requires that the
+    /// annotation is next.
+    #[cold]
+    #[inline(never)]
+    fn hint_form(&mut self, purpose: Purpose) -> Option<Hint>
+        requires { peek 0 (left self.old) ≡ Some (token.Annotation annotation.BranchHint) }
         ensures { Decides (machine.hint (machine.may_hint purpose)) self.old self.new result }
     {
         let place = self.place();
+        self.skip();
+        let value = self.hint_value();
+        if matches!(purpose, Purpose::Constant) {
+            self.fail_at(place, TextFault::Unexpected("branch hint"));
+        }
+        Some(Hint { value, place })
+    }
+
+    /// Reads `(@metadata.code.branch_hint "\00")`, if it comes next. It belongs to the next instruction (branch hinting).
+    #[inline(always)]
+    fn hint(&mut self, purpose: Purpose) -> Option<Hint>
+        ensures { Decides (machine.hint (machine.may_hint purpose)) self.old self.new result }
+    {
         match self.look(0) {
-            Some(Token::Annotation(Annotation::BranchHint)) => {
-                self.skip();
-                let value = self.hint_value();
-                if matches!(purpose, Purpose::Constant) {
-                    self.fail_at(place, TextFault::Unexpected("branch hint"));
-                }
-                Some(Hint { value, place })
-            }
+            Some(Token::Annotation(Annotation::BranchHint)) => self.hint_form(purpose),
             _ => None,
         }
     }
