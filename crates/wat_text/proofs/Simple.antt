@@ -1,4 +1,5 @@
--- The step of the machine at a simple word reads an instruction, and nothing else: there is no hint, and nothing is opened or closed.
+-- The steps of the machine that the code takes by one look at the next token. There is no hint at a token that begins none. The step at a
+-- simple word reads an instruction, and nothing else: nothing is opened or closed.
 use Rattle.std.proofs.Common.{◌≡◌, ◌∙◌, ℕ, Bool, true, false, if◌then◌else◌, List, [], ◌∷◌, map, reverse, Option, None, Some, refl, ap}
 use Rattle.std.specs.Borrow.{Bor}
 use Rattle.wast_base.specs.declared.index_ops.IndexOp.TheVariants as indexed
@@ -40,20 +41,23 @@ module _ (may : Bool) (ls : List Open) (ws : List Instruction) (e : Expression) 
   at_word (word.Block op) simple same = absurd cc
   at_word w simple same = ap (λ p. parted_by p s >>= read_instr) (same ∙ no_part w simple)
 
-  no_hint : (w : Word) (name : Bor (List ℕ)) → peek 0 toks ≡ Some (token.Word w name) → rule.hint may toks ≡ Some ([], toks)
-  no_hint w name next = ap read_as next
+  no_hint : (t : Token) → peek 0 toks ≡ Some t → is_hint (annotation_of (Some t)) ≡ false → rule.hint may toks ≡ Some ([], toks)
+  no_hint t next none = ap read_as (ap (λ o. is_hint (annotation_of o)) next ∙ none)
     where
-      read_as : Option Token → Parse (List Item)
-      read_as o = elim (is_hint (annotation_of o)) [
+      read_as : Bool → Parse (List Item)
+      read_as x = elim x [
         | true ↦ string (after toks) >>= λ b. hint_value b.0.now >>= λ v. rparen b.1 >>= λ rest. if may then Some (Hint v ∷ [], rest) else None
         | false ↦ Some ([], toks)
       ]
 
+  pub unhinted : (t : Token) → peek 0 toks ≡ Some t → is_hint (annotation_of (Some t)) ≡ false → step may s ≡ hinted_step None s
+  unhinted t next none =
+      ap (λ r. (r >>= λ h. let o : Option code.Hint × Toks = (hint_in (position toks) h.0, h.1) in Some o)
+      >>= λ h. hinted_step h.0 (record { levels = ls; waiting = ws; read = e; toks = h.1 })) (no_hint t next none)
+
   pub simple_is : (w : Word) (name : Bor (List ℕ)) → peek 0 toks ≡ Some (token.Word w name) → is_simple w ≡ true → takes_plain (level_of ls) ≡ true
       → step may s ≡ read_instr s
-  simple_is w name next simple taken =
-      ap (λ r. (r >>= λ h. let o : Option code.Hint × Toks = (hint_in (position toks) h.0, h.1) in Some o)
-      >>= λ h. hinted_step h.0 (record { levels = ls; waiting = ws; read = e; toks = h.1 })) (no_hint w name next)
+  simple_is w name next simple taken = unhinted (token.Word w name) next refl
       ∙ ap (λ o. hinted_by o None s) next
       ∙ ap (λ b. elim b as (λ b. Option State) [ true ↦ plain None s | false ↦ None ]) taken
       ∙ ap (λ o. word_by (word_of o) s) next
@@ -76,3 +80,20 @@ simple_does may old new before behind w name next simple taken d = record {
       instrs = map bare_instr before.instrs;
       branch_hints = before.hints;
     }) (left old) w name next simple taken
+
+-- the step at a token that begins no branch hint
+pub unhinted_does : (may : Bool) (old new : Reader) (before behind : Body) (t : Token) → peek 0 (left old) ≡ Some t
+    → is_hint (annotation_of (Some t)) ≡ false → Does (hinted_step None) old new before behind → Does (step may) old new before behind
+unhinted_does may old new before behind t next none d = record {
+  made = d.made;
+  clean = d.clean;
+  gives = λ h. same ∙ d.gives h;
+  keeps = d.keeps;
+  refuses = λ h m f. same ∙ d.refuses h m f;
+}
+  where
+    same : step may (state_of old before) ≡ hinted_step None (state_of old before)
+    same = unhinted may (reverse before.levels.items) (map bare_instr before.waiting) (record {
+      instrs = map bare_instr before.instrs;
+      branch_hints = before.hints;
+    }) (left old) t next none

@@ -15,7 +15,7 @@ ghost use Rattle.wat_text.specs.Machine as machine;
 ghost use Rattle.wat_tokens.specs.declared.words.Key.TheVariants as key;
 ghost use Rattle.wat_tokens.specs.declared.tokens.Token.TheVariants as token;
 ghost use Rattle.wat_tokens.specs.declared.tokens.Annotation.TheVariants as annotation;
-ghost use Rattle.wat_syntax.specs.Bare.{bare_text};
+ghost use Rattle.wat_syntax.specs.Bare.{bare_text, bare_token};
 ghost use Rattle.wat_syntax.specs.BareInstructions.{bare_expression, bare_instr};
 
 use crate::reader::Reader;
@@ -439,6 +439,7 @@ impl<'a> Reader<'a> {
     }
 
     /// Reads `then` of an open `if` after its `(`.
+    #[inline(never)]
     fn then_arm(&mut self, body: &mut Body<'a>, hint: Option<Hint>)
         ensures { Does (machine.then_arm hint) self.old self.new body.old body.new }
     {
@@ -461,6 +462,7 @@ impl<'a> Reader<'a> {
     }
 
     /// Reads `else` of an open `if` after its `(`.
+    #[inline(never)]
     fn else_arm(&mut self, body: &mut Body<'a>, hint: Option<Hint>)
         ensures { Does (machine.else_arm hint) self.old self.new body.old body.new }
     {
@@ -481,6 +483,7 @@ impl<'a> Reader<'a> {
     }
 
     /// Reads `do` of an open `try` after its `(`.
+    #[inline(never)]
     fn do_arm(&mut self, body: &mut Body<'a>, hint: Option<Hint>)
         ensures { Does (machine.do_arm hint) self.old self.new body.old body.new }
     {
@@ -523,6 +526,7 @@ impl<'a> Reader<'a> {
     }
 
     /// Reads an arm of an open `try` that has its `do`, after the `(` of the arm.
+    #[inline(never)]
     fn first_handler(&mut self, body: &mut Body<'a>)
         ensures { Does machine.first_handler self.old self.new body.old body.new }
     {
@@ -535,6 +539,7 @@ impl<'a> Reader<'a> {
     }
 
     /// Reads an arm of an open `try` that has a `catch`, after the `(` of the arm.
+    #[inline(never)]
     fn next_handler(&mut self, body: &mut Body<'a>)
         ensures { Does machine.next_handler self.old self.new body.old body.new }
     {
@@ -598,6 +603,7 @@ impl<'a> Reader<'a> {
     }
 
     /// Reads what comes after `(` in the condition of an `if`.
+    #[inline(never)]
     fn in_condition(&mut self, body: &mut Body<'a>, hint: Option<Hint>)
         ensures { Does (machine.in_condition hint) self.old self.new body.old body.new }
     {
@@ -609,7 +615,8 @@ impl<'a> Reader<'a> {
     }
 
     /// Reads what comes after `(` in an expression: an arm of an open `if` or `try`, if one has to come there, or a folded
-    /// instruction.
+    /// instruction. It is put into its callers, because one of them has no hint.
+    #[inline(always)]
     fn opened(&mut self, body: &mut Body<'a>, hint: Option<Hint>)
         ensures { Does (machine.opened hint) self.old self.new body.old body.new }
     {
@@ -642,6 +649,7 @@ impl<'a> Reader<'a> {
     }
 
     /// Ends a level at its `)`.
+    #[inline(always)]
     fn close_level(&mut self, body: &mut Body<'a>, last: Open, purpose: Purpose)
         ensures { Does (machine.close_level last) self.old self.new body.old body.new }
     {
@@ -660,6 +668,7 @@ impl<'a> Reader<'a> {
     }
 
     /// Ends the level that `)` closes in an expression.
+    #[inline(always)]
     fn closed(&mut self, body: &mut Body<'a>, hint: Option<Hint>, purpose: Purpose)
         ensures { Does (machine.closed hint) self.old self.new body.old body.new }
     {
@@ -803,13 +812,48 @@ impl<'a> Reader<'a> {
         }
     }
 
+    /// The next step of an expression, at `(`, where no branch hint is. Requires that `(` is next.
+    #[inline(never)]
+    fn open_step(&mut self, body: &mut Body<'a>)
+        requires { peek 0 (left self.old) ≡ Some token.Open }
+        ensures { Does (machine.hinted_step None) self.old self.new body.old body.new }
+    {
+        self.skip();
+        self.opened(body, None);
+    }
+
+    /// The next step of an expression, at `)`, where no branch hint is. Requires that `)` is next.
+    #[inline(never)]
+    fn close_step(&mut self, body: &mut Body<'a>, purpose: Purpose)
+        requires { peek 0 (left self.old) ≡ Some token.Close }
+        ensures { Does (machine.hinted_step None) self.old self.new body.old body.new }
+    {
+        self.skip();
+        self.closed(body, None, purpose);
+    }
+
+    /// The next step of an expression, at a token. Most tokens are words or parentheses, and one look at them is enough. Requires that
+    /// the token is next.
+    #[inline(always)]
+    fn token_step(&mut self, body: &mut Body<'a>, next: Token<'a>, purpose: Purpose)
+        requires { peek 0 (left self.old) ≡ Some (bare_token next) }
+        ensures { Does (machine.step (machine.may_hint purpose)) self.old self.new body.old body.new }
+    {
+        match next {
+            Token::Word(word, name) => self.word_step(body, word, name, purpose),
+            Token::Open => self.open_step(body),
+            Token::Close => self.close_step(body, purpose),
+            _ => self.whole_step(body, purpose),
+        }
+    }
+
     /// The next step of an expression.
     fn body_step(&mut self, body: &mut Body<'a>, purpose: Purpose)
         ensures { Does (machine.step (machine.may_hint purpose)) self.old self.new body.old body.new }
     {
         match self.look(0) {
-            Some(Token::Word(word, name)) => self.word_step(body, word, name, purpose),
-            _ => self.whole_step(body, purpose),
+            Some(next) => self.token_step(body, next, purpose),
+            None => self.whole_step(body, purpose),
         }
     }
 
