@@ -306,7 +306,8 @@ impl<'a> Reader<'a> {
         }
     }
 
-    /// Appends a branch hint for the instruction that is appended next. Few instructions have one, so it is not put into its callers.
+    /// Appends a branch hint for the instruction that is appended next. Few instructions have one, so it is not put into its
+    /// callers.
     #[cold]
     #[inline(never)]
     fn push_hint(&mut self, body: &mut Body<'a>, hint: Hint)
@@ -382,8 +383,8 @@ impl<'a> Reader<'a> {
         value
     }
 
-    /// Reads `(@metadata.code.branch_hint "\00")`. Few instructions have a hint, so it is not put into its callers. Requires that the
-    /// annotation is next.
+    /// Reads `(@metadata.code.branch_hint "\00")`. Few instructions have a hint, so it is not put into its callers. Requires that
+    /// the annotation is next.
     #[cold]
     #[inline(never)]
     fn hint_form(&mut self, purpose: Purpose) -> Option<Hint>
@@ -592,13 +593,60 @@ impl<'a> Reader<'a> {
         self.push_level(body, Level::Operands, place, hint);
     }
 
-    /// Reads a folded instruction after its `(` (text format, folded instructions).
-    fn folded_operator(&mut self, body: &mut Body<'a>, hint: Option<Hint>)
+    /// Reads a folded instruction after its `(`, at any token. It is not put into its callers, because most instructions do not
+    /// need it.
+    #[inline(never)]
+    fn whole_operator(&mut self, body: &mut Body<'a>, hint: Option<Hint>)
         ensures { Does (machine.folded_operator hint) self.old self.new body.old body.new }
     {
         match self.word(0) {
             Some(Word::Block(op)) => self.folded_block(body, op, hint),
             _ => self.with_operands(body, hint),
+        }
+    }
+
+    /// Reads an operator by its word. It waits for its operands. Requires that the word is next.
+    fn read_operator_at(&mut self, body: &mut Body<'a>, word: Word, name: &'a str)
+        requires { peek 0 (left self.old) ≡ Some (token.Word word (bare_text name)) }
+        ensures { Does machine.read_operator self.old self.new body.old body.new }
+    {
+        self.worded(word, name, &mut body.waiting);
+    }
+
+    /// Reads an instruction with operands after its `(`, by its word. Requires that the word is next, and that it is simple.
+    #[inline(always)]
+    fn operator_at(&mut self, body: &mut Body<'a>, word: Word, name: &'a str, hint: Option<Hint>)
+        requires next { peek 0 (left self.old) ≡ Some (token.Word word (bare_text name)) }
+        requires simple { machine.is_simple word ≡ true }
+        ensures { Does (machine.folded_operator hint) self.old self.new body.old body.new }
+    {
+        let start = self.place();
+        self.read_operator_at(body, word, name);
+        self.push_level(body, Level::Operands, start, hint);
+    }
+
+    /// Reads a folded instruction after its `(`, by its word. Most instructions are simple, and are read at once. Requires that the
+    /// word is next.
+    #[inline(always)]
+    fn folded_word(&mut self, body: &mut Body<'a>, word: Word, name: &'a str, hint: Option<Hint>)
+        requires { peek 0 (left self.old) ≡ Some (token.Word word (bare_text name)) }
+        ensures { Does (machine.folded_operator hint) self.old self.new body.old body.new }
+    {
+        if is_simple(word) {
+            self.operator_at(body, word, name, hint);
+        } else {
+            self.whole_operator(body, hint);
+        }
+    }
+
+    /// Reads a folded instruction after its `(` (text format, folded instructions).
+    #[inline(always)]
+    fn folded_operator(&mut self, body: &mut Body<'a>, hint: Option<Hint>)
+        ensures { Does (machine.folded_operator hint) self.old self.new body.old body.new }
+    {
+        match self.look(0) {
+            Some(Token::Word(word, name)) => self.folded_word(body, word, name, hint),
+            _ => self.whole_operator(body, hint),
         }
     }
 
@@ -832,8 +880,8 @@ impl<'a> Reader<'a> {
         self.closed(body, None, purpose);
     }
 
-    /// The next step of an expression, at a token. Most tokens are words or parentheses, and one look at them is enough. Requires that
-    /// the token is next.
+    /// The next step of an expression, at a token. Most tokens are words or parentheses, and one look at them is enough. Requires
+    /// that the token is next.
     #[inline(always)]
     fn token_step(&mut self, body: &mut Body<'a>, next: Token<'a>, purpose: Purpose)
         requires { peek 0 (left self.old) ≡ Some (bare_token next) }
