@@ -199,7 +199,7 @@ impl<'a> Reader<'a> {
     }
 
     /// Reads the memory argument of a load or a store, and returns the instruction.
-    #[inline(never)]
+    #[inline(always)]
     fn access(&mut self, op: MemOp, align: Alignment) -> Instruction<'a>
         ensures { Decides (plaininstr (a_word.Mem op align) (text_of [])) self.old self.new (bare_instr result) }
     {
@@ -207,7 +207,7 @@ impl<'a> Reader<'a> {
     }
 
     /// Reads the index of an instruction such as `local.get`, and returns the instruction.
-    #[inline(never)]
+    #[inline(always)]
     fn indexed(&mut self, op: IndexOp) -> Instruction<'a>
         ensures { Decides (plaininstr (a_word.Index op) (text_of [])) self.old self.new (bare_instr result) }
     {
@@ -215,7 +215,7 @@ impl<'a> Reader<'a> {
     }
 
     /// Reads the number of `i32.const`, and returns the instruction.
-    #[inline(never)]
+    #[inline(always)]
     fn i32_const(&mut self) -> Instruction<'a>
         ensures { Decides (plaininstr (a_word.Own own.i32_const) (text_of [])) self.old self.new (bare_instr result) }
     {
@@ -223,17 +223,16 @@ impl<'a> Reader<'a> {
     }
 
     /// Reads the label of an `end`, if it has one, and returns the instruction.
-    #[inline(never)]
+    #[inline(always)]
     fn end_word(&mut self) -> Instruction<'a>
         ensures { Decides (plaininstr (a_word.Own own.end_) (text_of [])) self.old self.new (bare_instr result) }
     {
         Instruction::end_(self.id())
     }
 
-    /// Reads the immediates of an instruction of any kind, as `operator` does, which reads the most
-    /// frequent kinds without this function. The compiler sets the locals of all its arms to zero at
-    /// its start, so it costs more than an instruction with one index does.
-    #[inline(never)]
+    /// Reads the immediates of an instruction of any kind, after its keyword, and returns the
+    /// instruction. If the tree has no variant for it, the result has only its name, as for
+    /// `i64.add128`. Requires that the keyword is that of an instruction and begins no block.
     fn any_operator(&mut self, word: Word, name: &'a str) -> Instruction<'a>
         requires { is_plaininstr word ≡ true }
         ensures { Reads (plaininstr word (bare_text name.entry)) self.old self.new (bare_instr result) }
@@ -268,21 +267,77 @@ impl<'a> Reader<'a> {
         }
     }
 
-    /// Reads the immediates of an instruction that begins no block, after its keyword, and returns
-    /// the instruction (text format: instructions). If the tree has no variant for it, the result
-    /// has only its name, as for `i64.add128`. Requires that the keyword is that of an instruction
-    /// and begins no block.
-    fn operator(&mut self, word: Word, name: &'a str) -> Instruction<'a>
+    /// Appends an instruction without immediates, such as `drop`.
+    #[inline(never)]
+    fn push_plain(&mut self, op: Plain, instrs: &mut Seq<Instruction<'a>>)
+        ensures { ReadsOnto (one (plaininstr (a_word.Plain op) (text_of []))) self.old self.new (map bare_instr instrs.old) (map bare_instr instrs.new) }
+    {
+        self.push_instruction(instrs, Instruction::Plain(op));
+    }
+
+    /// Reads the memory argument of a load or a store, and appends the instruction.
+    #[inline(never)]
+    fn push_access(&mut self, op: MemOp, align: Alignment, instrs: &mut Seq<Instruction<'a>>)
+        ensures { ReadsOnto (one (plaininstr (a_word.Mem op align) (text_of []))) self.old self.new (map bare_instr instrs.old) (map bare_instr instrs.new) }
+    {
+        let instruction = self.access(op, align);
+        self.push_instruction(instrs, instruction);
+    }
+
+    /// Reads the index of an instruction such as `local.get`, and appends the instruction.
+    #[inline(never)]
+    fn push_indexed(&mut self, op: IndexOp, instrs: &mut Seq<Instruction<'a>>)
+        ensures { ReadsOnto (one (plaininstr (a_word.Index op) (text_of []))) self.old self.new (map bare_instr instrs.old) (map bare_instr instrs.new) }
+    {
+        let instruction = self.indexed(op);
+        self.push_instruction(instrs, instruction);
+    }
+
+    /// Reads the number of `i32.const`, and appends the instruction.
+    #[inline(never)]
+    fn push_i32_const(&mut self, instrs: &mut Seq<Instruction<'a>>)
+        ensures { ReadsOnto (one (plaininstr (a_word.Own own.i32_const) (text_of []))) self.old self.new (map bare_instr instrs.old) (map bare_instr instrs.new) }
+    {
+        let instruction = self.i32_const();
+        self.push_instruction(instrs, instruction);
+    }
+
+    /// Reads the label of an `end`, if it has one, and appends the instruction.
+    #[inline(never)]
+    fn push_end(&mut self, instrs: &mut Seq<Instruction<'a>>)
+        ensures { ReadsOnto (one (plaininstr (a_word.Own own.end_) (text_of []))) self.old self.new (map bare_instr instrs.old) (map bare_instr instrs.new) }
+    {
+        let instruction = self.end_word();
+        self.push_instruction(instrs, instruction);
+    }
+
+    /// Reads the immediates of an instruction of any kind, and appends the instruction, as
+    /// `push_operator` does, which reads the most frequent kinds without this function. The compiler
+    /// sets the locals of all its arms to zero at its start, so it costs more than an instruction
+    /// with one index does.
+    #[inline(never)]
+    fn push_other(&mut self, word: Word, name: &'a str, instrs: &mut Seq<Instruction<'a>>)
         requires { is_plaininstr word ≡ true }
-        ensures { Reads (plaininstr word (bare_text name.entry)) self.old self.new (bare_instr result) }
+        ensures { ReadsOnto (one (plaininstr word (bare_text name.entry))) self.old self.new (map bare_instr instrs.old) (map bare_instr instrs.new) }
+    {
+        let instruction = self.any_operator(word, name);
+        self.push_instruction(instrs, instruction);
+    }
+
+    /// Reads the immediates of an instruction that begins no block, after its keyword, and appends
+    /// the instruction (text format: instructions). Each of the most frequent kinds has a function
+    /// of its own. Requires that the keyword is that of an instruction and begins no block.
+    fn push_operator(&mut self, word: Word, name: &'a str, instrs: &mut Seq<Instruction<'a>>)
+        requires { is_plaininstr word ≡ true }
+        ensures { ReadsOnto (one (plaininstr word (bare_text name.entry))) self.old self.new (map bare_instr instrs.old) (map bare_instr instrs.new) }
     {
         match word {
-            Word::Plain(op) => Instruction::Plain(op),
-            Word::Mem(op, align) => self.access(op, align),
-            Word::Index(op) => self.indexed(op),
-            Word::Own(OwnOp::i32_const) => self.i32_const(),
-            Word::Own(OwnOp::end_) => self.end_word(),
-            _ => self.any_operator(word, name),
+            Word::Plain(op) => self.push_plain(op, instrs),
+            Word::Mem(op, align) => self.push_access(op, align, instrs),
+            Word::Index(op) => self.push_indexed(op, instrs),
+            Word::Own(OwnOp::i32_const) => self.push_i32_const(instrs),
+            Word::Own(OwnOp::end_) => self.push_end(instrs),
+            _ => self.push_other(word, name, instrs),
         }
     }
 
@@ -300,8 +355,7 @@ impl<'a> Reader<'a> {
             }
             _ => {
                 self.skip();
-                let instruction = self.operator(word, name);
-                self.push_instruction(instrs, instruction);
+                self.push_operator(word, name, instrs);
             }
         }
     }
