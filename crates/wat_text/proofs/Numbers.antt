@@ -1,6 +1,8 @@
--- The value of an unsigned number in the code is that of the rule, and a text that the code rejects has no value by the rule.
-use Rattle.std.proofs.Common.{◌≡◌, ◌∙◌, ℕ, false, List, Option, None, Some, Ok, Err, refl, ap}
+-- The value of an unsigned number in the code is that of the rule, and a text that the code rejects has no value by the rule. An index that
+-- is a number is read at once.
+use Rattle.std.proofs.Common.{◌≡◌, ◌∙◌, ℕ, false, List, Option, None, Some, Ok, Err, refl, sym, ap, subst}
 use Rattle.std.specs.Borrow.{Bor}
+use Rattle.wast_base.specs.declared.ids.Span.{Span}
 use Rattle.wast_base.specs.declared.ids.Id.{Id}
 use Rattle.wast_base.specs.declared.ids.Index.{Index}
 use Rattle.wast_base.specs.declared.ids.Index.TheVariants as by
@@ -13,6 +15,8 @@ use Rattle.wat_tokens.specs.declared.tokens.Token.TheVariants as token
 use Rattle.wat_syntax.specs.Tokens.{Toks, Parse, peek, after, position}
 use Rattle.wat_syntax.specs.Values.{number_in, is_number, u32, id_in, is_index, index}
 use Rattle.wat_syntax.proofs.Numbers.{not_unsigned}
+use Rattle.wat_text.specs.declared.reader.Reader.{Reader}
+use Rattle.wat_text.specs.Readers.{left, IsRefused, Decides, Finds}
 
 ok_is : {S T : Type 0} (o : Option S) (v : Option T) (x : T) → answer o v ≡ Ok x → v ≡ Some x
 ok_is None v x e = absurd cc
@@ -63,3 +67,42 @@ no_index toks h =
     no_id None h = refl
     no_id (Some (token.Id name)) h = absurd cc
     no_id (Some t) h = refl
+
+-- a number is an index, and no id
+numbered : (toks rest : Toks) (n : ℕ) → u32 toks ≡ Some (n, rest) → index toks ≡ Some (by.Num n (position toks), rest)
+numbered toks rest n h =
+    let as_number : ℕ × Toks → Parse Index = λ x. Some (by.Num x.0 (position toks), x.1) in
+    let either : Option (Id × Toks) → Parse Index = λ o. elim o as (λ o. Parse Index) [ Some x ↦ Some (by.Id x.0, x.1) | None ↦ u32 toks >>= as_number ] in
+    ap either (no_id (peek 0 toks) h) ∙ ap (λ o. o >>= as_number) h
+  where
+    reads : Parse (Bor (List ℕ)) → Parse ℕ
+    reads text = text >>= λ text. uN 32 text.0.now >>= λ n. Some (n, text.1)
+
+    found : Option Id → Option (Id × Toks)
+    found o = o >>= λ x. Some (x, after toks)
+
+    no_id : (t : Option Token) → reads (number_in t >>= λ text. Some (text, after toks)) ≡ Some (n, rest) → found (id_in t (position toks)) ≡ None
+    no_id None h = refl
+    no_id (Some (token.Id name)) h = absurd cc
+    no_id (Some t) h = refl
+
+pub number_index : (old new : Reader) (n : ℕ) (place : Span) (found : Option ℕ) → place ≡ position (left old) → found ≡ Some n
+    → Finds u32 old new found → Decides index old new (by.Num n place)
+number_index old new n place found at is f = record {
+  make = f.make;
+  clean = λ h. sym f.fault ∙ h;
+  gives = λ h. numbered (left old) (left new) n (f.there n is) ∙ ap (λ p. Some (by.Num n p, left new)) (sym at);
+  keeps = λ h. f.fault;
+  refuses = λ h r. absurd (subst IsRefused (f.fault ∙ h) r);
+}
+
+-- if no number is found, the rule reads what is left as before
+pub after_none : {S T : Type 0} (rule : Toks → Parse T) (other : Toks → Parse S) (old mid new : Reader) (found : Option S) (x : T)
+    → found ≡ None → Finds other old mid found → Decides rule mid new x → Decides rule old new x
+after_none rule other old mid new found x none f d = record {
+  make = d.make ∙ f.make;
+  clean = λ h. sym f.fault ∙ d.clean h;
+  gives = λ h. ap rule (sym (f.stays none)) ∙ d.gives h;
+  keeps = λ h. d.keeps (λ e. h (sym f.fault ∙ e)) ∙ f.fault;
+  refuses = λ h r. ap rule (sym (f.stays none)) ∙ d.refuses (f.fault ∙ h) r;
+}

@@ -560,9 +560,27 @@ impl<'a> Reader<'a> {
         self.value(place, unsigned32(text), 0)
     }
 
-    /// Reads an index: an id or a number (text format: indices).
+    /// Reads an unsigned integer of 32 bits, if one is next.
+    #[tactic(auto, using(crate::proofs::Numbers::unsigned_is, crate::proofs::Numbers::unsigned_not))]
+    fn found_u32(&mut self) -> Option<u32>
+        ensures { Finds u32 self.old self.new result }
+    {
+        match self.look(0) {
+            Some(Token::Other(text)) => match unsigned32(text) {
+                Ok(number) => {
+                    self.skip();
+                    Some(number)
+                }
+                Err(_) => None,
+            },
+            _ => None,
+        }
+    }
+
+    /// Reads an index of any kind, as `index` does, which reads most numbers without this function.
+    #[inline(never)]
     #[tactic(auto, using(crate::proofs::Numbers::no_u32))]
-    pub(crate) fn index(&mut self) -> Index<'a>
+    fn any_index(&mut self) -> Index<'a>
         ensures { Decides index self.old self.new (bare_index result) }
     {
         let place = self.place();
@@ -573,6 +591,18 @@ impl<'a> Reader<'a> {
             self.expected("an index");
         }
         Index::Num(self.number32(), place)
+    }
+
+    /// Reads an index: an id or a number (text format: indices). Most indices are numbers, and one
+    /// look at these is enough.
+    pub(crate) fn index(&mut self) -> Index<'a>
+        ensures { Decides index self.old self.new (bare_index result) }
+    {
+        let place = self.place();
+        match self.found_u32() {
+            Some(number) => Index::Num(number, place),
+            None => self.any_index(),
+        }
     }
 
     /// Reads an index, if one is next.
