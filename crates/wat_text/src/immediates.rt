@@ -71,8 +71,9 @@ impl<'a> Reader<'a> {
         align
     }
 
-    /// Reads `seq_cst` or `acq_rel`, if one of them is next (shared-everything threads proposal).
-    fn ordering(&mut self) -> Option<Ordering>
+    /// Reads `seq_cst` or `acq_rel`, if one of them is next, as `ordering` does, at any token.
+    #[inline(never)]
+    fn any_ordering(&mut self) -> Option<Ordering>
         ensures { Decides memory_ordering self.old self.new result }
     {
         if self.accept(Key::SeqCst) {
@@ -82,6 +83,17 @@ impl<'a> Reader<'a> {
             return Some(Ordering::AcqRel);
         }
         None
+    }
+
+    /// Reads `seq_cst` or `acq_rel`, if one of them is next (shared-everything threads proposal). If
+    /// no keyword is next, as in most memory arguments, one look is enough.
+    fn ordering(&mut self) -> Option<Ordering>
+        ensures { Decides memory_ordering self.old self.new result }
+    {
+        match self.key(0) {
+            Some(_) => self.any_ordering(),
+            None => None,
+        }
     }
 
     /// Reads a memory argument such as `$m offset=4 align=4` (text format: memory instructions).

@@ -13,7 +13,8 @@
 ghost use Rattle.std.specs.Prelude.{◌≡◌, ◌≢◌, ◌-◌, true, false, None, Some, Ok, Err, drop, length, map, option_map, slice_get, IfSome};
 ghost use Rattle.wat_syntax.specs.Tokens.{peek, after, position, position_in, count, is_lparen, is_end, word_of, key_of, is_key, is_form, lparen, rparen, keyword, form};
 ghost use Rattle.wat_tokens.specs.declared.faults.TextFault.TheVariants as fault;
-ghost use Rattle.wat_syntax.specs.Values.{number_text, u32, is_number, is_string, is_index, string, name, id, name_annotation, index, optional_index, index_or_zero};
+ghost use Rattle.wat_syntax.specs.Values.{number_text, u32, begins_number, is_number, is_string, is_index, string, name, id, name_annotation, index};
+ghost use Rattle.wat_syntax.specs.Values.{optional_index, index_or_zero};
 ghost use Rattle.wat_tokens.specs.Groups.{all_in, IsCounted};
 ghost use Rattle.wat_text.specs.Readers.{left, exactly, grouped, token_in, IsClean, IsRefused, Decides, Expects, Accepts, Finds, Fails, Pushes};
 ghost use Rattle.wat_text.specs.Denotes.{all_bare};
@@ -40,6 +41,13 @@ fn token_in<'a>(groups: &VecDeque<Vec<Placed<'a>>>, ahead: usize) -> Option<Plac
         }
     }
     None
+}
+
+/// Returns whether a text begins as a number does, with a digit or a sign.
+fn begins_number(text: &str) -> bool
+    ensures { result ≡ begins_number text.now }
+{
+    matches!(text.as_bytes().first(), Some(b'0'..=b'9' | b'+' | b'-'))
 }
 
 /// The tokens of a text, how many of them are read, and the first error.
@@ -498,9 +506,7 @@ impl<'a> Reader<'a> {
         ensures { result ≡ is_number (peek ahead (left self.now)) }
     {
         match self.look(ahead) {
-            Some(Token::Other(text)) => {
-                matches!(text.as_bytes().first(), Some(b'0'..=b'9' | b'+' | b'-'))
-            }
+            Some(Token::Other(text)) => begins_number(text),
             _ => false,
         }
     }
@@ -511,7 +517,8 @@ impl<'a> Reader<'a> {
     {
         match self.look(ahead) {
             Some(Token::Id(_)) => true,
-            _ => self.is_number(ahead),
+            Some(Token::Other(text)) => begins_number(text),
+            _ => false,
         }
     }
 
