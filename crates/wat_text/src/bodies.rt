@@ -895,7 +895,8 @@ impl<'a> Reader<'a> {
         }
     }
 
-    /// The next step of an expression.
+    /// The next step of an expression. It is put into the loops that call it.
+    #[inline(always)]
     fn body_step(&mut self, body: &mut Body<'a>, purpose: Purpose)
         ensures { Does (machine.step (machine.may_hint purpose)) self.old self.new body.old body.new }
     {
