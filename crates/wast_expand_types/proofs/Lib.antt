@@ -1,5 +1,5 @@
 pub mod Needing
-pub mod Unused
+pub mod WithoutTypeUse
 pub mod NumberedTypes
 pub mod TypeItems
 pub mod Naming

@@ -1,6 +1,6 @@
 //! Resolves the type uses in each part of the tree.
 
-ghost use Rattle.std.specs.Prelude.{◌≡◌, ◌≤◌, [], Some, List, map, flat_map, IfOk, IfErr, IsTrue, OnOk};
+ghost use Rattle.std.specs.Prelude.{◌≡◌, ◌≤◌, [], Some, List, map, flat_map, IfErr, IsTrue, OnOk};
 ghost use Rattle.wast_expand_types.specs.Tree.index;
 ghost use Rattle.wast_expand_keys.specs.Signatures.{Signature};
 ghost use Rattle.wast_tree_nodes.specs.Sites.{OfItem, OfBlock, constant_context, in_block, in_try_table, in_instr, in_indirect, in_constant, in_func_kind, in_use, in_func, in_tag_type, in_item_kind, in_sig, in_import, in_field};

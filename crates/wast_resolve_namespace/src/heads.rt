@@ -18,6 +18,9 @@ const SMALL: usize = 4;
 /// The number of new keys that a sort may compute, per pair.
 const TURNS: usize = 16;
 
+/// How many bytes after the keys of a group are searched for those that all its names have.
+const LOOK: usize = 64;
+
 /// A name and its number, with a key: eight bytes of the name, from an offset on.
 #[derive(Clone, Copy)]
 struct Headed<'p, 'a> {
@@ -37,8 +40,19 @@ pub(crate) fn by_heads<'a>(
     ensures { IfOk result (λ es. IsPermutation pairs.now es.items) }
 {
     let mut headed = with_heads(alloc, pairs)?;
-    sort_groups(&mut headed);
-    let sorted = without_heads(alloc, &headed)?;
+    let sorted = sorted_pairs(alloc, &mut headed)?;
+    Ok(sorted)
+}
+
+/// Sorts pairs and returns them without their keys.
+fn sorted_pairs<'p, 'a>(
+    alloc: Global,
+    headed: &mut [Headed<'p, 'a>],
+) -> Result<Vec<(Id<'a>, u32)>, AllocError>
+    ensures { IfOk result (λ es. IsPermutation (map pair_of headed.old) es.items) }
+{
+    sort_groups(headed);
+    let sorted = without_heads(alloc, headed)?;
     Ok(sorted)
 }
 
@@ -77,8 +91,8 @@ fn without_heads<'p, 'a>(
 
 /// Sorts pairs by key, and each group of pairs with the same key by keys of later bytes.
 ///
-/// Each new key of a pair takes a turn. A group is sorted by name if it is small, if its names have
-/// no more bytes, or if there are too few turns.
+/// Each new key of a pair takes a turn. A group is sorted by name if it is small, if its first name
+/// ends before its key, or if there are too few turns.
 fn sort_groups<'p, 'a>(headed: &mut [Headed<'p, 'a>])
     ensures { IsPermutation (map pair_of headed.old) (map pair_of headed.new) }
 {
@@ -135,8 +149,8 @@ fn have_one_key<'p, 'a>(a: &Headed<'p, 'a>, b: &Headed<'p, 'a>) -> bool {
     a.head == b.head && a.at == b.at
 }
 
-/// Returns whether a group can be split by new keys: it is not small, its first name has more
-/// bytes, and there are enough turns.
+/// Returns whether a group can be split by new keys: it is not small, its first name does not end
+/// before its key, and there are enough turns.
 fn can_split<'p, 'a>(first: &Headed<'p, 'a>, size: usize, turns: usize) -> bool
     ensures { IsTrue result → size ≤ turns }
 {
@@ -148,7 +162,7 @@ fn can_split<'p, 'a>(first: &Headed<'p, 'a>, size: usize, turns: usize) -> bool
 
 /// Returns whether a name has bytes in its key or after it.
 ///
-/// So names that end in their keys get one more key, because that of a generated id is its
+/// A name that ends in its key gets one more key, because the next key of a generated id is its
 /// generation.
 fn has_more<'p, 'a>(headed: &Headed<'p, 'a>) -> bool {
     let pair = headed.pair;
@@ -175,7 +189,7 @@ fn sort_by_head<'p, 'a>(group: &mut [Headed<'p, 'a>])
 fn sort_by_name<'p, 'a>(group: &mut [Headed<'p, 'a>])
     ensures { IsPermutation (map pair_of group.old) (map pair_of group.new) }
 {
-    group.sort_unstable_by(|a, b| compare_headed(a, b));
+    group.sort_unstable_by(|a, b| compare_by_name(a, b));
 }
 
 /// Compares the keys of two pairs.
@@ -184,7 +198,7 @@ fn compare_heads<'p, 'a>(a: &Headed<'p, 'a>, b: &Headed<'p, 'a>) -> Ordering {
 }
 
 /// Compares two pairs by name, then by number.
-fn compare_headed<'p, 'a>(a: &Headed<'p, 'a>, b: &Headed<'p, 'a>) -> Ordering {
+fn compare_by_name<'p, 'a>(a: &Headed<'p, 'a>, b: &Headed<'p, 'a>) -> Ordering {
     compare_pairs(a.pair, b.pair)
 }
 
@@ -218,15 +232,16 @@ fn head_from<'a>(pair: &(Id<'a>, u32), at: usize) -> u64 {
     leading(rest)
 }
 
-/// Returns how many bytes at their start all names of a group have in common.
+/// Returns the offset after the longest common prefix of a group, and at least the end of its keys.
 ///
-/// These are at least the bytes up to the end of their keys.
+/// It looks at a few bytes after the keys alone, because a turn must not cost more for longer names.
 fn shared_bytes<'p, 'a>(group: &[Headed<'p, 'a>]) -> usize {
     let Some(first) = group.first() else {
         return 0;
     };
     let start = first.at.saturating_add(8);
-    let mut shared = bytes_from(first.pair, start);
+    let rest = bytes_from(first.pair, start);
+    let mut shared = &rest[..rest.len().min(LOOK)];
     for headed in group {
         shared = common_start(shared, bytes_from(headed.pair, start));
     }

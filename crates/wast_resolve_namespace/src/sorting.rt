@@ -36,8 +36,8 @@ pub(crate) fn in_order<'a>(
     Ok(pairs)
 }
 
-/// Sorts a copy of many pairs, by prefix key first, and again by name if that is not the order of
-/// names.
+/// Sorts a copy of many pairs, by keys of eight bytes first, and again by name if that is not the
+/// order of names.
 fn many_in_order<'a>(
     alloc: Global,
     pairs: &[(Id<'a>, u32)],

@@ -860,7 +860,7 @@ impl<'a> Reader<'a> {
         }
     }
 
-    /// The next step of an expression, at `(`, where no branch hint is. Requires that `(` is next.
+    /// The next step of an expression, at `(`, without a branch hint before it. Requires that `(` is next.
     #[inline(never)]
     fn open_step(&mut self, body: &mut Body<'a>)
         requires { peek 0 (left self.old) ≡ Some token.Open }
@@ -870,7 +870,7 @@ impl<'a> Reader<'a> {
         self.opened(body, None);
     }
 
-    /// The next step of an expression, at `)`, where no branch hint is. Requires that `)` is next.
+    /// The next step of an expression, at `)`, without a branch hint before it. Requires that `)` is next.
     #[inline(never)]
     fn close_step(&mut self, body: &mut Body<'a>, purpose: Purpose)
         requires { peek 0 (left self.old) ≡ Some token.Close }

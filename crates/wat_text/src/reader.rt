@@ -194,9 +194,9 @@ impl<'a> Reader<'a> {
         }
     }
 
-    /// Returns the token that [`Reader::look_further`] finds, with its parts in registers. That
-    /// function writes it to memory, which the compiler clears first, and so it would clear it for
-    /// each look if the callers had that memory.
+    /// Returns the token that [`Reader::look_further`] finds, in registers. That function writes the
+    /// token to memory, which the compiler clears first. This function has that memory, so a look
+    /// that finds its token in the group clears nothing.
     #[inline(always)]
     fn further_token(&self, ahead: usize) -> Option<Token<'a>>
         ensures { option_map bare_token result ≡ peek ahead (left self.now) }
@@ -569,7 +569,7 @@ impl<'a> Reader<'a> {
 
     /// Reads an unsigned integer of 32 bits, if one is next.
     #[tactic(auto, using(crate::proofs::Numbers::unsigned_is, crate::proofs::Numbers::unsigned_not))]
-    fn found_u32(&mut self) -> Option<u32>
+    fn optional_u32(&mut self) -> Option<u32>
         ensures { Finds u32 self.old self.new result }
     {
         match self.look(0) {
@@ -600,13 +600,13 @@ impl<'a> Reader<'a> {
         Index::Num(self.number32(), place)
     }
 
-    /// Reads an index: an id or a number (text format: indices). Most indices are numbers, and one
-    /// look at these is enough.
+    /// Reads an index: an id or a number (text format: indices). In
+    /// printed modules most indices are numbers, and one look at these is enough.
     pub(crate) fn index(&mut self) -> Index<'a>
         ensures { Decides index self.old self.new (bare_index result) }
     {
         let place = self.place();
-        match self.found_u32() {
+        match self.optional_u32() {
             Some(number) => Index::Num(number, place),
             None => self.any_index(),
         }

@@ -125,3 +125,23 @@ fn many_names_are_told_apart(rt: HostRuntime) {
         check_all_are_found(&rt, rt.alloc(), ids.as_slice());
     }
 }
+
+/// Each of these names needs new keys for the one before it, and a sort computes at most 16 for each
+/// name, so the last ones are compared by whole names.
+#[test]
+fn names_that_begin_with_each_other_are_told_apart(rt: HostRuntime) {
+    let mut texts = Vec::new(rt.alloc());
+    let mut start = String::new(rt.alloc());
+    for _ in 0..40 {
+        start.push_str("aaaaaaaa").expect(&rt, "memory");
+        texts.push(format!(in rt.alloc(); "{start}b").expect(&rt, "memory")).expect(&rt, "memory");
+    }
+    let mut ids = Vec::new(rt.alloc());
+    for text in texts.iter() {
+        ids.push(written(text.as_str())).expect(&rt, "memory");
+    }
+    check_all_are_found(&rt, rt.alloc(), ids.as_slice());
+    check_clash_is_told(&rt, rt.alloc(), ids.as_slice());
+    ids.as_mut_slice().reverse();
+    check_all_are_found(&rt, rt.alloc(), ids.as_slice());
+}

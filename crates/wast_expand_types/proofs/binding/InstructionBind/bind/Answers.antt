@@ -5,7 +5,7 @@ use Rattle.wast_expand_types.specs.Tree.instr
 use Rattle.wast_expand_keys.specs.Expanded.{binding_change}
 use Rattle.wast_expand_keys.specs.Expanders.{found_in}
 use Rattle.wast_expand_types.proofs.Adding.{adds_nothing}
-use Rattle.wast_expand_types.proofs.Unused.{unused}
+use Rattle.wast_expand_types.proofs.WithoutTypeUse.{without_type_use}
 use Rattle.wast_expand_types.proofs.binding.InstructionBind.bind.Goals as goal
 
 pub returns-in_ok-bind-in-call_indirect-clause-bound : goal.returns-in_ok-bind-in-call_indirect-clause-bound
@@ -51,11 +51,11 @@ returns-in_ok-bind-in-try_table-clause-bound c = λ more.
 pub returns-in_default-clause-bound : goal.returns-in_default-clause-bound
 returns-in_default-clause-bound c = λ more.
     let other = c.in_default in
-    sym ((unused c.args.self.now other.not-block other.not-loop_ other.not-if_ other.not-try_ other.not-try_table other.not-call_indirect
+    sym ((without_type_use c.args.self.now other.not-block other.not-loop_ other.not-if_ other.not-try_ other.not-try_table other.not-call_indirect
     other.not-return_call_indirect).stays (found_in c.args.binder.now.cx more))
 
 pub returns-in_default-clause-adds : goal.returns-in_default-clause-adds
 returns-in_default-clause-adds c =
     let other = c.in_default in
-    adds_nothing c.args.binder.now (unused c.args.self.now other.not-block other.not-loop_ other.not-if_ other.not-try_ other.not-try_table
+    adds_nothing c.args.binder.now (without_type_use c.args.self.now other.not-block other.not-loop_ other.not-if_ other.not-try_ other.not-try_table
     other.not-call_indirect other.not-return_call_indirect).needs

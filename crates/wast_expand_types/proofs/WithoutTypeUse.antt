@@ -13,7 +13,7 @@ use Rattle.wast_expand_types.specs.Binding.{IsPassed}
 use Rattle.wast_expand_types.proofs.Needing.{select_stays, handlers_kept, needed_asking, needed_besides, needed_br_table, needed_cast, needed_resume}
 
 -- The instruction is of no kind that has a type use.
-record IsUnused (i : Instruction) : Type 0 where
+record HasNoTypeUse (i : Instruction) : Type 0 where
   not_block : (b : BlockType) → i ≡ instr.block b → ⊥
   not_loop : (b : BlockType) → i ≡ instr.loop_ b → ⊥
   not_if : (b : BlockType) → i ≡ instr.if_ b → ⊥
@@ -22,7 +22,7 @@ record IsUnused (i : Instruction) : Type 0 where
   not_call : (c : CallIndirect) → i ≡ instr.call_indirect c → ⊥
   not_return_call : (c : CallIndirect) → i ≡ instr.return_call_indirect c → ⊥
 
-passed : (i : Instruction) → IsUnused i → IsPassed i
+passed : (i : Instruction) → HasNoTypeUse i → IsPassed i
 passed (instr.block b) u = absurd (u.not_block b refl)
 passed (instr.loop_ b) u = absurd (u.not_loop b refl)
 passed (instr.if_ b) u = absurd (u.not_if b refl)
@@ -92,10 +92,10 @@ passed (instr.resume_throw_ref a) u = record {
 }
 passed i u = record { needs = refl; stays = λ find. refl }
 
-pub unused : (i : Instruction) → ((b : BlockType) → i ≡ instr.block b → ⊥) → ((b : BlockType) → i ≡ instr.loop_ b → ⊥)
+pub without_type_use : (i : Instruction) → ((b : BlockType) → i ≡ instr.block b → ⊥) → ((b : BlockType) → i ≡ instr.loop_ b → ⊥)
     → ((b : BlockType) → i ≡ instr.if_ b → ⊥) → ((b : BlockType) → i ≡ instr.try_ b → ⊥) → ((t : TryTable) → i ≡ instr.try_table t → ⊥)
     → ((c : CallIndirect) → i ≡ instr.call_indirect c → ⊥) → ((c : CallIndirect) → i ≡ instr.return_call_indirect c → ⊥) → IsPassed i
-unused i b1 b2 b3 b4 t c1 c2 = passed i (record {
+without_type_use i b1 b2 b3 b4 t c1 c2 = passed i (record {
   not_block = b1;
   not_loop = b2;
   not_if = b3;
