@@ -120,11 +120,15 @@ def functions_of(crate):
 
 
 def users(crate, name):
-    """The functions of a crate that name an item, as a constant."""
-    found = set()
-    for path, there in functions_of(crate).items():
-        lines = (edits.ROOT / "crates" / crate / path).read_text(encoding="utf-8").split("\n")
-        found |= {(path, it) for it in there if re.search(rf"\b{name}\b", "\n".join(lines[it.start:it.end + 1]))}
+    """The functions of a crate that name an item, as a constant, and those of its file that call these, whose proofs may use laws of it."""
+    found, left = set(), [(name, None)]
+    while left:
+        name, only = left.pop()
+        for path, there in functions_of(crate).items():
+            lines = (edits.ROOT / "crates" / crate / path).read_text(encoding="utf-8").split("\n")
+            new = {(path, it) for it in there if only in (None, path) and re.search(rf"\b{name}\b", "\n".join(lines[it.start:it.end + 1]))} - found
+            found |= new
+            left += [(it.name.split("::")[-1], path) for _, it in new]
     return found
 
 
@@ -174,7 +178,6 @@ MOST = 40
 
 # A line of a check that says where something is wrong, and one that only says that a name is gone, in a proof file.
 PLACED = re.compile(r"(?:note: )?(?:\./)?((?:src|specs|proofs)/\S+?):(\d+):\d+: (.*)")
-LAWS = re.compile(r"proofs/\w+\.antt$")
 NAME_GONE = re.compile(r"has no field|is not in scope|has no `|was not admitted")
 
 
@@ -215,12 +218,6 @@ def verdict_of(here, is_alone):
         if status != "proved":
             return AT_LIMIT if status.startswith("could not tell") else REFUSED, name, status[:120]
     return (PROVED, "", "") if here and all(status == "proved" for _, status, _ in here) else None
-
-
-def rejected_law(said):
-    """The first law of proofs/ that a check rejects, which belongs to no function: as one of a table, for a mutant that edits the table."""
-    placed = [it for it in map(PLACED.match, said.split("\n")) if it]
-    return next((f"{it.group(1)}: {it.group(3)}"[:120] for it in placed if LAWS.match(it.group(1))), None)
 
 
 class Checks:
@@ -299,8 +296,6 @@ def judged(crate, chosen, log=None):
             for edit in batch:
                 here = [(it.name, *line) for _, it in edited(edit) for line in lines.get(it.name, [])]
                 verdict = verdict_of(here, len(batch) == 1) if is_whole else None
-                if verdict and verdict[0] == PROVED and rejected_law(said):
-                    verdict = (REFUSED, "", rejected_law(said)) if len(batch) == 1 else None
                 if verdict:
                     yield (edit, *verdict)
                 else:
