@@ -148,7 +148,7 @@ struct rigyomad_diagnosis {
 /* A name of a text, and what it denotes. */
 struct rigyomad_name {
     uint32_t space;  /* One of rigyomad_space. */
-    uint32_t number; /* The number of what it denotes. */
+    uint32_t number; /* The index of what it denotes. */
     size_t offset;   /* Bytes of the text before its id, which begins with `$`. */
     size_t start;    /* Where the name begins among the bytes of all names. */
     size_t size;     /* How many bytes the name has, without the `$`. */
@@ -232,7 +232,7 @@ static inline uint32_t rigyomad_fault(const char *text, size_t text_size, char *
     return rigyomad_c_fault(lent, text_size, room, message_size, diagnosis);
 }
 
-/* Writes the number of what a name, without its `$`, denotes in an index space of the module of a
+/* Writes the index of what a name, without its `$`, denotes in an index space of the module of a
  * text to *number: RIGYOMAD_DONE. It reads the whole text; for several names of one text,
  * rigyomad_names reads it once.
  *
@@ -253,7 +253,7 @@ static inline uint32_t rigyomad_resolve(const char *text, size_t text_size,
 /* Writes all names that the items of the index spaces of the module of a text have: a record of
  * each to names, and the bytes of the names one after another to bytes. It writes to *room how many
  * names there are, and how many bytes: RIGYOMAD_DONE. The records are in the order of their spaces,
- * then of their numbers.
+ * then of their indices.
  *
  * Of (module (type $t (func)) (func) (func $"a b")) the records are { 0, 1, 38, 0, 3 } and
  * { 7, 0, 14, 3, 1 }, and the bytes are "a bt".

@@ -1,4 +1,4 @@
-//! Prints the number of what a function's name denotes in the module of a text: resolve TEXT NAME.
+//! Prints the index of what a function's name denotes in the module of a text: resolve TEXT NAME.
 
 use rigyomad::{resolve, Space};
 use std::env;

@@ -66,7 +66,7 @@ impl fmt::Display for Space {
 pub struct Name {
     /// The index space.
     pub space: Space,
-    /// The number of what it denotes.
+    /// The index of what it denotes.
     pub number: u32,
     /// Bytes of the text before its id, which begins with `$`.
     pub offset: usize,
@@ -79,7 +79,7 @@ fn is_id_byte(byte: u8) -> bool {
     byte.is_ascii_graphic() && !b"\"(),;[]{}".contains(&byte)
 }
 
-/// Prints its space, its id and its number as `wat --names` does: `func $f 1`. An id that needs quotes
+/// Prints its space, its id and its index as `wat --names` does: `func $f 1`. An id that needs quotes
 /// has its control characters as escapes.
 impl fmt::Display for Name {
     fn fmt(&self, f: &mut fmt::Formatter<'_>) -> fmt::Result {
@@ -91,7 +91,7 @@ impl fmt::Display for Name {
     }
 }
 
-/// Returns the number of what a name, without its `$`, denotes in an index space of the module of a
+/// Returns the index of what a name, without its `$`, denotes in an index space of the module of a
 /// text; `None` if nothing of the space has the name.
 ///
 /// It reads the whole text. For several names of one text, [`names`] reads it once.
@@ -152,7 +152,7 @@ fn names_of(records: &[archive::Name], bytes: &[u8]) -> Result<Vec<Name>, Fault>
 }
 
 /// Returns all names that the items of the index spaces of the module of a text have: by the space,
-/// in the order of [`Space::ALL`], then by the number. It reads the text once.
+/// in the order of [`Space::ALL`], then by the index. It reads the text once.
 ///
 /// # Example
 ///

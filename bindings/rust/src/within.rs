@@ -14,12 +14,12 @@ const CUSTOM: u8 = 0;
 #[derive(Clone, Copy, Debug, PartialEq, Eq, Hash)]
 #[non_exhaustive]
 pub enum Within {
-    /// A parameter or a local of a function. The number is its index.
+    /// A parameter or a local of a function. Its index is that of a local.
     Local,
-    /// A label of a function. The number is that of its block, counted from 0 in the order of the
+    /// A label of a function. Its index is that of its block, counted from 0 in the order of the
     /// text.
     Label,
-    /// A field of a struct type. The number is its index.
+    /// A field of a struct type. Its index counts the fields of the type.
     Field,
 }
 
@@ -59,9 +59,9 @@ impl fmt::Display for Within {
 pub struct NameWithin {
     /// What has the name.
     pub kind: Within,
-    /// The number of the function, or of the type of a field.
+    /// The index of the function, or of the type of a field.
     pub owner: u32,
-    /// The number of what has the name, within its owner.
+    /// The index of what has the name, within its owner.
     pub number: u32,
     /// The name, without the `$` of an id.
     pub name: String,
@@ -180,7 +180,7 @@ fn read_module(module: &[u8]) -> Result<Vec<NameWithin>, Stop> {
 }
 
 /// Returns the names of locals, labels and fields that the name section of the module of a text has:
-/// by [`Within::ALL`], then by the owner, then by the number.
+/// by [`Within::ALL`], then by the owner, then by the index.
 ///
 /// They are the ids of the text. If something has a name annotation, as in
 /// `(local $a (@name "b") i32)`, its name is the annotation. Parameters of imported tags have none
