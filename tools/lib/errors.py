@@ -1,6 +1,7 @@
-"""Reads the errors that `wat --explain` knows, and writes docs/ERRORS.md from them, for `tools/errors-page` and `tools/check-docs`.
+"""Reads the errors that `wat --explain` knows, and writes the pages of errors from them, for `tools/errors-page` and `tools/check-docs`.
 
-The page ends with the positions that differ from those of the Rust crate (`tools/lib/places.py`).
+docs/ERRORS.md has those with a number, docs/TOKEN_ERRORS.md and docs/SYNTAX_ERRORS.md the others, and docs/POSITIONS.md the positions
+that differ from those of the Rust crate (`tools/lib/places.py`).
 """
 
 import pathlib
@@ -12,12 +13,13 @@ import places
 
 ROOT = pathlib.Path(__file__).resolve().parent.parent.parent
 SOURCE = ROOT / "crates/wat/src/explanations.rt"
-PAGE = ROOT / "docs/ERRORS.md"
+PAGE, TOKEN_PAGE, SYNTAX_PAGE = (ROOT / "docs" / name for name in ("ERRORS.md", "TOKEN_ERRORS.md", "SYNTAX_ERRORS.md"))
 
 HEAD = """# Errors
 
-For users of `wat` and of the library: what each error means, a text that has it, and what to do. `tools/errors-page` writes this page, and CI
-runs its examples.
+For users of `wat` and of the library: what each error with a number means, a text that has it, and what to do. [TOKEN_ERRORS.md](TOKEN_ERRORS.md)
+and [SYNTAX_ERRORS.md](SYNTAX_ERRORS.md) have the errors of a text that is no module. [POSITIONS.md](POSITIONS.md) has what differs from the Rust
+crate. `tools/errors-page` writes these pages, and CI runs their examples.
 
 `wat --explain E4` prints an entry, and so does `wat --explain` with a message:
 
@@ -40,11 +42,22 @@ WITH_NUMBER = """
 check, and the code that makes it, are in [ARCHITECTURE.md](ARCHITECTURE.md), "Where do I look?".
 """
 
-WITHOUT_NUMBER = """
-## Errors in the text
+TOKENS = """# Errors in tokens
 
-The text is not a module in the text format. These errors have no number.
+For users of `wat` and of the library: what an error in characters, words, strings, comments and annotations means, a text that has it, and what
+to do. These errors have no number, because the text is no module. [SYNTAX_ERRORS.md](SYNTAX_ERRORS.md) has the errors of tokens that are read, and
+[ERRORS.md](ERRORS.md) those with a number, and how `wat --explain` prints an entry. `tools/errors-page` writes this page.
 """
+
+SYNTAX = """# Errors of syntax
+
+For users of `wat` and of the library: what an error in the order and the values of tokens means, a text that has it, and what to do. These
+errors have no number, because the text is no module. [TOKEN_ERRORS.md](TOKEN_ERRORS.md) has the errors in characters and strings, and
+[ERRORS.md](ERRORS.md) those with a number, and how `wat --explain` prints an entry. `tools/errors-page` writes this page.
+"""
+
+# The words of the first error of syntax. Those before it, without a number, are of tokens.
+FIRST_OF_SYNTAX = "expected"
 
 
 class Entry(typing.NamedTuple):
@@ -94,15 +107,19 @@ def section(program, entry):
     """The section of an entry."""
     title = f"{entry.number}: `{entry.words}`" if entry.number else f"`{entry.words}`"
     title = title.replace("``param` must come before `result``", "`` `param` must come before `result` ``")
-    return f"\n### {title}\n\n{entry.cause}\n{example_of(program, entry)}\n{entry.fix}\n"
+    depth = "###" if entry.number else "##"
+    return f"\n{depth} {title}\n\n{entry.cause}\n{example_of(program, entry)}\n{entry.fix}\n"
 
 
-def page(program):
-    """The page."""
+def pages(program):
+    """The pages: the path of each, and its text."""
     found = list(entries())
-    numbered = "".join(section(program, entry) for entry in found if entry.number)
-    others = "".join(section(program, entry) for entry in found if not entry.number)
-    return HEAD + WITH_NUMBER + numbered + WITHOUT_NUMBER + others + places.section()
+    others = [entry for entry in found if not entry.number]
+    first = [entry.words for entry in others].index(FIRST_OF_SYNTAX)
+    parts = {PAGE: [entry for entry in found if entry.number], TOKEN_PAGE: others[:first], SYNTAX_PAGE: others[first:]}
+    for path, start in ((PAGE, HEAD + WITH_NUMBER), (TOKEN_PAGE, TOKENS), (SYNTAX_PAGE, SYNTAX)):
+        yield path, start + "".join(section(program, entry) for entry in parts[path])
+    yield places.PAGE, places.page()
 
 
 def problems(program):
@@ -117,5 +134,6 @@ def problems(program):
         if any(not it.startswith(wanted) or not it.endswith(f"\n{entry.fix}\n") for it in explained):
             yield f"{entry.number or entry.words}: --explain prints {explained}"
     yield from places.problems(program)
-    if PAGE.read_text(encoding="utf-8") != page(program):
-        yield f"{PAGE.relative_to(ROOT)} is out of date, run tools/errors-page"
+    for path, text in pages(program):
+        if not path.is_file() or path.read_text(encoding="utf-8") != text:
+            yield f"{path.relative_to(ROOT)} is out of date, run tools/errors-page"

@@ -12,12 +12,15 @@ import subprocess
 import typing
 
 TABLE = pathlib.Path(__file__).resolve().parent.parent / "data/places.tsv"
+PAGE = TABLE.parent.parent.parent / "docs/POSITIONS.md"
 
 # How many texts were tried, and how many of them have one position.
 TRIED, SAME = 1427, 1221
 
-INTRODUCTION = f"""
-## Where positions differ from the crate's
+INTRODUCTION = f"""# Positions of errors
+
+For users of the Rust crate `wast`: which errors of a text have another position here. [ERRORS.md](ERRORS.md) has what each error means.
+`tools/errors-page` writes this page.
 
 For {TRIED:,} texts with an error, lines and columns were compared with those of the Rust crate `wast` 239.0.0. {SAME:,} are the same. The
 others differ by the rules below; the last column counts them. A rule says where a position is: what it is of, and where that begins.
@@ -77,8 +80,8 @@ def span(text):
     return f"`` {text} ``" if "`" in text else f"`{text}`"
 
 
-def section():
-    """The section of docs/ERRORS.md."""
+def page():
+    """The page docs/POSITIONS.md."""
     out = INTRODUCTION
     for group, title in GROUPS.items():
         found = "".join(f"| {span(shown(row.text))} | {span('error: ' + row.words)} | {row.rule} | {row.here} | {row.crate} | {row.texts} |\n" for row in rows() if row.group == group)
