@@ -43,7 +43,7 @@ enum rigyomad_space {
     RIGYOMAD_SPACE_TYPE = 7
 };
 
-/* The faults that have a number. E1 to E9 have a place, and E11 that of the construct or the closest
+/* The faults that have a number. E1 to E9 have a position, E11 that of the construct or the closest
  * one that is known. No text has E13, because the reader refuses a component: number 0. */
 enum rigyomad_fault_kind {
     /* E1: an import comes after a definition. */
@@ -138,11 +138,11 @@ static inline const char *rigyomad_fault_text(uint32_t number) {
  * uses it against this header. */
 struct rigyomad_diagnosis {
     uint32_t number; /* One of rigyomad_fault_kind; 0 if it is no module, or nothing is wrong. */
-    size_t offset;   /* Bytes before the place; 0 if there is no place. */
-    size_t line;     /* From 1; 0 if there is no place, or the text is not UTF-8. */
+    size_t offset;   /* Bytes before the position; 0 if there is none. */
+    size_t line;     /* From 1; 0 if there is no position, or the text is not UTF-8. */
     size_t column;   /* In bytes, from 1; 0 where line is 0. */
     size_t size;     /* How many bytes the whole message has. */
-    size_t end_offset; /* Bytes before the end of the token at the place; 0 if there is no place. */
+    size_t end_offset; /* Bytes before the end of the token at the position; 0 if there is none. */
 };
 
 /* A name of a text, and what it denotes. */
@@ -219,7 +219,7 @@ static inline uint32_t rigyomad_encode(const char *text, size_t text_size, void 
  * the size of the whole message.
  *
  * Returns what rigyomad_encode returns with room for all bytes: RIGYOMAD_DONE if nothing is wrong.
- * If the text is not UTF-8, the place has an offset and no line. */
+ * If the text is not UTF-8, the position has an offset and no line. */
 static inline uint32_t rigyomad_fault(const char *text, size_t text_size, char *message,
                                       size_t message_size, struct rigyomad_diagnosis *diagnosis) {
     uint8_t none = 0;
