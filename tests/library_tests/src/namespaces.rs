@@ -134,7 +134,9 @@ fn names_that_begin_with_each_other_are_told_apart(rt: HostRuntime) {
     let mut start = String::new(rt.alloc());
     for _ in 0..40 {
         start.push_str("aaaaaaaa").expect(&rt, "memory");
-        texts.push(format!(in rt.alloc(); "{start}b").expect(&rt, "memory")).expect(&rt, "memory");
+        texts
+            .push(format!(in rt.alloc(); "{start}b").expect(&rt, "memory"))
+            .expect(&rt, "memory");
     }
     let mut ids = Vec::new(rt.alloc());
     for text in texts.iter() {
