@@ -3,10 +3,12 @@ use Rattle.std.proofs.Common.{◌≡◌, ℕ, ◌+◌, ◌<◌, Bool, true, fals
 use Rattle.std.proofs.Common.{None, is_none, is_some, refl, sym, ap, ◌∙◌, subst, arith}
 use mathlib.Core.Path.{fun_ext}
 use Rattle.std.specs.List.{flat_map}
+use Rattle.std.specs.Prelude.{All}
 use Rattle.std.specs.Map.{keys_of}
 use Rattle.std.proofs.lemmas.Map.Made.{is_some-lookup}
 use Rattle.std.proofs.lemmas.List.{take_more, map-append}
 use Rattle.std.proofs.lemmas.List.Concat.{flat_map-append}
+use Rattle.std.proofs.lemmas.List.Elements.{All-cons, All-head, All-tail}
 use Rattle.wast_base.specs.Spaces.{position_of}
 use Rattle.wast_base.specs.Ids.{Name, gensym_id}
 use Rattle.wast_expand_types.specs.Tree.{Id, Index, ModuleField}
@@ -21,7 +23,7 @@ use Rattle.wast_base.specs.Filling.{one_if, given_if, with_ids_from, missing_id_
 use Rattle.wast_expand_keys.specs.Expanders.{BoundSignatures, LookUp, Bound, numbers_in, index_of, with_more, found_in, Extends}
 use Rattle.wast_expand_keys.specs.Expanded.{lacks_id, with_type_id, implied_types, binding_of, bindings_in, bindings, found_for}
 use Rattle.wast_expand_keys.specs.Expanded.{bound_field, expanded_fields, type_id_count}
-use Rattle.wast_expand_types.specs.Binding.{new_signatures, new_types, new_bindings, next_after, AddsTypes}
+use Rattle.wast_expand_types.specs.Binding.{new_signatures, new_types, new_bindings, next_after, AddsTypes, IsPassedField}
 use Rattle.wast_expand_types.specs.declared.binder.Binder.{Binder}
 use Rattle.wast_expand_keys.proofs.Bound.{lookup-append}
 use Rattle.wast_expand_types.proofs.Adding.{with_more_twice, adds_as, more_then}
@@ -37,6 +39,19 @@ extends_more k old new later xs i x lt is h g =
     ∙ (flat_map-append (bindings_in k) (take i xs) (x ∷ []) ∙ ap (λ ys. bindings k (take i xs) ++ ys) (append-nil (bindings_in k x))) in
     λ s. g s ∙ (ap (λ (find : LookUp). with_more find (bindings_in k x) s) (fun_ext h)
     ∙ (with_more_twice (index_of old) (bindings k (take i xs)) (bindings_in k x) s ∙ ap (λ bs. with_more (index_of old) bs s) (sym more)))
+
+-- ids of types change no body
+passed_given : (b : Bool) (n : ℕ) (x : ModuleField) → IsPassedField x → IsPassedField (given_if b with_type_id n x)
+passed_given false n x h = h
+passed_given true n (field.Ty t) h = tt
+passed_given true n x h = h
+
+pub all_passed : (n : ℕ) (xs : List ModuleField) → All IsPassedField xs → All IsPassedField (with_ids_from lacks_id with_type_id n xs)
+all_passed n [] h = h
+all_passed n (x ∷ xs) h =
+    All-cons IsPassedField (given_if (lacks_id x) with_type_id n x) (with_ids_from lacks_id with_type_id (n + one_if (lacks_id x)) xs)
+    (passed_given (lacks_id x) n x (All-head IsPassedField x xs h))
+    (all_passed (n + one_if (lacks_id x)) xs (All-tail IsPassedField x xs h))
 
 needed_given : (b : Bool) (n : ℕ) (x : ModuleField) → needed_in (in_field (given_if b with_type_id n x)) ≡ needed_in (in_field x)
 needed_given false n x = refl

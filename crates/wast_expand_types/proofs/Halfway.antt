@@ -3,8 +3,9 @@ use Rattle.std.proofs.Common.{◌≡◌, ℕ, suc, ◌+◌, ◌<◌, ◌≤◌, 
 use Rattle.std.proofs.Common.{add-one, subst, append_assoc}
 use Rattle.std.proofs.Math.ListN.{set, length-set}
 use Rattle.std.proofs.Math.Seq.{drop-cons, take-suc}
-use Rattle.std.specs.Prelude.{flat_map}
+use Rattle.std.specs.Prelude.{flat_map, All}
 use Rattle.std.proofs.lemmas.List.{append-nil, drop-drop, drop-set-lt, set-get_or, take_more_set, take-append-drop, take_all, map-append}
+use Rattle.std.proofs.lemmas.List.Elements.{All-head, All-drop}
 use Rattle.std.proofs.lemmas.Grind.{flat_map-append}
 use Rattle.wast_base.specs.declared.faults.Error.{Error}
 use Rattle.wast_expand_keys.specs.Signatures.{Signature}
@@ -49,6 +50,10 @@ module _ {X : Type 0} {needed : X → List Signature} {bound : LookUp → X → 
         ap (flat_map needed) (sym (take-append-drop i olds)) ∙ (flat_map-append needed (take i olds) (drop i olds)
         ∙ (ap (λ zs. flat_map needed (take i olds) ++ flat_map needed zs) rest
         ∙ sym (append_assoc (flat_map needed (take i olds)) (needed x) (flat_map needed (drop (suc i) olds)))))
+
+    -- what is so of each part is so of the next one
+    pub next_so : (P : X → Type 0) → All P olds → P x
+    next_so P each = All-head P x (drop (suc i) olds) (subst (All P) rest (All-drop P i olds each))
 
     -- one more part
     pub goes_on : {y : X} {c : Binder} → AddsTypes b c (needed x) → ((more : BoundSignatures) → y ≡ bound (found_in c.cx more) x)

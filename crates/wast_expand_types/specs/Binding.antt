@@ -1,18 +1,19 @@
--- How type uses are resolved one after another. Only contracts of private functions use this.
+-- How type uses are resolved one after another, and when there are none to resolve.
 --
 -- For example, in `(func) (func) (func (param i32))` the first use appends `(type (func))`, the second appends nothing,
 -- and the third appends `(type (func (param i32)))`.
 use Rattle.std.specs.Prelude.{◌≡◌, ℕ, ◌+◌, is_some, Bool, false, List, [], ◌++◌, map, length, Option, Some, None}
-use Rattle.wast_expand_types.specs.Tree.{Index, FunctionType, TypeUse, Instruction, ModuleField}
+use Rattle.wast_expand_types.specs.Tree.{Index, FunctionType, TypeUse, Instruction, FuncKind, ModuleField}
+use Rattle.wast_expand_types.specs.Tree.field
 use Rattle.wast_expand_types.specs.declared.binder.Binder.{Binder}
 use Rattle.wast_expand_keys.specs.Signatures.{Signature}
-use Rattle.wast_tree_nodes.specs.Sites.{OfBlock, constant_context, in_instr}
+use Rattle.wast_tree_nodes.specs.Sites.{OfBlock, constant_context, in_instr, in_func_kind}
 use Rattle.wast_expand_keys.specs.NeedingUses.{needs_type, needed_in}
 use Rattle.wast_expand_keys.specs.Numbers.{numbered_signature}
 use Rattle.wast_expand_keys.specs.ImpliedTypes.{first_new}
 use Rattle.wast_expand_keys.specs.Expanders.{BoundSignatures, Bound, LookUp, numbers_in, index_of, Extends}
 use Rattle.wast_expand_keys.specs.Expanded.{binding_change, implied_types, bindings}
-use Rattle.wast_tree_map.specs.Mapped.{mapped_instr}
+use Rattle.wast_tree_map.specs.Mapped.{mapped_instr, mapped_func_kind}
 
 -- a type use without index and inline type
 abbrev pub no_use : TypeUse FunctionType
@@ -50,3 +51,14 @@ pub record AddsTypes (a b : Binder) (ss : List Signature) : Type 0 where
 pub record IsPassed (i : Instruction) : Type 0 where
   pub needs : needed_in (in_instr constant_context i) ≡ []
   pub stays : (find : LookUp) → mapped_instr (binding_change find) constant_context i ≡ i
+
+-- There is nothing to resolve in the body of a function. For example, this is so of `call 0` and of `block (result i32)`,
+-- and not of `block` alone, which gets the empty inline type.
+pub record IsPassedBody (k : FuncKind) : Type 0 where
+  pub needs : needed_in (in_func_kind no_use k) ≡ []
+  pub stays : (find : LookUp) → mapped_func_kind (binding_change find) no_use k ≡ k
+
+-- the same for a field, if it is a function
+abbrev pub IsPassedField : ModuleField → Type 0
+IsPassedField (field.Func f) = IsPassedBody f.kind
+IsPassedField x = Unit {0}

@@ -1,6 +1,6 @@
 //! Resolves the type uses in each part of the tree.
 
-ghost use Rattle.std.specs.Prelude.{◌≡◌, ◌≤◌, [], Some, List, map, flat_map, IfErr, IsTrue, OnOk};
+ghost use Rattle.std.specs.Prelude.{◌≡◌, ◌≤◌, [], Some, List, map, flat_map, All, IfOk, IfErr, IsTrue, OnOk};
 ghost use Rattle.wast_expand_types.specs.Tree.index;
 ghost use Rattle.wast_expand_keys.specs.Signatures.{Signature};
 ghost use Rattle.wast_tree_nodes.specs.Sites.{OfItem, OfBlock, constant_context, in_block, in_try_table, in_instr, in_indirect, in_constant, in_func_kind, in_use, in_func, in_tag_type, in_item_kind, in_sig, in_import, in_field};
@@ -10,7 +10,7 @@ ghost use Rattle.wast_expand_keys.specs.NeedingUses.{needed_in};
 ghost use Rattle.wast_base.specs.Filling.{RunsOut};
 ghost use Rattle.wast_expand_keys.specs.Expanders.{BoundSignatures, LookUp, found_in};
 ghost use Rattle.wast_expand_keys.specs.Expanded.{bound_inline, bound_use, binding_change, bound_field};
-ghost use Rattle.wast_expand_types.specs.Binding.{no_use, wants_type, next_after, AddsTypes, IsPassed};
+ghost use Rattle.wast_expand_types.specs.Binding.{no_use, wants_type, next_after, AddsTypes, IsPassed, IsPassedBody, IsPassedField};
 
 use crate::binder::Binder;
 use std::alloc::Global;
@@ -58,49 +58,107 @@ pub(crate) fn bind_each<'a, T: Bind<'a>>(
     Ok(())
 }
 
-impl<'a> Bind<'a> for ModuleField<'a> {
-    ghost needed = { λ x. needed_in (in_field x) };
-
-    ghost bound = { bound_field };
-
-    fn bind(&mut self, binder: &mut Binder<'a>) -> Result<(), Error<'a>> {
-        match self {
-            ModuleField::Ty(_) => Ok(()),
-            ModuleField::Rec(_) => Ok(()),
-            ModuleField::Import(imports) => {
-                imports.bind(binder)?;
-                Ok(())
-            }
-            ModuleField::Func(func) => {
-                func.bind(binder)?;
-                Ok(())
-            }
-            ModuleField::Table(table) => {
-                table.bind(binder)?;
-                Ok(())
-            }
-            ModuleField::Memory(_) => Ok(()),
-            ModuleField::Global(global) => {
-                global.bind(binder)?;
-                Ok(())
-            }
-            ModuleField::Export(_) => Ok(()),
-            ModuleField::Start(_) => Ok(()),
-            ModuleField::Elem(elem) => {
-                elem.bind(binder)?;
-                Ok(())
-            }
-            ModuleField::Data(data) => {
-                data.bind(binder)?;
-                Ok(())
-            }
-            ModuleField::Tag(tag) => {
-                tag.bind(binder)?;
-                Ok(())
-            }
-            ModuleField::Custom(_) => Ok(()),
-        }
+/// Resolves type uses in each field, in order. With `skips_bodies` the bodies of functions are
+/// skipped, so there must be nothing to resolve in them.
+pub(crate) fn bind_fields<'a>(
+    fields: &mut Seq<ModuleField<'a>>,
+    skips_bodies: bool,
+    binder: &mut Binder<'a>,
+) -> Result<(), Error<'a>>
+    requires { IsTrue skips_bodies → All IsPassedField fields.old }
+    ensures bound { OnOk result ((more : BoundSignatures) →
+        fields.new ≡ map (bound_field (found_in binder.new.cx more)) fields.old) }
+    ensures adds { OnOk result (AddsTypes binder.old binder.new (flat_map (λ x. needed_in (in_field x)) fields.old)) }
+    ensures refusal { IfErr result (RunsOut (next_after binder.old (flat_map (λ x. needed_in (in_field x)) fields.old))) }
+    ensures counter_grows { binder.old.gensym ≤ binder.new.gensym }
+{
+    for i in 0..fields.len() {
+        bind_field(fields.at_mut(i), skips_bodies, binder)?;
     }
+    Ok(())
+}
+
+/// Does the same for one field.
+fn bind_field<'a>(
+    field: &mut ModuleField<'a>,
+    skips_bodies: bool,
+    binder: &mut Binder<'a>,
+) -> Result<(), Error<'a>>
+    requires { IsTrue skips_bodies → IsPassedField field.old }
+    ensures bound { OnOk result ((more : BoundSignatures) →
+        field.new ≡ bound_field (found_in binder.new.cx more) field.old) }
+    ensures adds { OnOk result (AddsTypes binder.old binder.new (needed_in (in_field field.old))) }
+    ensures refusal { IfErr result (RunsOut (next_after binder.old (needed_in (in_field field.old)))) }
+    ensures counter_grows { binder.old.gensym ≤ binder.new.gensym }
+{
+    match field {
+        ModuleField::Ty(_) => Ok(()),
+        ModuleField::Rec(_) => Ok(()),
+        ModuleField::Import(imports) => {
+            imports.bind(binder)?;
+            Ok(())
+        }
+        ModuleField::Func(func) => {
+            bind_func(func, skips_bodies, binder)?;
+            Ok(())
+        }
+        ModuleField::Table(table) => {
+            table.bind(binder)?;
+            Ok(())
+        }
+        ModuleField::Memory(_) => Ok(()),
+        ModuleField::Global(global) => {
+            global.bind(binder)?;
+            Ok(())
+        }
+        ModuleField::Export(_) => Ok(()),
+        ModuleField::Start(_) => Ok(()),
+        ModuleField::Elem(elem) => {
+            elem.bind(binder)?;
+            Ok(())
+        }
+        ModuleField::Data(data) => {
+            data.bind(binder)?;
+            Ok(())
+        }
+        ModuleField::Tag(tag) => {
+            tag.bind(binder)?;
+            Ok(())
+        }
+        ModuleField::Custom(_) => Ok(()),
+    }
+}
+
+/// Does the same for a function.
+fn bind_func<'a>(
+    func: &mut Func<'a>,
+    skips_bodies: bool,
+    binder: &mut Binder<'a>,
+) -> Result<(), Error<'a>>
+    requires { IsTrue skips_bodies → IsPassedBody func.old.kind }
+    ensures bound { OnOk result ((more : BoundSignatures) →
+        func.new ≡ mapped_func (binding_change (found_in binder.new.cx more)) func.old) }
+    ensures adds { OnOk result (AddsTypes binder.old binder.new (needed_in (in_func func.old))) }
+    ensures refusal { IfErr result (RunsOut (next_after binder.old (needed_in (in_func func.old)))) }
+    ensures counter_grows { binder.old.gensym ≤ binder.new.gensym }
+{
+    if skips_bodies {
+        return bind_outside(func, binder);
+    }
+    func.bind(binder)
+}
+
+/// Resolves the type use of a function that has nothing to resolve in its body.
+fn bind_outside<'a>(func: &mut Func<'a>, binder: &mut Binder<'a>) -> Result<(), Error<'a>>
+    requires { IsPassedBody func.old.kind }
+    ensures bound { OnOk result ((more : BoundSignatures) →
+        func.new ≡ mapped_func (binding_change (found_in binder.new.cx more)) func.old) }
+    ensures adds { OnOk result (AddsTypes binder.old binder.new (needed_in (in_func func.old))) }
+    ensures refusal { IfErr result (RunsOut (next_after binder.old (needed_in (in_func func.old)))) }
+    ensures counter_grows { binder.old.gensym ≤ binder.new.gensym }
+{
+    func.ty.bind(binder)?;
+    Ok(())
 }
 
 impl<'a> Bind<'a> for Imports<'a> {

@@ -1,6 +1,6 @@
 //! The pass that gives ids to types and indices to type uses.
 
-ghost use Rattle.std.specs.Prelude.{◌≡◌, ◌≤◌, ◌+◌, ◌++◌, IfOk, IfErr, OnOk};
+ghost use Rattle.std.specs.Prelude.{◌≡◌, ◌≤◌, ◌+◌, ◌++◌, All, IfOk, IfErr, IsTrue, OnOk};
 ghost use Rattle.wast_base.specs.Faults.{out_of_memory};
 ghost use Rattle.wast_base.specs.Filling.{one_if, given_if, with_ids_from, missing_id_count};
 ghost use Rattle.wast_tree_nodes.specs.Items.{items, items_in};
@@ -8,11 +8,12 @@ ghost use Rattle.wast_tree_nodes.specs.Known.{names_in};
 ghost use Rattle.wast_expand_types.specs.Tree.space;
 ghost use Rattle.wast_expand_keys.specs.EligibleTypes.{is_eligible, taken_by};
 ghost use Rattle.wast_expand_keys.specs.Expanders.{numbers_in, Extends};
+ghost use Rattle.wast_expand_types.specs.Binding.{IsPassedField};
 ghost use Rattle.wast_expand_types.specs.TypeItems.{StopsNaming};
 ghost use Rattle.wast_expand_keys.specs.Expanded.{lacks_id, with_type_id, binding_of, bindings_in, bindings, expanded_fields, type_id_count, StopsExpanding};
 
 use crate::binder::Binder;
-use crate::binding::bind_each;
+use crate::binding::bind_fields;
 use crate::type_names::gather_field;
 use std::alloc::Global;
 use std::mem;
@@ -80,9 +81,37 @@ pub fn expand<'a>(
     ensures counter_grows { gensym.old ≤ gensym.new }
     ensures stays { IfErr result (λ e. gensym.new ≡ gensym.old) }
 {
+    expand_with(alloc, fields, gensym, false)
+}
+
+/// Does what [`expand`] does, and skips the bodies of functions if `skips_bodies`.
+///
+/// So a second expansion does not walk over all instructions again.
+///
+/// # Requires
+///
+/// With `skips_bodies` there must be nothing to resolve in function bodies: no type use needs a
+/// type, and each block has an index or an inline type (`IsPassedField`).
+///
+/// # Errors
+///
+/// As [`expand`].
+pub fn expand_with<'a>(
+    alloc: Global,
+    fields: Seq<ModuleField<'a>>,
+    gensym: &mut Gensym,
+    skips_bodies: bool,
+) -> Result<Seq<ModuleField<'a>>, Error<'a>>
+    requires { IsTrue skips_bodies → All IsPassedField fields }
+    ensures list { IfOk result (λ out. out ≡ expanded_fields gensym.old fields.entry) }
+    ensures counted { OnOk result (gensym.new ≡ gensym.old + type_id_count fields.entry) }
+    ensures refusal { IfErr result (StopsExpanding gensym.old fields.entry) }
+    ensures counter_grows { gensym.old ≤ gensym.new }
+    ensures stays { IfErr result (λ e. gensym.new ≡ gensym.old) }
+{
     let mut fields = fields;
     let first = gensym.peek();
-    match expand_fields(alloc, &mut fields, gensym) {
+    match expand_fields(alloc, &mut fields, gensym, skips_bodies) {
         Ok(()) => Ok(fields),
         Err(e) => {
             discard_fields(fields);
@@ -92,12 +121,14 @@ pub fn expand<'a>(
     }
 }
 
-/// Resolves the type uses of the fields, and appends types.
+/// Resolves the type uses of the fields, and appends types. `skips_bodies` is as in `expand_with`.
 fn expand_fields<'a>(
     alloc: Global,
     fields: &mut Seq<ModuleField<'a>>,
     gensym: &mut Gensym,
+    skips_bodies: bool,
 ) -> Result<(), Error<'a>>
+    requires { IsTrue skips_bodies → All IsPassedField fields.old }
     ensures list { OnOk result (fields.new ≡ expanded_fields gensym.old fields.old) }
     ensures counted { OnOk result (gensym.new ≡ gensym.old + type_id_count fields.old) }
     ensures refusal { IfErr result (StopsExpanding gensym.old fields.old) }
@@ -113,7 +144,7 @@ fn expand_fields<'a>(
         implied: Seq::new(alloc),
         gensym: mem::replace(gensym, Gensym::new(1)),
     };
-    let bound = bind_each(fields, &mut binder);
+    let bound = bind_fields(fields, skips_bodies, &mut binder);
     let Binder {
         alloc: _,
         cx: _cx,

@@ -12,8 +12,9 @@
 //! # Modules
 //!
 //! - `types`: the public name of the pass, `expand`.
-//! - `expansion`: the pass. The rule is `expanded_fields`, and the rule for eligible types
-//!   `is_eligible`: both are definitions of `wast_expand_keys`.
+//! - `expansion`: the pass, and [`expand_with`], which can skip function bodies. The rule is
+//!   `expanded_fields`, and the rule for eligible types `is_eligible`: both are definitions of
+//!   `wast_expand_keys`.
 //! - `binding`, `constants`: one `impl` of `Bind` for each part of the tree. `binder`: the state
 //!   that they share. `type_names`: the ids of the source's types.
 //! - `laws`: theorems about the result.
@@ -34,6 +35,7 @@ mod expansion;
 mod laws;
 mod type_names;
 
+pub use expansion::expand_with;
 pub use laws::expanded_laws;
 
 /// The pass over the fields of a module.

@@ -1,4 +1,5 @@
-use Rattle.std.proofs.Common.{◌≡◌, ◌++◌, ◌∙◌, List, Option, ap, subst, inl}
+use Rattle.std.proofs.Common.{◌≡◌, ◌++◌, ◌∙◌, List, Option, ap, sym, subst, inl}
+use Rattle.std.specs.Prelude.{All}
 use Rattle.wast_base.specs.Ids.{Name}
 use Rattle.wast_base.specs.Spaces.{position_of}
 use Rattle.wast_base.specs.Filling.{RunsOut}
@@ -7,8 +8,13 @@ use Rattle.wast_tree_nodes.specs.Known.{names_in}
 use Rattle.wast_expand_types.specs.Tree.space
 use Rattle.wast_expand_keys.specs.Numbers.{type_names}
 use Rattle.wast_expand_keys.specs.Expanders.{Bound, numbers_in}
-use Rattle.wast_expand_types.proofs.Expanding.{counts, lists}
+use Rattle.wast_expand_types.specs.Binding.{IsPassedField}
+use Rattle.wast_expand_types.proofs.Expanding.{counts, lists, all_passed}
 use Rattle.wast_expand_types.proofs.expansion.expand_fields.Goals as goal
+
+pub bind_fields-bound-requires : goal.bind_fields-bound-requires
+bind_fields-bound-requires c h =
+    subst (All IsPassedField) (sym c.in_ok-name_types.ensures.fields) (all_passed c.args.gensym.now c.args.fields.now (c.requires h))
 
 pub returns-clause-refusal : goal.returns-clause-refusal
 returns-clause-refusal c =

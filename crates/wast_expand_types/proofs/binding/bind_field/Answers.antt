@@ -1,4 +1,4 @@
-use Rattle.std.proofs.Common.{ap, sym, ◌∙◌}
+use Rattle.std.proofs.Common.{IsTrue, ap, sym, ◌∙◌, subst}
 use Rattle.wast_expand_types.specs.Tree.field
 use Rattle.wast_expand_keys.specs.Expanders.{found_in}
 use Rattle.wast_tree_nodes.specs.Sites.{in_type, in_rec, in_field}
@@ -7,11 +7,15 @@ use Rattle.wast_expand_keys.specs.Expanded.{bound_field}
 use Rattle.wast_expand_types.proofs.Adding.{adds_nothing}
 use Rattle.wast_expand_types.proofs.Needing.{ty_none, rec_none, custom_none}
 use Rattle.wast_expand_types.proofs.Staying.{stays_as, asking_says}
-use Rattle.wast_expand_types.proofs.binding.ModuleFieldBind.bind.Goals as goal
+use Rattle.wast_expand_types.specs.Binding.{IsPassedField}
+use Rattle.wast_expand_types.proofs.binding.bind_field.Goals as goal
 
-pub returns-in_ok-bind-in-Func-clause-bound : goal.returns-in_ok-bind-in-Func-clause-bound
-returns-in_ok-bind-in-Func-clause-bound c = λ more. ap field.Func (c.in_ok-bind-in-Func.ensures.bound more)
-    ∙ sym (ap (bound_field (found_in c.bind-in-Func.new.binder.cx more)) c.in-Func.is)
+pub bind_func-requires : goal.bind_func-requires
+bind_func-requires c = subst (λ x. IsTrue c.args.skips_bodies → IsPassedField x) c.in-Func.is c.requires
+
+pub returns-in_ok-bind_func-in-Func-clause-bound : goal.returns-in_ok-bind_func-in-Func-clause-bound
+returns-in_ok-bind_func-in-Func-clause-bound c = λ more. ap field.Func (c.in_ok-bind_func-in-Func.ensures.bound more)
+    ∙ sym (ap (bound_field (found_in c.bind_func.new.binder.cx more)) c.in-Func.is)
 
 pub returns-in_ok-bind-in-Import-clause-bound : goal.returns-in_ok-bind-in-Import-clause-bound
 returns-in_ok-bind-in-Import-clause-bound c = λ more. ap field.Import (c.in_ok-bind-in-Import.ensures.bound more)
