@@ -89,6 +89,6 @@ fn resolve_fields<'a>(
     let spaces = name_spaces(alloc, fields.as_slice())?;
     let types = type_shapes(alloc, fields.as_slice())?;
     let names = with_types(spaces, types);
-    walk_fields(alloc, &names, fields)?;
+    walk_fields(alloc, &names, fields, false)?;
     Ok(names)
 }

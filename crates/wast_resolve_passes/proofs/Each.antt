@@ -2,8 +2,9 @@
 use Rattle.std.proofs.Common.{◌≡◌, ℕ, suc, ◌+◌, ◌<◌, List, [], ◌∷◌, ◌++◌, ◌≤◌, None, sym, ◌∙◌, ap, length, map, get_or, drop, take, arith, add-one, subst}
 use Rattle.std.proofs.Math.ListN.{set, length-set}
 use Rattle.std.proofs.Math.Seq.{drop-cons, take-suc}
-use Rattle.std.specs.Prelude.{flat_map}
+use Rattle.std.specs.Prelude.{flat_map, All}
 use Rattle.std.proofs.lemmas.List.{append-nil, drop-drop, drop-set-lt, set-get_or, take_more_set, take-append-drop, take_all, map-append}
+use Rattle.std.proofs.lemmas.List.Elements.{All-head, All-drop}
 use Rattle.std.proofs.lemmas.Grind.{flat_map-append}
 use Rattle.wast_base.specs.Faults.{Diagnostic}
 use Rattle.wast_resolve_rules.specs.Demands.{Demand, first_unmet, Answers}
@@ -33,6 +34,14 @@ module _ {X A : Type 0} {g : A → List Demand} {f : X → List A} {w : X → X}
       let rest : drop i olds ≡ x ∷ drop (suc i) olds = same_item x p lt2 ∙ ap (λ z. z ∷ drop (suc i) olds) (sym is) in
       ap (flat_map e) (sym (take-append-drop i olds))
       ∙ (flat_map-append e (take i olds) (drop i olds) ∙ ap (λ zs. flat_map e (take i olds) ++ flat_map e zs) rest)
+
+  -- what is so of each item is so of the next one
+  pub next_so : (P : X → Type 0) {nows : List X} {i : ℕ} {x : X} → IsHalfway g f w olds nows i → i < length olds → x ≡ get_or nows i x
+      → All P olds → P x
+  next_so P {nows} {i} {x} p lt is each =
+      let lt2 : i < length nows = omega (arith, p.len) in
+      let rest : drop i olds ≡ x ∷ drop (suc i) olds = same_item x p lt2 ∙ ap (λ z. z ∷ drop (suc i) olds) (sym is) in
+      All-head P x (drop (suc i) olds) (subst (All P) rest (All-drop P i olds each))
 
   pub goes_on : {nows : List X} {i : ℕ} {x y : X} → IsHalfway g f w olds nows i → i < length olds → x ≡ get_or nows i x
       → first_unmet (flat_map g (f x)) ≡ None → y ≡ w x → IsHalfway g f w olds (set nows i y) (i + 1)

@@ -1,11 +1,12 @@
 //! Walks over the parts of the tree outside of bodies, which replace each id by its index.
 #![tactic(auto, using(wast_resolve_names::proofs::Parts::both_met, wast_resolve_names::proofs::Parts::first_fails, wast_resolve_names::proofs::Parts::second_fails, wast_resolve_names::proofs::Parts::id_met))]
 
-ghost use Rattle.std.specs.Prelude.{⊤, List, map, flat_map, option_map};
+ghost use Rattle.std.specs.Prelude.{⊤, List, map, flat_map, option_map, All, IsTrue};
 ghost use Rattle.wast_tree_nodes.specs.Sites.{Check, OfItem, OfCall, OfBlock, Locals, if_there, in_index, in_heap, in_ref, in_val, in_signature, in_type, in_rec, in_type_use, in_mem_arg, in_pair, in_select, in_local, in_func_kind, in_func, in_use, in_table_type, in_global_type, exported_space, in_field, in_module};
 ghost use Rattle.wast_tree_map.specs.Mapped.{Change, mapped_heap, mapped_ref, mapped_val, mapped_signature, mapped_type, mapped_rec, mapped_table_type, mapped_global_type, mapped_local, mapped_export, mapped_mem_arg, mapped_select, mapped_memory_init, mapped_memory_copy, mapped_table_init, mapped_table_copy, mapped_func_kind, mapped_func, mapped_field};
 ghost use Rattle.wast_resolve_rules.specs.Demands.{match_if, first_unmet, body_counts_in, HasMany};
 ghost use Rattle.wast_resolve_passes.specs.Locals.{NumbersIn, SaysAsMuch, kind_counts};
+ghost use Rattle.wast_resolve_passes.specs.NumberedBodies.{IsNumberedBody, IsNumberedField};
 ghost use Rattle.wast_resolve_passes.specs.Standing.{initial_context};
 ghost use Rattle.wast_base.specs.Outcomes.{Outcome};
 ghost use Rattle.wast_resolve_passes.specs.TwoSteps.{in_locals, in_body, with_locals, with_body};
@@ -471,38 +472,53 @@ fn walk_body<'a>(
 
 /// Resolves the contents of a function: the types of its locals, duplicate ids of parameters and
 /// locals, and the body. The type use has been resolved before, and has the same parameters.
+///
+/// `skips_bodies` requires that nothing is left to resolve in the body, which is then skipped.
 fn walk_kind<'a>(
     alloc: Global,
     names: &Resolver<'a>,
     ty: &TypeUse<'a, FunctionType<'a>>,
     kind: &mut FuncKind<'a>,
+    skips_bodies: bool,
 ) -> Result<(), Error<'a>>
+    requires { IsTrue skips_bodies → IsNumberedBody kind.old }
     ensures { (u : Use FunctionType) → SaysAsMuch (scope_of names.now) u ty.now →
         WalksFunctions (HasMany (kind_counts (scope_of names.now) u kind.old))
         names.now (in_func_kind u) (λ f. mapped_func_kind f u) kind.old kind.new result }
 {
     walk_locals(names, kind)?;
     let locals = name_locals(alloc, names, ty, kind)?;
+    if skips_bodies {
+        return Ok(());
+    }
     walk_body(alloc, names, &locals, kind)?;
     Ok(())
 }
 
-/// Resolves a function: its type use, then its contents.
-fn walk_func<'a>(alloc: Global, names: &Resolver<'a>, func: &mut Func<'a>) -> Result<(), Error<'a>>
+/// Resolves a function: its type use, then its contents. `skips_bodies` is as in `walk_kind`.
+fn walk_func<'a>(
+    alloc: Global,
+    names: &Resolver<'a>,
+    func: &mut Func<'a>,
+    skips_bodies: bool,
+) -> Result<(), Error<'a>>
+    requires { IsTrue skips_bodies → IsNumberedBody func.old.kind }
     ensures { WalksFunctions (HasMany (body_counts_in (scope_of names.now) (field.Func func.old)))
         names.now in_func mapped_func func.old func.new result }
 {
     walk_type_use(names, &mut func.ty)?;
-    walk_kind(alloc, names, &func.ty, &mut func.kind)?;
+    walk_kind(alloc, names, &func.ty, &mut func.kind, skips_bodies)?;
     Ok(())
 }
 
-/// Resolves a field.
+/// Resolves a field. `skips_bodies` is as in `walk_kind`, if the field is a function.
 fn walk_field<'a>(
     alloc: Global,
     names: &Resolver<'a>,
     field: &mut ModuleField<'a>,
+    skips_bodies: bool,
 ) -> Result<(), Error<'a>>
+    requires { IsTrue skips_bodies → IsNumberedField field.old }
     ensures { WalksFunctions (HasMany (body_counts_in (scope_of names.now) field.old))
         names.now in_field mapped_field field.old field.new result }
 {
@@ -510,7 +526,7 @@ fn walk_field<'a>(
         ModuleField::Ty(ty) => walk_outside(names, ty),
         ModuleField::Rec(rec) => walk_outside(names, rec),
         ModuleField::Import(imports) => imports.walk_apart(names),
-        ModuleField::Func(func) => walk_func(alloc, names, func),
+        ModuleField::Func(func) => walk_func(alloc, names, func, skips_bodies),
         ModuleField::Table(table) => table.walk_constants(alloc, names),
         ModuleField::Memory(memory) => memory.walk_apart(names),
         ModuleField::Global(global) => global.walk_constants(alloc, names),
@@ -528,16 +544,23 @@ fn walk_field<'a>(
 /// Allocates for the ids of parameters and locals, and for enclosing blocks. Fails with E12 if
 /// allocation fails, and with E10 if a function has 2^32 parameters and locals, or an expression as
 /// many enclosing blocks.
+///
+/// # Requires
+///
+/// With `skips_bodies` the bodies of functions are skipped, so nothing may be left to resolve in
+/// them: each index is a number, and no check of a type use or a label can fail (`IsNumberedField`).
 pub fn walk_fields<'a>(
     alloc: Global,
     names: &Resolver<'a>,
     fields: &mut Seq<ModuleField<'a>>,
+    skips_bodies: bool,
 ) -> Result<(), Error<'a>>
+    requires { IsTrue skips_bodies → All IsNumberedField fields.old }
     ensures { WalksFunctions (HasMany (flat_map (body_counts_in (scope_of names.now)) fields.old))
         names.now in_module (λ f. map (mapped_field f)) fields.old fields.new result }
 {
     for i in 0..fields.len() {
-        walk_field(alloc, names, fields.at_mut(i))?;
+        walk_field(alloc, names, fields.at_mut(i), skips_bodies)?;
     }
     Ok(())
 }

@@ -1,5 +1,5 @@
-use Rattle.std.proofs.Common.{refl, ap}
-use Rattle.std.specs.Prelude.{⊤}
+use Rattle.std.proofs.Common.{refl, ap, subst}
+use Rattle.std.specs.Prelude.{⊤, IsTrue}
 use Rattle.wast_tree_nodes.specs.Sites.{check_sites, at_index, exported_space, in_func, in_type, in_rec, in_import, in_table_kind}
 use Rattle.wast_tree_nodes.specs.Sites.{in_memory_kind, in_global, in_elem, in_data_kind, in_tag_type}
 use Rattle.wast_resolve_passes.specs.Tree.field
@@ -10,6 +10,7 @@ use Rattle.wast_tree_map.specs.Mapped.{mapped_export, mapped_elem, mapped_data, 
 use Rattle.wast_resolve_rules.specs.Resolved.{numbered_at, numbering_change}
 use Rattle.wast_resolve_names.specs.Resolvers.{scope_of}
 use Rattle.wast_resolve_rules.proofs.CustomsAsk.{custom_asks}
+use Rattle.wast_resolve_passes.specs.NumberedBodies.{IsNumberedField}
 use Rattle.wast_resolve_names.proofs.Parts.{walks_in}
 use Rattle.wast_resolve_passes.proofs.TwoSteps.{of_field}
 use Rattle.wast_resolve_passes.proofs.walks.walk_field.Goals as goal
@@ -90,6 +91,9 @@ returns-in-Tag c =
     let s = scope_of c.args.names.now in
     rw c.in-Tag.is (of_field (HasMany (body_counts_in s (field.Tag x))) field.Tag s (in_tag_type x.ty)
     (mapped_tag (numbering_change s) x) c.walk_apart-in-Tag.new.self c.walk_apart-in-Tag.result c.walk_apart-in-Tag.ensures)
+
+pub walk_func-requires : goal.walk_func-requires
+walk_func-requires c = subst (λ x. IsTrue c.args.skips_bodies → IsNumberedField x) c.in-Func.is c.requires
 
 pub returns-in-Func : goal.returns-in-Func
 returns-in-Func c =

@@ -1,12 +1,18 @@
 use Rattle.std.proofs.Common.{arith, ◌<◌, length}
 use Rattle.std.proofs.lemmas.Result.{err_from_is_err_and}
 use Rattle.wast_base.specs.Faults.{diagnostic_of}
-use Rattle.wast_resolve_passes.proofs.Each.{stops_with, split, goes_on}
+use Rattle.wast_resolve_passes.specs.NumberedBodies.{IsNumberedField}
+use Rattle.wast_resolve_passes.proofs.Each.{stops_with, split, next_so, goes_on}
 use Rattle.wast_resolve_rules.proofs.Counted.{many_at}
 use Rattle.wast_resolve_rules.proofs.Unmet.{answers_more}
 use Rattle.wast_resolve_rules.specs.Demands.{body_counts_in}
 use Rattle.wast_resolve_names.specs.Resolvers.{scope_of}
 use Rattle.wast_resolve_passes.proofs.walks.walk_fields.Goals as goal
+
+pub walk_field-requires : goal.walk_field-requires
+walk_field-requires c h =
+    let lt : c.loop-i.i < length c.args.fields.now = omega (arith, c.loop-i-test.true, c.len-i-end.ensures) in
+    next_so IsNumberedField c.loop-i.invariant lt c.at_mut.ensures.value (c.requires h)
 
 pub returns-in_err-walk_field : goal.returns-in_err-walk_field
 returns-in_err-walk_field c =

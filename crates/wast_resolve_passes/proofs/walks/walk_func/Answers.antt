@@ -17,6 +17,9 @@ returns-in_err-walk_type_use c =
     rw (p.1, p.2) (fails_first ⊤ (HasMany (body_counts_in s (field.Func f))) s (in_use OfItem f.ty) (in_func_kind f.ty f.kind)
     (diagnostic_of c.in_err-walk_type_use.field-0.0) c.in_err-walk_type_use.ensures)
 
+pub walk_kind-requires : goal.walk_kind-requires
+walk_kind-requires c = c.requires
+
 pub returns-in_err-walk_kind : goal.returns-in_err-walk_kind
 returns-in_err-walk_kind c =
     let f = c.args.func.now in

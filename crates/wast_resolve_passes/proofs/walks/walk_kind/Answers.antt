@@ -78,6 +78,28 @@ returns-in_err-walk_body c u says =
     (answers_after e (site_demands s (body_declarations (param_marks u.inline) k)) (site_demands s (in_body here k)) (λ l. l) (many_blocks s u k) met
     (subst (λ ss. Answers ⊤ (HasMany (open_counts ss)) e (first_unmet (site_demands s ss))) body (c.in_err-walk_body.ensures (locals_in u k) numbers)))))
 
+-- a body in which nothing is left to resolve
+pub returns-then-skips_bodies : goal.returns-then-skips_bodies
+returns-then-skips_bodies c u says =
+    let k = c.args.kind.now in
+    let v = c.args.ty.now in
+    let s = scope_of c.args.names.now in
+    let f = numbering_change s in
+    let keeps = numbering_keeps s in
+    let here = inside u k in
+    let is = c.in_ok-walk_locals.ensures.1 in
+    let opened = ap (body_declarations (param_marks v.inline)) is
+    ∙ (opening_stays f keeps (param_marks v.inline) k ∙ ap (λ ps. body_declarations ps k) says.marks) in
+    let met = subst (λ ss. first_unmet (site_demands s ss) ≡ None) opened (c.in_ok-locals.ensures.names s).0 in
+    let body = c.requires c.if-skips_bodies.true in (
+      ap first_unmet (kind_demands s u k)
+          ∙ (first_unmet-append (ask_demands s.known (in_locals k)) (site_demands s (body_declarations (param_marks u.inline) k) ++ site_demands s
+          (in_body here k)) c.in_ok-walk_locals.ensures.0
+          ∙ (first_unmet-append (site_demands s (body_declarations (param_marks u.inline) k)) (site_demands s (in_body here k)) met
+          ∙ body.met s u)),
+      is ∙ sym (body.stays s u),
+    )
+
 pub returns : goal.returns
 returns c u says =
     let k = c.args.kind.now in
