@@ -1,2 +1,4 @@
 pub mod Borne
 pub mod BothPasses
+pub mod StableBodies
+pub mod StableSites

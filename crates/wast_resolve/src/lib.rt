@@ -15,6 +15,8 @@
 //!   `wast_resolve_rules`.
 //! - `early`: [`early_fault`], the checks that need no resolving. The rule is `Early` of
 //!   `wast_resolve_rules`.
+//! - `stable`: whether function bodies can be skipped, because resolving changes nothing in them. So
+//!   a resolved module is encoded without a second walk over its instructions.
 //! - [`names`]: the last step of resolving alone, which `passes` has. [`laws`]: theorems.
 //! - [`resolve_type`] and the like: the indices in a type, by a user-defined [`ResolveCoreType`].
 //!
@@ -32,6 +34,7 @@ mod early;
 pub mod laws;
 mod passes;
 mod resolution;
+mod stable;
 
 pub use early::early_fault;
 pub use laws::borne_law;

@@ -1,12 +1,13 @@
 //! Collects the ids of all items of the fields, and then replaces each id by its index.
 
-ghost use Rattle.std.specs.Prelude.{◌≡◌, None, IfOk, IfErr, OnOk};
+ghost use Rattle.std.specs.Prelude.{◌≡◌, None, All, IfOk, IfErr, IsTrue, OnOk};
 ghost use Rattle.wast_tree_nodes.specs.Items.{items};
 ghost use Rattle.wast_tree_nodes.specs.Known.{id_context};
 ghost use Rattle.wast_resolve_rules.specs.Demands.{first_unmet, name_demands, IsUnnumbered};
 ghost use Rattle.wast_resolve_rules.specs.Resolved.{resolved_fields};
 ghost use Rattle.wast_resolve_names.specs.Resolvers.{known_of, scope_of};
 ghost use Rattle.wast_resolve_rules.specs.Scopes.{module_scope};
+ghost use Rattle.wast_resolve_passes.specs.NumberedBodies.{IsNumberedField};
 
 use std::alloc::Global;
 use wast_base::{Error, Seq};
@@ -65,8 +66,25 @@ pub fn resolve<'a>(
     ensures scope { IfOk result (λ r. scope_of r.1 ≡ module_scope fields.entry) }
     ensures refusal { IfErr result (IsUnnumbered fields.entry) }
 {
+    resolve_with(alloc, fields, false)
+}
+
+/// Does what [`resolve`] does, and skips the bodies of functions if `skips_bodies`. Then nothing may
+/// be left to resolve in them.
+pub(crate) fn resolve_with<'a>(
+    alloc: Global,
+    fields: Seq<ModuleField<'a>>,
+    skips_bodies: bool,
+) -> Result<(Seq<ModuleField<'a>>, Resolver<'a>), Error<'a>>
+    requires { IsTrue skips_bodies → All IsNumberedField fields }
+    ensures met { OnOk result (first_unmet (name_demands fields.entry) ≡ None) }
+    ensures list { IfOk result (λ r. r.0 ≡ resolved_fields fields.entry) }
+    ensures names { IfOk result (λ r. known_of r.1 ≡ id_context (items fields.entry)) }
+    ensures scope { IfOk result (λ r. scope_of r.1 ≡ module_scope fields.entry) }
+    ensures refusal { IfErr result (IsUnnumbered fields.entry) }
+{
     let mut fields = fields;
-    match resolve_fields(alloc, &mut fields) {
+    match resolve_fields(alloc, &mut fields, skips_bodies) {
         Ok(names) => Ok((fields, names)),
         Err(e) => {
             discard_fields(fields);
@@ -75,11 +93,13 @@ pub fn resolve<'a>(
     }
 }
 
-/// Resolves the fields in their list.
+/// Resolves the fields in their list. `skips_bodies` is as in `resolve_with`.
 fn resolve_fields<'a>(
     alloc: Global,
     fields: &mut Seq<ModuleField<'a>>,
+    skips_bodies: bool,
 ) -> Result<Resolver<'a>, Error<'a>>
+    requires { IsTrue skips_bodies → All IsNumberedField fields.old }
     ensures met { OnOk result (first_unmet (name_demands fields.old) ≡ None) }
     ensures list { OnOk result (fields.new ≡ resolved_fields fields.old) }
     ensures names { IfOk result (λ r. known_of r ≡ id_context (items fields.old)) }
@@ -89,6 +109,6 @@ fn resolve_fields<'a>(
     let spaces = name_spaces(alloc, fields.as_slice())?;
     let types = type_shapes(alloc, fields.as_slice())?;
     let names = with_types(spaces, types);
-    walk_fields(alloc, &names, fields, false)?;
+    walk_fields(alloc, &names, fields, skips_bodies)?;
     Ok(names)
 }

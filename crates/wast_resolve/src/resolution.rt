@@ -1,25 +1,28 @@
 //! Resolving, and look-ups of ids afterwards.
 
-ghost use Rattle.std.specs.Prelude.{◌≡◌, ◌<◌, ◌≤◌, ◌+◌, [], None, IfOk, IfErr, OnOk};
+ghost use Rattle.std.specs.Prelude.{◌≡◌, ◌<◌, ◌≤◌, ◌+◌, [], None, All, IfOk, IfErr, IsTrue, OnOk};
 ghost use Rattle.wast_tree_nodes.specs.Items.{items};
 ghost use Rattle.wast_tree_nodes.specs.Known.{id_context};
 ghost use Rattle.wast_tree_nodes.specs.Generations.{greatest_generation};
+ghost use Rattle.wast_expand_keys.specs.Expanded.{expanded_fields, type_id_count, StopsExpanding};
 ghost use Rattle.wast_resolve.specs.Tree.space;
 ghost use Rattle.wast_resolve_rules.specs.Demands.{first_unmet, demands, IsUnresolved};
 ghost use Rattle.wast_resolve_rules.specs.Resolved.{numbered_at};
 ghost use Rattle.wast_resolve_rules.specs.Explicit.{explicit_fields, explicit_fields_from, generated_id_count};
 ghost use Rattle.wast_resolve_rules.specs.Finished.{resolved_fields_from};
+ghost use Rattle.wast_resolve_passes.specs.NumberedBodies.{IsNumberedField};
 ghost use Rattle.std.specs.FinMap as finmap;
 ghost use Rattle.wast_resolve_namespace.specs.Places.{entries_of};
 ghost use Rattle.wast_resolve_names.specs.Resolvers.{no_names, known_to, space_in};
 ghost use Rattle.wast_resolve_names.specs.LookUps.{IsSettledFor, IsMetBy, AnswersFor};
 
-use crate::names;
+use crate::passes::resolve_with;
+use crate::stable::has_stable_bodies;
 use std::alloc::Global;
 use std::marker::Model;
 use wast_base::{Error, Gensym, Id, Index, Seq, Space};
 use wast_expand_inline::deinline;
-use wast_expand_types::types;
+use wast_expand_types::expand_with;
 use wast_resolve_names::Resolver;
 use wast_resolve_spaces::in_order;
 use wast_tree_nodes::ModuleField;
@@ -373,9 +376,31 @@ fn resolve_from<'a>(
 {
     let fields = deinline::run(alloc, fields, gensym)?;
     let fields = in_order(fields)?;
-    let fields = types::expand(alloc, fields, gensym)?;
-    let (fields, resolver) = names::resolve(alloc, fields)?;
+    let (fields, is_stable) = expand_types(alloc, fields, gensym)?;
+    let (fields, resolver) = resolve_with(alloc, fields, is_stable)?;
     Ok((fields, Names { resolver }))
+}
+
+/// Gives an index to each type use that needs one, and appends types. Also returns whether function
+/// bodies can be skipped, because nothing is left to resolve in them.
+///
+/// For example, those of a module that was resolved before can be skipped, if no `else` or `end`
+/// repeats a label. After an error the fields are dropped.
+fn expand_types<'a>(
+    alloc: Global,
+    fields: Seq<ModuleField<'a>>,
+    gensym: &mut Gensym,
+) -> Result<(Seq<ModuleField<'a>>, bool), Error<'a>>
+    ensures list { IfOk result (λ r. r.0 ≡ expanded_fields gensym.old fields.entry) }
+    ensures numbered { IfOk result (λ r. IsTrue r.1 → All IsNumberedField r.0) }
+    ensures counted { OnOk result (gensym.new ≡ gensym.old + type_id_count fields.entry) }
+    ensures refusal { IfErr result (StopsExpanding gensym.old fields.entry) }
+    ensures counter_grows { gensym.old ≤ gensym.new }
+{
+    let mut fields = fields;
+    let is_stable = has_stable_bodies(&mut fields);
+    let expanded = expand_with(alloc, fields, gensym, is_stable)?;
+    Ok((expanded, is_stable))
 }
 
 /// Drops names, and frees their memory.

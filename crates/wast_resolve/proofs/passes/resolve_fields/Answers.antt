@@ -27,7 +27,7 @@ returns-in_err-types-clause-refusal c =
     (items_met fs c.as_slice.result.now c.as_slice.ensures c.in_ok-spaces.ensures.met) c.in_err-types.field-0.0 c.in_err-types.ensures.refusal)
 
 pub walk_fields-requires : goal.walk_fields-requires
-walk_fields-requires c h = absurd (cc h)
+walk_fields-requires c = c.requires
 
 pub returns-in_err-walk_fields-clause-refusal : goal.returns-in_err-walk_fields-clause-refusal
 returns-in_err-walk_fields-clause-refusal c =

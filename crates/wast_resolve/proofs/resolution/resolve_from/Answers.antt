@@ -28,6 +28,9 @@ returns-in_err-fields-3-clause-refusal c =
     (subst₂ (λ (m : ℕ) (xs : List ModuleField). StopsExpanding m xs c.in_err-fields-3.field-0.0) c.in_ok-fields.ensures.counted
     (c.in_ok-fields-2.ensures.list ∙ c.in_ok-fields.ensures.list) c.in_err-fields-3.ensures.refusal))
 
+pub resolve_with-requires : goal.resolve_with-requires
+resolve_with-requires c = c.in_ok-fields-3.ensures.numbered
+
 pub returns-in_err-fields-4-clause-refusal : goal.returns-in_err-fields-4-clause-refusal
 returns-in_err-fields-4-clause-refusal c =
     let p = err_from_is_err_and c.from_residual-in_err-fields-4.result c.from_residual-in_err-fields-4.ensures.1 in
