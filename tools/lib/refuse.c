@@ -18,6 +18,7 @@ void *__libc_calloc(size count, size length);
 void *__libc_realloc(void *old, size length);
 void *__libc_memalign(size alignment, size length);
 void __libc_free(void *block);
+size malloc_usable_size(void *block);
 char *getenv(const char *name);
 int atoi(const char *text);
 long write(int file, const void *bytes, size length);
@@ -112,7 +113,8 @@ void *realloc(void *old, size length) {
     if (!old) {
         return malloc(length);
     }
-    return is_refused(length) ? 0 : __libc_realloc(old, length);
+    // A program that asks for less gives memory back. If it cannot, it keeps the block, so no error tells of it.
+    return length > malloc_usable_size(old) && is_refused(length) ? 0 : __libc_realloc(old, length);
 }
 
 void *aligned_alloc(size alignment, size length) { return is_refused(length) ? 0 : given(__libc_memalign(alignment, length)); }

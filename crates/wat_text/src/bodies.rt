@@ -18,7 +18,7 @@ ghost use Rattle.wat_tokens.specs.declared.tokens.Annotation.TheVariants as anno
 ghost use Rattle.wat_syntax.specs.Bare.{bare_text, bare_token};
 ghost use Rattle.wat_syntax.specs.BareInstructions.{bare_expression, bare_instr};
 
-use crate::reader::Reader;
+use crate::reader::{Reader, fitted};
 use std::alloc::Global;
 use std::mem;
 use wast_base::IndexOp;
@@ -210,7 +210,7 @@ impl<'a> Body<'a> {
         drop(levels);
         discard(alloc, waiting);
         Expression {
-            instrs,
+            instrs: fitted(instrs),
             branch_hints: hints,
         }
     }

@@ -20,7 +20,7 @@ ghost use Rattle.wat_syntax.specs.BareFields.{bare_payload, bare_table, bare_tab
 ghost use Rattle.wat_syntax.specs.BareInstructions.{bare_expression};
 ghost use Rattle.wat_text.specs.Heads.{bare_head};
 
-use crate::reader::Reader;
+use crate::reader::{Reader, fitted};
 use wast_tree::{
     AbstractHeapType, ElemPayload, Export, ExportKind, Expression, Func, FuncKind, FunctionType,
     Global, GlobalKind, HeapType, Id, ImportItems, Imports, InlineExport, InlineImport, ItemKind,
@@ -229,7 +229,7 @@ impl<'a> Reader<'a> {
     {
         let mut locals = Seq::new(self.alloc);
         self.all_locals(&mut locals);
-        locals
+        fitted(locals)
     }
 
     /// Reads the type use of a function with an inline import. It is in `(exact ..)` if the import

@@ -24,7 +24,7 @@ ghost use Rattle.wat_syntax.specs.BareFields.{bare_field, bare_fields};
 
 use crate::errors::first_error;
 use crate::quotes::{Quote, quoted_tokens};
-use crate::reader::Reader;
+use crate::reader::{Reader, fitted};
 use std::alloc::Global;
 use wast_tree::{Id, Index, ModuleField, NameAnnotation, Seq, Span, discard_fields};
 use wat_tokens::{
@@ -172,7 +172,7 @@ impl<'a> Reader<'a> {
     {
         let mut fields = Seq::new(self.alloc);
         self.all_fields_of(&mut fields);
-        fields
+        fitted(fields)
     }
 
     /// Reads `(module`, if it is next, and returns the position of the keyword.

@@ -50,6 +50,15 @@ fn begins_number(text: &str) -> bool
     matches!(text.as_bytes().first(), Some(b'0'..=b'9' | b'+' | b'-'))
 }
 
+/// Gives back the memory that a list does not use. A list grows by doubling while it is read, and the module keeps it.
+pub(crate) fn fitted<T>(list: Seq<T>) -> Seq<T>
+    ensures { result ≡ list }
+{
+    let mut items = list.into_vec();
+    items.shrink_to_fit();
+    Seq::from_vec(items)
+}
+
 /// The tokens of a text, how many of them are read, and the first error.
 #[derive(Drop)]
 pub(crate) struct Reader<'a> {

@@ -15,7 +15,7 @@ ghost use Rattle.wat_syntax.specs.Bare.{bare_composite, bare_field_type, bare_fu
 ghost use Rattle.wat_syntax.specs.Bare.{bare_index_option, bare_indices, bare_param, bare_rec, bare_ref, bare_storage, bare_struct_field};
 ghost use Rattle.wat_syntax.specs.Bare.{bare_struct_type, bare_table_type, bare_type, bare_type_def, bare_type_use, bare_val, bare_vals};
 
-use crate::reader::Reader;
+use crate::reader::{Reader, fitted};
 use wast_tree::{
     AbstractHeapType, ArrayType, ContType, FunctionType, GlobalType, HeapType, Id, Index,
     InnerTypeKind, Limits, MemoryType, NameAnnotation, Rec, RefType, Seq, StorageType, StructField,
@@ -399,7 +399,7 @@ impl<'a> Reader<'a> {
             self.skip();
             self.fail(TextFault::ParamBehindResult);
         }
-        FunctionType::new(params, results)
+        FunctionType::new(fitted(params), fitted(results))
     }
 
     /// Reads `(type $t)`, if it is next.
