@@ -8,9 +8,10 @@
 //!
 //! - `resolve`: a user-defined resolver, types that match, errors before resolving.
 //! - `visits`: a user-defined visitor. `checked`: modules that are ready, and modules that are not.
-//! - `scripts`: commands of scripts.
+//! - `scripts`: commands of scripts. `callers`: callers that see to what a call requires.
 #![tactic(auto)]
 
+pub mod callers;
 #[cfg(test)]
 mod checked;
 #[cfg(test)]

@@ -1,1 +1,2 @@
+mod Standard
 mod Sum

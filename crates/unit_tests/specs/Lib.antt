@@ -1,1 +1,2 @@
+pub mod StandardOpcodes
 pub mod SumModule

@@ -8,9 +8,13 @@
 //! - `kept`: a user-defined sink.
 //! - `sections`: sections with a constant expression. `writing`: a module without a syntax tree,
 //!   whose contract states what its bytes are read as.
+//! - `callers`: callers that see to what a call requires.
+//! - `opcodes`: a second list of opcodes, with which the table of instructions agrees.
 #![tactic(auto)]
 
+pub mod callers;
 mod kept;
+pub mod opcodes;
 pub mod sections;
 pub mod writing;
 
