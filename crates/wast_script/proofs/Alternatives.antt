@@ -1,6 +1,6 @@
 -- The alternatives of `either`: one step, and the value that counts them.
 use Rattle.std.proofs.Common.{◌≡◌, ◌∙◌, ℕ, suc, ◌+◌, ◌-◌, ◌<◌, ◌≤◌, Bool, true, false, List, [], ◌∷◌, ◌++◌, length, map}
-use Rattle.std.proofs.Common.{codes, All, Option, None, Some, refl, sym, ap, subst, arith, length-append, append_assoc}
+use Rattle.std.proofs.Common.{All, Option, None, Some, refl, sym, ap, subst, arith, length-append, append_assoc}
 use Rattle.std.specs.Prelude.{slice_set}
 use Rattle.std.specs.Global.{Vec}
 use Rattle.std.proofs.lemmas.List.{length-map, map_push, map-set, set_at}
@@ -12,7 +12,7 @@ use Rattle.wast_script.specs.declared.values.Value.TheVariants as val
 use Rattle.wast_script.specs.declared.words.Use.TheVariants as usage
 use Rattle.wast_script.specs.declared.reader.Lists.{Lists}
 use Rattle.wast_script.specs.declared.reader.Reader.{Reader}
-use Rattle.wast_script.specs.Constants.{Value, Either, form, value, one_value, alternatives, all_alternatives, either, argument_or_result}
+use Rattle.wast_script.specs.Constants.{Value, Either, either_form, value, one_value, alternatives, all_alternatives, either, argument_or_result}
 use Rattle.wast_script.specs.Scripts.{value_in}
 use Rattle.wast_script.specs.Readers.{left, read_values, IsRefused, HasLanes, HaveLanes, Accepts, Moves, PushesValue, SetsEither, ReadsOnto, TakesAlternative}
 use Rattle.wat_text.proofs.Loops.{after_both}
@@ -30,10 +30,10 @@ branch n d toks closes opens = elim closes [
 ]
 
 step_is : (n depth d : ℕ) (toks : Toks) (closes : Bool) (opens : Option Toks) → depth ≡ suc d
-    → is_rparen (peek 0 toks) ≡ closes → form (codes "either") toks ≡ opens
+    → is_rparen (peek 0 toks) ≡ closes → either_form toks ≡ opens
     → alternatives (suc n) depth toks ≡ branch n d toks closes opens
 step_is n depth d toks closes opens e f g = ap (λ k. alternatives (suc n) k toks) e
-    ∙ ap (λ c. branch n d toks c (form (codes "either") toks)) f ∙ ap (branch n d toks closes) g
+    ∙ ap (λ c. branch n d toks c (either_form toks)) f ∙ ap (branch n d toks closes) g
 
 -- a step that adds no value
 without_value : (depth behind : ℕ) (a b : Reader) → b.lists ≡ a.lists → b.tokens ≡ a.tokens → b.fault ≡ a.fault → behind ≤ suc depth
@@ -55,11 +55,11 @@ pub closes_one : (depth behind : ℕ) (a b : Reader) → is_rparen (peek 0 (left
     → Moves after a b → behind ≡ depth - 1 → TakesAlternative depth behind a b
 closes_one depth behind a b is m less = without_value depth behind a b m.lists m.tokens m.fault (omega (arith, less))
     (λ n d e. let one : d ≡ behind = omega (arith, less, e) in
-    step_is n depth d (left a) true (form (codes "either") (left a)) e is refl
+    step_is n depth d (left a) true (either_form (left a)) e is refl
     ∙ ap (λ k. alternatives n k (after (left a))) one ∙ ap (alternatives n behind) (sym m.left))
 
 pub opens_one : (depth behind : ℕ) (a b : Reader) → is_rparen (peek 0 (left a)) ≡ false
-    → Accepts (form (codes "either")) a b true → behind ≡ depth + 1 → TakesAlternative depth behind a b
+    → Accepts either_form a b true → behind ≡ depth + 1 → TakesAlternative depth behind a b
 opens_one depth behind a b is m more = without_value depth behind a b m.lists m.tokens m.fault (omega (arith, more))
     (λ n d e. let one : suc (suc d) ≡ behind = omega (arith, more, e) in
     step_is n depth d (left a) false (Some (left b)) e is (m.there refl) ∙ ap (λ k. alternatives n k (left b)) one)
@@ -85,7 +85,7 @@ none_is None e = refl
 none_is (Some r) e = absurd cc
 
 -- a value
-pub reads_one : (depth : ℕ) (a m b : Reader) → is_rparen (peek 0 (left a)) ≡ false → Accepts (form (codes "either")) a m false
+pub reads_one : (depth : ℕ) (a m b : Reader) → is_rparen (peek 0 (left a)) ≡ false → Accepts either_form a m false
     → ReadsOnto (one_value usage.Result) m b → TakesAlternative depth depth a b
 reads_one depth a m b is not r = record {
   commands = r.commands ∙ ap (λ (l : Lists). l.commands) not.lists;
@@ -176,7 +176,7 @@ either_read a b c d at count first p r few s = record {
         ∙ set_at (read_values a.lists) (Either 0) (more h l).0 (Either count) at (length-map a.lists.values.items (value_in a.lists.lanes.items) ∙ sym first)
 
 -- `either` as a result
-pub either_result : (a m b : Reader) → Accepts (form (codes "either")) a m true → ReadsOnto either m b → ReadsOnto (argument_or_result usage.Result) a b
+pub either_result : (a m b : Reader) → Accepts either_form a m true → ReadsOnto either m b → ReadsOnto (argument_or_result usage.Result) a b
 either_result a m b is r = record {
   commands = r.commands ∙ ap (λ (l : Lists). l.commands) is.lists;
   tokens = r.tokens ∙ is.tokens;

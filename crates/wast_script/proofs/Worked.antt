@@ -12,7 +12,7 @@ use Rattle.wast_script.specs.Worked.{Values, Modules, Scripts}
 
 pub values : Values
 unfolding backwards peek after position count
-values = (refl, refl, refl, refl, refl)
+values = (refl, refl, refl, refl, refl, refl, refl, refl)
 
 pub modules : Modules
 unfolding peek after position count

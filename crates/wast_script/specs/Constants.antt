@@ -11,12 +11,13 @@ use Rattle.wat_grammar.specs.Integers.{integer}
 use Rattle.wat_grammar.specs.Floats.{fN}
 use Rattle.wat_tokens.specs.declared.tokens.Token.{Token}
 use Rattle.wat_tokens.specs.declared.tokens.Token.TheVariants as token
-use Rattle.wat_syntax.specs.Tree.{Index, HeapType, AbstractHeapType}
+use Rattle.wat_syntax.specs.Tree.{Index, HeapType}
 use Rattle.wat_syntax.specs.Tree.heap
 use Rattle.wat_syntax.specs.Tokens.{Toks, Parse, peek, after, count, is_lparen, is_rparen, lparen, rparen, many_lists}
 use Rattle.wat_syntax.specs.Values.{number, u32, is_number, index}
+use Rattle.wat_syntax.specs.Types.{heaptype}
 use Rattle.wat_syntax.specs.Instructions.{signed_number, times}
-use Rattle.wast_script.specs.Words.{constant_named, heap_type_named, shape_named}
+use Rattle.wast_script.specs.Words.{constant_named, shape_named}
 use Rattle.wast_script.specs.declared.words.Use.{Use}
 use Rattle.wast_script.specs.declared.words.Use.TheVariants as usage
 use Rattle.wast_script.specs.declared.values.Number.{Number}
@@ -103,37 +104,14 @@ lanes s u toks = times (lane_count s) (number (lane_of s u)) toks
 abbrev pub vector : Use → Toks → Parse Value
 vector u toks = word_that shape_named toks >>= λ s. lanes s.0 u s.1 >>= λ ns. Some (V128 s.0 ns.0, ns.1)
 
--- absheaptype
-abbrev pub abstract_heap : Toks → Parse AbstractHeapType
-abstract_heap toks = word_that heap_type_named toks
-
--- a heap type after '(' 'shared'
-abbrev pub shared_heap : Toks → Parse HeapType
-shared_heap toks = abstract_heap toks >>= λ ht. rparen ht.1 >>= λ rest. Some (heap.Abstract true ht.0, rest)
-
--- heaptype ::= ht:absheaptype | '(' 'shared' ht:absheaptype ')' | x:typeidx (text format: heap types)
-abbrev pub heap_type : Toks → Parse HeapType
-heap_type toks = elim (form (codes "shared") toks) [
-  | Some t ↦ shared_heap t
-  | None ↦ elim (abstract_heap toks) [
-    | Some ht ↦ Some (heap.Abstract false ht.0, ht.1)
-    | None ↦ index toks >>= λ x. Some (heap.Concrete x.0, x.1)
-  ]
-]
-
--- whether a token is an id
-abbrev pub is_id : Option Token → Bool
-is_id (Some (token.Id name)) = true
-is_id t = false
-
 -- a part that may be left out: it is there if a test of the tokens says so
 abbrev pub unless : {T : Type 0} → Bool → (Toks → Parse T) → Toks → Parse (Option T)
 unless is_absent part toks = elim is_absent [ true ↦ Some (None, toks) | false ↦ part toks >>= λ x. Some (Some x.0, x.1) ]
 
 -- the type of a null reference, which a result may leave out
 abbrev pub null_type : Use → Toks → Parse (Option HeapType)
-null_type usage.Result toks = unless (is_rparen (peek 0 toks)) heap_type toks
-null_type usage.Argument toks = unless false heap_type toks
+null_type usage.Result toks = unless (is_rparen (peek 0 toks)) heaptype toks
+null_type usage.Argument toks = unless false heaptype toks
 
 -- the number of a host's reference, which a result may leave out
 abbrev pub host_number : Use → Toks → Parse (Option ℕ)
@@ -176,6 +154,10 @@ next_constant u toks = word_that (value_named u) toks
 abbrev pub value : Use → Toks → Parse Value
 value u toks = lparen toks >>= λ t. next_constant u t >>= λ c. constant_of c.0 u c.1 >>= λ v. rparen v.1 >>= λ rest. Some (v.0, rest)
 
+-- '(' 'either', if something is in it: a result has to be one of its alternatives, so it has one
+abbrev pub either_form : Toks → Option Toks
+either_form toks = elim (is_rparen (peek 2 toks)) [ true ↦ None | false ↦ form (codes "either") toks ]
+
 -- The alternatives of `either`, to the ')' of the outermost of so many. An `either` in another is one with it, because both are for a
 -- result that is one of their values. A step takes a token or more, so n steps are enough for n tokens.
 abbrev pub alternatives : ℕ → ℕ → Toks → Parse (List Value)
@@ -183,7 +165,7 @@ alternatives n zero toks = Some ([], toks)
 alternatives zero (suc depth) toks = None
 alternatives (suc n) (suc depth) toks = elim (is_rparen (peek 0 toks)) [
   | true ↦ alternatives n depth (after toks)
-  | false ↦ elim (form (codes "either") toks) [
+  | false ↦ elim (either_form toks) [
     | Some t ↦ alternatives n (suc (suc depth)) t
     | None ↦ value usage.Result toks >>= λ v. alternatives n (suc depth) v.1 >>= λ vs. Some (v.0 ∷ vs.0, vs.1)
   ]
@@ -202,7 +184,7 @@ one_value u toks = value u toks >>= λ v. Some (v.0 ∷ [], v.1)
 -- const | result: the values that an argument or a result is
 abbrev pub argument_or_result : Use → Toks → Parse (List Value)
 argument_or_result usage.Argument toks = one_value usage.Argument toks
-argument_or_result usage.Result toks = elim (form (codes "either") toks) [ Some t ↦ either t | None ↦ one_value usage.Result toks ]
+argument_or_result usage.Result toks = elim (either_form toks) [ Some t ↦ either t | None ↦ one_value usage.Result toks ]
 
 abbrev pub is_form_next : Toks → Bool
 is_form_next toks = is_lparen (peek 0 toks)

@@ -109,6 +109,13 @@ pub record Fails (fault : TextFault) (span : Span) (old new : Reader) : Type 0 w
   pub first : old.fault ≡ None → new.fault ≡ Some (record { fault = fault; span = span })
   pub keeps : old.fault ≢ None → new.fault ≡ old.fault
 
+-- A reader stored some fault, unless it had one.
+pub record Refuses (old new : Reader) : Type 0 where
+  pub lists : new.lists ≡ old.lists
+  pub tokens : new.tokens ≡ old.tokens
+  pub faulty : new.fault ≢ None
+  pub keeps : old.fault ≢ None → new.fault ≡ old.fault
+
 -- A list is the first part of another.
 pub record IsFirst {T : Type 0} (xs ys : List T) : Type 0 where
   pub more : List T

@@ -1,10 +1,13 @@
 -- What a script holds, without addresses: its commands and values as the rules of Grammar and Constants have them.
 --
 -- A `Part` is the elements of a list from a number on: of `a b c d` the part from 1 up to 3 is `b c`.
-use Rattle.std.specs.Prelude.{ℕ, nat_le, ◌&&◌, if◌then◌else◌, List, [], ◌∷◌, ◌++◌, length, map, min, slice_range, option_map}
+use Rattle.std.specs.Prelude.{◌≡◌, ℕ, nat_le, ◌&&◌, if◌then◌else◌, List, [], ◌∷◌, ◌++◌, length, map, min, take, drop, slice_range, option_map}
+use Rattle.wast_base.specs.Ids.{text_start}
 use Rattle.wat_tokens.specs.declared.tokens.Token.{Token}
 use Rattle.wat_tokens.specs.declared.tokens.Token.TheVariants as token
 use Rattle.wat_tokens.specs.declared.tokens.Placed.{Placed}
+use Rattle.wat_syntax.specs.Tree.{Span}
+use Rattle.wat_syntax.specs.Tokens.{position_in}
 use Rattle.wat_syntax.specs.Bare.{bare_placed, bare_id, bare_id_option, bare_heap, bare_index_option}
 use Rattle.wast_script.specs.Constants.{Value, I32, I64, F32, F64, V128, RefNull, RefExtern, RefHost, RefFunc, Ref, Either}
 use Rattle.wast_script.specs.Grammar.{Contents, Module, Action, Execution, Runs, Instantiates, Kind, Module_, Definition, Instance, Register, Acts}
@@ -99,6 +102,15 @@ joined_bytes (p ∷ ps) = string_bytes p.token ++ joined_bytes ps
 -- a command at its position, or at the end of a text of so many bytes if it is after it
 abbrev pub placed_up_to : ℕ → code_command.Command → code_command.Command
 placed_up_to n c = record { span = record { offset = min c.span.offset n }; kind = c.kind }
+
+-- where a module begins: at its first token, or at the start of the text if it has no parentheses
+abbrev pub start_in : List Placed → ScriptModule → Span
+start_in tokens m = position_in (part m.head tokens) text_start
+
+-- A piece of a text that begins at an offset.
+pub record IsPieceAt (text : List ℕ) (start : ℕ) (piece : List ℕ) : Type 0 where
+  pub size : ℕ
+  pub is : piece ≡ take size (drop start text)
 
 -- the tokens, the values and the commands of a script
 abbrev pub script_tokens : Script → List Placed

@@ -4,7 +4,6 @@
 --   verb_named (codes "register")     Some verb.Register
 --   verb_named (codes "func")         None
 use Rattle.std.specs.Prelude.{ℕ, true, false, List, [], ◌∷◌, Option, None, Some, bytes_eq, codes}
-use Rattle.wat_syntax.specs.Tree.{AbstractHeapType}
 use Rattle.wat_syntax.specs.Tree.abstract
 use Rattle.wast_script.specs.declared.values.Shape.{Shape}
 use Rattle.wast_script.specs.declared.values.Shape.TheVariants as shape
@@ -62,27 +61,6 @@ constants = (codes "i32.const", constant.I32)
 
 abbrev pub constant_named : List ℕ → Option Constant
 constant_named word = meaning_in constants word
-
--- absheaptype ::= 'func' | 'extern' | .. (text format: heap types)
-abbrev pub heap_types : List (List ℕ × AbstractHeapType)
-heap_types = (codes "func", abstract.Func)
-    ∷ (codes "extern", abstract.Extern)
-    ∷ (codes "exn", abstract.Exn)
-    ∷ (codes "noexn", abstract.NoExn)
-    ∷ (codes "any", abstract.Any)
-    ∷ (codes "eq", abstract.Eq)
-    ∷ (codes "struct", abstract.Struct)
-    ∷ (codes "array", abstract.Array)
-    ∷ (codes "nofunc", abstract.NoFunc)
-    ∷ (codes "noextern", abstract.NoExtern)
-    ∷ (codes "none", abstract.None)
-    ∷ (codes "i31", abstract.I31)
-    ∷ (codes "cont", abstract.Cont)
-    ∷ (codes "nocont", abstract.NoCont)
-    ∷ []
-
-abbrev pub heap_type_named : List ℕ → Option AbstractHeapType
-heap_type_named word = meaning_in heap_types word
 
 -- shape ::= 'i8x16' | 'i16x8' | .. (text format: vector instructions)
 abbrev pub shapes : List (List ℕ × Shape)

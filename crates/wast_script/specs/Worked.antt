@@ -5,10 +5,13 @@ use Rattle.wat_grammar.specs.Parts.{◌>>=◌}
 use Rattle.wat_tokens.specs.declared.tokens.Token.{Token}
 use Rattle.wat_tokens.specs.declared.tokens.Token.TheVariants as token
 use Rattle.wat_tokens.specs.declared.tokens.Placed.{Placed}
+use Rattle.wat_tokens.specs.declared.words.Key.TheVariants as key
 use Rattle.wat_syntax.specs.Tree.{Span, Id}
+use Rattle.wat_syntax.specs.Tree.heap
+use Rattle.wat_syntax.specs.Tree.index as by
 use Rattle.wat_syntax.specs.Values.{text_of}
-use Rattle.wat_syntax.specs.Worked.{num, named, quoted, toks, made}
-use Rattle.wast_script.specs.Constants.{I32, F32, V128, Either, values}
+use Rattle.wat_syntax.specs.Worked.{num, named, quoted, the, toks, made}
+use Rattle.wast_script.specs.Constants.{I32, F32, V128, RefNull, Either, values}
 use Rattle.wast_script.specs.Grammar.{Kind, Module_, Register, Acts, Thread, ThreadEnd, Wait, Command, in_parentheses, script_of}
 use Rattle.wast_script.specs.declared.commands.ActionKind.TheVariants as action_kind
 use Rattle.wast_script.specs.declared.commands.ModuleForm.TheVariants as module_form
@@ -33,7 +36,8 @@ command_at n k = record { span = at n; kind = k }
 abbrev pub kinds_of : List ℕ → Option (List Kind)
 kinds_of text = script_of text >>= λ cs. Some (map (λ c. c.kind) cs)
 
--- `(i32.const -1)` is a value, and a NaN is one of a result alone. Of `(either (i32.const 1) (i32.const 2))` both are alternatives.
+-- `(i32.const -1)` is a value, and a NaN is one of a result alone. Of `(either (i32.const 1) (i32.const 2))` both are
+-- alternatives, and `(either)` has none. The type of `(ref.null (exact 1))` is a heap type of the text format.
 abbrev pub Values : Type 0
 Values = (made (values usage.Argument (toks (token.Open ∷ num (codes "i32.const") ∷ num (codes "-1") ∷ token.Close ∷ []))) ≡ Some (I32 (negsuc 0) ∷ [], 0))
     × (made (values usage.Result (toks (token.Open ∷ num (codes "f32.const") ∷ num (codes "nan:canonical") ∷ token.Close ∷ [])))
@@ -43,6 +47,10 @@ Values = (made (values usage.Argument (toks (token.Open ∷ num (codes "i32.cons
     ≡ Some (V128 shape.I64x2 (number.Bits 1 ∷ number.Bits 18446744073709551615 ∷ []) ∷ [], 0))
     × (made (values usage.Result (toks (token.Open ∷ num (codes "either") ∷ token.Open ∷ num (codes "i32.const") ∷ num (codes "1") ∷ token.Close
     ∷ token.Open ∷ num (codes "i32.const") ∷ num (codes "2") ∷ token.Close ∷ token.Close ∷ []))) ≡ Some (Either 2 ∷ I32 (pos 1) ∷ I32 (pos 2) ∷ [], 0))
+    × (made (values usage.Result (toks (token.Open ∷ num (codes "either") ∷ token.Close ∷ []))) ≡ None)
+    × (made (values usage.Result (toks (token.Open ∷ num (codes "either") ∷ token.Open ∷ num (codes "either") ∷ token.Close ∷ token.Close ∷ []))) ≡ None)
+    × (made (values usage.Argument (toks (token.Open ∷ num (codes "ref.null") ∷ token.Open ∷ the key.Exact ∷ num (codes "1") ∷ token.Close ∷ token.Close ∷ [])))
+    ≡ Some (RefNull (Some (heap.Exact (by.Num 1 (at 4)))) ∷ [], 0))
 
 -- A module is its tokens, without the word `definition`. Its strings are those of a binary module, or of one in quotes.
 abbrev pub Modules : Type 0

@@ -3,29 +3,30 @@
 ghost use Rattle.std.specs.Prelude.{◌≡◌, ◌≢◌, ◌≤◌, ◌<◌, ◌++◌, ◌∷◌, ◌^◌, ◌-◌, [], List, IfOk, IfErr, None, Some, suc, ℕ, length, option_map};
 ghost use Rattle.std.specs.Float.{binary32, binary64};
 ghost use Rattle.wat_syntax.specs.Instructions.{signed_number, times};
-ghost use Rattle.wat_syntax.specs.Tokens.{peek, count};
+ghost use Rattle.wat_syntax.specs.Tokens.{peek, count, keyword_in};
 ghost use Rattle.wat_syntax.specs.Values.{number, u32, index};
+ghost use Rattle.wat_syntax.specs.Types.{absheaptype, heaptype_form, heaptype};
 ghost use Rattle.wat_grammar.specs.Integers.{integer};
 ghost use Rattle.wat_syntax.specs.Bare.{bare_heap, bare_index, bare_index_option};
 ghost use Rattle.wast_script.specs.Words.{shape_named, constant_named};
 ghost use Rattle.wast_script.specs.declared.values.Number.TheVariants as num;
 ghost use Rattle.wast_script.specs.declared.words.Constant.TheVariants as constant;
 ghost use Rattle.wast_script.specs.declared.words.Use.TheVariants as usage;
-ghost use Rattle.wast_script.specs.Constants.{nan_of, float_of, lane_of, lane_count, lanes, vector, word_in, word_that, abstract_heap, shared_heap};
-ghost use Rattle.wast_script.specs.Constants.{heap_type, null_type, host_number, function_index, constant_of, value_word, next_constant, value};
+ghost use Rattle.wast_script.specs.Constants.{nan_of, float_of, lane_of, lane_count, lanes, vector, word_in, word_that, either_form};
+ghost use Rattle.wast_script.specs.Constants.{null_type, host_number, function_index, constant_of, value_word, next_constant, value};
 ghost use Rattle.wast_script.specs.Constants.{one_value, all_alternatives, either, argument_or_result, values, Value as ListedValue};
 ghost use Rattle.wast_script.specs.Scripts.{part, value_in};
-ghost use Rattle.wast_script.specs.Readers.{left, read_values, IsRefusal, IsRefused, IsFirst, HasLanes, HaveLanes, Decides, Finds, PushesLane};
+ghost use Rattle.wast_script.specs.Readers.{left, read_values, Accepts, IsRefusal, IsRefused, Refuses, IsFirst, HasLanes, HaveLanes, Decides, Finds, PushesLane};
 ghost use Rattle.wast_script.specs.Readers.{PushesValue, SetsEither, TakesAlternative, TakesAlternatives, ReadsLanes, ReadsValue, ReadsOnto, Reads};
 
 use crate::reader::Reader;
 use crate::values::{Number, Part, Shape, Value};
-use crate::words::{Constant, Use, constant_of, heap_type_of, shape_of};
+use crate::words::{Constant, Use, constant_of, shape_of};
 use std::alloc::Global;
 use wast_base::Index;
 use wast_tree_nodes::{AbstractHeapType, HeapType};
 use wat_tokens::{
-    TextFault, float32, float64, integer8, integer16, integer32, integer64, unsigned32,
+    Key, TextFault, float32, float64, integer8, integer16, integer32, integer64, unsigned32,
 };
 
 /// The NaN that a word names, of a result.
@@ -39,6 +40,29 @@ fn nan_of(usage: Use, word: &str) -> Option<Number>
             "nan:arithmetic" => Some(Number::Arithmetic),
             _ => None,
         },
+    }
+}
+
+/// The abstract heap type that a keyword is, such as `func` (text format, heap types).
+fn abstract_heap(key: Key) -> Option<AbstractHeapType>
+    ensures { result ≡ absheaptype key }
+{
+    match key {
+        Key::Func => Some(AbstractHeapType::Func),
+        Key::Extern => Some(AbstractHeapType::Extern),
+        Key::Exn => Some(AbstractHeapType::Exn),
+        Key::Noexn => Some(AbstractHeapType::NoExn),
+        Key::Any => Some(AbstractHeapType::Any),
+        Key::Eq => Some(AbstractHeapType::Eq),
+        Key::Struct => Some(AbstractHeapType::Struct),
+        Key::Array => Some(AbstractHeapType::Array),
+        Key::Nofunc => Some(AbstractHeapType::NoFunc),
+        Key::Noextern => Some(AbstractHeapType::NoExtern),
+        Key::None => Some(AbstractHeapType::None),
+        Key::I31 => Some(AbstractHeapType::I31),
+        Key::Cont => Some(AbstractHeapType::Cont),
+        Key::Nocont => Some(AbstractHeapType::NoCont),
+        _ => None,
     }
 }
 
@@ -280,57 +304,56 @@ impl<'a> Reader<'a> {
         }
     }
 
-    /// The heap type of a word, if it is next.
+    /// An abstract heap type, if it is next.
     fn abstract_heap(&mut self) -> Option<AbstractHeapType>
-        ensures { Finds abstract_heap self.old self.new result }
+        ensures { Finds (keyword_in absheaptype) self.old self.new result }
     {
-        let found = match self.word(0) {
-            Some(word) => heap_type_of(word),
-            None => None,
-        };
-        if found.is_some() {
-            self.skip();
-        }
-        found
+        let ty = abstract_heap(self.key(0)?)?;
+        self.skip();
+        Some(ty)
     }
 
-    /// A heap type after `(shared`.
-    fn shared_heap(&mut self) -> HeapType<'a>
-        ensures { Decides shared_heap self.old self.new (bare_heap result) }
+    /// Fails because no heap type is next. The type that it returns means nothing.
+    fn no_heap_type(&mut self) -> HeapType<'a>
+        ensures { Refuses self.old self.new }
     {
-        let ty = match self.abstract_heap() {
-            Some(ty) => ty,
-            None => {
-                self.expected("a heap type");
-                AbstractHeapType::Any
+        self.expected("a heap type");
+        HeapType::of(AbstractHeapType::Any)
+    }
+
+    /// A heap type in parentheses: `(shared any)` or `(exact $t)`.
+    fn heap_form(&mut self) -> HeapType<'a>
+        ensures { Decides heaptype_form self.old self.new (bare_heap result) }
+    {
+        let heap = if self.accept_key_form(Key::Shared) {
+            match self.abstract_heap() {
+                Some(ty) => HeapType::Abstract { shared: true, ty },
+                None => self.no_heap_type(),
             }
+        } else if self.accept_key_form(Key::Exact) {
+            HeapType::Exact(self.index())
+        } else {
+            self.no_heap_type()
         };
         self.close();
-        HeapType::Abstract { shared: true, ty }
-    }
-
-    /// The index of a type, which is the heap type if no word is.
-    #[tactic(auto, using(wat_text::proofs::Numbers::no_index))]
-    fn type_index(&mut self) -> Index<'a>
-        ensures { Decides index self.old self.new (bare_index result) }
-    {
-        if !self.is_id() && !self.is_number() {
-            self.expected("a heap type");
-        }
-        self.index()
+        heap
     }
 
     /// A heap type (text format, heap types).
+    #[tactic(auto, using(wat_text::proofs::Numbers::no_index))]
     fn heap_type(&mut self) -> HeapType<'a>
-        ensures { Decides heap_type self.old self.new (bare_heap result) }
+        ensures { Decides heaptype self.old self.new (bare_heap result) }
     {
-        if self.accept_form("shared") {
-            return self.shared_heap();
+        if let Some(ty) = self.abstract_heap() {
+            return HeapType::of(ty);
         }
-        match self.abstract_heap() {
-            Some(ty) => HeapType::of(ty),
-            None => HeapType::Concrete(self.type_index()),
+        if self.is_open() {
+            return self.heap_form();
         }
+        if self.is_index() {
+            return HeapType::Concrete(self.index());
+        }
+        self.no_heap_type()
     }
 
     /// The type of a null reference, which a result may leave out.
@@ -440,6 +463,13 @@ impl<'a> Reader<'a> {
         self.push_value(value);
     }
 
+    /// Reads `(either`, if something is in it, and returns whether it is.
+    fn accept_either(&mut self) -> bool
+        ensures { Accepts either_form self.old self.new result }
+    {
+        !self.is_close(2) && self.accept_form("either")
+    }
+
     /// One step in the alternatives of `either`, of which so many are open; how many are then. An `either` in another is
     /// one with it, because both are for a result that is one of their values.
     fn alternative(&mut self, depth: u128) -> u128
@@ -450,7 +480,7 @@ impl<'a> Reader<'a> {
             self.skip();
             return depth.saturating_sub(1);
         }
-        if self.accept_form("either") {
+        if self.accept_either() {
             return depth + 1;
         }
         self.one_value(Use::Result);
@@ -508,7 +538,7 @@ impl<'a> Reader<'a> {
     fn one_result(&mut self)
         ensures { ReadsOnto (argument_or_result usage.Result) self.old self.new }
     {
-        match self.accept_form("either") {
+        match self.accept_either() {
             true => self.either(),
             false => self.one_value(Use::Result),
         }

@@ -5,10 +5,11 @@
 
 ghost use Rattle.std.specs.Prelude.{◌≡◌, ◌≢◌, ◌-◌, [], None, Some, Ok, Err, option_map, length};
 ghost use Rattle.wat_tokens.specs.declared.faults.TextFault.TheVariants as fault;
-ghost use Rattle.wat_syntax.specs.Tokens.{peek, after, position, count, is_lparen, is_rparen, lparen, rparen};
-ghost use Rattle.wat_syntax.specs.Values.{number_text, u32, is_number, is_string, name, id};
+ghost use Rattle.wat_syntax.specs.Tokens.{peek, after, position, count, key_of, is_key, is_lparen, is_rparen, lparen, rparen};
+ghost use Rattle.wat_syntax.specs.Tokens.{form as key_form};
+ghost use Rattle.wat_syntax.specs.Values.{number_text, u32, is_index, is_number, is_string, name, id};
 ghost use Rattle.wat_syntax.specs.Bare.{bare_text, bare_token, bare_id, bare_id_option};
-ghost use Rattle.wast_script.specs.Constants.{word_in, is_word, is_form, is_id, the_word, form};
+ghost use Rattle.wast_script.specs.Constants.{word_in, is_word, is_form, the_word, form};
 ghost use Rattle.wat_text.specs.Denotes.{all_of};
 ghost use Rattle.wast_script.specs.Readers.{left, all_bare, IsRefusal, IsRefused, Decides, Expects, Accepts, Finds, Moves, Fails};
 
@@ -16,7 +17,7 @@ use crate::commands::Command;
 use crate::values::{Number, Value};
 use std::alloc::Global;
 use wast_base::{Id, Span};
-use wat_tokens::{Placed, TextError, TextFault, Token};
+use wat_tokens::{Key, Placed, TextError, TextFault, Token, Word};
 
 /// What was read of a script.
 #[derive(Drop)]
@@ -162,6 +163,26 @@ impl<'a> Reader<'a> {
         }
     }
 
+    /// Returns the keyword of modules so far ahead, if there is one.
+    pub(crate) fn key(&self, ahead: usize) -> Option<Key>
+        ensures { result ≡ key_of (peek ahead (left self.now)) }
+    {
+        match self.look(ahead) {
+            Some(Token::Word(Word::Key(key), _)) => Some(key),
+            _ => None,
+        }
+    }
+
+    /// Returns whether this keyword of modules is so far ahead.
+    fn is_key(&self, ahead: usize, key: Key) -> bool
+        ensures { result ≡ is_key key (key_of (peek ahead (left self.now))) }
+    {
+        match self.key(ahead) {
+            Some(found) => found == key,
+            None => false,
+        }
+    }
+
     /// Returns whether this word is so far ahead.
     pub(crate) fn is_word(&self, ahead: usize, word: &str) -> bool
         ensures { result ≡ is_word word.now (peek ahead (left self.now)) }
@@ -209,6 +230,18 @@ impl<'a> Reader<'a> {
         ensures { Accepts (form word.now) self.old self.new result }
     {
         let is_there = self.is_form(word);
+        if is_there {
+            self.skip();
+            self.skip();
+        }
+        is_there
+    }
+
+    /// Reads `(` and this keyword of modules, if they are next.
+    pub(crate) fn accept_key_form(&mut self, key: Key) -> bool
+        ensures { Accepts (key_form key) self.old self.new result }
+    {
+        let is_there = self.is_open() && self.is_key(1, key);
         if is_there {
             self.skip();
             self.skip();
@@ -312,13 +345,6 @@ impl<'a> Reader<'a> {
         }
     }
 
-    /// Returns whether an id is next.
-    pub(crate) fn is_id(&self) -> bool
-        ensures { result ≡ is_id (peek 0 (left self.now)) }
-    {
-        matches!(self.look(0), Some(Token::Id(_)))
-    }
-
     /// Returns whether a number is next.
     pub(crate) fn is_number(&self) -> bool
         ensures { result ≡ is_number (peek 0 (left self.now)) }
@@ -329,6 +355,13 @@ impl<'a> Reader<'a> {
             }
             _ => false,
         }
+    }
+
+    /// Returns whether an id is next, or what begins as a number does.
+    pub(crate) fn is_index(&self) -> bool
+        ensures { result ≡ is_index (peek 0 (left self.now)) }
+    {
+        matches!(self.look(0), Some(Token::Id(_))) || self.is_number()
     }
 
     /// Reads the text of a number.

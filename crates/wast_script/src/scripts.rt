@@ -3,8 +3,11 @@
 ghost use Rattle.std.specs.Prelude.{◌≡◌, ◌≤◌, ◌++◌, length, map, min, All, IsTrue, IfOk, IfErr, OnOk, None, Some};
 ghost use Rattle.wat_text.specs.Texts.{is_well_formed_text};
 ghost use Rattle.wast_script.specs.Grammar.{script_in, script_of};
+ghost use Rattle.wast_base.specs.Ids.{text_start};
+ghost use Rattle.wat_syntax.specs.Tokens.{position_in};
 ghost use Rattle.wat_syntax.specs.Bare.{bare_placed};
 ghost use Rattle.wast_script.specs.Scripts.{part, module_in, string_bytes, joined_bytes, placed_up_to, script_tokens, commands_of};
+ghost use Rattle.wast_script.specs.Scripts.{IsPieceAt, start_in};
 ghost use Rattle.wast_script.specs.Modules.{last_position, IsModuleOf, IsNoModuleOf};
 ghost use Rattle.wast_script.specs.Readers.{IsRefusal, IsNew};
 
@@ -12,9 +15,13 @@ use crate::commands::{Command, ScriptModule};
 use crate::reader::{Lists, Reader};
 use crate::values::{Number, Part, Value};
 use std::alloc::{AllocError, Global};
+use std::str;
 use wast_base::Span;
 use wat_text::{TextModule, read_module_tokens};
 use wat_tokens::{Placed, Strings, TextError, TextFault, Token, tokens_of};
+
+/// How many bytes the word `definition` has.
+const DEFINITION: usize = 10;
 
 /// A script that was read: its commands in the order of the text, and the lists that they have parts of.
 #[derive(Drop)]
@@ -207,6 +214,26 @@ fn string_of<'a>(token: Token<'a>) -> &'a [u8]
     }
 }
 
+/// A text from one offset to another; nothing if an offset is within a character, or not in the text.
+fn piece(text: &str, start: usize, end: usize) -> &str
+    ensures { IsPieceAt text.now start result.now }
+{
+    match text.get(start..end) {
+        Some(piece) => piece,
+        None => "",
+    }
+}
+
+/// The position of the first of some tokens, or the start of the text if there is none.
+fn first_place(tokens: &[Placed<'_>]) -> Span
+    ensures { result ≡ position_in tokens.now text_start }
+{
+    match tokens.first() {
+        Some(placed) => placed.span,
+        None => Span::default(),
+    }
+}
+
 /// The position of the last of some tokens, or the start of the text if there is none.
 #[tactic(auto, using(crate::proofs::Meant::last_is, crate::proofs::Meant::no_last))]
 fn last_place(tokens: &[Placed<'_>]) -> Span
@@ -327,11 +354,10 @@ impl<'a> Script<'a> {
 
     /// Returns the position where the text of a module begins: that of its parenthesis, or the start of a script that is one module
     /// without its parentheses. Does not allocate.
-    pub fn start(&self, module: &ScriptModule<'a>) -> Span {
-        match part_of(self.tokens.as_slice(), module.head).first() {
-            Some(placed) => placed.span,
-            None => Span::default(),
-        }
+    pub fn start(&self, module: &ScriptModule<'a>) -> Span
+        ensures { result ≡ start_in self.now.tokens.items «module».now }
+    {
+        first_place(part_of(self.tokens.as_slice(), module.head))
     }
 
     /// The offset after the text of a module.
@@ -343,8 +369,50 @@ impl<'a> Script<'a> {
     }
 
     /// Returns the text of a module in the script, from its parenthesis to its end. Does not allocate.
-    pub fn source(&self, module: &ScriptModule<'a>) -> &'a str {
-        let (start, end) = (self.start(module).offset, self.end(module));
-        self.text.get(start..end).unwrap_or("")
+    pub fn source(&self, module: &ScriptModule<'a>) -> &'a str
+        ensures { IsPieceAt self.now.text.now (start_in self.now.tokens.items «module».now).offset result.now }
+    {
+        piece(self.text, self.start(module).offset, self.end(module))
+    }
+
+    /// The offset of the word `definition` in the text of a module, if it has it.
+    fn definition(&self, module: &ScriptModule<'a>) -> Option<usize> {
+        if module.head.end == module.rest.start {
+            return None;
+        }
+        match self.tokens.get(module.head.end) {
+            Some(placed) => Some(placed.span.offset.saturating_sub(self.start(module).offset)),
+            None => None,
+        }
+    }
+
+    /// Returns the text of a module as one that is no script: [`Script::source`], with spaces for the word `definition`, which only
+    /// scripts have. For example, `(module definition $M)` is `(module            $M)`, in which the id has the same offset.
+    ///
+    /// Allocates memory for a text with that word, and keeps it in `strings`.
+    ///
+    /// # Errors
+    ///
+    /// [`AllocError`]: allocation failed.
+    pub fn module_text(
+        &self,
+        alloc: Global,
+        module: &ScriptModule<'a>,
+        strings: &'a Strings,
+    ) -> Result<&'a str, AllocError> {
+        let source = self.source(module);
+        let Some(start) = self.definition(module) else {
+            return Ok(source);
+        };
+        let mut bytes = Vec::from_slice(alloc, source.as_bytes())?;
+        for at in start..start.saturating_add(DEFINITION) {
+            if let Some(byte) = bytes.get_mut(at) {
+                *byte = b' ';
+            }
+        }
+        match strings.keep(bytes.as_slice()) {
+            Ok(kept) => Ok(str::from_utf8(kept).unwrap_or(source)),
+            Err(_) => Err(AllocError),
+        }
     }
 }

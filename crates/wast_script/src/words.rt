@@ -1,7 +1,7 @@
 //! The words that begin commands and values.
 
 ghost use Rattle.std.specs.Prelude.{◌≡◌};
-ghost use Rattle.wast_script.specs.Words.{verb_named, constant_named, heap_type_named, shape_named};
+ghost use Rattle.wast_script.specs.Words.{verb_named, constant_named, shape_named};
 
 use crate::values::Shape;
 use wast_tree_nodes::AbstractHeapType;
@@ -95,29 +95,6 @@ pub(crate) fn constant_of(word: &str) -> Option<Constant>
         "ref.i31_shared" => Some(Constant::Ref(AbstractHeapType::I31, true)),
         "ref.struct" => Some(Constant::Ref(AbstractHeapType::Struct, false)),
         "ref.array" => Some(Constant::Ref(AbstractHeapType::Array, false)),
-        _ => None,
-    }
-}
-
-/// Returns the heap type of a word (text format, heap types).
-pub(crate) fn heap_type_of(word: &str) -> Option<AbstractHeapType>
-    ensures { result ≡ heap_type_named word.now }
-{
-    match word {
-        "func" => Some(AbstractHeapType::Func),
-        "extern" => Some(AbstractHeapType::Extern),
-        "exn" => Some(AbstractHeapType::Exn),
-        "noexn" => Some(AbstractHeapType::NoExn),
-        "any" => Some(AbstractHeapType::Any),
-        "eq" => Some(AbstractHeapType::Eq),
-        "struct" => Some(AbstractHeapType::Struct),
-        "array" => Some(AbstractHeapType::Array),
-        "nofunc" => Some(AbstractHeapType::NoFunc),
-        "noextern" => Some(AbstractHeapType::NoExtern),
-        "none" => Some(AbstractHeapType::None),
-        "i31" => Some(AbstractHeapType::I31),
-        "cont" => Some(AbstractHeapType::Cont),
-        "nocont" => Some(AbstractHeapType::NoCont),
         _ => None,
     }
 }
