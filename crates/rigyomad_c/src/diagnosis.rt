@@ -3,15 +3,16 @@
 ghost use Rattle.std.specs.Prelude.{◌≡◌};
 ghost use Rattle.std.specs.Option.{unwrap_or};
 ghost use Rattle.rigyomad_c.specs.Answers.{IsPlaced, IsRanged, nothing_wrong};
-ghost use Rattle.wat_messages.specs.Ranges.{Marks, range_of};
+ghost use Rattle.wat_messages.specs.Ranges.{Marks};
 ghost use Rattle.wat_bytes.specs.Texts.{number_of, place_of};
 
 use crate::messages::Message;
 use std::fmt::Write;
 use std::str::Utf8Error;
+use wast_script_records::diagnostic_of;
 use wast_tree::{Span, line_and_column};
 use wat_bytes::Refused;
-use wat_messages::{Diagnostic, Range};
+use wat_messages::Range;
 
 /// The error of a text and its position.
 ///
@@ -35,19 +36,6 @@ pub struct Diagnosis {
     /// The number of bytes before the end of the token at the position, or 0 if there is no
     /// position.
     pub end_offset: usize,
-}
-
-/// Returns the diagnostic of the error of a text.
-fn diagnostic_of<'a>(text: &'a str, refused: &Refused<'a>) -> Diagnostic<'a>
-    ensures { Marks text.now (place_of refused.now) (range_of result) }
-{
-    match refused {
-        Refused::Text(error) => Diagnostic::of_text(text, *error),
-        Refused::Module(error) => Diagnostic::of_module(text, *error),
-        Refused::Uncovered(found) => {
-            Diagnostic::of_uncovered(text, found.span, found.form, found.word)
-        }
-    }
 }
 
 impl Diagnosis {

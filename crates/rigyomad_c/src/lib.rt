@@ -158,7 +158,7 @@ pub extern "C" fn rigyomad_c_names(
 ///
 /// # Example
 ///
-/// For `(module)` and a slice of 376 bytes the status is 0, and `size` is 376. With a slice of 375
+/// For `(module)` and a slice of 384 bytes the status is 0, and `size` is 384. With a slice of 383
 /// bytes the status is 1.
 #[unsafe(no_mangle)]
 pub extern "C" fn rigyomad_c_script(

@@ -9,14 +9,14 @@
 //!
 //! # Layout
 //!
-//! All numbers are words of 64 bits, the lowest byte first. The header has 13 words: the number 1 of this layout; then offset and
+//! All numbers are words of 64 bits, the lowest byte first. The header has 13 words: the number 2 of this layout; then offset and
 //! count of the tables of commands, modules, actions, values and lanes; then offset and size of the bytes of all strings. Offsets
 //! count from the start of the list, and records of a table follow each other.
 //!
 //! | record | words |
 //! |---|---|
 //! | command | type, place, id, `of`, text, module, action, results |
-//! | module | form, place, id, source, quoted text, status, bytes, error number, place of the error, message |
+//! | module | form, place, id, source, quoted text, status, bytes, error number, place of the error, end of its token, message |
 //! | action | kind, place, module, name, arguments |
 //! | value | type, form, two words of its contents |
 //! | lane | form, bits |
@@ -26,11 +26,12 @@
 //!   one that is absent is [`NONE`]. An id is without its `$`.
 //! - Results and arguments are two words: the number of the first value, and how many they are. A module and an action of a command
 //!   are the number of its record, or [`NONE`].
-//! - The source of a module is its start and size in the text of the script.
+//! - The source of a module is its start and size in the text of the script. The end of a token is an offset in that text.
 //!
 //! # Modules
 //!
 //! - `records` has [`records_of`], the tables and the header. `commands`, `modules`, `actions` and `values` write the records of each.
+//! - `encodes` has [`encode_module`], the bytes of a module or the error of its text, and the diagnostic of that error.
 //! - `words` writes words, and `lines` counts lines and columns. `examples` has numbers that the prover computes.
 //!
 //! # Guarantees
@@ -40,6 +41,7 @@
 
 mod actions;
 mod commands;
+mod encodes;
 mod examples;
 mod lines;
 mod modules;
@@ -47,5 +49,6 @@ mod records;
 mod values;
 mod words;
 
+pub use encodes::{ModuleError, diagnostic_of, encode_module};
 pub use records::records_of;
 pub use words::NONE;

@@ -51,14 +51,29 @@ impl Lines {
         }
     }
 
+    /// Moves back to an offset of the text.
+    fn back(&mut self, text: &[u8], offset: usize) {
+        let passed = text.get(offset..self.offset).unwrap_or(&[]);
+        for byte in passed {
+            if *byte == b'\n' {
+                self.line = self.line.saturating_sub(1);
+            }
+        }
+        self.offset = offset;
+        if offset < self.start {
+            self.start = line_start(text, offset);
+        }
+    }
+
     /// Moves to a position, or to the end of the text if it is after that, and returns it with its line and column. It counts from
-    /// the last position on, or from the start if that is after it. So the positions of all commands take one walk over the text.
+    /// the last position on. So the positions of all commands take one walk over the text, and each module's own at most two more.
     pub fn place_at(&mut self, text: &str, span: Span) -> Place {
         let offset = span.offset.min(text.len());
+        let text = text.as_bytes();
         if offset < self.offset {
-            *self = Lines::new();
+            self.back(text, offset);
         }
-        let between = text.as_bytes().get(self.offset..offset);
+        let between = text.get(self.offset..offset);
         for byte in between.unwrap_or(&[]) {
             self.step(*byte);
         }
@@ -68,5 +83,14 @@ impl Lines {
             line: self.line,
             column: before.saturating_add(1),
         }
+    }
+}
+
+/// Returns where the line of an offset begins.
+fn line_start(text: &[u8], offset: usize) -> usize {
+    let before = text.get(..offset).unwrap_or(&[]);
+    match before.iter().rposition(|byte| *byte == b'\n') {
+        Some(at) => at.saturating_add(1),
+        None => 0,
     }
 }

@@ -1,19 +1,17 @@
-//! Encodes modules, and writes their records.
+//! Writes the records of modules.
 
 ghost use Rattle.std.specs.Prelude.{◌≡◌};
 ghost use Rattle.wast_script_records.specs.Numbers.{form_number};
 
+use crate::encodes::{ModuleError, diagnostic_of, encode_module};
 use crate::lines::Place;
 use crate::records::{Piece, Records};
 use crate::words::put_words;
-use std::alloc::{AllocError, Global};
+use std::alloc::AllocError;
 use wast_script::{ModuleForm, Script, ScriptModule};
 use wast_tree::Span;
-use wat_bytes::{Refused, UncoveredForm, encode_text, encoded_text};
+use wat_messages::Range;
 use wat_text::Strings;
-
-/// The number of E12.
-const MEMORY: u32 = 12;
 
 /// Returns the number of the form of a module.
 fn form_of(form: ModuleForm) -> u64
@@ -26,44 +24,6 @@ fn form_of(form: ModuleForm) -> u64
     }
 }
 
-/// Returns an unsupported construct with its word and the position of that, as encoding the text of the module finds them.
-fn as_written<'a>(
-    alloc: Global,
-    script: &Script<'a>,
-    strings: &'a Strings,
-    module: &ScriptModule<'a>,
-    found: UncoveredForm<'a>,
-) -> UncoveredForm<'a> {
-    let start = script.start(module).offset;
-    match encode_text(alloc, script.source(module), strings) {
-        Err(Refused::Uncovered(written)) => {
-            let offset = written.span.offset.saturating_add(start);
-            let span = Span { offset };
-            UncoveredForm { span, ..written }
-        }
-        _ => found,
-    }
-}
-
-/// Returns the bytes of a module, or why it has none, with a position in the text of the script.
-fn bytes_of<'a>(
-    alloc: Global,
-    script: &Script<'a>,
-    strings: &'a Strings,
-    module: &ScriptModule<'a>,
-) -> Result<Vec<u8>, Refused<'a>> {
-    match script.read(alloc, module, strings) {
-        Ok(text) => match encoded_text(alloc, text) {
-            Err(Refused::Uncovered(found)) => {
-                let written = as_written(alloc, script, strings, module, found);
-                Err(Refused::Uncovered(written))
-            }
-            answer => answer,
-        },
-        Err(error) => Err(Refused::Text(error)),
-    }
-}
-
 /// What the record of a module has of its encoding.
 #[derive(Clone, Copy)]
 struct Outcome {
@@ -72,7 +32,17 @@ struct Outcome {
     bytes: Piece,
     number: u64,
     place: Place,
+    /// The offset of the end of the token at the place, or 0 if there is none.
+    end: u64,
     message: Piece,
+}
+
+/// Returns the offset of the end of a range, in a text that begins at a position; 0 if there is no range.
+fn end_of(start: Span, range: Option<Range>) -> u64 {
+    match range {
+        Some(range) => start.offset.saturating_add(range.end) as u64,
+        None => 0,
+    }
 }
 
 impl Records {
@@ -91,22 +61,26 @@ impl Records {
             bytes: self.string(bytes)?,
             number: 0,
             place: Place::none(),
+            end: 0,
             message: self.text(None)?,
         })
     }
 
     /// Adds the error of a module. If allocation failed, the records fail.
-    fn refused(&mut self, text: &str, refused: &Refused<'_>) -> Result<Outcome, AllocError> {
-        let number = refused.number().unwrap_or(0);
-        if number == MEMORY {
+    fn refused(&mut self, text: &str, error: &ModuleError<'_>) -> Result<Outcome, AllocError> {
+        if error.is_memory() {
             return Err(AllocError);
         }
-        let message = format!(in self.alloc; "{refused}")?;
+        let start = self.lines.place_at(text, error.start);
+        let diagnostic = diagnostic_of(error.text, &error.refused);
+        let diagnostic = diagnostic.starting_at(start.line as usize, start.column as usize);
+        let message = format!(in self.alloc; "{diagnostic}")?;
         Ok(Outcome {
             status: 2,
             bytes: self.text(None)?,
-            number: number as u64,
-            place: self.place_of(text, refused.span()),
+            number: error.refused.number().unwrap_or(0) as u64,
+            place: self.place_of(text, error.in_script().span()),
+            end: end_of(error.start, diagnostic.range()),
             message: self.string(message.as_bytes())?,
         })
     }
@@ -133,9 +107,9 @@ impl Records {
         strings: &'a Strings,
         module: &ScriptModule<'a>,
     ) -> Result<Outcome, AllocError> {
-        match bytes_of(self.alloc, script, strings, module) {
+        match encode_module(self.alloc, script, strings, module) {
             Ok(bytes) => self.encoded(bytes.as_slice()),
-            Err(refused) => self.refused(script.text, &refused),
+            Err(error) => self.refused(script.text, &error),
         }
     }
 
@@ -150,7 +124,7 @@ impl Records {
         let id = self.id(module.id)?;
         let quoted = self.quoted(script, module)?;
         let outcome = self.encode_part(script, strings, module)?;
-        let words: [u64; 19] = [
+        let words: [u64; 20] = [
             form_of(module.form),
             place.offset,
             place.line,
@@ -168,6 +142,7 @@ impl Records {
             outcome.place.offset,
             outcome.place.line,
             outcome.place.column,
+            outcome.end,
             outcome.message.start,
             outcome.message.size,
         ];

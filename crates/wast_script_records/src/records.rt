@@ -8,7 +8,7 @@ use wast_tree::Id;
 use wat_text::Strings;
 
 /// The number of this layout.
-const LAYOUT: u64 = 1;
+const LAYOUT: u64 = 2;
 
 /// How many bytes the header has: 13 words.
 const HEADER: u64 = 104;

@@ -1,4 +1,4 @@
-# bash completion of the command `wat`, written by tools/manual.
+# bash completion of the command `wat`, written by tools/pages.
 
 _wat() {
     local word=${COMP_WORDS[COMP_CWORD]} before=${COMP_WORDS[COMP_CWORD - 1]} it

@@ -1,4 +1,4 @@
-# fish completion of the command `wat`, written by tools/manual.
+# fish completion of the command `wat`, written by tools/pages.
 
 complete -c wat -s o -l output -r -F -d 'write to FILE, whole or not at all (`-` is standard output)'
 complete -c wat -l out-dir -x -a '(__fish_complete_directories)' -d 'write FOLDER/NAME.wasm for each NAME.wat'

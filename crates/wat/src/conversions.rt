@@ -24,10 +24,13 @@ use wat_bytes::{
     Denoted, Refused, encode_last_text, encode_text, names_of_last_text, names_of_text,
 };
 use wat_command::{
-    Escaped, Failure, Style, read_input, report_malformed_in, shown, text_before, warn_in,
-    write_bytes, write_file,
+    Escaped, Failure, Style, read_input, report_file_in, report_malformed_in, shown, text_before,
+    warn_in, write_bytes, write_file,
 };
 use wat_text::Strings;
+
+/// What each binary module begins with, and no text.
+const BINARY: &[u8] = b"\0asm";
 
 /// Removes the name section, if the options have `--no-names`.
 fn selected(alloc: Global, options: &Options, bytes: Vec<u8>) -> Result<Vec<u8>, AllocError>
@@ -166,11 +169,16 @@ fn output_of(
     ensures { IfOk result (λ out. Writes options.now bytes.now out.items) }
 {
     let style = style_of(rt, options);
+    if bytes.starts_with(BINARY) {
+        return Err(report_file_in(rt, style, file, "already a binary module"));
+    }
     match str::from_utf8(bytes) {
         Ok(text) => output_of_text(rt, options, style, file, text, is_last),
         Err(error) => {
-            let text = text_before(bytes, error.valid_up_to());
-            Err(report_malformed_in(rt, style, file, text))
+            let wrong = error.valid_up_to();
+            let text = text_before(bytes, wrong);
+            let byte = bytes.get(wrong).copied();
+            Err(report_malformed_in(rt, style, file, text, byte))
         }
     }
 }
@@ -187,10 +195,15 @@ fn print_output<W: Write>(rt: &HostRuntime, output: &[u8], stdout: &mut W) -> Re
 }
 
 /// Writes to the file with this path, or reports why that failed.
-fn write_output_to(rt: &HostRuntime, path: &str, output: &[u8]) -> Result<(), Failure> {
+fn write_output_to(
+    rt: &HostRuntime,
+    style: Style,
+    path: &str,
+    output: &[u8],
+) -> Result<(), Failure> {
     match write_file(rt, path, output) {
         Ok(()) => Ok(()),
-        Err(error) => Err(Failure::of_write_to(rt, Escaped(path), error)),
+        Err(error) => Err(Failure::of_write_to(rt, style, Escaped(path), error)),
     }
 }
 
@@ -202,7 +215,7 @@ fn store_output(
     output: &[u8],
 ) -> Result<(), Failure> {
     match output_path(rt.alloc(), options, file) {
-        Ok(path) => write_output_to(rt, path.as_str(), output),
+        Ok(path) => write_output_to(rt, style_of(rt, options), path.as_str(), output),
         Err(_) => Err(Failure::memory(rt)),
     }
 }
@@ -259,7 +272,10 @@ pub(crate) fn convert_file(
 ) -> Result<(), Failure> {
     let bytes = match read_input(rt, file) {
         Ok(bytes) => bytes,
-        Err(error) => return Err(Failure::of_read(rt, shown(file), error)),
+        Err(error) => {
+            let style = style_of(rt, options);
+            return Err(Failure::of_read(rt, style, shown(file), error));
+        }
     };
     let mut stdout = rt.stdout();
     convert_bytes(

@@ -1,4 +1,4 @@
-//! What errors mean, for `--explain`. `tools/errors-page` writes docs/ERRORS.md from this table.
+//! What errors mean, for `--explain`. `tools/pages` writes docs/ERRORS.md from this table.
 
 use std::io;
 
@@ -94,7 +94,7 @@ const ENTRIES: [Entry; 36] = [
         words: "uncovered form",
         cause: "The module has a construct that the encoder does not support.",
         example: "(module (func i64.add128))",
-        fix: "Replace the construct. docs/FORMATS.md lists those that are not supported.",
+        fix: "Replace the construct. docs/ERRORS.md lists those that are not supported.",
     },
     Entry {
         number: "E12",
@@ -278,17 +278,28 @@ fn may_be(entry: &Entry, name: &str) -> bool {
     name.starts_with(entry.words) || entry.words.starts_with(name)
 }
 
+/// Returns whether this is the number of an entry, with its `E` or without, such as `E4`, `e4` and `4`.
+fn is_number_of(entry: &Entry, name: &str) -> bool {
+    let digits = name
+        .strip_prefix('E')
+        .or(name.strip_prefix('e'))
+        .unwrap_or(name);
+    entry.number.strip_prefix('E') == Some(digits)
+}
+
 /// Returns the entry with this number or these words. Otherwise it is the one with the most words that
-/// begin the name, or begin with it.
+/// begin the name, or begin with it. A message may be pasted with the `error: ` before it.
 ///
-/// For example, `E4` and `unknown func: failed to find name` are names of E4.
+/// For example, `E4`, `4` and `error: unknown func: failed to find name` are names of E4.
 pub(crate) fn entry_of(name: &str) -> Option<Entry> {
+    let name = name.trim();
+    let name = name.strip_prefix("error: ").unwrap_or(name);
     if name.is_empty() {
         return None;
     }
     let mut found: Option<Entry> = None;
     for entry in ENTRIES.iter() {
-        if entry.number == name || entry.words == name {
+        if is_number_of(entry, name) || entry.words == name {
             return Some(*entry);
         }
         let is_longer = match &found {

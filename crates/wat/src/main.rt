@@ -8,7 +8,7 @@
 //! # Modules
 //!
 //! - `options` reads the arguments, `help` prints the help, and `explanations` what errors mean.
-//! - `several` reports the errors of ids after the first one.
+//! - `several` reports the errors after the first one, for which `ids` finds the wrong ids of a module.
 //! - `colors` decides how diagnostics are printed.
 //! - `conversions` converts one file, `outputs` names its output, and `names` and `sections` make
 //!   what `--names` and `--no-names` print. `examples` has results that the prover computes.
@@ -21,6 +21,7 @@ mod conversions;
 mod examples;
 mod explanations;
 mod help;
+mod ids;
 mod names;
 mod options;
 mod outputs;

@@ -5,7 +5,7 @@ use crate::explanations::{Entry, entry_of};
 use std::alloc::Global;
 use std::env::Args;
 use std::fmt;
-use wat_command::{Choice, Escaped, STANDARD, choice_of, is_option, joined};
+use wat_command::{Choice, Escaped, STANDARD, choice_of, is_option, joined, near_option};
 
 /// The effect of an option.
 #[derive(Clone, Copy)]
@@ -32,7 +32,7 @@ pub(crate) enum Action {
     Version,
 }
 
-/// The options, in the order of the help. `tools/manual` reads this table, and writes the man page
+/// The options, in the order of the help. `tools/pages` reads this table, and writes the man page
 /// and the completions of shells from it.
 pub(crate) const OPTIONS: [Choice<Action>; 10] = [
     Choice {
@@ -179,6 +179,8 @@ pub(crate) enum Misuse {
     SharedOutput(String),
     /// This output is a file to read.
     ReadOutput(String),
+    /// This output is there, and has the name of a text.
+    TextOutput(String),
     /// Allocation failed.
     Memory,
 }
@@ -187,8 +189,11 @@ impl fmt::Display for Misuse {
     fn fmt<W: fmt::Write>(&self, f: &mut fmt::Formatter<W>) -> fmt::Result {
         match self {
             Misuse::UnknownOption(word) => {
-                let word = Escaped(word.as_str());
-                write!(f, "unknown option `{word}`")
+                let shown = Escaped(word.as_str());
+                match near_option(&OPTIONS, word.as_str()) {
+                    Some(near) => { write!(f, "unknown option `{shown}`; did you mean `{near}`?") }
+                    None => write!(f, "unknown option `{shown}`"),
+                }
             }
             Misuse::SecondOutput(word) => {
                 let word = Escaped(word.as_str());
@@ -229,6 +234,10 @@ impl fmt::Display for Misuse {
             Misuse::ReadOutput(path) => {
                 let path = Escaped(path.as_str());
                 write!(f, "output would replace a file to read: `{path}`")
+            }
+            Misuse::TextOutput(path) => {
+                let path = Escaped(path.as_str());
+                write!(f, "output would replace a text: `{path}`")
             }
             Misuse::Memory => f.write_str("out of memory"),
         }
@@ -405,6 +414,9 @@ impl Options {
 
     /// Sets the file to write.
     fn set_target(&mut self, choice: Choice<Action>, file: String) -> Result<(), Misuse> {
+        if file.is_empty() {
+            return Err(Misuse::NoValue(choice));
+        }
         if self.target.is_some() {
             return Err(Misuse::Repeated(choice));
         }

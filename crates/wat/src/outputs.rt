@@ -2,6 +2,7 @@
 
 use crate::options::{Misuse, Options, Output};
 use std::alloc::{AllocError, Global};
+use std::fs;
 use wat_command::{file_key, is_kept, split_path};
 
 /// Returns a name without this extension, if there is a name before it.
@@ -109,9 +110,31 @@ fn lost(rt: &HostRuntime, options: &Options) -> Result<Option<Misuse>, AllocErro
     Ok(None)
 }
 
-/// Checks that no output replaces another one or a file to read.
+/// Returns the file of `--output`, if it is there and has the name of a text. Nobody writes a module over a text on purpose.
+fn replaced_text(rt: &HostRuntime, options: &Options) -> Result<Option<Misuse>, AllocError> {
+    let Some(target) = &options.target else {
+        return Ok(None);
+    };
+    let path = target.as_str();
+    let is_text = path.ends_with(".wat") || path.ends_with(".wast");
+    if !is_text || fs::metadata(rt, path).is_err() {
+        return Ok(None);
+    }
+    let path = String::from_str(rt.alloc(), path)?;
+    Ok(Some(Misuse::TextOutput(path)))
+}
+
+/// Returns an output that would replace something else.
+fn replaced(rt: &HostRuntime, options: &Options) -> Result<Option<Misuse>, AllocError> {
+    match lost(rt, options)? {
+        Some(misuse) => Ok(Some(misuse)),
+        None => replaced_text(rt, options),
+    }
+}
+
+/// Checks that no output replaces another one, a file to read or a text.
 pub(crate) fn check_outputs(rt: &HostRuntime, options: &Options) -> Result<(), Misuse> {
-    match lost(rt, options) {
+    match replaced(rt, options) {
         Ok(None) => Ok(()),
         Ok(Some(misuse)) => Err(misuse),
         Err(_) => Err(Misuse::Memory),

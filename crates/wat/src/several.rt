@@ -1,116 +1,176 @@
 //! Reports several errors of one text.
 //!
-//! An error of an id hides the errors after it. So the id is overwritten in a copy of the text, and the
-//! copy is read again. For example, `(start $f) (export "a" (func $g))` has two errors: the copy is
-//! `(start 0 ) (export "a" (func $g))`. All offsets stay the same.
+//! After an error of an id, the tree is searched for other wrong ids. After an error in the text format, its field is overwritten by
+//! blanks in a copy of the text, and the copy is read. For example, `(func i32.foo) (func i32.bar)` has two errors: the copy is
+//! `               (func i32.bar)`. All offsets stay the same.
 
-use std::alloc::AllocError;
+use crate::ids::{WrongId, WrongIds, wrong_ids};
+use std::alloc::{AllocError, Global};
 use std::str;
-use wast_tree::{Error, Fault};
-use wat_bytes::{Refused, encode_text};
-use wat_command::{Escaped, Failure, Style, report_in};
-use wat_messages::Diagnostic;
-use wat_text::Strings;
+use wast_tree::{Fault, ModuleField, Seq, discard_fields};
+use wat_bytes::Refused;
+use wat_command::{Escaped, Failure, Style, report_id_in, report_in, say_more};
+use wat_messages::{Range, field_around};
+use wat_text::{Strings, TextError, TextKind, TextModule, read};
 
 /// At most this many errors of one text are reported.
 const MOST: usize = 20;
 
-/// What is written over an id: a character, and blanks after it.
-#[derive(Clone, Copy)]
-struct Patch {
-    /// The offset of the id.
-    start: usize,
-    /// The offset after the id.
-    end: usize,
-    /// The character.
-    first: u8,
-}
+/// What is said if there are more.
+const MORE: &str = "20 shown; more follow";
 
-/// Returns what is written over the id that an error is about: an index, or nothing where the id can be
-/// left out.
-fn character_for(error: &Error<'_>) -> Option<u8> {
-    match error.fault() {
-        Fault::Unknown(_, _) => Some(b'0'),
-        Fault::Duplicate(_) | Fault::DuplicateField(_, _) | Fault::Labels => Some(b' '),
-        _ => None,
-    }
-}
-
-/// Returns the patch for an error, if it is about an id.
-fn patch_of<'a>(text: &'a str, refused: &Refused<'a>) -> Option<Patch> {
+/// Returns the position of the id that an error is about, if it is about one.
+fn id_of(refused: &Refused<'_>) -> Option<usize> {
     let Refused::Module(error) = refused else {
         return None;
     };
-    let first = character_for(error)?;
-    let range = Diagnostic::of_module(text, *error).range()?;
-    match text.as_bytes().get(range.start).copied() {
-        Some(b'$') => Some(Patch {
-            start: range.start,
-            end: range.end,
-            first,
-        }),
+    match error.fault() {
+        Fault::Unknown(_, _) | Fault::Duplicate(_) | Fault::DuplicateField(_, _) | Fault::Labels =>
+            error.span().map(|span| span.offset),
         _ => None,
     }
 }
 
-/// Writes a patch.
-fn apply(bytes: &mut [u8], patch: Patch) {
-    for index in patch.start..patch.end {
-        let character = if index == patch.start {
-            patch.first
-        } else {
-            b' '
+/// Reports a wrong id.
+fn report_id(
+    rt: &HostRuntime,
+    style: Style,
+    file: Escaped<'_>,
+    text: &str,
+    id: &WrongId,
+) -> Failure {
+    match id.known() {
+        Some(known) => report_id_in(rt, style, file, text, id.error(), known),
+        None => report_in(rt, style, file, text, &Refused::Module(id.error())),
+    }
+}
+
+/// Reports wrong ids, but not that of the first error, which is at an offset.
+fn report_ids(
+    rt: &HostRuntime,
+    style: Style,
+    file: Escaped<'_>,
+    text: &str,
+    wrong: &WrongIds,
+    first: usize,
+) {
+    let mut shown = 1_usize;
+    for place in 0..wrong.len() {
+        let Some(id) = wrong.get(place) else {
+            return;
         };
-        if let Some(byte) = bytes.get_mut(index) {
-            *byte = character;
+        if id.start != first {
+            if shown == MOST {
+                say_more(rt, style, file, MORE);
+                return;
+            }
+            let _ = report_id(rt, style, file, text, id);
+            shown = shown.saturating_add(1);
         }
     }
 }
 
-/// Reports the error of a copy of a text, if it is about an id, and returns the patch for it.
-fn report_next(
+/// Returns the fields of a module that was read. One that is written as bytes has none.
+fn fields_of<'a>(alloc: Global, module: TextModule<'a>) -> Seq<ModuleField<'a>> {
+    let TextModule {
+        span: _span,
+        id: _id,
+        name: _name,
+        kind,
+    } = module;
+    match kind {
+        TextKind::Fields(fields) => fields,
+        TextKind::Binary(pieces) => {
+            drop(pieces);
+            Seq::new(alloc)
+        }
+    }
+}
+
+/// Returns the wrong ids of a module that was read.
+fn wrong_ids_of(rt: &HostRuntime, module: TextModule<'_>) -> Result<WrongIds, AllocError> {
+    let fields = fields_of(rt.alloc(), module);
+    let found = wrong_ids(rt.alloc(), fields.as_slice());
+    discard_fields(fields);
+    found
+}
+
+/// Reports the errors of ids after the first one, which is at an offset.
+fn report_other_ids(
     rt: &HostRuntime,
     style: Style,
     file: Escaped<'_>,
     text: &str,
-    copy: &[u8],
-) -> Option<Patch> {
-    let Ok(patched) = str::from_utf8(copy) else {
-        return None;
-    };
+    first: usize,
+) -> Result<(), AllocError> {
     let strings = Strings::new(rt.alloc());
-    match encode_text(rt.alloc(), patched, &strings) {
-        Ok(_) => None,
-        Err(refused) => {
-            let patch = patch_of(text, &refused)?;
-            let _ = report_in(rt, style, file, text, &refused);
-            Some(patch)
+    match read(rt.alloc(), text, &strings) {
+        Ok(module) => {
+            let found = wrong_ids_of(rt, module)?;
+            report_ids(rt, style, file, text, &found, first);
+            Ok(())
+        }
+        Err(_) => Ok(()),
+    }
+}
+
+/// Overwrites a part of a text with blanks.
+fn blank(bytes: &mut [u8], part: Range) {
+    for index in part.start..part.end {
+        if let Some(byte) = bytes.get_mut(index) {
+            *byte = b' ';
         }
     }
 }
 
-/// Reports the errors after the first one, for which this is the patch.
-fn report_rest(
+/// Returns the error of a copy of a text in the text format.
+fn error_in(rt: &HostRuntime, copy: &[u8]) -> Option<TextError> {
+    let text = str::from_utf8(copy).ok()?;
+    let strings = Strings::new(rt.alloc());
+    match read(rt.alloc(), text, &strings) {
+        Ok(module) => {
+            discard_fields(fields_of(rt.alloc(), module));
+            None
+        }
+        Err(error) => Some(error),
+    }
+}
+
+/// Reports the errors in other fields than the first one, which is at an offset. They are of the text format alone: other errors could be
+/// consequences, because the field with the error may define ids.
+fn report_other_fields(
     rt: &HostRuntime,
     style: Style,
     file: Escaped<'_>,
     text: &str,
-    first: Patch,
+    first: usize,
 ) -> Result<(), AllocError> {
     let mut copy = Vec::new(rt.alloc());
     copy.extend_from_slice(text.as_bytes())?;
-    let mut patch = first;
-    for _ in 1..MOST {
-        apply(copy.as_mut_slice(), patch);
-        match report_next(rt, style, file, text, copy.as_slice()) {
-            Some(next) => patch = next,
-            None => break,
+    let mut at = first;
+    for shown in 1..=MOST {
+        let Some(field) = field_around(text, at) else {
+            break;
+        };
+        blank(copy.as_mut_slice(), field);
+        let Some(error) = error_in(rt, copy.as_slice()) else {
+            break;
+        };
+        let refused = Refused::Text(error);
+        if refused.number().is_some() {
+            break;
         }
+        if shown == MOST {
+            say_more(rt, style, file, MORE);
+            break;
+        }
+        let _ = report_in(rt, style, file, text, &refused);
+        at = error.span.offset;
     }
     Ok(())
 }
 
-/// Reports the error of a text. If it is about an id, reports those of other ids too, at most 20 in all.
+/// Reports the error of a text, and those after it: of other ids, or in other fields. At most 20 are reported.
 pub(crate) fn report_all<'a>(
     rt: &HostRuntime,
     style: Style,
@@ -119,10 +179,15 @@ pub(crate) fn report_all<'a>(
     refused: &Refused<'a>,
 ) -> Failure {
     let failure = report_in(rt, style, file, text, refused);
-    if let Failure::Text = failure {
-        if let Some(patch) = patch_of(text, refused) {
-            let _ = report_rest(rt, style, file, text, patch);
-        }
+    if let Failure::Memory = failure {
+        return failure;
     }
+    let _ = match refused {
+        Refused::Text(error) => report_other_fields(rt, style, file, text, error.span.offset),
+        _ => match id_of(refused) {
+            Some(first) => report_other_ids(rt, style, file, text, first),
+            None => Ok(()),
+        },
+    };
     failure
 }

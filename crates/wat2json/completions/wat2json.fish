@@ -1,4 +1,4 @@
-# fish completion of the command `wat2json`, written by tools/manual.
+# fish completion of the command `wat2json`, written by tools/pages.
 
 complete -c wat2json -s o -l output -r -F -d 'write the JSON to FILE, the modules beside it (`-` is standard output)'
 complete -c wat2json -l out-dir -x -a '(__fish_complete_directories)' -d 'write the modules into FOLDER, and `NAME.json` unless with `-o -`'

@@ -1,79 +1,16 @@
 //! Converts the modules of a script to files.
 
+ghost use Rattle.std.specs.Prelude.{◌≡◌, true, IfOk, string_bytes};
+ghost use Rattle.wat2json.specs.Files.{IsContents, IsEncoded, file_name};
+
 use crate::refusals::{Refusal, is_of_names, is_uncovered};
 use std::alloc::{AllocError, Global};
-use std::str;
 use wast_script::{ModuleForm, Script, ScriptModule};
 use wast_script_json::{ConvertedModule, ModuleFile, Role, commands_of, module_of};
+use wast_script_records::encode_module;
 use wast_tree::Span;
-use wat_bytes::{Refused, UncoveredForm, encode_text, encoded_text};
+use wat_bytes::Refused;
 use wat_text::Strings;
-
-/// The word of a module that is defined and not instantiated, which only scripts have, and as many spaces.
-const DEFINITION: (&str, &str) = ("definition", "          ");
-
-/// Returns the text of a module with spaces for the first `definition`, so that positions in it stay; `None` without that word, or
-/// if an allocation failed.
-fn without_definition<'a>(alloc: Global, source: &str, strings: &'a Strings) -> Option<&'a str> {
-    let (word, spaces) = DEFINITION;
-    let (before, after) = source.split_once(word)?;
-    let text = format!(in alloc; "{before}{spaces}{after}").ok()?;
-    let kept = strings.keep(text.as_bytes()).ok()?;
-    str::from_utf8(kept).ok()
-}
-
-/// Returns the unsupported construct that encoding a text finds.
-fn found_in<'a>(alloc: Global, text: &'a str, strings: &'a Strings) -> Option<UncoveredForm<'a>> {
-    match encode_text(alloc, text, strings) {
-        Err(Refused::Uncovered(written)) => Some(written),
-        _ => None,
-    }
-}
-
-/// Returns an unsupported construct with its word and the position of that, as encoding the text of the module finds them. In quotes
-/// it has the closest position known, and no word.
-fn as_written<'a>(
-    alloc: Global,
-    script: &Script<'a>,
-    strings: &'a Strings,
-    module: &ScriptModule<'a>,
-    found: UncoveredForm<'a>,
-) -> UncoveredForm<'a> {
-    let start = script.start(module).offset;
-    let source = script.source(module);
-    let written = match found_in(alloc, source, strings) {
-        Some(written) => Some(written),
-        None => match without_definition(alloc, source, strings) {
-            Some(text) => found_in(alloc, text, strings),
-            None => None,
-        },
-    };
-    let Some(written) = written else {
-        return found;
-    };
-    let offset = written.span.offset.saturating_add(start);
-    let span = Span { offset };
-    UncoveredForm { span, ..written }
-}
-
-/// Returns the bytes of a module that is instantiated or encoded.
-fn bytes_of<'a>(
-    alloc: Global,
-    script: &Script<'a>,
-    strings: &'a Strings,
-    module: &ScriptModule<'a>,
-) -> Result<Vec<u8>, Refused<'a>> {
-    match script.read(alloc, module, strings) {
-        Ok(text) => match encoded_text(alloc, text) {
-            Err(Refused::Uncovered(found)) => {
-                let written = as_written(alloc, script, strings, module, found);
-                Err(Refused::Uncovered(written))
-            }
-            answer => answer,
-        },
-        Err(error) => Err(Refused::Text(error)),
-    }
-}
 
 /// The contents of a module's file: its bytes or its text.
 #[derive(Drop)]
@@ -83,7 +20,9 @@ struct Contents {
 }
 
 /// Returns a text as the contents of a file.
-fn text_contents(alloc: Global, text: &str) -> Result<Contents, AllocError> {
+fn text_contents(alloc: Global, text: &str) -> Result<Contents, AllocError>
+    ensures { IfOk result (λ c. (c.is_text ≡ true) × (c.bytes.items ≡ text.now)) }
+{
     Ok(Contents {
         bytes: Vec::from_slice(alloc, text.as_bytes())?,
         is_text: true,
@@ -97,17 +36,19 @@ fn encoded_contents<'a>(
     strings: &'a Strings,
     module: &ScriptModule<'a>,
     role: Role,
-) -> Result<Contents, Refusal<'a>> {
-    match bytes_of(alloc, script, strings, module) {
+) -> Result<Contents, Refusal<'a>>
+    ensures { IfOk result (IsEncoded script.now «module».now role) }
+{
+    match encode_module(alloc, script, strings, module) {
         Ok(bytes) => Ok(Contents {
             bytes,
             is_text: false,
         }),
-        Err(refused) if matches!(role, Role::Wrong) && is_of_names(&refused) => {
+        Err(error) if matches!(role, Role::Wrong) && is_of_names(&error.refused) => {
             let contents = text_contents(alloc, script.source(module))?;
             Ok(contents)
         }
-        Err(refused) => Err(Refusal(refused)),
+        Err(error) => Err(Refusal(error.in_script())),
     }
 }
 
@@ -118,7 +59,9 @@ fn contents_of<'a>(
     strings: &'a Strings,
     module: &ScriptModule<'a>,
     role: Role,
-) -> Result<Contents, Refusal<'a>> {
+) -> Result<Contents, Refusal<'a>>
+    ensures { IfOk result (IsContents script.now «module».now role) }
+{
     let is_quoted = matches!(module.form, ModuleForm::Quote);
     if matches!(role, Role::Run) || matches!(module.form, ModuleForm::Fields) {
         return encoded_contents(alloc, script, strings, module, role);
@@ -136,7 +79,10 @@ fn file_of(
     stem: &str,
     number: usize,
     contents: Contents,
-) -> Result<ModuleFile, AllocError> {
+) -> Result<ModuleFile, AllocError>
+    ensures name { IfOk result (λ f. string_bytes f.name ≡ file_name stem.now number f.is_text) }
+    ensures bytes { IfOk result (λ f. (f.bytes ≡ contents.bytes) × (f.is_text ≡ contents.is_text)) }
+{
     let Contents { bytes, is_text } = contents;
     let extension = if is_text { "wat" } else { "wasm" };
     let name = format!(in alloc; "{stem}.{number}.{extension}")?;

@@ -1,4 +1,4 @@
-//! The text of `--help`. `tools/manual` reads the strings of this file for the man page.
+//! The text of `--help`. `tools/pages` reads the strings of this file for the man page.
 
 use crate::options::OPTIONS;
 use std::io;

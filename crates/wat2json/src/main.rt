@@ -25,7 +25,7 @@ use refusals::Refusal;
 use std::process::ExitCode;
 use std::{env, io, str};
 use wast_script::{Script, read_script};
-use wat_command::{Failure, read_input, report, report_malformed, shown, text_before, warn};
+use wat_command::{Failure, Style, read_input, report, report_malformed, shown, text_before, warn};
 use wat_text::Strings;
 
 /// The version of the command.
@@ -126,7 +126,8 @@ fn convert_bytes(
         Ok(text) => convert_text(rt, options, outputs, text),
         Err(error) => {
             let text = text_before(bytes, error.valid_up_to());
-            Err(report_malformed(rt, shown(options.file.as_str()), text))
+            let wrong = bytes.get(error.valid_up_to()).copied();
+            Err(report_malformed(rt, shown(options.file.as_str()), text, wrong))
         }
     }
 }
@@ -139,7 +140,7 @@ fn convert(rt: &HostRuntime, options: &Options) -> Result<Ending, Failure> {
     };
     match read_input(rt, file) {
         Ok(bytes) => convert_bytes(rt, options, &outputs, bytes.as_slice()),
-        Err(error) => Err(Failure::of_read(rt, shown(file), error)),
+        Err(error) => Err(Failure::of_read(rt, Style::Plain, shown(file), error)),
     }
 }
 

@@ -20,7 +20,7 @@ pub(crate) enum Action {
     Version,
 }
 
-/// The options, in the order of the help. `tools/manual` reads this table, and writes the man page
+/// The options, in the order of the help. `tools/pages` reads this table, and writes the man page
 /// and the completions of shells from it.
 pub(crate) const OPTIONS: [Choice<Action>; 5] = [
     Choice {

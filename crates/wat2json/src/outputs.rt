@@ -11,7 +11,8 @@ use std::io::{self, Write};
 use wast_script::{Command, Script};
 use wast_script_json::{ConvertedModule, ModuleFile, ScriptJson, commands_of, module_of};
 use wat_command::{
-    Escaped, Failure, NewFile, STANDARD, file_key, is_kept, split_path, write_bytes, write_unsynced,
+    Escaped, Failure, NewFile, STANDARD, Style, file_key, is_kept, split_path, write_bytes,
+    write_unsynced,
 };
 
 /// A piece of the JSON is written when it has so many bytes.
@@ -139,7 +140,7 @@ fn write_module(rt: &HostRuntime, outputs: &Outputs, file: &ModuleFile) -> Resul
     };
     match write_unsynced(rt, path.as_str(), file.bytes.as_slice()) {
         Ok(()) => Ok(()),
-        Err(error) => Err(Failure::of_write_to(rt, Escaped(path.as_str()), error)),
+        Err(error) => Err(Failure::of_write_to(rt, Style::Plain, Escaped(path.as_str()), error)),
     }
 }
 
@@ -285,6 +286,6 @@ pub(crate) fn write_outputs(
     };
     match write_target(rt, source, script, modules, target.as_str()) {
         Ok(()) => Ok(()),
-        Err(error) => Err(Failure::of_write_to(rt, Escaped(target.as_str()), error)),
+        Err(error) => Err(Failure::of_write_to(rt, Style::Plain, Escaped(target.as_str()), error)),
     }
 }

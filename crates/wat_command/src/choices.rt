@@ -2,7 +2,8 @@
 
 use crate::files::STANDARD;
 use std::alloc::{AllocError, Global};
-use std::{fmt, io};
+use std::{fmt, io, str};
+use wat_messages::Nearest;
 
 /// An option of a command. Its effect is of a type of the command.
 #[derive(Clone, Copy)]
@@ -40,22 +41,76 @@ pub fn is_option(word: &str) -> bool {
     word.starts_with('-') && word != STANDARD
 }
 
-/// Returns the long option and the value of a word that has both, for example `--output=FILE`.
+/// Returns the value that follows the short form of an option in a word, for example in `-oFILE`. After `-o=` it could be meant
+/// with the `=` or without, so there is none.
+fn short_value<'a, A: Copy>(choice: &Choice<A>, word: &'a str) -> Option<&'a str> {
+    if choice.short.is_empty() || choice.value.is_empty() {
+        return None;
+    }
+    match word.strip_prefix(choice.short) {
+        Some(value) if !value.is_empty() && !value.starts_with('=') => Some(value),
+        _ => None,
+    }
+}
+
+/// Returns the option and the value of a word that has both in this way.
+fn joined_short<A: Copy>(
+    alloc: Global,
+    choices: &[Choice<A>],
+    word: &str,
+) -> Result<Option<(Choice<A>, String)>, AllocError> {
+    for choice in choices.iter() {
+        if let Some(value) = short_value(choice, word) {
+            let value = String::from_str(alloc, value)?;
+            return Ok(choice_of(choices, choice.long).map(|choice| (choice, value)));
+        }
+    }
+    Ok(None)
+}
+
+/// Returns the option and the value of a word that has both, for example `--output=FILE` or `-oFILE`.
 pub fn joined<A: Copy>(
     alloc: Global,
     choices: &[Choice<A>],
     word: &str,
 ) -> Result<Option<(Choice<A>, String)>, AllocError> {
     let Some((name, value)) = word.split_once('=') else {
-        return Ok(None);
+        return joined_short(alloc, choices, word);
     };
     match choice_of(choices, name) {
         Some(choice) if name == choice.long => {
             let value = String::from_str(alloc, value)?;
             Ok(Some((choice, value)))
         }
-        _ => Ok(None),
+        _ => joined_short(alloc, choices, word),
     }
+}
+
+/// Returns whether a word is a short form, but for its case.
+fn has_other_case(short: &str, word: &str) -> bool {
+    match (short.as_bytes(), word.as_bytes()) {
+        ([b'-', first], [b'-', second]) => first.eq_ignore_ascii_case(second),
+        _ => false,
+    }
+}
+
+/// Returns the form of an option that may be meant by a word that is none, with or without a value after `=`: the nearest long form,
+/// or a short form in the other case.
+///
+/// For example, `--hex` may be meant by `--hexx`, and `-V` by `-v`.
+pub fn near_option<'a, A: Copy>(choices: &[Choice<A>], word: &'a str) -> Option<&'a str> {
+    let name = match word.split_once('=') {
+        Some((name, _)) => name,
+        None => word,
+    };
+    let mut nearest = Nearest::new(name.as_bytes());
+    for choice in choices.iter() {
+        if has_other_case(choice.short, name) {
+            return Some(choice.short);
+        }
+        nearest.compare(choice.long.as_bytes());
+    }
+    str::from_utf8(nearest.found()?).ok()
 }
 
 /// How many columns a long form and its value have in the list of options.

@@ -4,15 +4,17 @@
 //! most some hundred columns, however long a line of the text or a name is. The time is linear in
 //! the text.
 
-use crate::escapes::{Blanks, Escaped, Margin, SourceText, Underline, is_bidirectional_control};
+use crate::escapes::{
+    Blanks, Escaped, Margin, SourceText, Underline, WrongByte, is_bidirectional_control,
+};
 use crate::failures::Failure;
-use crate::json::{error_line, warning_line};
+use crate::json::{error_line, message_line};
 use crate::styles::{Colors, Style};
 use std::alloc::{AllocError, Global};
 use std::io;
-use wast_tree::{Span, line_and_column};
+use wast_tree::{Error, Span, line_and_column};
 use wat_bytes::Refused;
-use wat_messages::{Diagnostic, Range, range_in};
+use wat_messages::{Diagnostic, KnownId, Range, range_in};
 
 /// At most this many bytes of a source line are printed, those around the caret.
 const LINE: usize = 120;
@@ -86,8 +88,15 @@ fn excerpt_at(text: &str, offset: usize) -> Excerpt<'_> {
 }
 
 /// Prints a range: the line of its start, and a caret and tildes under the part of it that is in
-/// this line. Does not allocate.
-fn print_range(rt: &HostRuntime, style: Style, file: Escaped<'_>, text: &str, range: Range) {
+/// this line. A text that ends before a byte that is not UTF-8 is shown with it. Does not allocate.
+fn print_range(
+    rt: &HostRuntime,
+    style: Style,
+    file: Escaped<'_>,
+    text: &str,
+    range: Range,
+    wrong: Option<u8>,
+) {
     let place = Span {
         offset: range.start,
     };
@@ -102,6 +111,7 @@ fn print_range(rt: &HostRuntime, style: Style, file: Escaped<'_>, text: &str, ra
     let (marked, _) = cut_after(after, range.end.saturating_sub(range.start));
     let (shown, rest) = (SourceText(before), SourceText(after));
     let (left, blanks, marks) = (Blanks(head), Blanks(before), Underline(marked));
+    let (byte, more) = (WrongByte(wrong), if wrong.is_some() { "~~~" } else { "" });
     let Colors {
         error,
         margin,
@@ -110,8 +120,8 @@ fn print_range(rt: &HostRuntime, style: Style, file: Escaped<'_>, text: &str, ra
     } = style.colors();
     let _ = eprintln!(rt; "{margin}{spaces}-->{reset} {file}:{number}:{column}");
     let _ = eprintln!(rt; "{margin}{spaces} |{reset}");
-    let _ = eprintln!(rt; "{margin}{number} |{reset} {head}{shown}{rest}{tail}");
-    let _ = eprintln!(rt; "{margin}{spaces} |{reset} {left}{blanks}{error}{marks}{reset}");
+    let _ = eprintln!(rt; "{margin}{number} |{reset} {head}{shown}{rest}{tail}{byte}");
+    let _ = eprintln!(rt; "{margin}{spaces} |{reset} {left}{blanks}{error}{marks}{more}{reset}");
 }
 
 /// Returns the message of an error.
@@ -126,6 +136,7 @@ fn print_lines(
     file: Escaped<'_>,
     text: &str,
     diagnostic: &Diagnostic<'_>,
+    wrong: Option<u8>,
 ) -> Result<(), AllocError> {
     let message = message_of(rt.alloc(), diagnostic)?;
     let (shown, tail) = cut_after(message.as_str(), MESSAGE);
@@ -138,7 +149,7 @@ fn print_lines(
     } = style.colors();
     let _ = eprintln!(rt; "{error}error{reset}{strong}: {shown}{tail}{reset}");
     match diagnostic.range() {
-        Some(range) => print_range(rt, style, file, text, range),
+        Some(range) => print_range(rt, style, file, text, range, wrong),
         None => {
             let _ = eprintln!(rt; " --> {file}");
         }
@@ -154,10 +165,11 @@ fn print_diagnostic(
     text: &str,
     diagnostic: &Diagnostic<'_>,
     number: Option<u32>,
+    wrong: Option<u8>,
 ) -> Failure {
     let printed = match style {
         Style::Json => print_json(rt, file, text, diagnostic, number),
-        Style::Plain | Style::Colored => print_lines(rt, style, file, text, diagnostic),
+        Style::Plain | Style::Colored => print_lines(rt, style, file, text, diagnostic, wrong),
     };
     match printed {
         Ok(()) => Failure::Text,
@@ -201,7 +213,28 @@ pub fn report_in<'a>(
         return Failure::memory(rt);
     }
     let diagnostic = diagnostic_of(text, refused);
-    print_diagnostic(rt, style, file, text, &diagnostic, refused.number())
+    print_diagnostic(rt, style, file, text, &diagnostic, refused.number(), None)
+}
+
+/// Reports the error of an id in a style, for a caller who knows the definitions.
+pub fn report_id_in<'a>(
+    rt: &HostRuntime,
+    style: Style,
+    file: Escaped<'_>,
+    text: &'a str,
+    error: Error<'a>,
+    known: KnownId<'a>,
+) -> Failure {
+    let diagnostic = Diagnostic::of_id(text, error, known);
+    print_diagnostic(
+        rt,
+        style,
+        file,
+        text,
+        &diagnostic,
+        Some(error.number()),
+        None,
+    )
 }
 
 /// Reports bytes that are not UTF-8 in a style. The text is the bytes before the first wrong one.
@@ -210,9 +243,42 @@ pub fn report_malformed_in(
     style: Style,
     file: Escaped<'_>,
     text: &str,
+    wrong: Option<u8>,
 ) -> Failure {
     let diagnostic = Diagnostic::of_bytes(text);
-    print_diagnostic(rt, style, file, text, &diagnostic, None)
+    print_diagnostic(rt, style, file, text, &diagnostic, None, wrong)
+}
+
+/// Prints a message about a whole file as an object of JSON, if there is memory.
+fn print_file_json(rt: &HostRuntime, severity: &str, file: Escaped<'_>, message: &str) {
+    if let Ok(line) = message_line(rt.alloc(), severity, file.0, "", message, None) {
+        let _ = eprintln!(rt; "{line}");
+    }
+}
+
+/// Reports in a style that a file is no text, with a message.
+pub fn report_file_in(rt: &HostRuntime, style: Style, file: Escaped<'_>, message: &str) -> Failure {
+    if style == Style::Json {
+        print_file_json(rt, "error", file, message);
+        return Failure::Text;
+    }
+    let Colors {
+        error,
+        strong,
+        reset,
+        ..
+    } = style.colors();
+    let _ = eprintln!(rt; "{error}error{reset}{strong}: {message}{reset}\n --> {file}");
+    Failure::Text
+}
+
+/// Says in a style that a file has more errors than those that are reported.
+pub fn say_more(rt: &HostRuntime, style: Style, file: Escaped<'_>, message: &str) {
+    if style == Style::Json {
+        print_file_json(rt, "note", file, message);
+        return;
+    }
+    let _ = eprintln!(rt; "{message}");
 }
 
 /// Reports the error of a text, with its range, as lines without colours.
@@ -228,8 +294,13 @@ pub fn report<'a>(
 
 /// Reports bytes that are not UTF-8, as lines without colours. The text is the bytes before the
 /// first wrong one.
-pub fn report_malformed(rt: &HostRuntime, file: Escaped<'_>, text: &str) -> Failure {
-    report_malformed_in(rt, Style::Plain, file, text)
+pub fn report_malformed(
+    rt: &HostRuntime,
+    file: Escaped<'_>,
+    text: &str,
+    wrong: Option<u8>,
+) -> Failure {
+    report_malformed_in(rt, Style::Plain, file, text, wrong)
 }
 
 /// Returns whether a text may have bidirectional control characters. In UTF-8 each of them begins
@@ -262,7 +333,7 @@ fn first_bidirectional_control(text: &str) -> Option<usize> {
 fn warn_in_json(rt: &HostRuntime, file: Escaped<'_>, text: &str, offset: usize) {
     let range = range_in(text, offset, 1);
     let message = "bidirectional control character";
-    if let Ok(line) = warning_line(rt.alloc(), file.0, text, message, range) {
+    if let Ok(line) = message_line(rt.alloc(), "warning", file.0, text, message, Some(range)) {
         let _ = eprintln!(rt; "{line}");
     }
 }

@@ -131,6 +131,19 @@ impl fmt::Display for Underline<'_> {
     }
 }
 
+/// Prints a byte that belongs to no character, such as `\xff`. If there is none, it prints nothing.
+#[derive(Clone, Copy)]
+pub(crate) struct WrongByte(pub Option<u8>);
+
+impl fmt::Display for WrongByte {
+    fn fmt<W: fmt::Write>(&self, f: &mut fmt::Formatter<W>) -> fmt::Result {
+        match self.0 {
+            Some(byte) => write!(f, "\\x{byte:02x}"),
+            None => Ok(()),
+        }
+    }
+}
+
 /// Prints as many blanks as a number has decimal digits.
 #[derive(Clone, Copy)]
 pub(crate) struct Margin(pub usize);

@@ -1,6 +1,9 @@
 //! Failed runs and their exit status.
 
 use crate::escapes::Escaped;
+use crate::json::message_line;
+use crate::styles::Style;
+use std::alloc::{AllocError, Global};
 use std::io;
 use std::process::ExitCode;
 
@@ -16,6 +19,17 @@ pub enum Failure {
     System,
     /// Allocation failed.
     Memory,
+}
+
+/// Returns the object of JSON for a file that cannot be read or written.
+fn file_line(
+    alloc: Global,
+    verb: &str,
+    file: Escaped<'_>,
+    error: &io::Error,
+) -> Result<String, AllocError> {
+    let message = format!(in alloc; "cannot {verb} {file}: {error}")?;
+    message_line(alloc, "error", file.0, "", message.as_str(), None)
 }
 
 impl Failure {
@@ -56,30 +70,54 @@ impl Failure {
         Failure::System
     }
 
-    /// Reports that the input cannot be read.
-    pub fn of_read(rt: &HostRuntime, file: Escaped<'_>, error: io::Error) -> Failure {
+    /// Reports in a style that a file cannot be read or written.
+    fn of_file(
+        rt: &HostRuntime,
+        style: Style,
+        verb: &str,
+        file: Escaped<'_>,
+        error: io::Error,
+    ) -> Failure {
         if let io::ErrorKind::OutOfMemory = error.kind() {
             return Failure::memory(rt);
         }
-        let _ = eprintln!(rt; "error: cannot read {file}: {error}");
-        Failure::System
+        if style != Style::Json {
+            let _ = eprintln!(rt; "error: cannot {verb} {file}: {error}");
+            return Failure::System;
+        }
+        match file_line(rt.alloc(), verb, file, &error) {
+            Ok(line) => {
+                let _ = eprintln!(rt; "{line}");
+                Failure::System
+            }
+            Err(_) => Failure::memory(rt),
+        }
     }
 
-    /// Reports that standard output cannot be written.
+    /// Reports in a style that the input cannot be read.
+    pub fn of_read(rt: &HostRuntime, style: Style, file: Escaped<'_>, error: io::Error) -> Failure {
+        Failure::of_file(rt, style, "read", file, error)
+    }
+
+    /// Reports that standard output cannot be written. Nothing is printed if its reader has closed it, as `head` does when it has
+    /// enough.
     pub fn of_write(rt: &HostRuntime, error: io::Error) -> Failure {
-        if let io::ErrorKind::OutOfMemory = error.kind() {
-            return Failure::memory(rt);
+        match error.kind() {
+            io::ErrorKind::OutOfMemory => return Failure::memory(rt),
+            io::ErrorKind::BrokenPipe => return Failure::System,
+            _ => {}
         }
         let _ = eprintln!(rt; "error: cannot write output: {error}");
         Failure::System
     }
 
-    /// Reports that the file of an output cannot be written.
-    pub fn of_write_to(rt: &HostRuntime, file: Escaped<'_>, error: io::Error) -> Failure {
-        if let io::ErrorKind::OutOfMemory = error.kind() {
-            return Failure::memory(rt);
-        }
-        let _ = eprintln!(rt; "error: cannot write {file}: {error}");
-        Failure::System
+    /// Reports in a style that the file of an output cannot be written.
+    pub fn of_write_to(
+        rt: &HostRuntime,
+        style: Style,
+        file: Escaped<'_>,
+        error: io::Error,
+    ) -> Failure {
+        Failure::of_file(rt, style, "write", file, error)
     }
 }

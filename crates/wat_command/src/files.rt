@@ -6,9 +6,9 @@ ghost use Rattle.wat_command.specs.Fronts.{AppendsFront};
 
 use crate::escapes::Escaped;
 use std::alloc::AllocError;
-use std::fs::{self, File, Metadata, OpenOptions};
+use std::fs::{self, File, Metadata, OpenOptions, Permissions};
 use std::io::{self, ErrorKind, Read, Write};
-use std::os::unix::fs::{MetadataExt, OpenOptionsExt, PermissionsExt};
+use std::os::unix::fs::{MetadataExt, OpenOptionsExt, PermissionsExt, fchown};
 use std::str;
 
 /// The file name for standard input and standard output.
@@ -16,6 +16,9 @@ pub const STANDARD: &str = "-";
 
 /// At most this many names of temporary files are tried.
 const MOST: u32 = 1_000_000;
+
+/// At most this many links are followed, as by the system.
+const LINKS: u32 = 40;
 
 /// A file that is written piece by piece, and gets its name when it is complete.
 #[derive(Drop)]
@@ -48,6 +51,33 @@ fn key_in(rt: &HostRuntime, found: &Metadata, name: &str) -> Result<String, Allo
     format!(in rt.alloc(); "{device} {number} {name}")
 }
 
+/// Returns the path that a symbolic link leads to, or nothing if this is no link.
+fn linked(rt: &HostRuntime, path: &str) -> Result<Option<String>, AllocError> {
+    match fs::read_link(rt, path) {
+        Ok(target) => {
+            let target = target.as_str();
+            let (folder, _) = split_path(path);
+            let folder = if target.starts_with('/') { "" } else { folder };
+            let path = format!(in rt.alloc(); "{folder}{target}")?;
+            Ok(Some(path))
+        }
+        Err(error) if error.kind() == ErrorKind::OutOfMemory => Err(AllocError),
+        Err(_) => Ok(None),
+    }
+}
+
+/// Returns the path at which a file is created that is opened by this one: that of a link which leads to nothing is another.
+fn end_of_links(rt: &HostRuntime, path: &str) -> Result<String, AllocError> {
+    let mut path = String::from_str(rt.alloc(), path)?;
+    for _ in 0..LINKS {
+        match linked(rt, path.as_str())? {
+            Some(next) => path = next,
+            None => break,
+        }
+    }
+    Ok(path)
+}
+
 /// Returns the key of a file. All paths of one file have the same key, also those through links.
 ///
 /// For a file that does not exist yet it is made of its folder and its name. A path in a folder that
@@ -56,6 +86,8 @@ pub fn file_key(rt: &HostRuntime, path: &str) -> Result<String, AllocError> {
     if let Ok(found) = fs::metadata(rt, path) {
         return key_in(rt, &found, "");
     }
+    let end = end_of_links(rt, path)?;
+    let path = end.as_str();
     let (folder, name) = split_path(path);
     let folder = if folder.is_empty() { "." } else { folder };
     match fs::metadata(rt, folder) {
@@ -165,13 +197,21 @@ fn create_temporary(rt: &HostRuntime, path: &str, mode: u32) -> io::Result<NewFi
     Err(io::Error::from(ErrorKind::AlreadyExists))
 }
 
-/// Creates a temporary file beside a regular file that it will replace, if that may be written. It has the permissions of that file
-/// before its first byte, so that nobody can read it who could not read the old file.
+/// Returns the permissions of a file that has not the group of the file that it replaces. Its group and all others may do what the old
+/// group and all others might both do, so that nobody gets a permission.
+fn for_another_group(mode: u32) -> u32 {
+    let both = mode & (mode >> 3) & 0o7;
+    (mode & 0o700) | (both << 3) | both
+}
+
+/// Creates a temporary file beside a regular file that it will replace, if that may be written. It has the group and the permissions of
+/// that file before its first byte, so that nobody can read it who could not read the old file.
 fn create_beside(rt: &HostRuntime, path: &str) -> io::Result<NewFile> {
     let existing = OpenOptions::new().write(true).open(rt, path)?;
-    let permissions = existing.metadata()?.permissions();
-    let created = create_temporary(rt, path, permissions.mode() & 0o777)?;
-    match created.file.set_permissions(permissions) {
+    let found = existing.metadata()?;
+    let mode = found.permissions().mode();
+    let created = create_temporary(rt, path, mode & 0o700)?;
+    match created.take_permissions(found.gid(), mode) {
         Ok(()) => Ok(created),
         Err(error) => {
             created.remove(rt);
@@ -207,6 +247,23 @@ impl NewFile {
                 Err(error)
             }
         }
+    }
+
+    /// Gives the file this group, unless it has it, and returns whether that is allowed.
+    fn take_group(&self, group: u32) -> io::Result<bool> {
+        let found = self.file.metadata()?;
+        Ok(found.gid() == group || fchown(&self.file, None, Some(group)).is_ok())
+    }
+
+    /// Gives the file the group and the permissions of the file that it replaces. If the user may not give it the group, it has fewer
+    /// permissions.
+    fn take_permissions(&self, group: u32, mode: u32) -> io::Result<()> {
+        let mode = if self.take_group(group)? {
+            mode
+        } else {
+            for_another_group(mode)
+        };
+        self.file.set_permissions(Permissions::from_mode(mode))
     }
 
     /// Gives the file its path, if all was written.

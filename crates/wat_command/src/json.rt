@@ -129,17 +129,18 @@ pub(crate) fn error_line(
     Ok(line)
 }
 
-/// Returns the line of a warning about a range.
-pub(crate) fn warning_line(
+/// Returns the line of a message without a number and without notes, about a range of a text or about the whole file.
+pub(crate) fn message_line(
     alloc: Global,
+    severity: &str,
     file: &str,
     text: &str,
     message: &str,
-    range: Range,
+    range: Option<Range>,
 ) -> Result<String, AllocError> {
-    let mut line = object(alloc, "warning", file, message)?;
+    let mut line = object(alloc, severity, file, message)?;
     push_number(&mut line, None)?;
-    push_range(&mut line, text, Some(range))?;
+    push_range(&mut line, text, range)?;
     line.push_str(",\"notes\":[]}")?;
     Ok(line)
 }

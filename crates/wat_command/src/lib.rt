@@ -19,8 +19,13 @@ mod files;
 mod json;
 mod styles;
 
-pub use choices::{Choice, choice_of, is_option, joined, print_options, print_statuses};
-pub use diagnostics::{report, report_in, report_malformed, report_malformed_in, warn, warn_in};
+pub use choices::{
+    Choice, choice_of, is_option, joined, near_option, print_options, print_statuses,
+};
+pub use diagnostics::{
+    report, report_file_in, report_id_in, report_in, report_malformed, report_malformed_in,
+    say_more, warn, warn_in,
+};
 pub use escapes::Escaped;
 pub use failures::Failure;
 pub use files::{

@@ -1,7 +1,7 @@
 //! The ids that a text defines, and the parentheses that are open at a position.
 
 use crate::lexemes::{Kind, Lexeme, next_lexeme};
-use crate::near::Nearest;
+use crate::near::NearestId;
 
 /// At most this many ids are compared with one that is unknown.
 const MOST: usize = 4096;
@@ -273,7 +273,7 @@ pub(crate) fn nearest_name<'a>(
     place: usize,
 ) -> Option<&'a [u8]> {
     let mut walk = Walk::new(text);
-    let mut nearest = Nearest::new(name);
+    let mut nearest = NearestId::new(name);
     let mut count = 0_usize;
     for _ in 0..text.len() {
         let Some(lexeme) = walk.next_before(text.len()) else {
@@ -285,7 +285,7 @@ pub(crate) fn nearest_name<'a>(
             if walk.at > place {
                 break;
             }
-            nearest = Nearest::new(name);
+            nearest = NearestId::new(name);
         }
         if let Some(definition) = definition {
             if definition.is_in(space) && count < MOST {
@@ -364,6 +364,85 @@ pub(crate) fn open_around(text: &[u8], start: usize) -> Option<usize> {
         Some(lexeme) if lexeme.start == start => last_open(text, own, read_before(text, own)),
         _ => Some(own),
     }
+}
+
+/// Returns the offset of the parenthesis that closes the module before an offset.
+pub(crate) fn module_end(text: &[u8], end: usize) -> Option<usize> {
+    let mut walk = Walk::new(text);
+    let mut found = None;
+    for _ in 0..text.len() {
+        let Some(lexeme) = walk.next_before(end) else {
+            break;
+        };
+        let _ = walk.take(lexeme);
+        if lexeme.kind == Kind::Close && walk.depth == 0 && walk.module > 0 {
+            found = Some(lexeme.start);
+        }
+    }
+    found
+}
+
+/// Returns the offset of the last parenthesis before an offset that closes something.
+pub(crate) fn last_close(text: &[u8], end: usize) -> Option<usize> {
+    let mut at = 0;
+    let mut found = None;
+    for _ in 0..text.len() {
+        match next_lexeme(text, at) {
+            Some(lexeme) if lexeme.start < end => {
+                at = lexeme.end;
+                if lexeme.kind == Kind::Close {
+                    found = Some(lexeme.start);
+                }
+            }
+            _ => break,
+        }
+    }
+    found
+}
+
+/// How many blocks that are not folded are open after a lexeme, if `count` are open before it.
+fn blocks_after(walk: &Walk<'_>, word: &Lexeme<'_>, count: usize) -> usize {
+    if word.kind != Kind::Word || walk.is_opened() {
+        return count;
+    }
+    match word.bytes {
+        b"block" | b"loop" | b"if" | b"try" | b"try_table" => count.saturating_add(1),
+        b"end" | b"delegate" => count.saturating_sub(1),
+        _ => count,
+    }
+}
+
+/// Returns how many blocks that are not folded are open at an offset.
+fn open_blocks(text: &[u8], end: usize) -> usize {
+    let mut walk = Walk::new(text);
+    let mut count = 0;
+    for _ in 0..text.len() {
+        let Some(lexeme) = walk.next_before(end) else {
+            break;
+        };
+        count = blocks_after(&walk, &lexeme, count);
+        let _ = walk.take(lexeme);
+    }
+    count
+}
+
+/// Returns the keyword of the last block that is open at an offset and is not folded.
+pub(crate) fn open_block(text: &[u8], end: usize) -> Option<Lexeme<'_>> {
+    let wanted = open_blocks(text, end);
+    let mut walk = Walk::new(text);
+    let (mut count, mut found) = (0, None);
+    for _ in 0..text.len() {
+        let Some(lexeme) = walk.next_before(end) else {
+            break;
+        };
+        let before = count;
+        count = blocks_after(&walk, &lexeme, count);
+        if count > before && count == wanted {
+            found = Some(lexeme);
+        }
+        let _ = walk.take(lexeme);
+    }
+    found
 }
 
 /// Returns the string that has an offset, if it is one of a module in quotes: it follows `quote`, or

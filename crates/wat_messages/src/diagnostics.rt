@@ -4,20 +4,16 @@ ghost use Rattle.std.specs.Prelude.{◌≡◌, IfSome, Some, length};
 ghost use Rattle.wast_base.specs.Faults.{span_of};
 ghost use Rattle.wat_messages.specs.Ranges.{IsRange, Marks, place_at, range_of, text_of, noted};
 
-use crate::definitions::{
-    first_definition, nearest_name, numbered_type, open_around, quoted_string, read_before,
-};
-use crate::details::{Detail, Found, Hint, Place, first_character};
-use crate::lexemes::{
-    Kind, Lexeme, bytes_from, first_bytes, is_scalar_escape, lexeme_at, next_lexeme, shown,
-};
-use crate::lists::{DYLINK_NAMES, FIELDS, INSTRUCTIONS, new_name, words_for};
-use crate::near::{is_listed, nearest_of};
-use crate::numbers::{Number, number_after};
+use crate::advice::advice_of;
+use crate::around::Around;
+use crate::details::{Detail, Found, Hint, Place};
+use crate::findings::{KnownId, detail_of, detail_of_id, detail_of_module, hint_of_module, told};
+use crate::hints::hint_of;
+use crate::lexemes::Lexeme;
 use crate::ranges::{Range, range_in, range_of_fault, range_of_token};
 use std::fmt;
 use wast_base::{Error, Fault, Form, Span};
-use wat_tokens::{TextError, TextFault, look_up};
+use wat_tokens::{TextError, TextFault};
 
 /// The words of an error, without what was found.
 #[derive(Clone, Copy)]
@@ -59,16 +55,19 @@ pub struct Diagnostic<'a> {
     words: Words<'a>,
     /// What was found.
     detail: Detail<'a>,
+    /// What has to be known to mend it; empty if nothing is said of that.
+    advice: &'static str,
     /// What to write in its place.
     hint: Option<Hint<'a>>,
 }
 
 impl fmt::Display for Diagnostic<'_> {
     fn fmt<W: fmt::Write>(&self, f: &mut fmt::Formatter<W>) -> fmt::Result {
-        let (words, detail) = (self.words, self.detail);
+        let (words, detail, advice) = (self.words, self.detail, self.advice);
         match self.hint {
             Some(hint) => write!(f, "{words}{detail}; {hint}"),
-            None => write!(f, "{words}{detail}"),
+            None if advice.is_empty() => write!(f, "{words}{detail}"),
+            None => write!(f, "{words}{detail}; {advice}"),
         }
     }
 }
@@ -93,6 +92,12 @@ enum Saying<'a> {
     Opened,
     /// The token, or the character, that touches it.
     Touching,
+    /// What is closed there, as "the module".
+    Closed(&'static str),
+    /// The form with this keyword begins there.
+    Form(Found<'a>),
+    /// The string begins there.
+    Quote,
     /// Another word may be meant.
     Meant(Hint<'a>),
 }
@@ -114,314 +119,28 @@ impl fmt::Display for Note<'_> {
             Saying::Typed => f.write_str("defined here"),
             Saying::Opened => f.write_str("this parenthesis is open"),
             Saying::Touching => f.write_str("it touches this"),
+            Saying::Closed(what) => write!(f, "{what} is closed here"),
+            Saying::Form(word) => write!(f, "this is the {word}"),
+            Saying::Quote => f.write_str("the string begins here"),
             Saying::Meant(hint) => write!(f, "{hint}"),
         }
     }
 }
 
-/// Returns the token at an offset. A parenthesis is returned with the word that follows it directly.
-fn found_at(text: &[u8], start: usize) -> Found<'_> {
-    match lexeme_at(text, start) {
-        Some(lexeme) if lexeme.kind == Kind::Open => opened_at(text, start),
-        Some(lexeme) if lexeme.kind != Kind::Blank => Found(lexeme.bytes),
-        _ => Found(&[]),
-    }
-}
-
-/// Returns the parenthesis at an offset, with the word that follows it directly.
-fn opened_at(text: &[u8], start: usize) -> Found<'_> {
-    let rest = bytes_from(text, start);
-    let count = match lexeme_at(rest, 1) {
-        Some(word) if word.kind == Kind::Word => word.end,
-        _ => 1,
-    };
-    Found(first_bytes(rest, count))
-}
-
-/// Returns the token at an offset, or the one before it if no token begins there.
-fn touched_at(text: &[u8], start: usize) -> Option<Lexeme<'_>> {
-    match lexeme_at(text, start) {
-        Some(lexeme) if lexeme.kind != Kind::Other => Some(lexeme),
-        _ => read_before(text, start).last,
-    }
-}
-
-/// Returns what is said of a character that touches a token, which begins or ends at an offset.
-fn adjacent(text: &[u8], start: usize) -> Detail<'_> {
-    let Some(token) = touched_at(text, start) else {
-        return Detail::Nothing;
-    };
-    match character_at(text, token.end) {
-        Some(character) => Detail::Adjacent(token, character),
-        None => Detail::Nothing,
-    }
-}
-
-/// Returns what is said of a character.
-fn character_at(text: &[u8], start: usize) -> Option<char> {
-    first_character(bytes_from(text, start))
-}
-
-/// Returns what is said where a parenthesis has to be closed. An annotation has the offset of its
-/// `@`, so the parenthesis before that is its own.
-fn unclosed<'a>(text: &'a str, start: usize, found: Found<'a>) -> Detail<'a> {
-    match open_around(text.as_bytes(), start) {
-        Some(offset) => Detail::Unclosed(Place { text, offset }, found),
-        None => Detail::InPlace(found),
-    }
-}
-
-/// Returns what is said where something was expected. A block without an `end` is at its keyword.
-fn in_place<'a>(text: &'a str, start: usize, expected: &str) -> Detail<'a> {
-    let found = found_at(text.as_bytes(), start);
-    match expected {
-        "`)`" => unclosed(text, start, found),
-        "`end` of this block" => Detail::Token(found),
-        "`dylink.0` subsection name" => Detail::Among(found, DYLINK_NAMES),
-        _ => Detail::InPlace(found),
-    }
-}
-
-/// Returns the error that is told: at the end of the text no instruction is unknown, but a
-/// parenthesis is open.
-fn told(text: &[u8], start: usize, fault: TextFault) -> TextFault {
-    match fault {
-        TextFault::Operator if found_at(text, start).0.is_empty() => TextFault::Expected("`)`"),
-        fault => fault,
-    }
-}
-
-/// Returns what is said of an escape.
-fn escape_at(text: &str, start: usize) -> Detail<'_> {
-    let Range { start, end } = range_of_fault(text, start, TextFault::Escape);
-    let rest = bytes_from(text.as_bytes(), start);
-    let escape = first_bytes(rest, end.saturating_sub(start));
-    let expected = if is_scalar_escape(escape) {
-        "no character has this number"
-    } else {
-        "expected two hexadecimal digits, `\\u{..}`, or one of t n r \" ' \\ after `\\`"
-    };
-    Detail::Escape(Found(escape), expected)
-}
-
-/// Returns what is said of an error in this string, which has the text of a module or a part of it.
-/// The end of that text has the offset of the string. What is around the token is not looked at.
-fn detail_in<'a>(string: Lexeme<'a>, text: &'a [u8], start: usize, fault: TextFault) -> Detail<'a> {
-    if string.start == start {
-        return Detail::Quoted(Found(string.bytes));
-    }
-    match fault {
-        TextFault::Expected(_) => Detail::InPlace(found_at(text, start)),
-        TextFault::Operator | TextFault::Alignment | TextFault::PageSize | TextFault::Trailing =>
-            Detail::Token(found_at(text, start)),
-        _ => Detail::Nothing,
-    }
-}
-
-/// Returns what is said of an error in the text format after its words.
-fn detail_of<'a>(text: &'a str, start: usize, fault: TextFault) -> Detail<'a> {
-    let bytes = text.as_bytes();
-    if let Some(string) = quoted_string(bytes, start) {
-        return detail_in(string, bytes, start, fault);
-    }
-    match fault {
-        TextFault::Character => match character_at(bytes, start) {
-            Some(character) => Detail::Character(character),
-            None => Detail::InPlace(Found(&[])),
-        },
-        TextFault::StringCharacter => match character_at(bytes, start) {
-            Some(character) => Detail::InString(character),
-            None => Detail::Nothing,
-        },
-        TextFault::Adjacent => adjacent(bytes, start),
-        TextFault::Escape => escape_at(text, start),
-        TextFault::Expected(what) => in_place(text, start, what),
-        TextFault::Number => Detail::NoNumber(found_at(bytes, start), number_at(bytes, start)),
-        TextFault::Range => Detail::OutOfRange(found_at(bytes, start), number_at(bytes, start)),
-        TextFault::Operator => operator_at(text, start),
-        TextFault::Alignment | TextFault::PageSize | TextFault::Trailing => Detail::Token(found_at(
-            bytes, start,
-        )),
-        TextFault::EmptyAnnotation => {
-            Detail::Fixed("a name or a string has to follow `(@` directly")
+/// Returns the second place that a message is about, and what is said of it.
+fn second_place<'a>(detail: Detail<'a>) -> Option<(Saying<'a>, Place<'a>)> {
+    match detail {
+        Detail::Twice(_, place) => Some((Saying::Defined, place)),
+        Detail::Defined(_, place) | Detail::Owner(_, place) | Detail::Elsewhere(_, place) => {
+            Some((Saying::Typed, place))
         }
-        TextFault::EmptyId => Detail::Fixed("a name or a string has to follow `$` directly"),
-        TextFault::Hint => Detail::Fixed("expected `\"\\00\"` or `\"\\01\"`"),
-        _ => Detail::Nothing,
-    }
-}
-
-/// Returns what is said of a token that is no instruction. Before a field of the module, the
-/// parenthesis of another one may be missing.
-fn operator_at(text: &str, start: usize) -> Detail<'_> {
-    let bytes = text.as_bytes();
-    let found = found_at(bytes, start);
-    let word = found.0.strip_prefix(b"(").unwrap_or(found.0);
-    match word {
-        b"param" | b"result" | b"import" | b"export" => {
-            return Detail::Early(found, "locals and instructions");
+        Detail::Unclosed(place, _) | Detail::Field(_, place) => Some((Saying::Opened, place)),
+        Detail::Closed(_, place) => Some((Saying::Closed("the module"), place)),
+        Detail::After(_, place) => Some((Saying::Closed("the field before it"), place)),
+        Detail::Within(_, word, place) | Detail::Label(_, word, place, _) => {
+            Some((Saying::Form(word), place))
         }
-        b"local" => return Detail::Early(found, "instructions"),
-        _ => {}
-    }
-    match open_around(bytes, start) {
-        Some(offset) if is_listed(word, FIELDS.as_bytes()) => {
-            Detail::Field(found, Place { text, offset })
-        }
-        _ => Detail::Token(found),
-    }
-}
-
-/// Returns the kind of number that an offset has.
-fn number_at(text: &[u8], start: usize) -> Number {
-    let found = found_at(text, start);
-    if found.0.starts_with(b"offset=") || found.0.starts_with(b"align=") {
-        return number_after(found.0);
-    }
-    number_after(read_before(text, start).word)
-}
-
-/// Returns the word at an offset, or after the `(` there.
-fn word_at(text: &[u8], start: usize) -> Option<Lexeme<'_>> {
-    let first = next_lexeme(text, start)?;
-    if first.kind != Kind::Open {
-        return Some(first);
-    }
-    next_lexeme(text, first.end)
-}
-
-/// Returns the id that may be meant by a word at an offset: one that is defined, without its `$`.
-fn id_at(text: &[u8], start: usize) -> Option<Hint<'_>> {
-    let Lexeme { kind, bytes, .. } = lexeme_at(text, start)?;
-    let is_defined = first_definition(text, "item", bytes, start).is_some()
-        || first_definition(text, "local", bytes, start).is_some();
-    if kind != Kind::Word || !is_defined {
-        return None;
-    }
-    Some(Hint {
-        before: "$",
-        word: bytes,
-    })
-}
-
-/// Returns the word that may be meant where an error in the text format is.
-fn hint_of<'a>(text: &'a [u8], start: usize, fault: TextFault) -> Option<Hint<'a>> {
-    let (list, is_field) = match fault {
-        TextFault::Operator => (INSTRUCTIONS.as_bytes(), false),
-        TextFault::Expected(what) => {
-            if what == "an index" {
-                return id_at(text, start);
-            }
-            (words_for(what)?, what == "valid module field")
-        }
-        _ => return None,
-    };
-    let word = word_at(text, start)?;
-    if word.kind != Kind::Word {
-        return None;
-    }
-    if word.start == start && is_field && is_listed(word.bytes, FIELDS.as_bytes()) {
-        return Some(Hint {
-            before: "(",
-            word: word.bytes,
-        });
-    }
-    if look_up(shown(word.bytes)).is_some() {
-        return None;
-    }
-    let today = new_name(word.bytes).as_bytes();
-    let near = if is_listed(today, list) {
-        today
-    } else {
-        nearest_of(word.bytes, list)?
-    };
-    Some(Hint {
-        before: "",
-        word: near,
-    })
-}
-
-/// Returns the name of the id at an offset.
-fn name_at(text: &[u8], start: usize) -> Found<'_> {
-    match lexeme_at(text, start) {
-        Some(lexeme) if lexeme.kind == Kind::Id => Found(lexeme.bytes),
-        _ => Found(&[]),
-    }
-}
-
-/// Returns what is said of an id that is defined twice in an index space.
-fn twice<'a>(text: &'a str, start: usize, space: &str) -> Detail<'a> {
-    let bytes = text.as_bytes();
-    let found = name_at(bytes, start);
-    let Some(id) = lexeme_at(bytes, start) else {
-        return Detail::Nothing;
-    };
-    if found.0.is_empty() {
-        return Detail::Nothing;
-    }
-    match first_definition(bytes, space, id.name(), start) {
-        Some(first) if first.start < start => {
-            let offset = first.start;
-            Detail::Twice(found, Place { text, offset })
-        }
-        _ => Detail::Token(found),
-    }
-}
-
-/// Returns what is said of an id that is unknown: an item of another kind may have it.
-fn elsewhere<'a>(text: &'a str, start: usize, name: &str) -> Detail<'a> {
-    match first_definition(text.as_bytes(), "item", name.as_bytes(), start) {
-        Some(item) => {
-            let offset = item.start;
-            Detail::Elsewhere(Found(item.word), Place { text, offset })
-        }
-        None => Detail::Nothing,
-    }
-}
-
-/// Returns where a type is defined, by its id or its number in a text.
-fn type_at(text: &[u8], start: usize) -> Option<usize> {
-    let index = lexeme_at(text, start)?;
-    if index.kind != Kind::Id {
-        return numbered_type(text, index.bytes, start);
-    }
-    let definition = first_definition(text, "type", index.name(), start)?;
-    Some(definition.start)
-}
-
-/// Returns what is said of the type of a type use.
-fn typed(text: &str, start: usize) -> Detail<'_> {
-    let bytes = text.as_bytes();
-    let found = found_at(bytes, start);
-    match type_at(bytes, start) {
-        Some(offset) => Detail::Defined(found, Place { text, offset }),
-        None => Detail::Token(found),
-    }
-}
-
-/// Returns what is said of an error of the module after its words.
-fn detail_of_module<'a>(text: &'a str, start: usize, fault: Fault<'_>) -> Detail<'a> {
-    let bytes = text.as_bytes();
-    match fault {
-        Fault::ImportAfter(_) => Detail::Fixed(
-            "imports come before all functions, tables, memories, globals and tags",
-        ),
-        Fault::Duplicate(space) => twice(text, start, space),
-        Fault::DuplicateField(space, _) => twice(text, start, space),
-        Fault::Unknown(_, name) => elsewhere(text, start, name),
-        Fault::NotFunc | Fault::NoMatch => typed(text, start),
-        Fault::OutOfBounds | Fault::Labels => Detail::Token(found_at(bytes, start)),
-        _ => Detail::Nothing,
-    }
-}
-
-/// Returns the id that may be meant where an error of the module is.
-fn hint_of_module<'a>(text: &'a [u8], start: usize, fault: Fault<'a>) -> Option<Hint<'a>> {
-    match fault {
-        Fault::Unknown(space, name) => {
-            let word = nearest_name(text, space, name.as_bytes(), start)?;
-            Some(Hint { before: "$", word })
-        }
+        Detail::InString(_, place) => Some((Saying::Quote, place)),
         _ => None,
     }
 }
@@ -439,12 +158,14 @@ impl<'a> Diagnostic<'a> {
     {
         let start = error.span.offset;
         let fault = told(text.as_bytes(), start, error.fault);
+        let around = Around::new(text.as_bytes(), start);
         Diagnostic {
             text,
             range: Some(range_of_fault(text, start, error.fault)),
             words: Words::Text(fault),
-            detail: detail_of(text, start, fault),
-            hint: hint_of(text.as_bytes(), start, fault),
+            detail: detail_of(text, &around, fault),
+            advice: advice_of(&around, fault),
+            hint: hint_of(&around, fault),
         }
     }
 
@@ -465,6 +186,7 @@ impl<'a> Diagnostic<'a> {
                 range: Some(range_of_token(text, place.offset)),
                 words: Words::Module(fault),
                 detail: detail_of_module(text, place.offset, fault),
+                advice: "",
                 hint: hint_of_module(text.as_bytes(), place.offset, fault),
             },
             None => Diagnostic {
@@ -472,8 +194,28 @@ impl<'a> Diagnostic<'a> {
                 range: None,
                 words: Words::Module(fault),
                 detail: Detail::Nothing,
+                advice: "",
                 hint: None,
             },
+        }
+    }
+
+    /// Returns the diagnostic of an error of an id, as [`of_module`](Diagnostic::of_module) does, for a caller who knows the
+    /// definitions. So the text is not searched for them.
+    pub fn of_id(text: &'a str, error: Error<'a>, known: KnownId<'a>) -> Diagnostic<'a>
+        ensures marks { Marks text.now (span_of error.entry) (range_of result) }
+        ensures text { text_of result ≡ text.now }
+    {
+        let Some(place) = error.span() else {
+            return Diagnostic::of_module(text, error);
+        };
+        Diagnostic {
+            text,
+            range: Some(range_of_token(text, place.offset)),
+            words: Words::Module(error.fault()),
+            detail: detail_of_id(text, place.offset, known),
+            advice: "",
+            hint: known.near.map(|near| Hint::new("$", near.as_bytes(), "")),
         }
     }
 
@@ -493,6 +235,7 @@ impl<'a> Diagnostic<'a> {
             range: Some(range),
             words: Words::Uncovered(form, word),
             detail: Detail::Nothing,
+            advice: "",
             hint: None,
         }
     }
@@ -508,7 +251,21 @@ impl<'a> Diagnostic<'a> {
             range: Some(range_in(text, start, 0)),
             words: Words::Bytes(start),
             detail: Detail::Nothing,
+            advice: "",
             hint: None,
+        }
+    }
+
+    /// Returns the diagnostic of a text that begins at this line and column of another one. Places in
+    /// the message are those in that one, and ranges are as before. For example, after `starting_at(2, 1)` the
+    /// message has "first defined at 2:15" in place of "first defined at 1:15".
+    pub fn starting_at(self, line: usize, column: usize) -> Diagnostic<'a>
+        ensures range { range_of result ≡ range_of self.entry }
+        ensures text { text_of result ≡ text_of self.entry }
+    {
+        Diagnostic {
+            detail: self.detail.starting_at((line, column)),
+            ..self
         }
     }
 
@@ -533,25 +290,17 @@ impl<'a> Diagnostic<'a> {
     pub fn related(&self) -> Option<Note<'a>>
         ensures { IfSome result (λ n. IsRange (text_of self.now) (noted n)) }
     {
-        match self.detail {
-            Detail::Twice(_, first) => Some(Note {
-                saying: Saying::Defined,
-                range: range_of_token(self.text, first.offset),
-            }),
-            Detail::Defined(_, place) | Detail::Elsewhere(_, place) => Some(Note {
-                saying: Saying::Typed,
-                range: range_of_token(self.text, place.offset),
-            }),
-            Detail::Unclosed(open, _) | Detail::Field(_, open) => Some(Note {
-                saying: Saying::Opened,
-                range: range_of_token(self.text, open.offset),
-            }),
-            Detail::Adjacent(token, _) => Some(Note {
+        if let Detail::Adjacent(token, _) = self.detail {
+            return Some(Note {
                 saying: Saying::Touching,
                 range: self.touching(token),
-            }),
-            _ => None,
+            });
         }
+        let (saying, place) = second_place(self.detail)?;
+        Some(Note {
+            saying,
+            range: range_of_token(self.text, place.offset),
+        })
     }
 
     /// Returns the suggestion of another word.

@@ -116,6 +116,11 @@ pub(crate) static FIELDS: &str =
 pub(crate) static VALUE_TYPES: &str = "i32 i64 f32 f64 v128 funcref externref anyref eqref i31ref \
 structref arrayref exnref contref nullref nullfuncref nullexternref nullexnref nullcontref";
 
+/// The reference types among them.
+pub(crate) static REFERENCE_TYPES: &str =
+    "funcref externref anyref eqref i31ref structref arrayref \
+exnref contref nullref nullfuncref nullexternref nullexnref nullcontref";
+
 /// The abstract heap types.
 pub(crate) static HEAP_TYPES: &str =
     "func extern any eq i31 struct array exn cont none nofunc noextern noexn nocont";
@@ -146,26 +151,12 @@ pub(crate) static DYLINK_NAMES: &str =
 pub(crate) static POSITIONS: &str =
     "first last type import func table memory tag global export start elem code data";
 
-/// Returns the name that an instruction or a type has today, for its old name; empty for others.
-pub(crate) fn new_name(word: &[u8]) -> &'static str {
-    match word {
-        b"get_local" => "local.get",
-        b"set_local" => "local.set",
-        b"tee_local" => "local.tee",
-        b"get_global" => "global.get",
-        b"set_global" => "global.set",
-        b"current_memory" => "memory.size",
-        b"grow_memory" => "memory.grow",
-        b"anyfunc" => "funcref",
-        _ => "",
-    }
-}
-
 /// Returns the words that may be where a reader expected this, in its words; nothing for others.
 pub(crate) fn words_for(expected: &str) -> Option<&'static [u8]> {
     match expected {
         "valid module field" => Some(FIELDS.as_bytes()),
-        "a value type" | "a reference type" => Some(VALUE_TYPES.as_bytes()),
+        "a value type" => Some(VALUE_TYPES.as_bytes()),
+        "a reference type" => Some(REFERENCE_TYPES.as_bytes()),
         "a heap type" | "`func` or a reference type" => Some(HEAP_TYPES.as_bytes()),
         "a number type" | "a string or a number type" => Some(NUMBER_TYPES.as_bytes()),
         "a vector shape such as `i32x4`" => Some(SHAPES.as_bytes()),
