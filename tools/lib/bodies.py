@@ -1,4 +1,4 @@
-"""Texts of one function or one expression that is wrong or at an edge, with their answers, for `tools/texts`.
+"""Texts of one function or one expression that is wrong or at an edge, with their answers, for `tools/pages`.
 
 In a text `^` stands before what is told, and in its answer for that place. The bytes were told by hand; those of instructions that
 have no immediates but lanes and memory arguments are the keys of the table in `tools/data/instructions.txt`, which also says what no encoder covers.
@@ -8,9 +8,11 @@ import itertools
 import re
 
 import instructions
-from printing import natural
 
 TABLE = instructions.sections()
+
+# The bytes of an access by the bits in its name.
+NATURAL = {"8": 1, "16": 2, "32": 4, "64": 8}
 
 TOLD = r"""
 (module (func br ^$a))	fault at ^: unknown label: failed to find name `$a`
@@ -192,6 +194,16 @@ def leb(n):
     return bytes([n]) if n < 128 else bytes([n & 127 | 128]) + leb(n >> 7)
 
 
+def natural(name):
+    """The bytes that an access of memory is aligned to where the text says nothing."""
+    found = re.search(r"\.(?:load|store|rmw|wait|notify)(\d*)(x\d)?", name.replace("atomic.", ""))
+    if "notify" in name:
+        return 4
+    if found[2]:
+        return 8
+    return NATURAL[found[1]] if found[1] else {"v128": 16, "i64": 8, "f64": 8}.get(name.split(".")[0], 4)
+
+
 def row(kind, key, name):
     """An instruction of the table, and its bytes."""
     code = bytes([key]) if key < 1 << 16 else bytes([key >> 16]) + leb(key & 0xFFFF)
@@ -257,7 +269,7 @@ def lines(body):
     yield from told()
     for text, code, wants_count, answer in orders():
         answer = answer or body(bytes.fromhex(code))
-        # An instruction with a data segment wants their count, which is 0, before the code.
+        # An instruction with a data segment needs their count, which is 0, before the code.
         yield f"(module (func {text}))", answer.replace("0a08010600", "0c01000a08010600") if wants_count else answer
     for text, code in edges():
         yield f"(module (func {text}))", body(bytes.fromhex(code))

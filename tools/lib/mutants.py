@@ -166,7 +166,7 @@ def contracts(crate):
         found += re.findall(r"^ *ghost (?!use )[^;]*;", text, re.M)
     for path in sorted((folder / "specs").rglob("*.antt")):
         found.append(path.read_text(encoding="utf-8"))
-    bare = [re.sub(r"(^|\s)(--|//)(\s.*)?$", "", text, flags=re.M) for text in found]
+    bare = [re.sub(r"(^|\s)(--|//[/!]?)(\s.*)?$", "", text, flags=re.M) for text in found]
     return checksum("\n".join(sorted(" ".join(text.split()) for text in bare)))
 
 
