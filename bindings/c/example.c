@@ -1,5 +1,5 @@
-/* Prints the bytes of the modules of texts in hexadecimal, or their faults with line and column:
- * example TEXT..
+/* Prints the bytes of the modules of texts in hexadecimal, or their errors with line and column:
+ * example TEXT.. The status is 1 if a text has an error.
  *
  * cc -o example example.c $(pkg-config --cflags --libs rigyomad) */
 #include "escapes.h"
@@ -43,12 +43,14 @@ int main(int count, char **words) {
         fprintf(stderr, "error: rigyomad.h and librigyomad.a are of different versions\n");
         return 100;
     }
+    int has_fault = 0;
     for (int i = 1; i < count; i++) {
         uint32_t status = convert(words[i]);
         if (status != RIGYOMAD_DONE && status != RIGYOMAD_FAULT) {
             fprintf(stderr, "error: %s\n", rigyomad_status_text(status));
             return (int)status;
         }
+        has_fault |= status == RIGYOMAD_FAULT;
     }
-    return 0;
+    return has_fault;
 }

@@ -1,5 +1,5 @@
 // Prints the bytes of the modules of texts in hexadecimal, or their faults with line and column, in
-// C++11 and later: example TEXT..
+// C++11 and later: example TEXT.. The status is 1 if a text has an error.
 //
 // c++ -o example example.cpp $(pkg-config --cflags --libs rigyomad), or with CMake:
 //
@@ -59,6 +59,7 @@ static std::vector<std::uint8_t> parse(const std::string &text) {
 }
 
 int main(int count, char **words) {
+    int status = 0;
     for (int i = 1; i < count; i++) {
         try {
             for (std::uint8_t byte : parse(words[i])) {
@@ -67,7 +68,9 @@ int main(int count, char **words) {
         } catch (const Fault &fault) {
             std::printf("%zu:%zu: ", fault.at.line, fault.at.column);
             print_escaped(fault.message.data(), fault.message.size(), "");
+            status = 1;
         }
         std::printf("\n");
     }
+    return status;
 }

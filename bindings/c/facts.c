@@ -1,6 +1,8 @@
 /* Calls each function on texts whose answers are known: facts. It ends with status 0 if each call
- * returns them; else it prints what failed. */
-#include "rigyomad.h"
+ * returns them; else it prints what failed.
+ *
+ * It counts blocks of memory, so the linker needs --wrap=malloc, --wrap=realloc and --wrap=free. */
+#include "rigyomad_script.h"
 
 #include <stdio.h>
 #include <stdlib.h>
@@ -27,6 +29,38 @@ static void expect(int is_so, const char *what) {
         fprintf(stderr, "check failed: %s\n", what);
         exit(1);
     }
+}
+
+/* How many blocks are not freed, and which request from now on is refused: 0 if none is. */
+static long blocks, refused;
+
+/* The linker hands the requests of the archive and of the headers to these. */
+void *__real_malloc(size_t size);
+void *__real_realloc(void *old, size_t size);
+void __real_free(void *block);
+void *__wrap_malloc(size_t size);
+void *__wrap_realloc(void *old, size_t size);
+void __wrap_free(void *block);
+
+static int is_refused(void) {
+    return refused > 0 && --refused == 0;
+}
+
+void *__wrap_malloc(size_t size) {
+    void *block = is_refused() ? NULL : __real_malloc(size);
+    blocks += block != NULL;
+    return block;
+}
+
+void *__wrap_realloc(void *old, size_t size) {
+    void *block = is_refused() ? NULL : __real_realloc(old, size);
+    blocks += block != NULL && old == NULL;
+    return block;
+}
+
+void __wrap_free(void *block) {
+    blocks -= block != NULL;
+    __real_free(block);
 }
 
 /* Bytes are copied if they fit. */
@@ -67,6 +101,8 @@ static void faults(void) {
     expect(status == RIGYOMAD_UTF8 && at.offset == 8 && at.end_offset == 8 && at.line == 0,
            "a byte has an offset");
     expect(!memcmp(message, TEXT("malformed UTF-8 encoding")), "it has a message");
+    status = rigyomad_fault(TEXT("(module\r (start $f))"), message, 64, &at);
+    expect(status == RIGYOMAD_FAULT && at.line == 1 && at.column == 17, "CR ends no line");
     status = rigyomad_fault(TEXT("(module)"), message, 64, &at);
     expect(status == RIGYOMAD_DONE && at.number == 0, "a module has no fault");
     expect(at.line == 0 && at.size == 0 && at.end_offset == 0, "it has no place and no message");
@@ -146,7 +182,7 @@ static void words(void) {
     static const char *const of_status[] = {
         "success",
         "a slice is too short",
-        "the text has a fault",
+        "the module has an error",
         "the text or the name is not UTF-8",
         "allocation failed",
         "nothing has the name, or there is no such index space",
@@ -178,6 +214,63 @@ static void words(void) {
     }
 }
 
+/* A script that is not read has nothing to free. */
+static void expect_nothing(const struct rigyomad_script *script) {
+    expect(!script->records && script->size == 0 && blocks == 0, "nothing is left to free");
+}
+
+/* A text that is no script has its fault. */
+static void script_faults(void) {
+    struct rigyomad_script script;
+    struct rigyomad_diagnosis at;
+    char message[64];
+    memset(message, '.', sizeof message);
+    uint32_t status =
+        rigyomad_script_open(TEXT("(module)\n(assert_foo)"), &script, message, 64, &at);
+    expect(status == RIGYOMAD_FAULT && at.number == 0, "it is no script");
+    expect(at.offset == 10 && at.line == 2 && at.column == 2, "the fault is in the second line");
+    const char *told = "expected a command, found `assert_foo`.";
+    expect(at.size == 38 && !memcmp(message, told, 39), "the message is whole, and no more");
+    expect_nothing(&script);
+    status = rigyomad_script_open(TEXT("(module)\n;; \xff"), &script, message, 64, &at);
+    expect(status == RIGYOMAD_UTF8 && at.offset == 12 && at.line == 0, "a byte has an offset");
+    expect_nothing(&script);
+}
+
+/* A script of short commands needs more room than it is given first. If a request is refused,
+ * nothing is left of it, and what is read is freed once. */
+static void script_rooms(void) {
+    enum { COUNT = 1000 };
+    static char text[9 * COUNT];
+    struct rigyomad_script script;
+    struct rigyomad_diagnosis at;
+    for (size_t i = 0; i < sizeof text; i++) {
+        text[i] = "(wait $t)"[i % 9];
+    }
+    uint32_t status = RIGYOMAD_MEMORY;
+    for (long number = 1; status == RIGYOMAD_MEMORY; number++) {
+        refused = number;
+        status = rigyomad_script_open(text, sizeof text, &script, NULL, 0, &at);
+        if (status == RIGYOMAD_MEMORY) {
+            expect_nothing(&script);
+        }
+    }
+    expect(status == RIGYOMAD_DONE && refused > 0, "each request was refused, and then none");
+    refused = 0;
+    expect(rigyomad_script_size(&script) == COUNT && blocks == 1, "the script is in one block");
+    struct rigyomad_command command = rigyomad_script_command(&script, COUNT - 1);
+    expect(command.type == RIGYOMAD_COMMAND_WAIT, "the last command waits");
+    expect(command.place.offset == 9 * COUNT - 8, "it has its offset");
+    expect(command.id.size == 1 && *command.id.bytes == 't', "it has its id");
+    rigyomad_script_free(&script);
+    expect_nothing(&script);
+    rigyomad_script_free(&script);
+    expect_nothing(&script);
+    status = rigyomad_script_open(TEXT("(wait $t)"), &script, NULL, 0, &at);
+    expect(status == RIGYOMAD_DONE && script.size < 4096, "the size is that of the records");
+    rigyomad_script_free(&script);
+}
+
 int main(void) {
     bytes();
     faults();
@@ -185,5 +278,8 @@ int main(void) {
     lists();
     generated();
     words();
+    expect(blocks == 0, "calls free what they allocate");
+    script_faults();
+    script_rooms();
     return 0;
 }

@@ -1,4 +1,5 @@
-// Prints the line, the column and the message of the error of a text, in C++11 and later: fault TEXT
+// Prints the line, the column and the message of the error of a text, in C++11 and later: fault
+// TEXT. The status is 1 if there is one.
 //
 // c++ -o fault fault.cpp $(pkg-config --cflags --libs rigyomad)
 #include "rigyomad.h"
@@ -18,4 +19,5 @@ int main(int count, char **words) {
     }
     int size = static_cast<int>(std::min(at.size, sizeof message));
     std::printf("%zu:%zu: %.*s\n", at.line, at.column, size, message);
+    return 1;
 }

@@ -2,7 +2,7 @@
  * VERSION. COUNT texts are SIZE random bytes, and COUNT are standard input with a few bytes
  * changed. VERSION is that of the archive. It ends with status 0 if each call returns what
  * rigyomad.h says; else it prints what failed. */
-#include "rigyomad.h"
+#include "rigyomad_script.h"
 
 #include <stdio.h>
 #include <stdlib.h>
@@ -128,9 +128,8 @@ static void change(char *text, size_t size) {
     }
 }
 
-static void expect_refused(uint32_t status, const char *what) {
-    expect(status == RIGYOMAD_SLICE, what);
-}
+/* A call refuses its slices. */
+#define REFUSED(call) expect((call) == RIGYOMAD_SLICE, "refused: " #call)
 
 /* Slices that are null or too long are refused, and null slices without bytes are not. */
 static void no_slices(void) {
@@ -138,26 +137,50 @@ static void no_slices(void) {
     struct rigyomad_names_room room;
     struct rigyomad_name name;
     const enum rigyomad_space func = RIGYOMAD_SPACE_FUNC;
-    const size_t most = SIZE_MAX / sizeof name;
+    struct rigyomad_script script;
+    const size_t most = (size_t)PTRDIFF_MAX / sizeof name + 1, size_most = (size_t)PTRDIFF_MAX + 1;
     uint32_t number;
     size_t size;
     char byte;
-    expect_refused(rigyomad_encode(NULL, 1, &byte, 1, &size), "a null text is refused");
-    expect_refused(rigyomad_encode("", SIZE_MAX, &byte, 1, &size), "a long text is refused");
-    expect_refused(rigyomad_encode("", 0, NULL, 1, &size), "null room is refused");
-    expect_refused(rigyomad_encode("", 0, &byte, 1, NULL), "a null size is refused");
-    expect_refused(rigyomad_fault("", 0, NULL, 1, &at), "a null message is refused");
-    expect_refused(rigyomad_fault("", 0, NULL, 0, NULL), "a null diagnosis is refused");
-    expect_refused(rigyomad_resolve("", 0, func, NULL, 1, &number), "a null name is refused");
-    expect_refused(rigyomad_resolve("", 0, func, "f", 1, NULL), "a null number is refused");
-    expect_refused(rigyomad_names("", 0, NULL, 1, &byte, 1, &room), "null names are refused");
-    expect_refused(rigyomad_names("", 0, &name, most, &byte, 1, &room), "many names are refused");
-    expect_refused(rigyomad_names("", 0, &name, 1, NULL, 1, &room), "null bytes are refused");
-    expect_refused(rigyomad_names("", 0, &name, 1, &byte, 1, NULL), "null room is refused");
+    REFUSED(rigyomad_encode(NULL, 1, &byte, 1, &size));
+    REFUSED(rigyomad_encode("", size_most, &byte, 1, &size));
+    REFUSED(rigyomad_encode("", 0, NULL, 1, &size));
+    REFUSED(rigyomad_encode("", 0, &byte, size_most, &size));
+    REFUSED(rigyomad_encode("", 0, &byte, 1, NULL));
+    REFUSED(rigyomad_fault(NULL, 1, &byte, 1, &at));
+    REFUSED(rigyomad_fault("", size_most, &byte, 1, &at));
+    REFUSED(rigyomad_fault("", 0, NULL, 1, &at));
+    REFUSED(rigyomad_fault("", 0, &byte, size_most, &at));
+    REFUSED(rigyomad_fault("", 0, NULL, 0, NULL));
+    REFUSED(rigyomad_resolve(NULL, 1, func, "f", 1, &number));
+    REFUSED(rigyomad_resolve("", size_most, func, "f", 1, &number));
+    REFUSED(rigyomad_resolve("", 0, func, NULL, 1, &number));
+    REFUSED(rigyomad_resolve("", 0, func, "f", size_most, &number));
+    REFUSED(rigyomad_resolve("", 0, func, "f", 1, NULL));
+    REFUSED(rigyomad_names(NULL, 1, &name, 1, &byte, 1, &room));
+    REFUSED(rigyomad_names("", size_most, &name, 1, &byte, 1, &room));
+    REFUSED(rigyomad_names("", 0, NULL, 1, &byte, 1, &room));
+    REFUSED(rigyomad_names("", 0, &name, most, &byte, 1, &room));
+    REFUSED(rigyomad_names("", 0, &name, 1, NULL, 1, &room));
+    REFUSED(rigyomad_names("", 0, &name, 1, &byte, size_most, &room));
+    REFUSED(rigyomad_names("", 0, &name, 1, &byte, 1, NULL));
+    REFUSED(rigyomad_script_open(NULL, 1, &script, &byte, 1, &at));
+    REFUSED(rigyomad_script_open("", size_most, &script, &byte, 1, &at));
+    REFUSED(rigyomad_script_open("", 0, NULL, &byte, 1, &at));
+    REFUSED(rigyomad_script_open("", 0, &script, NULL, 1, &at));
+    REFUSED(rigyomad_script_open("", 0, &script, &byte, size_most, &at));
+    REFUSED(rigyomad_script_open("", 0, &script, &byte, 1, NULL));
     uint32_t status = rigyomad_encode(NULL, 0, NULL, 0, &size);
     expect(status == RIGYOMAD_SHORT, "no text is an empty module");
+    status = rigyomad_fault(NULL, 0, NULL, 0, &at);
+    expect(status == RIGYOMAD_DONE, "an empty module has no fault");
+    status = rigyomad_resolve(NULL, 0, func, NULL, 0, &number);
+    expect(status == RIGYOMAD_UNKNOWN, "an empty module has no function");
     status = rigyomad_names(NULL, 0, NULL, 0, NULL, 0, &room);
     expect(status == RIGYOMAD_DONE && room.names == 0, "an empty module has no names");
+    status = rigyomad_script_open(NULL, 0, &script, NULL, 0, &at);
+    expect(status == RIGYOMAD_DONE && rigyomad_script_size(&script) == 1, "no text is one module");
+    rigyomad_script_free(&script);
 }
 
 /* Each status and each fault has a text of its own, and no other number has one. */

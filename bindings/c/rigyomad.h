@@ -1,7 +1,7 @@
 /* Rigyomad for C: turns a module in the text format of WebAssembly into the bytes of the binary
  * format.
  *
- * Link librigyomad.a: cc program.c $(pkg-config --cflags --libs rigyomad) (docs/C.md). No
+ * Link librigyomad.a: cc program.c $(pkg-config --cflags --libs rigyomad) (docs/LIBRARIES.md). No
  * call keeps state: any thread may make any call at any time, but a signal handler may not. A call
  * takes memory from malloc, and frees all of it before it returns.
  *
@@ -24,7 +24,7 @@ extern "C" {
 enum rigyomad_status {
     RIGYOMAD_DONE = 0,    /* It succeeded. */
     RIGYOMAD_SHORT = 1,   /* A slice is too short; the size that is needed is returned. */
-    RIGYOMAD_FAULT = 2,   /* The text has a fault, which rigyomad_fault describes. */
+    RIGYOMAD_FAULT = 2,   /* The module has an error, which rigyomad_fault describes. */
     RIGYOMAD_UTF8 = 3,    /* The text or the name is not UTF-8. */
     RIGYOMAD_MEMORY = 4,  /* Allocation failed. */
     RIGYOMAD_UNKNOWN = 5, /* Nothing has the name, or there is no such index space. */
@@ -82,7 +82,7 @@ static inline const char *rigyomad_status_text(uint32_t status) {
     case RIGYOMAD_SHORT:
         return "a slice is too short";
     case RIGYOMAD_FAULT:
-        return "the text has a fault";
+        return "the module has an error";
     case RIGYOMAD_UTF8:
         return "the text or the name is not UTF-8";
     case RIGYOMAD_MEMORY:
@@ -96,8 +96,8 @@ static inline const char *rigyomad_status_text(uint32_t status) {
     }
 }
 
-/* Returns what a number of a fault says, for a message: that of any text with the fault. The
- * message of rigyomad_fault says it of one text. */
+/* Returns the general message of an error number. rigyomad_fault writes the message for one
+ * text. */
 static inline const char *rigyomad_fault_text(uint32_t number) {
     switch (number) {
     case 0:

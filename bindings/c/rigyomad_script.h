@@ -162,6 +162,7 @@ struct rigyomad_module {
     struct rigyomad_string bytes;  /* If it is done. */
     uint32_t number;               /* One of rigyomad_fault_kind, or 0. */
     struct rigyomad_place fault;
+    size_t fault_end_offset;       /* The offset of the end of the token at fault. */
     struct rigyomad_string message;
 };
 
@@ -224,6 +225,7 @@ static inline uint32_t rigyomad_script_open(const char *text, size_t text_size,
         if (!records) {
             free(script->records);
             script->records = NULL;
+            script->size = 0;
             return RIGYOMAD_MEMORY;
         }
         script->records = records;
@@ -317,7 +319,7 @@ rigyomad_script_command(const struct rigyomad_script *script, size_t index) {
 /* Returns the module of a command that has one. */
 static inline struct rigyomad_module rigyomad_script_module(const struct rigyomad_script *script,
                                                             uint64_t index) {
-    const uint8_t *at = rigyomad_record(script, 3, 19, index);
+    const uint8_t *at = rigyomad_record(script, 3, 20, index);
     struct rigyomad_module module;
     module.form = (enum rigyomad_module_form)rigyomad_word(at);
     module.place = rigyomad_place(at + 8);
@@ -329,7 +331,8 @@ static inline struct rigyomad_module rigyomad_script_module(const struct rigyoma
     module.bytes = rigyomad_string(script, at + 88);
     module.number = (uint32_t)rigyomad_word(at + 104);
     module.fault = rigyomad_place(at + 112);
-    module.message = rigyomad_string(script, at + 136);
+    module.fault_end_offset = (size_t)rigyomad_word(at + 136);
+    module.message = rigyomad_string(script, at + 144);
     return module;
 }
 

@@ -159,9 +159,14 @@ static enum verdict verdict_of(struct run *run, const struct rigyomad_command *c
     if (command->action != RIGYOMAD_NONE) {
         outcome = act(run, command->action, &value);
     }
+    int is_refused = command->type == RIGYOMAD_COMMAND_ASSERT_MALFORMED ||
+                     command->type == RIGYOMAD_COMMAND_ASSERT_INVALID;
+    if (module.status == RIGYOMAD_FAULT) {
+        return is_refused ? PASSED : FAILED;
+    }
     switch (command->type) {
     case RIGYOMAD_COMMAND_MODULE:
-        if (module.status != RIGYOMAD_DONE || !engine_load(module.bytes)) {
+        if (!engine_load(module.bytes)) {
             return FAILED;
         }
         run->instances[run->count++] = module;
@@ -179,7 +184,7 @@ static enum verdict verdict_of(struct run *run, const struct rigyomad_command *c
         return outcome == UNSUPPORTED ? SKIPPED : outcome == TRAPPED ? PASSED : FAILED;
     case RIGYOMAD_COMMAND_ASSERT_MALFORMED:
     case RIGYOMAD_COMMAND_ASSERT_INVALID:
-        return module.status == RIGYOMAD_FAULT || !engine_load(module.bytes) ? PASSED : FAILED;
+        return engine_load(module.bytes) ? FAILED : PASSED;
     default:
         return SKIPPED;
     }

@@ -1,40 +1,73 @@
 /* Prints the commands of scripts, a line of each: scripts TEXT.. For example
  *
- *     1:2 assert_return [1:17 invoke $m "f" i32:1] i32:7
+ *     1:2@1 assert_return [1:17@16 invoke $m "f" i32:1] i32:7
  *
- * Bytes are hexadecimal, and so are the bits of floats. A text that is no script has one line, its
- * error. The status is that of the first call that does not succeed for another reason. */
+ * A place is line, column and offset, and that of an error also has the length of its token after a
+ * `+`. Bytes are hexadecimal, and so are the bits of floats. A text that is no script has one line,
+ * its error. The status is that of the first call that does not succeed for another reason. */
 #include "escapes.h"
 #include "rigyomad_script.h"
 
 #include <inttypes.h>
 #include <stdlib.h>
 
-static const char *TYPES[] = {"module",
-                              "definition",
-                              "instance",
-                              "register",
-                              "action",
-                              "assert_return",
-                              "assert_trap",
-                              "assert_exhaustion",
-                              "assert_exception",
-                              "assert_suspension",
-                              "assert_malformed",
-                              "assert_malformed_custom",
-                              "assert_invalid",
-                              "assert_invalid_custom",
-                              "assert_unlinkable",
-                              "thread",
-                              "end",
-                              "wait"};
-static const char *FORMS[] = {"fields", "binary", "quote"};
-static const char *VALUES[] = {"i32",        "i64",      "f32",      "f64", "v128",  "ref.null",
-                               "ref.extern", "ref.host", "ref.func", "ref", "either"};
-static const char *SHAPES[] = {"i8x16", "i16x8", "i32x4", "i64x2", "f32x4", "f64x2"};
-static const char *HEAPS[] = {"func",   "extern", "exn",      "noexn", "any", "eq",   "struct",
-                              "array",  "nofunc", "noextern", "none",  "i31", "cont", "nocont"};
-static const char *NUMBERS[] = {"", "nan:canonical", "nan:arithmetic"};
+/* The words of numbers, by their names in the header. */
+static const char *const TYPES[] = {
+    [RIGYOMAD_COMMAND_MODULE] = "module",
+    [RIGYOMAD_COMMAND_MODULE_DEFINITION] = "definition",
+    [RIGYOMAD_COMMAND_MODULE_INSTANCE] = "instance",
+    [RIGYOMAD_COMMAND_REGISTER] = "register",
+    [RIGYOMAD_COMMAND_ACTION] = "action",
+    [RIGYOMAD_COMMAND_ASSERT_RETURN] = "assert_return",
+    [RIGYOMAD_COMMAND_ASSERT_TRAP] = "assert_trap",
+    [RIGYOMAD_COMMAND_ASSERT_EXHAUSTION] = "assert_exhaustion",
+    [RIGYOMAD_COMMAND_ASSERT_EXCEPTION] = "assert_exception",
+    [RIGYOMAD_COMMAND_ASSERT_SUSPENSION] = "assert_suspension",
+    [RIGYOMAD_COMMAND_ASSERT_MALFORMED] = "assert_malformed",
+    [RIGYOMAD_COMMAND_ASSERT_MALFORMED_CUSTOM] = "assert_malformed_custom",
+    [RIGYOMAD_COMMAND_ASSERT_INVALID] = "assert_invalid",
+    [RIGYOMAD_COMMAND_ASSERT_INVALID_CUSTOM] = "assert_invalid_custom",
+    [RIGYOMAD_COMMAND_ASSERT_UNLINKABLE] = "assert_unlinkable",
+    [RIGYOMAD_COMMAND_THREAD] = "thread",
+    [RIGYOMAD_COMMAND_THREAD_END] = "end",
+    [RIGYOMAD_COMMAND_WAIT] = "wait",
+};
+static const char *const FORMS[] = {
+    [RIGYOMAD_FORM_FIELDS] = "fields",
+    [RIGYOMAD_FORM_BINARY] = "binary",
+    [RIGYOMAD_FORM_QUOTE] = "quote",
+};
+static const char *const VALUES[] = {
+    [RIGYOMAD_VALUE_I32] = "i32",
+    [RIGYOMAD_VALUE_I64] = "i64",
+    [RIGYOMAD_VALUE_F32] = "f32",
+    [RIGYOMAD_VALUE_F64] = "f64",
+    [RIGYOMAD_VALUE_V128] = "v128",
+    [RIGYOMAD_VALUE_REF_NULL] = "ref.null",
+    [RIGYOMAD_VALUE_REF_EXTERN] = "ref.extern",
+    [RIGYOMAD_VALUE_REF_HOST] = "ref.host",
+    [RIGYOMAD_VALUE_REF_FUNC] = "ref.func",
+    [RIGYOMAD_VALUE_REF] = "ref",
+    [RIGYOMAD_VALUE_EITHER] = "either",
+};
+static const char *const SHAPES[] = {
+    [RIGYOMAD_SHAPE_I8X16] = "i8x16", [RIGYOMAD_SHAPE_I16X8] = "i16x8",
+    [RIGYOMAD_SHAPE_I32X4] = "i32x4", [RIGYOMAD_SHAPE_I64X2] = "i64x2",
+    [RIGYOMAD_SHAPE_F32X4] = "f32x4", [RIGYOMAD_SHAPE_F64X2] = "f64x2",
+};
+static const char *const HEAPS[] = {
+    [RIGYOMAD_HEAP_FUNC] = "func",     [RIGYOMAD_HEAP_EXTERN] = "extern",
+    [RIGYOMAD_HEAP_EXN] = "exn",       [RIGYOMAD_HEAP_NOEXN] = "noexn",
+    [RIGYOMAD_HEAP_ANY] = "any",       [RIGYOMAD_HEAP_EQ] = "eq",
+    [RIGYOMAD_HEAP_STRUCT] = "struct", [RIGYOMAD_HEAP_ARRAY] = "array",
+    [RIGYOMAD_HEAP_NOFUNC] = "nofunc", [RIGYOMAD_HEAP_NOEXTERN] = "noextern",
+    [RIGYOMAD_HEAP_NONE] = "none",     [RIGYOMAD_HEAP_I31] = "i31",
+    [RIGYOMAD_HEAP_CONT] = "cont",     [RIGYOMAD_HEAP_NOCONT] = "nocont",
+};
+static const char *const NUMBERS[] = {
+    [RIGYOMAD_NUMBER_CANONICAL] = "nan:canonical",
+    [RIGYOMAD_NUMBER_ARITHMETIC] = "nan:arithmetic",
+};
 
 /* Prints a string after a text, if it is there. */
 static void print_string(const char *before, struct rigyomad_string string, const char *after) {
@@ -52,7 +85,7 @@ static void print_hex(struct rigyomad_string string) {
 }
 
 static void print_place(struct rigyomad_place place) {
-    printf("%zu:%zu", place.line, place.column);
+    printf("%zu:%zu@%zu", place.line, place.column, place.offset);
 }
 
 static void print_number(uint32_t form, uint64_t bits) {
@@ -131,6 +164,7 @@ static void print_module(const struct rigyomad_script *script, uint64_t index) {
     } else {
         printf("E%u ", (unsigned)module.number);
         print_place(module.fault);
+        printf("+%zu", module.fault_end_offset - module.fault.offset);
         print_string(" ", module.message, "");
     }
     printf("]");
@@ -177,7 +211,7 @@ static uint32_t print_script(const char *text) {
         }
         rigyomad_script_free(&script);
     } else if (status == RIGYOMAD_FAULT) {
-        printf("%zu:%zu: ", at.line, at.column);
+        printf("%zu:%zu@%zu+%zu: ", at.line, at.column, at.offset, at.end_offset - at.offset);
         print_escaped(message, at.size < sizeof message ? at.size : sizeof message, "");
         printf("\n");
         return RIGYOMAD_DONE;

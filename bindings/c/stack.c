@@ -9,7 +9,7 @@
 #include <string.h>
 #include <sys/mman.h>
 
-/* The stack of the thread, which docs/BINDINGS.md promises to be enough. */
+/* The stack of the thread, which docs/LIBRARIES.md promises to be enough. */
 enum { STACK = 24 << 10 };
 
 /* What is below the stack, and ends the program if it is touched: more than the largest frame, so
