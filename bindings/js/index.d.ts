@@ -4,19 +4,21 @@ export function init(
   source?: URL | string | Response | BufferSource | WebAssembly.Module | Promise<Response | BufferSource | WebAssembly.Module>,
 ): Promise<void>;
 
-/** A module in the text format. Bytes are UTF-8; offsets and columns count what the text has:
- * UTF-16 units of a string, and bytes otherwise. */
-export type Text = string | Uint8Array | ArrayBuffer;
+/** A module in the text format. The bytes of a buffer, and those that a view has of one, are UTF-8;
+ * offsets and columns count what the text has: UTF-16 units of a string, and bytes otherwise. A call
+ * throws a `TypeError` for another value, such as a promise that was not awaited. */
+export type Text = string | ArrayBuffer | SharedArrayBuffer | ArrayBufferView;
 
 /** A `Uint8Array` over an `ArrayBuffer`, by the words of each version of TypeScript. */
 export type Bytes = ReturnType<Uint8Array["slice"]>;
 
 export interface ParseOptions {
-  /** Whether the module has a section of names, which is so by default. */
+  /** Whether the module has a name section; the default is true. */
   names?: boolean;
 }
 
-/** Returns the bytes of the module of a text. Throws a `WatError` if it has none. */
+/** Returns the bytes of the module of a text. Throws a `WatError` if it has none. Bytes that begin
+ * with `\0asm` are a binary module already: a copy of them is returned. */
 export function parse(text: Text, options?: ParseOptions): Bytes;
 
 export type Space = "func" | "table" | "memory" | "global" | "tag" | "elem" | "data" | "type";
@@ -37,6 +39,21 @@ export function names(text: Text): Name[];
  * if nothing has the name. It reads the whole text: for several names, `names` reads it once. */
 export function resolve(text: Text, space: Space, name: string): number | undefined;
 
+export interface NameWithin {
+  kind: "local" | "label" | "field";
+  /** The index of the function, or of the type of a field. */
+  owner: number;
+  /** The index within the owner: that of a local or a field, or of a block in the order of the text. */
+  index: number;
+  /** Without its `$`. */
+  name: string;
+}
+
+/** Returns the names of locals, labels and fields that the name section of the module of a text has:
+ * by kind, then by owner, then by index. If the text has a custom section `name` of its own, they are
+ * those in it, and none if it is not well formed. Throws a `WatError`. */
+export function namesWithin(text: Text): NameWithin[];
+
 export interface Section {
   id: number;
   /** That of a custom section. */
@@ -47,7 +64,7 @@ export interface Section {
   end: number;
 }
 
-/** Returns the sections of a binary module. */
+/** Returns the sections of a binary module, up to the first bytes that are none. */
 export function sections(bytes: Uint8Array): Section[];
 
 /** Returns the version of the module: `0.1.0`, or `0.1.0 (UNPROVED)` if it was built without proofs. */
@@ -71,7 +88,7 @@ export type Kind =
  * escapes as `escaped` has them, and so has `stack`. */
 export class WatError extends Error {
   private constructor();
-  /** 1 to 13 for E1 to E13 (docs/FORMATS.md); 0 if the text is not a module. */
+  /** 1 to 13 for E1 to E13 (docs/ERRORS.md); 0 if the text is not a module. */
   readonly number: number;
   readonly kind: Kind;
   /** From 1; 0 if the error has no position, as E10 and E12. */

@@ -1,4 +1,7 @@
-// Calls of the archive in WebAssembly. docs/JAVASCRIPT.md has what they return.
+// Calls of the archive in WebAssembly. docs/LIBRARIES.md has what they return.
+import { namesWithinOf, withoutNames } from "./binary.js";
+
+export { sections } from "./binary.js";
 
 /** The number of the declarations of the archive that this file calls. */
 const DECLARATIONS = 2;
@@ -13,6 +16,9 @@ const KINDS = [
   "Malformed", "ImportAfter", "Duplicate", "DuplicateField", "Unknown", "NotFunc", "OutOfBounds", "NoMatch", "Labels",
   "NoNamedFields", "TooLarge", "Uncovered", "Memory", "Component",
 ];
+
+/** What binary modules begin with: `\0asm`. */
+const MAGIC = [0, 97, 115, 109];
 
 /** A memory never shrinks, so an instance with more bytes than this is dropped after a call. */
 const MOST_KEPT = 64 << 20;
@@ -55,7 +61,7 @@ export class WatError extends Error {
 let compiled, starting, instance;
 
 async function compile(source) {
-  source = await source;
+  source = await (source ?? new URL("./rigyomad.wasm", import.meta.url));
   if (typeof source === "string" || source instanceof URL) {
     const url = new URL(source, import.meta.url);
     // `fetch` of node reads no files.
@@ -70,13 +76,14 @@ async function compile(source) {
 }
 
 /** Compiles the module. The first call decides which; a call after a failure tries again. */
-export function init(source = new URL("./rigyomad.wasm", import.meta.url)) {
+export function init(source) {
   starting ??= compile(source).then((module) => {
     compiled = module;
     called(() => undefined);
   }).catch((error) => {
     compiled = instance = starting = undefined;
-    throw error;
+    if (source !== undefined) throw error;
+    throw new Error(`rigyomad: rigyomad.wasm beside this file was not loaded: ${error.message}; after a bundler, pass it to init()`, { cause: error });
   });
   return starting;
 }
@@ -168,9 +175,31 @@ function errorAt(text, bytes, offset, stop, line, fields, message) {
   return new WatError(message, { ...fields, line, column, start, end, snippet: snippetOf(before, after, line, column) });
 }
 
+/** Why a value is no text: a forgotten `await` is the usual reason. */
+function notText(value) {
+  const isObject = typeof value === "object" && value !== null;
+  let found = isObject ? value.constructor?.name || "object" : String(value === null ? value : typeof value);
+  if (isObject && typeof value.then === "function") found += ": await it first";
+  if (isObject && typeof value.arrayBuffer === "function") found += ": await its text() first";
+  return new TypeError(`rigyomad: expected a string or bytes, found ${found}`);
+}
+
+/** The bytes of a buffer or a view. Those of shared memory are copied, because another thread may change them during a call. */
+function heldBy(value) {
+  let view = value;
+  try {
+    // It also takes a buffer of another frame, which `instanceof` does not.
+    if (!ArrayBuffer.isView(value)) view = new DataView(value);
+  } catch (error) {
+    throw value instanceof ArrayBuffer ? error : notText(value);
+  }
+  const bytes = new Uint8Array(view.buffer, view.byteOffset, view.byteLength);
+  return view.buffer instanceof ArrayBuffer ? bytes : bytes.slice();
+}
+
 /** The bytes of a text. `TextEncoder` writes another character for a lone surrogate, so that is an error here. */
 function bytesOf(text) {
-  if (typeof text !== "string") return text instanceof Uint8Array ? text : new Uint8Array(text);
+  if (typeof text !== "string") return heldBy(text);
   const at = text.isWellFormed?.() ? -1 : text.search(/\p{Surrogate}/u);
   const bytes = encoder.encode(text);
   if (at < 0) return bytes;
@@ -198,9 +227,8 @@ function errorOf(calls, status, text, bytes, at) {
 }
 
 /** The bytes of the module of a text. */
-export function parse(text, { names = true } = {}) {
-  const bytes = bytesOf(text);
-  const result = called((calls) => {
+function encoded(text, bytes) {
+  return called((calls) => {
     const at = calls.lend(bytes), size = calls.take(8), encode = calls.exports.rigyomad_c_encode;
     // A module seldom has more bytes than its text.
     let room = bytes.length + 64, out = calls.take(room);
@@ -213,8 +241,17 @@ export function parse(text, { names = true } = {}) {
     if (status !== DONE) throw errorOf(calls, status, text, bytes, at);
     return calls.bytes(out, calls.word(size, 0)).slice();
   });
+}
+
+/** The bytes of the module of a text, or a copy of a module that is binary already. */
+export function parse(text, { names = true } = {}) {
+  const bytes = bytesOf(text), isBinary = typeof text !== "string" && MAGIC.every((byte, at) => bytes[at] === byte);
+  const result = isBinary ? bytes.slice() : encoded(text, bytes);
   return names ? result : withoutNames(result);
 }
+
+/** The names of locals, labels and fields in the name section of the module of a text. */
+export const namesWithin = (text) => namesWithinOf(parse(text)) ?? [];
 
 /** All names of the index spaces of a text. */
 export function names(text) {
@@ -250,42 +287,6 @@ export function resolve(text, space, name) {
     if (status !== DONE) throw errorOf(calls, status, text, bytes, at);
     return calls.word(index, 0, 4);
   });
-}
-
-/** The sections of a binary module: `bytes.subarray(start, end)` is one, and its content begins at `content`. */
-export function sections(bytes) {
-  const found = [];
-  let at = 8;
-  const number = () => {
-    let value = 0;
-    for (let scale = 1; ; scale *= 128) {
-      const byte = bytes[at++];
-      value += (byte & 127) * scale;
-      if (!(byte & 128)) return value;
-    }
-  };
-  while (at < bytes.length) {
-    const start = at++, id = bytes[start], size = number(), content = at, end = content + size;
-    const section = { id, start, content, end };
-    if (id === 0) {
-      const length = number();
-      section.name = decoder.decode(bytes.subarray(at, at + length));
-    }
-    found.push(section);
-    at = end;
-  }
-  return found;
-}
-
-/** A module without its sections of names. */
-function withoutNames(bytes) {
-  let end = 8;
-  for (const section of sections(bytes)) {
-    if (section.name === "name") continue;
-    bytes.copyWithin(end, section.start, section.end);
-    end += section.end - section.start;
-  }
-  return bytes.slice(0, end);
 }
 
 /** The version of the module: `0.1.0`, or `0.1.0 (UNPROVED)` if it was built without proofs. */

@@ -1,12 +1,11 @@
 // Runs exports of a module beside the page, which ends this worker if a call does not end.
 let instance, lines = [];
 
-onmessage = async ({ data: { bytes, name, words } }) => {
+onmessage = async ({ data: { bytes, name, values } }) => {
   try {
     instance ??= await start(bytes);
-    // A string becomes a number or a BigInt, as the type of the parameter wants it.
-    const result = instance.exports[name](...words);
-    lines.push(`${name}(${words.join(", ")}) = ${result === undefined ? "nothing" : String(result)}`);
+    const result = instance.exports[name](...values);
+    lines.push(`${name}(${values.map(String).join(", ")}) = ${result === undefined ? "nothing" : String(result)}`);
   } catch (error) {
     lines.push(`${name}: ${error.message}`);
   }
@@ -15,11 +14,13 @@ onmessage = async ({ data: { bytes, name, words } }) => {
 
 /** An instance whose imported functions say that they are called, and return 0. */
 async function start(bytes) {
-  const module = await WebAssembly.compile(bytes), imports = {};
+  // A name of an import may be that of a property which each object has, such as `constructor`.
+  const module = await WebAssembly.compile(bytes), imports = Object.create(null);
   for (const { module: from, name, kind } of WebAssembly.Module.imports(module)) {
     if (kind !== "function") throw new Error(`this page has no ${kind} for the import ${from}.${name}`);
+    imports[from] ??= Object.create(null);
     // `false` is 0 for each type of numbers.
-    (imports[from] ??= {})[name] = (...values) => { lines.push(`  ${from}.${name}(${values.join(", ")})`); return false; };
+    imports[from][name] = (...values) => { lines.push(`  ${from}.${name}(${values.map(String).join(", ")})`); return false; };
   }
   return WebAssembly.instantiate(module, imports);
 }

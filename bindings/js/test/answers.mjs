@@ -1,4 +1,4 @@
-// Writes what the package returns of each text, for tools/javascript and tools/doors: `node test/answers.mjs MODULE [chromium] <TEXTS`. Texts are
+// Writes what the package returns of each text, for tools/javascript and tools/test doors: `node test/answers.mjs MODULE [chromium] <TEXTS`. Texts are
 // a list in JSON. With the word `chromium` a headless Chromium, or $CHROMIUM, calls the package.
 import { readFileSync } from "node:fs";
 import { init } from "../index.js";

@@ -57,6 +57,10 @@ export async function open(url, width, height) {
   await send("Page.navigate", { url });
   return {
     folder, problems, send,
+    /** Presses a key, which has this code in Windows. */
+    async press(key, code) {
+      for (const type of ["rawKeyDown", "keyUp"]) await send("Input.dispatchKeyEvent", { type, key, code: key, windowsVirtualKeyCode: code });
+    },
     /** What a function returns in the page, which is given an argument. */
     async run(body, given) {
       const expression = `(${body})(${JSON.stringify(given) ?? ""})`;

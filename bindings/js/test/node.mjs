@@ -2,7 +2,9 @@
 import assert from "node:assert/strict";
 import { readFileSync } from "node:fs";
 import { inspect } from "node:util";
-import { escaped, init, isProved, memorySize, names, parse, resolve, sections, version, WatError } from "../index.js";
+import { runInNewContext } from "node:vm";
+import { placeOf } from "../page/fault_lines.js";
+import { escaped, init, isProved, memorySize, names, namesWithin, parse, resolve, sections, version, WatError } from "../index.js";
 
 const [, , file] = process.argv;
 const module = readFileSync(file);
@@ -28,6 +30,15 @@ function errorOf(call) {
     return error;
   }
   return assert.fail("no error");
+}
+
+/** Why this engine does not take the module of a text; empty if it does, or if there is none. */
+function refusal(text) {
+  try {
+    return new WebAssembly.Module(parse(text)) && "";
+  } catch (error) {
+    return error instanceof WebAssembly.CompileError ? error.message : "";
+  }
 }
 
 const fieldsOf = ({ number, kind, message, line, column, start, end }) => ({ number, kind, message, line, column, start, end });
@@ -94,6 +105,46 @@ await test("a text is a string or bytes", () => {
   assert.deepEqual(parse(Buffer.from(text)), parse(text));
 });
 
+await test("bytes are those of a buffer, and those that a view has", () => {
+  const bytes = encoder.encode("????(module (func $f))"), wanted = hex(parse("(module (func $f))"));
+  const shared = new SharedArrayBuffer(bytes.length);
+  new Uint8Array(shared).set(bytes);
+  for (const buffer of [bytes.buffer, shared]) {
+    for (const View of [DataView, Uint8Array, Int8Array, Uint8ClampedArray]) assert.equal(hex(parse(new View(buffer, 4))), wanted, View.name);
+    for (const View of [Uint16Array, Int16Array]) assert.equal(hex(parse(new View(buffer, 4, 9))), wanted, View.name);
+    assert.equal(errorOf(() => parse(buffer)).message, errorOf(() => parse("????(module (func $f))")).message);
+  }
+  for (const View of [BigInt64Array, Float64Array]) assert.equal(hex(parse(new View(encoder.encode("(module)").buffer))), "0061736d01000000");
+  assert.deepEqual(names(new DataView(bytes.buffer, 4)), [{ space: "func", index: 0, name: "f", offset: 14 }]);
+  assert.equal(errorOf(() => parse(new Uint8Array(shared, 0, 4))).line, 1);
+  assert.equal(hex(parse(runInNewContext("Uint8Array.from([40, 109, 111, 100, 117, 108, 101, 41]).buffer"))), "0061736d01000000");
+});
+
+await test("what is no text is refused", async () => {
+  const seen = encoder.encode("(module)"), moved = seen.buffer;
+  structuredClone(moved, { transfer: [moved] });
+  for (const [value, words] of [
+    [null, /found null$/], [undefined, /found undefined$/], [1, /found number$/], [true, /found boolean$/], [parse, /found function$/],
+    [{}, /found Object$/], [Object.create(null), /found object$/], [[40], /found Array$/], [new String("(module)"), /found String$/],
+    [Promise.resolve("(module)"), /found Promise: await it first$/], [{ then() {} }, /await it first$/],
+    [new Response("(module)"), /found Response: await its text\(\) first$/], [new Blob(["(module)"]), /found Blob: await its text\(\) first$/],
+    [moved, /detached/], [seen, /detached/],
+  ]) {
+    for (const call of [parse, names, namesWithin, (it) => resolve(it, "func", "f")]) assert.throws(() => call(value), { name: "TypeError", message: words });
+  }
+  assert.throws(() => resolve("(module)", "func"), /expected a string or bytes, found undefined/);
+});
+
+await test("a binary module is passed through", () => {
+  const given = parse("(module (func $f))");
+  const copy = parse(given);
+  assert.deepEqual(copy, given);
+  assert.notEqual(copy.buffer, given.buffer);
+  assert.equal(hex(parse(Uint8Array.of(0, 97, 115, 109, 1, 2))), "0061736d0102");
+  assert.equal(hex(parse(given, { names: false })), hex(parse("(module (func))")));
+  assert.equal(errorOf(() => parse("\0asm")).kind, "Malformed");
+});
+
 await test("a module may be longer than its text", () => {
   assert.equal(parse(`(module (memory 1) (data (i64${" 1".repeat(4000)})))`).length, 32022);
 });
@@ -108,6 +159,46 @@ await test("names may be left out", () => {
   const text = '(module $m (func $f) (@custom "a" "b"))';
   assert.equal(hex(parse(text, { names: false })), hex(parse('(module (func) (@custom "a" "b"))')));
   assert.deepEqual(sections(parse(text)).map(({ id, name }) => name ?? id), [1, 3, 10, "a", "name"]);
+});
+
+// Bytes of `(module binary ..)`, and what `wat --no-names` prints of them.
+const WITHOUT_NAMES = [
+  [String.raw`\00asm\01\00\00\00\01\05\00`, "0061736d01000000010500"],
+  [String.raw`\00asm\01\00\00\00\00\05\04name\0a\ff`, "0061736d010000000aff"],
+  [String.raw`\00asm\01\00\00\00\00\03\04name\00\05\04name`, "0061736d010000000003046e616d650005046e616d65"],
+  [String.raw`\00asm\01\00\00\00\01\80\80\80\80\80\00`, "0061736d0100000001808080808000"],
+  [String.raw`\00asm\01\00\00\00\00\80\00\00\85\80\80\80\00\04name\00`, "0061736d0100000000800000"],
+  [String.raw`\00asm\01\00\00\00\00\06\85\00name\00\06\84\00name\ff`, "0061736d01000000000685006e616d65ff"],
+  [String.raw`\00asm\01`, "0061736d01"],
+  [String.raw``, ""],
+];
+
+await test("bytes that are no sections are kept without names", () => {
+  for (const [bytes, wanted] of WITHOUT_NAMES) assert.equal(hex(parse(`(module binary "${bytes}")`, { names: false })), wanted, bytes);
+  assert.deepEqual(sections(Uint8Array.of(0, 97, 115, 109, 1, 0, 0, 0, 1, 5, 0)), []);
+});
+
+// The text and its names are those of bindings/rust/tests/calls.rs.
+await test("names of locals, labels and fields", () => {
+  const text = `(module (import "" "" (func (param $p i32)))
+    (type (func (param i32)))
+    (type $s (struct (field $x i32) (field i32) (field $"y z" i64)))
+    (func (param i32) (local $a i32) (local $b (@name "c") i64)
+        block $l loop if $l end end end)
+    (func (if $l (i32.const 0) (then block $m end))))`;
+  const rows = [
+    ["local", 0, 0, "p"], ["local", 1, 1, "a"], ["local", 1, 2, "c"],
+    ["label", 1, 0, "l"], ["label", 1, 2, "l"], ["label", 2, 0, "l"], ["label", 2, 1, "m"],
+    ["field", 1, 0, "x"], ["field", 1, 2, "y z"],
+  ];
+  assert.deepEqual(namesWithin(text), rows.map(([kind, owner, index, name]) => ({ kind, owner, index, name })));
+  assert.deepEqual(namesWithin(parse(text)), namesWithin(text));
+  assert.deepEqual(namesWithin("(module (func $f))"), []);
+  assert.deepEqual(namesWithin("(module)"), []);
+  errorOf(() => namesWithin("(module (start $f))"));
+  const own = (bytes) => namesWithin(`(module (@custom "name" "${bytes}") (func (local $a i32)))`);
+  assert.deepEqual(own("\\02\\06\\01\\00\\01\\07\\01z"), [{ kind: "local", owner: 0, index: 7, name: "z" }]);
+  for (const bytes of ["\\02\\06\\01", "\\02\\06\\01\\00\\01\\07\\01", "\\02\\05\\01\\00\\01\\07\\01", "\\02\\05\\ff\\ff\\ff\\ff\\0f", "\\02"]) assert.deepEqual(own(bytes), [], bytes);
 });
 
 await test("names of items", () => {
@@ -233,6 +324,19 @@ await test("an instance is usable after each failure", () => {
 });
 
 await test("blocks may be nested deeply", () => assert.equal(parse(DEEP).length, 300028));
+
+await test("the fault of an engine is at the instruction that its message names", () => {
+  const texts = readFileSync(new URL("../../../crates/wat_golden/stdin", import.meta.url), "utf8").split("\n").slice(0, 500);
+  let count = 0;
+  for (const text of texts) {
+    const message = refusal(text), [, name, offset] = /for ([\w.]+) \(need .* @\+(\d+)/.exec(message) ?? [];
+    if (!name) continue;
+    const place = placeOf(text, parse(text), Number(offset), parse);
+    assert.equal(place && text.slice(place.start, place.end), name, `${text}: ${message}`);
+    count += 1;
+  }
+  assert.ok(count > 20, `${count}`);
+});
 
 await test("10,000 calls hold memory level", () => {
   parse("(module)");

@@ -1,6 +1,6 @@
 // What `tsc` has to take, and what it has to refuse, of the types of the package. Nothing of it runs.
-import { escaped, init, isProved, memorySize, names, parse, resolve, sections, version, WatError } from "../index.js";
-import type { Kind, Name, Section, Space } from "../index.js";
+import { escaped, init, isProved, memorySize, names, namesWithin, parse, resolve, sections, version, WatError } from "../index.js";
+import type { Kind, Name, NameWithin, Section, Space } from "../index.js";
 
 await init();
 await init(new URL("https://example.org/rigyomad.wasm"));
@@ -11,6 +11,8 @@ await init(await WebAssembly.compile(new Uint8Array(8)));
 const bytes: Uint8Array = parse("(module)");
 await WebAssembly.instantiate(parse(bytes, { names: false }));
 const first: Name | undefined = names(new ArrayBuffer(8))[0];
+for (const view of [new DataView(new ArrayBuffer(8)), new Uint16Array(4), new ArrayBuffer(8), new SharedArrayBuffer(8)]) parse(view);
+const within: NameWithin | undefined = namesWithin("(module)")[0];
 const space: Space = first?.space ?? "func";
 const index: number | undefined = resolve("(module)", space, "f");
 const found: Section[] = sections(bytes);
@@ -21,7 +23,7 @@ try {
 } catch (error) {
   if (error instanceof WatError) {
     const kind: Kind = error.kind, offsets: number[] = [error.number, error.line, error.column, error.start, error.end], shown: string = error.snippet;
-    console.log(kind, offsets, shown, error.message, index, found, told);
+    console.log(kind, offsets, shown, error.message, index, found, told, within);
     // @ts-expect-error: fields are not changed
     error.line = 1;
   }
@@ -29,6 +31,8 @@ try {
 
 // @ts-expect-error: a text is a string or bytes
 parse(1);
+// @ts-expect-error: a response is awaited and read before
+parse(fetch("a.wat"));
 // @ts-expect-error: there is no such option
 parse("", { name: true });
 // @ts-expect-error: there is no such index space
