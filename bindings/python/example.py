@@ -1,6 +1,8 @@
 """Prints the bytes of the modules of texts in hexadecimal, or their faults with line and column.
 
     python3 example.py TEXT..
+
+The status is 1 if a text has an error.
 """
 
 import sys
@@ -9,6 +11,7 @@ import rigyomad
 
 
 def main(texts):
+    status = 0
     for text in texts:
         try:
             print(rigyomad.parse(text).hex())
@@ -16,7 +19,8 @@ def main(texts):
             if error.kind == "Memory":
                 return f"error: {error}"
             print(error)
-    return 0
+            status = 1
+    return status
 
 
 if __name__ == "__main__":

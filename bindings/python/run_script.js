@@ -19,27 +19,56 @@ function floatOf(type, bits) {
   return type === "f32" ? (view.setUint32(0, Number(bits)), view.getFloat32(0)) : (view.setBigUint64(0, BigInt(bits)), view.getFloat64(0));
 }
 
-// A value for the engine. Vectors, and NaNs with a payload, do not pass through JavaScript.
+// A value for the engine. Vectors and NaNs pass only in `caller`.
 function valueOf({ type, value }) {
   if (type === "i32") return Number(value) | 0;
   if (type === "i64") return BigInt.asIntN(64, BigInt(value));
   if (type === "f32" || type === "f64") {
-    const number = floatOf(type, value);
+    const number = /^nan/.test(value) ? NaN : floatOf(type, value);
     if (Number.isNaN(number)) throw SKIPPED;
     return number;
   }
-  if (value === "null") return null;
+  if (value === "null" || type === "refnull") return null;
   if (type === "externref" && value !== undefined) return `extern ${value}`;
   throw SKIPPED;
 }
 
-// Whether a value is what a result has to be.
+// Whether a value that passed through JavaScript is what a result has to be.
 function isWanted(expected, value) {
   if (expected.type === "either") return expected.values.some((it) => isWanted(it, value));
-  if (expected.value === undefined) return expected.type === "refnull" ? value === null : value !== null;
-  if (/^nan/.test(expected.value)) return Number.isNaN(value);
-  if (expected.type === "funcref" && expected.value !== "null") throw SKIPPED;
+  if (expected.value === undefined && expected.type !== "refnull") return value !== null;
+  if (expected.type === "funcref" && expected.value === "0") return typeof value === "function";
   return Object.is(valueOf(expected), value);
+}
+
+// The width of a number or a lane, and the bits that an arithmetic NaN has set, and a canonical one has alone beside its sign.
+const WIDTH = { i8: 8, i16: 16, i32: 32, i64: 64, f32: 32, f64: 64 };
+const QUIET = { f32: 0x7fc00000n, f64: 0x7ff8000000000000n };
+
+// Whether the lowest of these bits are those of a number or a lane.
+function isNumber(type, wanted, bits) {
+  if (wanted === "nan:canonical") return BigInt.asUintN(WIDTH[type] - 1, bits) === QUIET[type];
+  if (wanted === "nan:arithmetic") return (bits & QUIET[type]) === QUIET[type];
+  return BigInt.asUintN(WIDTH[type], bits) === BigInt(wanted);
+}
+
+// Whether these bits are those of a result.
+function hasBits(expected, bits) {
+  if (expected.type === "either") return expected.values.some((it) => hasBits(it, bits));
+  if (expected.type !== "v128") return isNumber(expected.type, expected.value, bits);
+  const { lane_type: type, value: lanes } = expected;
+  return lanes.every((lane, i) => isNumber(type, lane, bits >> BigInt(i * WIDTH[type])));
+}
+
+// Whether the results of a call have their bits, which the module `caller` returns as integers of 64 bits: two of a vector.
+function haveBits(action, expected) {
+  const call = new WebAssembly.Module(Buffer.from(action.caller, "base64"));
+  const returned = new WebAssembly.Instance(call, { "": { f: exported(action) } }).exports.f();
+  const words = [returned].flat().map((word) => BigInt.asUintN(64, word ?? 0n));
+  return expected.every((it) => {
+    const isVector = (it.values?.[0] ?? it).type === "v128";
+    return hasBits(it, isVector ? words.shift() | (words.shift() << 64n) : words.shift());
+  });
 }
 
 function exported(action) {
@@ -56,21 +85,25 @@ function act(action) {
   return returned === undefined ? [] : Array.isArray(returned) ? returned : [returned];
 }
 
+// The exports of a module. One that did not encode has none: its command fails.
 function instantiate(command) {
-  if (command.module === null) throw SKIPPED;
+  if (command.module === null) throw command.error;
   return new WebAssembly.Instance(new WebAssembly.Module(Buffer.from(command.module, "base64")), imports).exports;
 }
 
-// Whether a call throws an error of this kind.
+// Whether a call throws an error of this kind. Another error is left to `answer`.
 function throws(kind, call) {
   try {
     call();
     return false;
   } catch (error) {
-    if (error === SKIPPED || (error instanceof TypeError && !(error instanceof kind))) throw SKIPPED;
-    return error instanceof kind;
+    if (error instanceof kind) return true;
+    throw error;
   }
 }
+
+// Whether an error says that a value does not pass through JavaScript.
+const isOfValue = (error) => error instanceof TypeError && /transforming from\/to JS|Can't get the value/.test(error.message);
 
 const isRefused = (command) => command.module === null || !WebAssembly.validate(Buffer.from(command.module, "base64"));
 const run = (command) => (command.action ? act(command.action) : instantiate(command));
@@ -78,8 +111,9 @@ const run = (command) => (command.action ? act(command.action) : instantiate(com
 // Whether a command passes.
 const COMMANDS = {
   module(command) {
-    if (command.definition) throw SKIPPED;
+    if (command.definition && command.module !== null) throw SKIPPED;
     instances.delete("");
+    instances.delete(command.name);
     const made = instantiate(command);
     instances.set("", made);
     if (command.name) instances.set(command.name, made);
@@ -93,6 +127,7 @@ const COMMANDS = {
   },
   action: (command) => (act(command.action), true),
   assert_return(command) {
+    if (command.action?.caller) return haveBits(command.action, command.expected);
     const values = command.action ? act(command.action) : (instantiate(command), []);
     return values.length === command.expected.length && command.expected.every((it, i) => isWanted(it, values[i]));
   },
@@ -111,7 +146,7 @@ function answer(line) {
     if (!COMMANDS[command.type]) return "skipped";
     return COMMANDS[command.type](command) ? "passed" : "failed";
   } catch (error) {
-    return error === SKIPPED ? "skipped" : "failed";
+    return error === SKIPPED || isOfValue(error) ? "skipped" : "failed";
   }
 }
 

@@ -5,6 +5,7 @@ import doctest
 import importlib.metadata
 import pickle
 import unittest
+import unittest.mock
 
 import rigyomad
 
@@ -75,6 +76,11 @@ class Tests(unittest.TestCase):
         self.assertEqual(error_of(text), (4, "Unknown", message, 2, 16, 30, 34))
         self.assertEqual(error_of(text.encode()), (4, "Unknown", message, 2, 20, 38, 43))
 
+    def test_carriage_return_ends_no_line(self):
+        for text in ("(module\r (start $f))", b"(module\r (start $f))"):
+            self.assertEqual(error_of(text)[3:], (1, 17, 16, 18))
+        self.assertEqual(error_of(b"(module)\r\n\r\xff")[3:], (2, 2, 11, 12))
+
     def test_bytes_that_are_not_utf8_have_a_position(self):
         self.assertEqual(error_of(b"(module\n  ;;\xff\n)"), (0, "Malformed", "malformed UTF-8 encoding", 2, 5, 12, 13))
 
@@ -94,6 +100,12 @@ class Tests(unittest.TestCase):
         self.assertEqual(snippet_of("(module)\n;; \ud800"), " --> 2:4\n  |\n2 | ;; ?\n  |    ^")
         long = snippet_of(f"(module {' ' * 100}(start ${'n' * 100}))").split("\n")
         self.assertEqual(long[2:], [f"1 | ...{' ' * 53}(start ${'n' * 59}...", f"  | {' ' * 63}^"])
+        for before, after in [(59, 59), (60, 60), (61, 61)]:
+            head, tail = "." * (before > 60) * 3, "." * (after > 60) * 3
+            line = f"(module{' ' * (before - 14)}(start ${'n' * (after - 3)}))"
+            shown = [f"1 | {head}{line[before - min(before, 60) : before + 60]}{tail}", f"  | {' ' * (len(head) + min(before, 60))}^"]
+            self.assertEqual(snippet_of(line).split("\n")[2:], shown)
+        self.assertEqual(snippet_of("\n" * 99 + "(start $f)"), "   --> 100:8\n    |\n100 | (start $f)\n    |        ^")
         self.assertEqual(rigyomad.WatError(12, "allocation failed").snippet, "")
 
     def test_message_may_be_long(self):
@@ -117,6 +129,32 @@ class Tests(unittest.TestCase):
         letters = "abcdefghijklmnopqrstuvwxyz"
         self.assertEqual([it.name for it in rigyomad.names("".join(f"(tag ${it})" for it in letters))], list(letters))
 
+    def test_names_of_locals_labels_and_fields_are_listed(self):
+        # the text and its names are those of bindings/rust/tests/calls.rs
+        text = """(module (import "" "" (func (param $p i32)))
+            (type (func (param i32)))
+            (type $s (struct (field $x i32) (field i32) (field $"y z" i64)))
+            (func (param i32) (local $a i32) (local $b (@name "c") i64)
+                block $l loop if $l end end end)
+            (func (if $l (i32.const 0) (then block $m end))))"""
+        local = [("local", 0, 0, "p"), ("local", 1, 1, "a"), ("local", 1, 2, "c")]
+        label = [("label", 1, 0, "l"), ("label", 1, 2, "l"), ("label", 2, 0, "l"), ("label", 2, 1, "m")]
+        self.assertEqual(rigyomad.names_within(text), [*local, *label, ("field", 1, 0, "x"), ("field", 1, 2, "y z")])
+        self.assertEqual(rigyomad.names_within(rigyomad.parse(text)), rigyomad.names_within(text))
+        self.assertEqual(rigyomad.names_within(text)[0].owner, 0)
+        for other in ("(module)", "(module (func $f))"):
+            self.assertEqual(rigyomad.names_within(other), [])
+        with self.assertRaises(rigyomad.WatError):
+            rigyomad.names_within("(module (start $f))")
+
+    def test_names_of_a_custom_section_are_listed(self):
+        def of(data):
+            return rigyomad.names_within(f'(module (@custom "name" "{data}") (func (local $a i32)))')
+
+        self.assertEqual(of(r"\02\06\01\00\01\07\01z"), [("local", 0, 7, "z")])
+        for data in (r"\02\06\01", r"\02\06\01\00\01\07\01", r"\02\05\01\00\01\07\01", r"\02\05\ff\ff\ff\ff\0f", r"\02"):
+            self.assertEqual(of(data), [], data)
+
     def test_kinds_have_their_numbers(self):
         for text, number, kind in KINDS:
             self.assertEqual(error_of(text)[:2], (number, kind), text)
@@ -131,12 +169,21 @@ class Tests(unittest.TestCase):
     def test_version_is_that_of_the_package(self):
         number, _, word = rigyomad.version().partition(" ")
         self.assertEqual(number, importlib.metadata.version("rigyomad"))
-        self.assertIn(word, ("", "(UNPROVED)"))
+        self.assertIn(word, ("", "(UNPROVED)", "(C, from the proved module)"))
 
     def test_error_can_be_pickled(self):
         error = rigyomad.WatError(4, "unknown", 1, 2, 3, 4, " --> 1:2")
         again = pickle.loads(pickle.dumps(error))
         self.assertEqual((again.kind, again.end, again.snippet, str(again)), ("Unknown", 4, " --> 1:2", "1:2: unknown"))
+        self.assertEqual(error.args, (4, "unknown", 1, 2, 3, 4, " --> 1:2"))
+        self.assertEqual(error.args, again.args)
+
+    def test_refused_memory_is_an_error(self):
+        for name, call in [("encode", rigyomad.parse), ("names", rigyomad.names)]:
+            with unittest.mock.patch.object(rigyomad._archive, name, return_value=(rigyomad._archive.MEMORY, b"")):
+                with self.assertRaises(rigyomad.WatError) as caught:
+                    call("(module)")
+            self.assertEqual((caught.exception.number, caught.exception.line), (12, 0))
 
     def test_threads_may_call(self):
         with concurrent.futures.ThreadPoolExecutor(8) as pool:

@@ -16,14 +16,14 @@ lets other threads run.
 import re
 from typing import List, NamedTuple, Union
 
-from rigyomad import _archive
+from rigyomad import _archive, _binary
 
-__all__ = ["KINDS", "SPACES", "Name", "Text", "WatError", "names", "parse", "version"]
+__all__ = ["KINDS", "SPACES", "Name", "NameWithin", "Text", "WatError", "names", "names_within", "parse", "version"]
 
 #: A module in the text format. Bytes are UTF-8. Offsets and columns count characters of a string, and bytes otherwise.
 Text = Union[str, bytes, bytearray, memoryview]
 
-#: The kinds of errors, by their numbers (docs/FORMATS.md of Rigyomad).
+#: The kinds of errors, by their numbers (docs/ERRORS.md of Rigyomad).
 KINDS = (
     "Malformed",
     "ImportAfter",
@@ -110,6 +110,19 @@ class Name(NamedTuple):
     offset: int
 
 
+class NameWithin(NamedTuple):
+    """A name within a function or a type."""
+
+    #: `local`, `label` or `field`.
+    kind: str
+    #: The index of the function, or of the type of a field.
+    owner: int
+    #: The index within the owner: that of a local or a field, or of a block in the order of the text.
+    index: int  # type: ignore[assignment]
+    #: Without the `$` of its id, and without escapes.
+    name: str
+
+
 def _decoded(part: bytes) -> str:
     return part.decode(errors="replace")
 
@@ -179,6 +192,15 @@ def names(text: Text) -> List[Name]:
         count, at = count + len(_decoded(given[at:offset])), offset
         characters[offset] = count
     return [Name(SPACES[space], index, name.decode(), characters.get(offset, offset)) for space, index, offset, name in found]
+
+
+def names_within(text: Text) -> List[NameWithin]:
+    """Returns the names of locals, labels and fields that the name section of the module of a text has: by kind, then by owner, then by
+    index. If the text has a custom section `name` of its own, they are those in it, and none if it is not well formed.
+
+    Raises WatError as `parse`.
+    """
+    return [NameWithin(*name) for name in _binary.names_within(parse(text))]
 
 
 def version() -> str:

@@ -80,7 +80,7 @@ def encode(text: bytes) -> Tuple[int, bytes]:
 
 
 def fault(text: bytes) -> Optional[Tuple[Diagnosis, bytes]]:
-    """Where a text has a fault, and the message; None if memory is refused."""
+    """The position and the message of the error of a text; None if allocation failed."""
     room = 256
     while True:
         out, at = ctypes.create_string_buffer(room), Diagnosis()

@@ -10,6 +10,7 @@ The objects are those that `wast2json` writes, with these differences:
 - `quoted` has the text of a quoted module, and `source` the text of any module in the script.
 - `line` and `column` are those of the command. An action has its own.
 - `expected` is only that of `assert_return`, and has each `either` as a value that has `values`.
+- A reference to a function by its index or its id, which `wast2json` does not read, has the value `{"index": 5}` or `{"id": "$f"}`.
 """
 
 import ctypes
@@ -74,43 +75,47 @@ _REFERENCES = (
 _NONE = 2**64 - 1
 
 # The words of each record, and where the header has the offset of its table.
-_COMMAND, _MODULES, _ACTION, _VALUE, _LANE, _STRINGS = (14, 1), (19, 3), (10, 5), (4, 7), (2, 9), 11
+_COMMAND, _MODULES, _ACTION, _VALUE, _LANE, _STRINGS = (14, 1), (20, 3), (10, 5), (4, 7), (2, 9), 11
+
+# What the records begin with: the number of their layout.
+_LAYOUT = struct.pack("<Q", 2)
 
 
-def _error(given: bytes, at: _archive.Diagnosis, message: str) -> rigyomad.WatError:
-    """The error of a script. Bytes that are not UTF-8 have no line in the diagnosis."""
-    line = at.line or given.count(b"\n", 0, at.offset) + 1
-    column = at.column or at.offset - given.rfind(b"\n", 0, at.offset)
-    end = at.end_offset if at.line else at.offset + 1
-    return rigyomad.WatError(at.number, message, line, column, at.offset, max(at.offset, end))
+def _error(text: rigyomad.Text, given: bytes, status: int, at: _archive.Diagnosis, message: str) -> rigyomad.WatError:
+    """The error of a script, as that of a module. Bytes that are not UTF-8 have no line in the diagnosis."""
+    end = at.end_offset if status == _archive.FAULT else at.offset + 1
+    return rigyomad._error_at(text, given, at.offset, end, at.number, message)
 
 
-def _records(given: bytes) -> bytes:
+def _records(text: rigyomad.Text, given: bytes) -> bytes:
     """The records of a script. Raises WatError if there are none."""
     call = _archive._LIBRARY.rigyomad_c_script
     call.restype = ctypes.c_uint32
-    room, message, at = 8 * len(given) + 4096, ctypes.create_string_buffer(256), _archive.Diagnosis()
+    room, most, at = 8 * len(given) + 4096, 256, _archive.Diagnosis()
     while True:
-        out, size = ctypes.create_string_buffer(room), ctypes.c_size_t()
-        sizes = ctypes.c_size_t(len(given)), ctypes.c_size_t(room), ctypes.c_size_t(len(message))
+        out, size, message = ctypes.create_string_buffer(room), ctypes.c_size_t(), ctypes.create_string_buffer(most)
+        sizes = ctypes.c_size_t(len(given)), ctypes.c_size_t(room), ctypes.c_size_t(most)
         status = call(given, sizes[0], out, sizes[1], ctypes.byref(size), message, sizes[2], ctypes.byref(at))
-        if status != _archive.SHORT:
+        if status != _archive.SHORT and at.size <= most:
             break
-        room = size.value
+        room, most = max(room, size.value), max(most, at.size)
     if status == _archive.MEMORY:
         raise rigyomad.WatError(12, "allocation failed")
     if status != _archive.DONE:
-        raise _error(given, at, rigyomad._decoded(message.raw[: at.size]))
-    return ctypes.string_at(out, size.value)
+        raise _error(text, given, status, at, rigyomad._decoded(message.raw[: at.size]))
+    records = ctypes.string_at(out, size.value)
+    if records[:8] != _LAYOUT:
+        raise ImportError("the archive writes another layout of records")
+    return records
 
 
 class Script:
     """A script that was read: its records. `commands` returns them as objects."""
 
     def __init__(self, text: rigyomad.Text) -> None:
-        """Reads a script. Raises WatError if the text is none, with a position that counts bytes."""
+        """Reads a script. Raises WatError if the text is none."""
         given = rigyomad._given(text)
-        self._text, self._bytes = given, _records(given)
+        self._given, self._text, self._bytes = text, given, _records(text, given)
         self._header = struct.unpack_from("<13Q", self._bytes)
 
     def _record(self, table: Any, number: int) -> Any:
@@ -128,10 +133,6 @@ class Script:
         name = self._part(start, size)
         return None if name is None else f"${name.decode()}"
 
-    def _reference(self, form: int, first: int, second: int) -> Optional[str]:
-        """The number or the id of a reference, if it has one."""
-        return str(first) if form == 3 else self._id(first, second) if form == 4 else None
-
     def _value(self, number: int) -> Dict[str, Any]:
         kind, form, first, second = self._record(_VALUE, number)
         if kind < 4:
@@ -143,8 +144,9 @@ class Script:
             return {"type": _REFERENCES[first] if form in (1, 2) else "ref", "value": "null"} if form else {"type": "refnull"}
         if kind == _REF:
             return {"type": _REFERENCES[first]}
-        found = self._reference(form, first, second)
-        return {"type": _VALUES[kind]} if found is None else {"type": _VALUES[kind], "value": found}
+        if kind == _FUNC:
+            return {"type": _VALUES[kind], "value": {"index": first} if form == 3 else {"id": self._id(first, second)} if form == 4 else "0"}
+        return {"type": _VALUES[kind], "value": str(first)} if form == 3 else {"type": _VALUES[kind]}
 
     def _values(self, first: int, count: int) -> List[Dict[str, Any]]:
         """The values of a part. The alternatives of `either` are the values after it."""
@@ -171,16 +173,17 @@ class Script:
 
     def _module(self, number: int) -> Dict[str, Any]:
         form, _, _, _, name, size, start, length, quoted, quoted_size, status, *rest = self._record(_MODULES, number)
-        first, count, error, _, error_line, error_column, message, message_size = rest
+        first, count, error, offset, error_line, _, end, message, message_size = rest
         module: Dict[str, Any] = {"source": self._text[start : start + length].decode()}
         if name != _NONE:
             module["name"] = self._id(name, size)
         if form == 2:
             module["quoted"] = self._part(quoted, quoted_size)
-        module["module_type"] = "text" if form == 2 else "binary"
         module["module"] = self._part(first, count)
         if status:
-            module["error"] = rigyomad.WatError(error, rigyomad._decoded(self._string(message, message_size)), error_line, error_column)
+            said = rigyomad._decoded(self._string(message, message_size))
+            is_placed = error_line != 0
+            module["error"] = rigyomad._error_at(self._given, self._text, offset, end, error, said) if is_placed else rigyomad.WatError(error, said)
         return module
 
     def _command(self, number: int) -> Any:
@@ -190,10 +193,12 @@ class Script:
         own_id, of_id = self._id(own, own_size), self._id(of, of_size)
         if module != _NONE:
             found.update(self._module(module))
+            if kind not in (_MODULE, _DEFINITION):
+                found["module_type"] = "text" if "quoted" in found else "binary"
         if action != _NONE:
             found["action"] = self._action(action)
         if kind == _DEFINITION:
-            found["definition"] = True
+            found["definition"] = "true"
         if kind == _TRAP and module != _NONE:
             found["type"] = "assert_uninstantiable"
         if kind == 5:
