@@ -1,4 +1,4 @@
-//! Prints what the archive returns of texts, for tools/doors: answers < TEXTS. A line of each has
+//! Prints what the archive returns of texts, for tools/test doors: answers < TEXTS. A line of each has
 //! hexadecimal digits: those of a text, and those of its module, or the number, offset, line and
 //! column of its fault and the digits of the message.
 

@@ -38,7 +38,7 @@ fn are_wanted(rets: &[Ret<'_>], values: &[Value]) -> bool {
 fn instantiate(engine: &mut impl Engine, module: &Module<'_>) -> Outcome {
     match module.encode() {
         Ok(bytes) => engine.instantiate(module.id(), bytes),
-        Err(_) => Outcome::Unsupported,
+        Err(_) => Outcome::Rejected,
     }
 }
 
@@ -67,6 +67,7 @@ fn passes(engine: &mut impl Engine, directive: Directive<'_>) -> Option<bool> {
     let returned = |it: &Outcome| matches!(it, Outcome::Returned(_));
     match directive {
         Directive::Module(module) => came_to(instantiate(engine, &module), returned),
+        Directive::ModuleDefinition(module) => module.encode().err().map(|_| false),
         Directive::Register { name, module, .. } => {
             came_to(engine.register(name, module), returned)
         }

@@ -11,7 +11,7 @@ pub(crate) const DONE: u32 = 0;
 /// It does not fit.
 pub(crate) const SHORT: u32 = 1;
 
-/// The text has a fault.
+/// The module has an error.
 pub(crate) const FAULT: u32 = 2;
 
 /// Nothing has the name.

@@ -290,6 +290,12 @@ mod tests {
     }
 
     #[test]
+    fn end_before_the_place_is_an_empty_span() {
+        let at = Diagnosis { offset: 3, line: 1, column: 4, ..Diagnosis::default() };
+        assert_eq!(Fault::new("(module)", &at, b"a").span(), Some(3..3));
+    }
+
+    #[test]
     fn numbers_have_digits() {
         assert_eq!([1, 9, 10, 99, 100, 12_345].map(digits), [1, 1, 2, 2, 3, 5]);
     }

@@ -1,10 +1,9 @@
 //! Turns modules in the text format of WebAssembly into the bytes of the binary format.
 //!
-//! A program that calls this crate needs `librigyomad.a`, which the crate does not contain. In a
-//! clone of Rigyomad, `tools/build archive ~/rigyomad` writes it; then set `RIGYOMAD_LIB=~/rigyomad`
-//! for cargo. After `tools/install ~/.local`, set `PKG_CONFIG_PATH=~/.local/lib/pkgconfig` in its
-//! place. Without the archive `cargo check` and `cargo doc` work, and `cargo build` ends with one line
-//! that says so.
+//! The build compiles C that is made of the proved code, so it needs a C compiler, and Python in a
+//! clone of Rigyomad. This C has no [`script`]. To link the archive `librigyomad.a` in its place, run
+//! `tools/build archive ~/rigyomad` there, and set `RIGYOMAD_LIB=~/rigyomad` for cargo. After
+//! `tools/install ~/.local`, set `PKG_CONFIG_PATH=~/.local/lib/pkgconfig` in its place.
 //!
 //! # Example
 //!

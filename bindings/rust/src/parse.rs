@@ -48,7 +48,7 @@ impl Error {
         }
     }
 
-    /// Returns why a file cannot be read. Returns `None` if the text has a fault.
+    /// Returns why a file cannot be read. Returns `None` if the module has an error.
     pub fn io_error(&self) -> Option<&io::Error> {
         match &self.cause {
             Cause::Fault(_) => None,

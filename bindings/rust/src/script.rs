@@ -86,9 +86,9 @@ fn first_room(text: &str) -> usize {
 
 /// The records of a script.
 fn records_of(text: &str) -> Result<Vec<u8>, Fault> {
-    let (mut size, mut message) = (first_room(text), [0; 256]);
+    let (mut size, mut message_size) = (first_room(text), 256);
     loop {
-        let mut out = room::filled(size)?;
+        let (mut out, mut message) = (room::filled(size)?, room::filled(message_size)?);
         let (status, wanted, at) = script(text, &mut out, &mut message);
         match status {
             archive::DONE => {
@@ -96,7 +96,8 @@ fn records_of(text: &str) -> Result<Vec<u8>, Fault> {
                 return Ok(out);
             }
             archive::SHORT => size = wanted,
-            archive::FAULT => return Err(Fault::new(text, &at, &message[..at.size.min(256)])),
+            archive::FAULT if at.size > message_size => message_size = at.size,
+            archive::FAULT => return Err(Fault::new(text, &at, &message[..at.size])),
             _ => return Err(Fault::out_of_memory()),
         }
     }
@@ -587,10 +588,10 @@ impl<'s> Module<'s> {
             offset: span.offset,
             line: span.line,
             column: span.column,
-            end_offset: span.offset,
+            end_offset: self.record.size(17),
             ..Diagnosis::default()
         };
-        Err(Fault::new(self.text, &at, self.record.bytes(17).unwrap_or_default()))
+        Err(Fault::new(self.text, &at, self.record.bytes(18).unwrap_or_default()))
     }
 }
 

@@ -173,6 +173,8 @@ fn names_of_a_custom_section_are_listed() {
     let text = r#"(module (@custom "name" "\02\06\01\00\01\07\01z") (func (local $a i32)))"#;
     assert_eq!(within(text), [(Within::Local, 0, 7, "z".to_owned())]);
     assert_eq!(within(r#"(module (@custom "name" "\02\06\01") (func (local $a i32)))"#), []);
+    let text = r#"(module (@custom "name" "\02\07\01\00\01\07\02z\ff"))"#;
+    assert_eq!(within(text), [(Within::Local, 0, 7, "z".to_owned())]);
 }
 
 #[test]

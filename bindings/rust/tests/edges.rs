@@ -31,6 +31,11 @@ fn each_kind_has_its_words() {
 fn columns_are_bytes() {
     let place = encode("(module (;é日;) (start $f))").unwrap_err().place().unwrap();
     assert_eq!((place.line, place.column, place.offset), (1, 26, 25));
+    let place = encode("(module\r (start $f))").unwrap_err().place().unwrap();
+    assert_eq!((place.line, place.column, place.offset), (1, 17, 16));
+    let error = parse_bytes(b"\n;;\r\xc3\xa9\xff").unwrap_err();
+    let place = error.fault().unwrap().place().unwrap();
+    assert_eq!((place.line, place.column, place.offset), (2, 6, 6));
     let error = parse_bytes(b"\n;;\xc3\xa9\xe6\x97\xa5\xff").unwrap_err();
     let place = error.fault().unwrap().place().unwrap();
     assert_eq!((place.line, place.column, place.offset), (2, 8, 8));

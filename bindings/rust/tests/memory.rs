@@ -1,7 +1,7 @@
 //! Each call returns E12, or what it returns with ample memory, if a request of its own is refused.
 
 use rigyomad::script::Script;
-use rigyomad::{encode, names, names_within, parse_bytes, Fault, Kind};
+use rigyomad::{encode, names, names_within, parse_bytes, parse_str, Fault, Kind};
 use std::alloc::{GlobalAlloc, Layout, System};
 use std::cell::Cell;
 
@@ -63,6 +63,19 @@ fn refused_request_of_encode_is_an_error() {
 }
 
 #[test]
+fn fault_without_a_place_has_its_file() {
+    LEFT.with(|it| it.set(1));
+    let mut error = parse_str("(module)").unwrap_err();
+    assert_eq!(
+        (error.to_string(), format!("{error:#}")),
+        ("out of memory".into(), "out of memory".into())
+    );
+    error.set_path("a.wat");
+    assert_eq!(error.to_string(), "a.wat: out of memory");
+    assert_eq!(format!("{error:#}"), "out of memory\n --> a.wat");
+}
+
+#[test]
 fn refused_request_for_a_longer_message_is_an_error() {
     let text = format!("(module (start ${}))", "n".repeat(1000));
     assert_eq!(refuse_each(|| encode(&text), Fault::kind), 5);
@@ -92,5 +105,5 @@ fn refused_request_of_names_within_is_an_error() {
 #[test]
 fn refused_request_of_a_script_is_an_error() {
     let call = || Script::parse("(thread $T (wait $U))").map(|it| it.directives().count());
-    assert_eq!(refuse_each(call, Fault::kind), 3);
+    assert_eq!(refuse_each(call, Fault::kind), 4);
 }

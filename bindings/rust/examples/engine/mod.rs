@@ -23,6 +23,8 @@ pub enum Outcome {
     Trapped,
     /// It exhausted the stack.
     Exhausted,
+    /// The module is not well formed, or not valid.
+    Rejected,
     /// The engine does not support something that the command needs.
     Unsupported,
 }

@@ -14,7 +14,7 @@ impl Records {
     /// Records that the archive wrote.
     pub(super) fn new(bytes: Vec<u8>) -> Records {
         let records = Records(bytes);
-        assert_eq!(records.word(0), 1, "librigyomad.a writes another layout of records");
+        assert_eq!(records.word(0), 2, "librigyomad.a writes another layout of records");
         records
     }
 
@@ -45,7 +45,7 @@ impl Records {
     }
 
     pub(super) fn module(&self, number: usize) -> Record<'_> {
-        self.record(3, 19, number)
+        self.record(3, 20, number)
     }
 
     pub(super) fn action(&self, number: usize) -> Record<'_> {
