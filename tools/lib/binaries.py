@@ -1,4 +1,4 @@
-"""What binary modules say, for `tools/suite`: two are compared but for what a text leaves open.
+"""What binary modules say, for `tools/test suite`: two are compared but for what a text leaves open.
 
 RULES names what a writer may choose: each is a way to write one thing, and where two modules differ, `difference` tells the rules by
 which they do, or that there is none. Of custom sections only names are compared: `names` has those of a module.

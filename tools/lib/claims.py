@@ -148,7 +148,7 @@ def figure_claims(text):
 
 
 def compared(text, figures):
-    """What a page says in these figures, each with whether it is what was counted; `tools/growing` has figures of its own."""
+    """What a page says in these figures, each with whether it is what was counted."""
     for pattern, numbers, name in figures:
         for match in re.finditer(pattern, text, re.I):
             said = [value(word) for word in match.groups() if word]

@@ -1,4 +1,4 @@
-"""Texts with custom sections and branch hints, with their answers, for `tools/texts`.
+"""Texts with custom sections and branch hints, with their answers, for `tools/pages`.
 
 The bytes are made by the binary format (custom sections; code metadata; tool conventions). For example,
 `(module (@custom "b" (after func)) (@custom "a" (before func)))` has the sections `a` and `b`, in this order.

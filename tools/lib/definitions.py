@@ -12,7 +12,7 @@ A name leads to one of these, which are called targets here:
 - a `KitName`: a name of the kit's library, which is not followed;
 - a `Lemma`: a name of proofs/ or of `specs.contracts`, which is proved or derived, so nobody has to believe it.
 
-`Missing` is raised for a name that leads nowhere. `tools/trust` and `tools/growing` use it.
+`Missing` is raised for a name that leads nowhere. `tools/show` uses it.
 """
 
 import functools

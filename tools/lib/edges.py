@@ -1,4 +1,4 @@
-r"""Texts at the edges of the text format, and their answers, for `tools/texts`.
+r"""Texts at the edges of the text format, and their answers, for `tools/pages`.
 
 A line of EDGES is a text, a tab, and the answer that crates/wat_golden has to print. A `^` in the
 text is the offset that the answer names with `^`, and is not a part of the text. A line that begins
@@ -9,7 +9,7 @@ The bytes are those of the Rust crate `wast` 239 with its `wasm-encoder`, except
 a group names another source. Nullable references to abstract heap types other than `func` and
 `extern` have two bytes, as docs/DIFFERENCES.md explains. What is refused has the offset of the first
 token that the grammar of the WebAssembly Core Specification 3.0 does not allow, with the exceptions
-that docs/decisions/059-positions-of-errors-are-tested.md lists.
+that docs/decisions/contracts.md#d059 lists.
 """
 
 import re

@@ -85,7 +85,8 @@ def why_of(error):
 
 def run(main, doc):
     """Calls a tool with its words, and ends with its status: 2 if its words are wrong, 1 if something keeps it from running."""
-    name, words = f"tools/{os.path.basename(sys.argv[0])}", sys.argv[1:]
+    path, words = pathlib.Path(sys.argv[0]).resolve(), sys.argv[1:]
+    name = f"tools/test {path.name}" if path.parent.name == "tests" else f"tools/{path.name}"
     options = set(re.findall(r"--?[a-z][\w-]*", usage(doc)))
     try:
         if "--help" in words or "-h" in words:

@@ -1,27 +1,25 @@
-"""Reads the errors that `wat --explain` knows, and writes the pages of errors from them, for `tools/errors-page` and `tools/check-docs`.
+"""Reads the errors that `wat --explain` knows, and writes docs/ERRORS.md from them, for `tools/pages`.
 
-docs/ERRORS.md has those with a number, docs/TOKEN_ERRORS.md and docs/SYNTAX_ERRORS.md the others, and docs/POSITIONS.md the positions
-that differ from those of the Rust crate (`tools/lib/places.py`).
+The command `wat`, as `rt ci` builds it, runs the example of each entry: its message has to begin with the words of the entry, and `--explain` has
+to find each entry by its number and by its words. So it is with the texts whose error has another position in the Rust crate (`tools/lib/places.py`).
 """
 
-import pathlib
 import re
 import subprocess
 import typing
 
 import places
+from entry import ROOT, Failed
 
-ROOT = pathlib.Path(__file__).resolve().parent.parent.parent
 SOURCE = ROOT / "crates/wat/src/explanations.rt"
-PAGE, TOKEN_PAGE, SYNTAX_PAGE = (ROOT / "docs" / name for name in ("ERRORS.md", "TOKEN_ERRORS.md", "SYNTAX_ERRORS.md"))
+PROGRAM = ROOT / "crates/wat/out/wat"
+PAGE = ROOT / "docs/ERRORS.md"
 
 HEAD = """# Errors
 
-For users of `wat` and of the library: what each error with a number means, a text that has it, and what to do. [TOKEN_ERRORS.md](TOKEN_ERRORS.md)
-and [SYNTAX_ERRORS.md](SYNTAX_ERRORS.md) have the errors of a text that is no module. [POSITIONS.md](POSITIONS.md) has what differs from the Rust
-crate. `tools/errors-page` writes these pages, and CI runs their examples.
-
-`wat --explain E4` prints an entry, and so does `wat --explain` with a message:
+For users of `wat` and of the libraries: what each error means, a module that has it, and what to
+do. `tools/pages` writes this page, and CI runs its examples. `wat --explain` prints an entry, by
+its number or by a message:
 
 ```
 $ wat --explain E13
@@ -32,32 +30,45 @@ The module is a component. Only a tree that a program builds can be one.
 Pass a core module.
 ```
 
-A message begins with the words of its entry. After them it says what was found, and what may be there.
+A message begins with the words of its entry. After them it says what was found, and what is
+allowed.
+
+## Errors of a module
+
+These have a number, E1 to E13. E1 to E9 are checks of resolving, and the first that fails is
+returned. Each has one name in all languages. That of E4 is `Fault::Unknown` of `wast_tree` in
+Rattle, `rigyomad::Kind::Unknown` in Rust, `RIGYOMAD_E4_UNKNOWN` in C, and `kind` `"Unknown"` in
+Python and JavaScript. [ARCHITECTURE.md](ARCHITECTURE.md), "Where do I look?", has the definition of
+each check.
 """
 
-WITH_NUMBER = """
-## Errors with a number
+UNSUPPORTED = """
+The position is that of the first unsupported token. If it is not found, as in
+`(module quote "(func i64.add128)")`, it is the closest one known. The words after `uncovered form:`
+are one of these:
 
-`resolve` and `encode_module` return them. The number is that of `Fault`, of C and of `--json` ([FORMATS.md](FORMATS.md)). The definition of each
-check, and the code that makes it, are in [ARCHITECTURE.md](ARCHITECTURE.md), "Where do I look?".
+| FORM | example |
+|---|---|
+| `stack switching` | `(module (func cont.new 0))` |
+| `compact import group` | `(module (import "a" (item "b" (func))))` |
+| `shared type` | `(module (func) (func (local (ref null (shared any)))))` |
+| `target architecture` | `(module (@dylink.0 (target-arch "x")))` |
+| `memory ordering` | `(module (func) (func atomic.fence acq_rel))` |
+| `instruction beyond the table` | `(module (func i64.add128))` |
+| `descriptor or exact type` | `(module (func (param (ref (exact 0)))))` |
+| `array memory argument` | only in a tree |
+| `atomic of a global, table, struct or array` | `(module (func global.atomic.get seq_cst 0))` |
 """
 
-TOKENS = """# Errors in tokens
+OTHERS = """
+## Errors of the text
 
-For users of `wat` and of the library: what an error in characters, words, strings, comments and annotations means, a text that has it, and what
-to do. These errors have no number, because the text is no module. [SYNTAX_ERRORS.md](SYNTAX_ERRORS.md) has the errors of tokens that are read, and
-[ERRORS.md](ERRORS.md) those with a number, and how `wat --explain` prints an entry. `tools/errors-page` writes this page.
+These have no number, because the text is not a module. For callers the number is 0, and the kind is
+`Malformed`. A tab in an example is `<tab>`.
+
+| message | example | what to do |
+|---|---|---|
 """
-
-SYNTAX = """# Errors of syntax
-
-For users of `wat` and of the library: what an error in the order and the values of tokens means, a text that has it, and what to do. These
-errors have no number, because the text is no module. [TOKEN_ERRORS.md](TOKEN_ERRORS.md) has the errors in characters and strings, and
-[ERRORS.md](ERRORS.md) those with a number, and how `wat --explain` prints an entry. `tools/errors-page` writes this page.
-"""
-
-# The words of the first error of syntax. Those before it, without a number, are of tokens.
-FIRST_OF_SYNTAX = "expected"
 
 
 class Entry(typing.NamedTuple):
@@ -86,9 +97,9 @@ def entries():
         yield Entry(**{name: value(literal) for name, literal in found.items()})
 
 
-def diagnostic(program, text):
+def diagnostic(text):
     """What the command prints of a text."""
-    return subprocess.run([program], input=text.encode(), stdout=subprocess.PIPE, stderr=subprocess.PIPE, check=False, timeout=60).stderr.decode()
+    return subprocess.run([program()], input=text.encode(), stdout=subprocess.PIPE, stderr=subprocess.PIPE, check=False, timeout=60).stderr.decode()
 
 
 def shown(text):
@@ -96,44 +107,58 @@ def shown(text):
     return text.replace("\t", "<tab>")
 
 
-def example_of(program, entry):
+def example_of(entry):
     """The lines of an example: the text, and what the command prints of it."""
     if not entry.example:
         return ""
-    return f"\n```\n{shown(diagnostic(program, entry.example))}```\n"
+    return f"\n```\n{shown(diagnostic(entry.example))}```\n"
 
 
-def section(program, entry):
-    """The section of an entry."""
-    title = f"{entry.number}: `{entry.words}`" if entry.number else f"`{entry.words}`"
-    title = title.replace("``param` must come before `result``", "`` `param` must come before `result` ``")
-    depth = "###" if entry.number else "##"
-    return f"\n{depth} {title}\n\n{entry.cause}\n{example_of(program, entry)}\n{entry.fix}\n"
+def section(entry):
+    """The section of an error with a number."""
+    more = UNSUPPORTED if entry.number == "E11" else ""
+    return f"\n### {entry.number}, `{name_of(entry.number)}`: {entry.words}\n\n{entry.cause}\n{example_of(entry)}{more}\n{entry.fix}\n"
 
 
-def pages(program):
-    """The pages: the path of each, and its text."""
+def span(text):
+    """A code span, of text that may have backquotes."""
+    return f"`` {text} ``" if "`" in text else f"`{text}`"
+
+
+def row(entry):
+    """The row of an error without a number."""
+    return f"| {span('error: ' + entry.words)} | {span(shown(entry.example))} | {entry.fix} |\n"
+
+
+def name_of(number):
+    """The name of an error in the enum `Fault`."""
+    return re.search(rf"/// {number}: .*\n    (\w+)", (ROOT / "crates/wast_base/src/faults.rt").read_text(encoding="utf-8"))[1]
+
+
+def program():
+    """The command `wat`."""
+    if not PROGRAM.is_file():
+        raise Failed(f"{PROGRAM} is not found: `rt ci` or `tools/build wat {PROGRAM.parent}` builds it")
+    return PROGRAM
+
+
+def written():
+    """The page, and its text."""
     found = list(entries())
-    others = [entry for entry in found if not entry.number]
-    first = [entry.words for entry in others].index(FIRST_OF_SYNTAX)
-    parts = {PAGE: [entry for entry in found if entry.number], TOKEN_PAGE: others[:first], SYNTAX_PAGE: others[first:]}
-    for path, start in ((PAGE, HEAD + WITH_NUMBER), (TOKEN_PAGE, TOKENS), (SYNTAX_PAGE, SYNTAX)):
-        yield path, start + "".join(section(program, entry) for entry in parts[path])
-    yield places.PAGE, places.page()
+    numbered = "".join(section(entry) for entry in found if entry.number)
+    others = "".join(row(entry) for entry in found if not entry.number)
+    return {PAGE: HEAD + numbered + OTHERS + others}
 
 
-def problems(program):
-    """What is wrong with the examples and with the page, if the command is there."""
+def problems():
+    """What is wrong with the examples."""
     for entry in entries():
-        printed = diagnostic(program, entry.example) if entry.example else f"error: {entry.words}"
+        printed = diagnostic(entry.example) if entry.example else f"error: {entry.words}"
         if not printed.startswith(f"error: {entry.words}"):
             yield f"{entry.number or entry.words}: the example is printed as {printed.splitlines()[:1]}"
         names = [name for name in (entry.number, entry.words) if name]
-        explained = [subprocess.run([program, "--explain", name], stdout=subprocess.PIPE, check=False, timeout=60).stdout.decode() for name in names]
+        explained = [subprocess.run([program(), "--explain", name], stdout=subprocess.PIPE, check=False, timeout=60).stdout.decode() for name in names]
         wanted = f"{entry.number}: {entry.words}\n" if entry.number else f"{entry.words}\n"
         if any(not it.startswith(wanted) or not it.endswith(f"\n{entry.fix}\n") for it in explained):
             yield f"{entry.number or entry.words}: --explain prints {explained}"
-    yield from places.problems(program)
-    for path, text in pages(program):
-        if not path.is_file() or path.read_text(encoding="utf-8") != text:
-            yield f"{path.relative_to(ROOT)} is out of date, run tools/errors-page"
+    yield from places.problems(program())

@@ -1,4 +1,4 @@
-r"""Texts at the limits of encodings, and of one part each, with their answers, for `tools/texts`.
+r"""Texts at the limits of encodings, and of one part each, with their answers, for `tools/pages`.
 
 A line of TOLD is a text, a tab, and the answer. In the text `^` stands before what is told, and in the answer for that place. The
 bytes were told by hand from the binary format.

@@ -1,4 +1,4 @@
-"""The opcodes of instructions in runs, for `tools/texts`.
+"""The opcodes of instructions in runs, for `tools/pages`.
 
 A line of RUNS is the opcode of its first instruction, a kind of immediates, and instructions whose opcodes rise by one: a byte, or
 a prefix and a number. They were copied from the binary format, and not from the table in `tools/data/instructions.txt`, so that a number that is wrong

@@ -1,6 +1,6 @@
-"""Texts of one unsupported construct each, at each position that it can have, with their answers, for `tools/texts`.
+"""Texts of one unsupported construct each, at each position that it can have, with their answers, for `tools/pages`.
 
-What is unsupported is listed in docs/FORMATS.md, for E11. For example, `(module (elem (offset i64.add128) func))` has an instruction
+What is unsupported is listed in docs/ERRORS.md, for E11. For example, `(module (elem (offset i64.add128) func))` has an instruction
 outside of the table in the offset of a segment.
 """
 

@@ -39,7 +39,7 @@ class Step:
 
 
 class Steps:
-    """The steps of a tool, of which several may run beside each other."""
+    """The steps of a tool, of which several may run in parallel."""
 
     def __init__(self, count, word=None):
         self.count, self.done, self.running = count, 0, {}

@@ -1,4 +1,4 @@
-"""Converts scripts of tests to JSON, for `tools/suite` and `tools/engine`.
+"""Converts scripts of tests to JSON, for `tools/test suite` and `tools/test engine`.
 
 `wat2json` and, if it is installed, `wast2json` of wabt convert a script in folders of their own. For example, `converted("wat2json", path,
 folder)` has the commands of the script at `path`, whose module files are then in `folder`.

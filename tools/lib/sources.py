@@ -1,6 +1,6 @@
 """Reads the sources of this repository: what each file declares, what each crate passes on, which clauses a function has.
 
-tools/reference, tools/check-docs, tools/trust, tools/growing and tools/tree-names use it. It goes by the layout that `rt fmt`
+tools/check-docs, tools/show and tools/pages use it. It goes by the layout that `rt fmt`
 gives: what a file declares begins at the left edge, what stands in it four places further right, and it ends with a brace at the
 place where it began.
 """
@@ -220,6 +220,12 @@ def calls_in(path, lines, start, end, in_trait):
 
 def module_file(crate, module):
     """The file of a module of a crate, or None."""
+    return file_of_module(crate, tuple(module))
+
+
+@functools.lru_cache(maxsize=None)
+def file_of_module(crate, module):
+    """The same, looked up once."""
     folder = ROOT / "crates" / crate / "src"
     if not module:
         return folder / "lib.rt" if (folder / "lib.rt").exists() else folder / "main.rt"
@@ -251,7 +257,7 @@ def used(text):
 def inline_module(lines, name):
     """The lines of a module that stands in its file, or None."""
     for number, line in enumerate(lines):
-        if re.match(rf"^pub mod {name} {{", line):
+        if line.startswith(f"pub mod {name} {{"):
             return [it[4:] for it in lines[number + 1:block_end(lines, number, 0)]], doc_above(lines, number)[0]
     return None
 

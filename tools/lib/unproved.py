@@ -17,6 +17,7 @@ import stat
 import subprocess
 import sys
 import tempfile
+import zlib
 
 import entry
 import symbols
@@ -193,9 +194,14 @@ def keep(path, name, key, kind="bc"):
 def is_taken(path, name, key, kind="bc"):
     """Whether a module or a program is kept, which is then written to a path."""
     kept = KEPT / f"{name}-{key}.{kind}.gz"
-    if not kept.is_file():
+    try:
+        data = gzip.decompress(kept.read_bytes())
+    except (OSError, EOFError, zlib.error):
+        data = b""
+    if not data:
+        # none is kept, or one that was cut
         return False
-    path.write_bytes(gzip.decompress(kept.read_bytes()))
+    path.write_bytes(data)
     os.utime(kept)
     return True
 

@@ -1,4 +1,4 @@
-//! Many generated ids, which are indices in any order. `tools/speed` counts the work of looking at
+//! Many generated ids, which are indices in any order. `tools/test speed` counts the work of looking at
 //! them.
 
 use std::process::Abort;

@@ -1,7 +1,7 @@
 //! The bytes of a module with each kind of section.
 //!
 //! If an allocation fails, the call returns E12, and the test builds everything again:
-//! `tools/refused-memory` makes each allocation fail in turn.
+//! `tools/test refused-memory` makes each allocation fail in turn.
 
 use std::alloc::Global;
 use unit_tests::sections::{add_global_export_and_start, number};

@@ -531,7 +531,7 @@ fn is_too_large<'a>(rt: &impl Abort, alloc: Global, made: Result<Module<'a>, Err
     discard_module(module);
 }
 
-// 4,096 times a mebibyte does not fit in a section. `tools/refused-memory` runs it in little memory.
+// 4,096 times a mebibyte does not fit in a section. `tools/test refused-memory` runs it in little memory.
 #[test]
 fn section_of_four_gibibytes_is_too_large(rt: HostRuntime) {
     let alloc = rt.alloc();

@@ -1,7 +1,7 @@
 //! What the calls on a module do if an allocation fails, for each well-formed row.
 //!
 //! With enough memory these tests only show that the calls succeed. The script
-//! `tools/refused-memory` runs each of them, and lets each allocation of the call fail in turn, in
+//! `tools/test refused-memory` runs each of them, and lets each allocation of the call fail in turn, in
 //! each row at once. It finds the call by a request for `BEGIN` bytes before it and one for `END`
 //! bytes after it.
 
