@@ -69,7 +69,7 @@ def fault_numbers():
     """The numbers of the faults, and those of them that have a position, by the texts of `Fault`."""
     text = (ROOT / "crates/wast_base/src/faults.rt").read_text(encoding="utf-8")
     numbers = [int(number) for number in re.findall(r"^    /// E(\d+):", text, re.M)]
-    placed = int(re.search(r"It needs one of E1 to E(\d+)\.", text).group(1))
+    placed = int(re.search(r"an error of E1 to E(\d+), which has a position\.", text).group(1))
     return numbers, placed
 
 

@@ -1,6 +1,6 @@
 """Reads the examples in doc comments, for `tools/check-docs`: each is in a source that CI runs.
 
-An example is an indented block below `# Example`. Its lines are found one after another in a test, proved or not, or in a program that CI runs. The
+An example is an indented block in a doc comment. Its lines are found one after another in a test, proved or not, or in a program that CI runs. The
 indentation of the block does not count, and neither does a comment at the end of a line. For example, the block `names.resolve_func(&mut read)?;  // 1`
 is found in a program with the line `names.resolve_func(&mut read)?;`.
 """
@@ -18,17 +18,15 @@ RUN = ("_tests", "_example", "_golden", "_samples", "wast_rows", "wastrow", "wat
 
 def blocks(lines):
     """The examples of a file: the number of the first line of each, and its lines without indentation and comments at their ends."""
-    in_example, start, taken = False, 0, []
+    start, taken = 0, []
     for number, line in enumerate([*lines, ""], 1):
         comment = re.match(r"\s*//[/!] ?(.*)$", line)
         text = comment[1] if comment else None
-        is_code = in_example and text is not None and text.startswith("    ")
-        if taken and not is_code and (text is None or text.strip() or not in_example):
+        is_code = text is not None and text.startswith("    ")
+        if taken and not is_code and (text is None or text.strip()):
             yield start, [bare(it) for it in taken if it.strip()]
             taken = []
-        if text is None or re.match(r"#+ ", text):
-            in_example = text is not None and re.match(r"#+ Examples?$", text) is not None
-        elif is_code:
+        if is_code:
             start = start if taken else number
             taken.append(text)
 
@@ -60,7 +58,7 @@ def problems():
 
 def has_example(item):
     """Whether the text of an item shows an example, as code or in words."""
-    return any(re.match(r"# Examples?$", line) or re.search(r"\b[Ff]or example\b", line) for line in item.doc)
+    return any(line.startswith("    ") or re.search(r"\b[Ff]or example\b", line) for line in item.doc)
 
 
 def shown():

@@ -13,9 +13,21 @@ from entry import ROOT
 INTO_A_SINK = "the sink takes the memory, and tests name what appends to each sink"
 BY_A_MAKER = "a call of `TreeBuilder`, which tests name, takes memory by it"
 BY_CALLERS = "what it takes is up to who implements the trait"
+NO_E12 = "its clauses permit no E12"
 
 # Calls that no test has to name, and why.
 EXCEPTIONS = {
+    "length_of": NO_E12,
+    "Names::resolve_func": NO_E12,
+    "Names::resolve_memory": NO_E12,
+    "Names::resolve_table": NO_E12,
+    "Names::resolve_global": NO_E12,
+    "Names::resolve_tag": NO_E12,
+    "Names::resolve_type": NO_E12,
+    "Names::resolve_elem": NO_E12,
+    "Names::resolve_data": NO_E12,
+    "Resolver::resolve": NO_E12,
+    "Resolver::number": NO_E12,
     "EncodeWith::spell": INTO_A_SINK,
     "Sink::push_bytes": INTO_A_SINK,
     "PutHints::put_hints": INTO_A_SINK,

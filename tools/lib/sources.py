@@ -97,7 +97,7 @@ def doc_above(lines, number):
     while at >= 0:
         word = lines[at].strip()
         if word.startswith("///"):
-            doc.insert(0, word[3:].strip())
+            doc.insert(0, word[3:].removeprefix(" ").rstrip())
         elif word.startswith("#["):
             attributes.insert(0, word)
         elif word.endswith("]") and not doc and re.match(r"^\s*[\w(,:]", lines[at]):

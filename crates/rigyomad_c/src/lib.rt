@@ -4,7 +4,9 @@
 //! Python use it too.
 //!
 //! Each call keeps nothing, so calls in different threads do not affect each other. It reads and
-//! writes only the slices that it is lent, and frees what it allocates before it returns.
+//! writes only the slices that it is lent, and frees what it allocates before it returns. If a
+//! slice is too short, it is not changed, and the call returns the size that is needed. Only a
+//! message is cut to the size of its slice.
 //!
 //! # Example
 //!
@@ -18,12 +20,6 @@
 //! - `looks_up` finds the index of one name, and `lists` writes all names.
 //! - `script` writes the records of a script of tests, whose layout `wast_script_records` has.
 //! - `statuses` has the results of calls.
-//!
-//! # Guarantees
-//!
-//! - `Returns`: a call returns the number of a status, and writes what its definition has for that
-//!   status (`specs/Answers.antt`, `specs/Lists.antt`, `specs/Scripts.antt`).
-//! - If a slice is too short, it is not changed, and the call returns the size that is needed.
 #![tactic(auto)]
 
 ghost use Rattle.std.specs.Prelude.{◌≡◌};

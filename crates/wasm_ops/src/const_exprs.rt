@@ -11,10 +11,7 @@ use std::marker::Model;
 /// The encoded instructions of a constant expression, without the final `0b` (binary format:
 /// expressions).
 ///
-/// Its model in contracts is these bytes. They are always the encoding of instructions whose blocks
-/// are all closed.
-///
-/// # Example
+/// Its model in contracts is these bytes, in which all blocks are closed.
 ///
 ///     let bytes = i32_const(alloc, value)?;
 ///     Ok(ConstExpr::raw(bytes))
@@ -37,11 +34,8 @@ impl Model for ConstExpr {
 impl ConstExpr {
     /// Creates an expression from encoded instructions (binary format: instructions).
     ///
-    /// # Requires
-    ///
-    /// The bytes are the encoding of instructions whose blocks are all closed, because the first
-    /// `0b` outside of all blocks ends an expression. The clauses of
-    /// [`InstructionSink`](crate::InstructionSink) help to show it.
+    /// All blocks must be closed, because the first `0b` outside of all blocks ends an expression.
+    /// The clauses of [`InstructionSink`](crate::InstructionSink) help to show it.
     pub fn raw(bytes: Vec<u8>) -> ConstExpr
         requires { SpellsExpression bytes.items }
         ensures { result ≡ bytes.items }
@@ -50,11 +44,6 @@ impl ConstExpr {
     }
 
     /// Returns whether the encoder supports it: always, because its bytes are encoded instructions.
-    ///
-    /// # Guarantees
-    ///
-    /// - `value`: the result is `true`.
-    /// - `spelled`: the bytes are the encoding of instructions whose blocks are all closed.
     pub fn is_covered(&self) -> bool
         ensures value { result ≡ true }
         ensures spelled { SpellsExpression self.now }

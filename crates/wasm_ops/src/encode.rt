@@ -16,8 +16,8 @@ use wast_base::Error;
 
 /// A value that has an encoding in the binary format.
 ///
-/// Numbers, pairs, options and references have one, and so do the types and instructions of this
-/// crate. A caller may implement it for its own types, and combine them with [`Counted`] and
+/// Numbers, pairs, options and references have one, as do the types and instructions of this crate.
+/// A caller may implement it for its own types, and combine them with [`Counted`] and
 /// [`WithLength`].
 ///
 /// # Example
@@ -39,26 +39,15 @@ pub trait Encode {
 
     /// Appends the encoding of the value, or nothing.
     ///
-    /// # Example
-    ///
     ///     let mut length = Length::new();
     ///     assert!(rt; nested.encode(&mut length).is_ok());
     ///
-    /// # Requires
-    ///
-    /// A value that can be encoded (`is_ready`).
+    /// To test whether the encoder supports a type, call its `is_covered`.
     ///
     /// # Errors
     ///
     /// - The sink's error, only if the encoding does not fit.
     /// - [`Refusal::TooLarge`], E10, only if a number, count or length is out of range.
-    ///
-    /// Nothing is appended then.
-    ///
-    /// # Guarantees
-    ///
-    /// On success the bytes are the encoding (`spelling`), and its numbers are in range
-    /// (`in_range`).
     fn encode<S: Sink>(&self, out: &mut S) -> Result<(), Refusal>
         requires { IsTrue (is_ready self.now) }
         ensures { Writes S.rules (in_range self.now) out.old out.new (spelling self.now) result };
@@ -137,8 +126,8 @@ impl<'a, T: Encode> Encode for &'a T {
 
 /// A way to encode the items of a list: as themselves ([`AsItself`]), or in another form.
 ///
-/// For example, `wast_core` encodes the instructions of its tree in this way, because the tree has
-/// other types than this crate.
+/// For example, `wast_core` implements it for the instructions of its tree, because their types are
+/// not those of this crate.
 pub trait EncodeWith<T> {
     /// The bytes of an item.
     ghost spelling: { Self → T → List ℕ };
@@ -149,15 +138,7 @@ pub trait EncodeWith<T> {
     /// Whether the item can be encoded: the encoder supports its form, and its indices are numbers.
     ghost is_ready: { Self → T → Bool };
 
-    /// Appends the encoding of an item, or nothing.
-    ///
-    /// # Requires
-    ///
-    /// An item that can be encoded (`is_ready`).
-    ///
-    /// # Errors
-    ///
-    /// As [`Encode::encode`]. Nothing is appended then.
+    /// Appends the encoding of an item, or nothing. The errors are those of [`Encode::encode`].
     fn spell<S: Sink>(&self, item: &T, out: &mut S) -> Result<(), Refusal>
         requires { IsTrue (is_ready self.now item.now) }
         ensures { Writes S.rules (in_range self.now item.now) out.old out.new (spelling self.now item.now) result };
@@ -213,7 +194,7 @@ impl<T: Encode> Encode for Option<T> {
 
 /// `Each(items, way)`: the items one after another, without a count (binary format: grammar).
 ///
-/// Each item is encoded in that way: `Each(&[1u8, 2u8], AsItself)` is `01 02`.
+/// For example, `Each(&[1u8, 2u8], AsItself)` is `01 02`.
 #[derive(Clone, Copy)]
 pub struct Each<'a, T, W>(pub &'a [T], pub W);
 
@@ -239,7 +220,7 @@ impl<'a, T, W: EncodeWith<T>> Encode for Each<'a, T, W> {
 
 /// `Counted(items, way)`: the number of items, then the items (binary format: lists).
 ///
-/// Each item is encoded in that way. A number of 2^32 or more is out of range.
+/// 2^32 items or more are out of range.
 ///
 /// # Example
 ///
@@ -280,23 +261,14 @@ impl<'a> Encode for Raw<'a> {
     }
 }
 
-/// Returns how many bytes the encoding of a value has, without encoding it. Does not allocate.
+/// Returns how many bytes the encoding of a value has, without storing them.
 ///
 /// For example, it returns 3 for the name `ab`: a length and two bytes.
-///
-/// # Requires
-///
-/// A value that can be encoded (`is_ready`).
 ///
 /// # Errors
 ///
 /// [`Refusal::TooLarge`], E10, only if the encoding has 2^32 bytes or more, or a number, count or
 /// length in the value is out of range.
-///
-/// # Guarantees
-///
-/// - `ok`: the result is the length of the encoding, and the numbers of the value are in range.
-/// - `err`: the error is the one above, and its reason is one of these.
 pub fn length_of<T: Encode>(value: &T) -> Result<u32, Refusal>
     requires { IsTrue (T.is_ready value.now) }
     ensures ok { IfOk result (λ n. (n ≡ length (T.spelling value.now)) × T.in_range value.now) }
@@ -312,7 +284,7 @@ pub fn length_of<T: Encode>(value: &T) -> Result<u32, Refusal>
 
 /// A value after the number of its bytes, as in a section or a body (binary format: sections).
 ///
-/// A number of bytes of 2^32 or more is out of range.
+/// A value of 2^32 bytes or more is out of range.
 ///
 /// # Example
 ///
@@ -322,11 +294,7 @@ pub fn length_of<T: Encode>(value: &T) -> Result<u32, Refusal>
 #[derive(Clone, Copy)]
 pub struct WithLength<T>(pub T);
 
-/// Appends a length and the value. A sink that can skip only counts the value.
-///
-/// # Requires
-///
-/// The length of the value, which can be encoded and is in range.
+/// Appends the length of a value, and the value. A sink that can skip only counts the value.
 fn put_sized<T: Encode, S: Sink>(out: &mut S, size: u64, value: &T) -> Result<(), Refusal>
     requires ready { IsTrue (T.is_ready value.now) }
     requires range { T.in_range value.now }
@@ -393,7 +361,7 @@ impl<T: Encode> Encode for WithLength<T> {
 
 /// A text as a name: the number of its bytes, then its bytes (binary format: names).
 ///
-/// A number of bytes of 2^32 or more is out of range. For example, `Name("f")` is `01 66`.
+/// For example, `Name("f")` is `01 66`. A text of 2^32 bytes or more is out of range.
 #[derive(Clone, Copy)]
 pub struct Name<'a>(pub &'a str);
 
@@ -415,16 +383,9 @@ impl<'a> Encode for Name<'a> {
 
 /// Appends a name: the number of its bytes, then its bytes (binary format: names).
 ///
-/// # Example
-///
 ///     write_name(out, "f")?;      // 01 66
 ///
-/// # Errors
-///
-/// - The sink's error, only if the name does not fit.
-/// - E10, only if the name has 2^32 bytes or more.
-///
-/// Nothing is appended then.
+/// A name of 2^32 bytes or more is out of range.
 pub fn write_name<'e, S: Sink>(out: &mut S, text: &str) -> Result<(), Error<'e>>
     ensures { Puts S.rules (InRangeName text.now) out.old out.new (name text.now) result }
 {

@@ -109,13 +109,7 @@ impl<'a> Encode for CatchTable<'a> {
 /// # Errors
 ///
 /// Each method returns the sink's error, only if the bytes do not fit. `select`, `br_table` and
-/// `try_table` also return E10, only if the list has 2^32 items or more. Nothing is appended then.
-///
-/// # Guarantees
-///
-/// - `appended`: on success the bytes are those of the instruction (`instr`), and it is an entry of
-///   the opcode table with supported immediates in range (`IsInstr`).
-/// - `same`: the sink is still the one that [`InstructionSink::new`] borrowed.
+/// `try_table` also return E10, only if the list has 2^32 items or more.
 #[derive(Drop)]
 pub struct InstructionSink<'s, S> {
     /// The sink that the instructions are appended to.
@@ -133,8 +127,6 @@ impl<'s, S: Sink> InstructionSink<'s, S> {
 
     /// Appends an instruction without immediates (binary format: instructions).
     ///
-    /// # Example
-    ///
     ///     sink.plain(Plain::Bare(BareOp::drop))?;     // 1a
     pub fn plain<'e>(&mut self, op: Plain) -> Result<(), Error<'e>>
         ensures appended { Puts S.rules (IsInstr (plain_instr op)) self.old.out.now self.new.out.now
@@ -145,8 +137,6 @@ impl<'s, S: Sink> InstructionSink<'s, S> {
     }
 
     /// Appends an instruction with an index (binary format: instructions).
-    ///
-    /// # Example
     ///
     ///     sink.index(IndexOp::Call, 300)?;        // 10 ac 02
     pub fn index<'e>(&mut self, op: IndexOp, index: u32) -> Result<(), Error<'e>>
@@ -159,8 +149,6 @@ impl<'s, S: Sink> InstructionSink<'s, S> {
 
     /// Appends `i32.const` (binary format: instructions).
     ///
-    /// # Example
-    ///
     ///     sink.i32_const(64)?;        // 41 c0 00
     pub fn i32_const<'e>(&mut self, value: i32) -> Result<(), Error<'e>>
         ensures appended { Puts S.rules (IsInstr (i32_const_instr value)) self.old.out.now self.new.out.now
@@ -171,8 +159,6 @@ impl<'s, S: Sink> InstructionSink<'s, S> {
     }
 
     /// Appends `i64.const` (binary format: instructions).
-    ///
-    /// # Example
     ///
     ///     sink.i64_const(-1)?;        // 42 7f
     pub fn i64_const<'e>(&mut self, value: i64) -> Result<(), Error<'e>>
@@ -185,13 +171,9 @@ impl<'s, S: Sink> InstructionSink<'s, S> {
 
     /// Appends `ref.null` (binary format: instructions).
     ///
-    /// # Example
-    ///
     ///     sink.ref_null(HeapType::Concrete(64))       // d0 c0 00
     ///
-    /// # Requires
-    ///
-    /// A supported heap type ([`HeapType::is_covered`]).
+    /// Test [`HeapType::is_covered`] first.
     pub fn ref_null<'e>(&mut self, heap_type: HeapType) -> Result<(), Error<'e>>
         requires { IsTrue (encodings.heap_type heap_type).is_covered }
         ensures appended { Puts S.rules (IsInstr (ref_null_instr heap_type)) self.old.out.now self.new.out.now
@@ -202,8 +184,6 @@ impl<'s, S: Sink> InstructionSink<'s, S> {
     }
 
     /// Appends an instruction with two indices, in this order (binary format: instructions).
-    ///
-    /// # Example
     ///
     ///     sink.index_pair(IndexPairOp::MemoryCopy, 3, 4)?;        // fc 0a 03 04
     pub fn index_pair<'e>(
@@ -221,12 +201,8 @@ impl<'s, S: Sink> InstructionSink<'s, S> {
 
     /// Appends an instruction with a memory argument (binary format: memory instructions).
     ///
-    /// For example, `i32.load offset=4` is `28 02 04`.
-    ///
-    /// # Requires
-    ///
-    /// - `aligned`: the logarithm of the alignment is below 64 ([`MemArg::is_aligned`]).
-    /// - `covered`: a supported memory argument ([`MemArg::is_covered`]).
+    /// For example, `i32.load offset=4` is `28 02 04`. Test [`MemArg::is_aligned`] and
+    /// [`MemArg::is_covered`] first.
     pub fn mem<'e>(&mut self, op: MemOp, memarg: MemArg) -> Result<(), Error<'e>>
         requires aligned { IsTrue (is_aligned memarg) }
         requires covered { IsTrue (memargs.memarg memarg).is_covered }
@@ -237,11 +213,7 @@ impl<'s, S: Sink> InstructionSink<'s, S> {
         Ok(MemInstr { op, memarg }.encode(self.out)?)
     }
 
-    /// Appends `f32.const`, with its bits as a number (binary format: instructions).
-    ///
-    /// # Example
-    ///
-    /// The number 1:
+    /// Appends `f32.const`, with its bits as a number (binary format: instructions). The number 1:
     ///
     ///     sink.f32_const(1065353216)?;        // 43 00 00 80 3f
     pub fn f32_const<'e>(&mut self, bits: u32) -> Result<(), Error<'e>>
@@ -252,11 +224,7 @@ impl<'s, S: Sink> InstructionSink<'s, S> {
         Ok(F32Const(bits).encode(self.out)?)
     }
 
-    /// Appends `f64.const`, with its bits as a number (binary format: instructions).
-    ///
-    /// # Example
-    ///
-    /// The number 1:
+    /// Appends `f64.const`, with its bits as a number (binary format: instructions). The number 1:
     ///
     ///     sink.f64_const(4607182418800017408)?;       // 44 00 00 00 00 00 00 f0 3f
     pub fn f64_const<'e>(&mut self, bits: u64) -> Result<(), Error<'e>>
@@ -269,13 +237,9 @@ impl<'s, S: Sink> InstructionSink<'s, S> {
 
     /// Appends `select`, with types or without (binary format: parametric instructions).
     ///
-    /// # Example
-    ///
     ///     sink.select(Some(&[ValType::I32, ValType::F64]))        // 1c 02 7f 7c
     ///
-    /// # Requires
-    ///
-    /// Supported types ([`ValType::is_covered`]).
+    /// Test [`ValType::is_covered`] first.
     pub fn select<'e>(&mut self, types: Option<&[ValType]>) -> Result<(), Error<'e>>
         requires { IsTrue (list_all (λ list. list_all (λ x. (val_type x).is_covered) list.now) (option_to_list types)) }
         ensures appended { Puts S.rules (IsInstr (select_instr (option_map (λ list. list.now) types.entry)))
@@ -288,13 +252,9 @@ impl<'s, S: Sink> InstructionSink<'s, S> {
 
     /// Appends an instruction that opens a block (binary format: control instructions).
     ///
-    /// # Example
-    ///
     ///     sink.block(BlockOp::Block, BlockType::Result(ValType::I32))?;       // 02 7f
     ///
-    /// # Requires
-    ///
-    /// A supported block type ([`BlockType::is_covered`]).
+    /// Test [`BlockType::is_covered`] first.
     pub fn block<'e>(&mut self, op: BlockOp, ty: BlockType) -> Result<(), Error<'e>>
         requires { IsTrue (block_type ty).is_covered }
         ensures appended { Puts S.rules (IsInstr (block_instr op ty)) self.old.out.now self.new.out.now
@@ -305,8 +265,6 @@ impl<'s, S: Sink> InstructionSink<'s, S> {
     }
 
     /// Appends `else` or `end` (binary format: control instructions).
-    ///
-    /// # Example
     ///
     ///     sink.delimiter(Delimiter::Else)?;       // 05
     pub fn delimiter<'e>(&mut self, op: Delimiter) -> Result<(), Error<'e>>
@@ -320,8 +278,6 @@ impl<'s, S: Sink> InstructionSink<'s, S> {
     /// Appends `br_table` with its labels and its default label (binary format: control
     /// instructions).
     ///
-    /// # Example
-    ///
     ///     sink.br_table(&[1, 2], 0)?;     // 0e 02 01 02 00
     pub fn br_table<'e>(&mut self, labels: &[u32], default: u32) -> Result<(), Error<'e>>
         ensures appended { Puts S.rules (IsInstr (br_table_instr labels.now default)) self.old.out.now
@@ -333,11 +289,8 @@ impl<'s, S: Sink> InstructionSink<'s, S> {
 
     /// Appends `try_table` with its clauses (binary format: control instructions).
     ///
-    /// For example, `try_table (catch_all 0)` is `1f 40 01 02 00`.
-    ///
-    /// # Requires
-    ///
-    /// A supported block type ([`BlockType::is_covered`]).
+    /// For example, `try_table (catch_all 0)` is `1f 40 01 02 00`. Test [`BlockType::is_covered`]
+    /// first.
     pub fn try_table<'e>(&mut self, ty: BlockType, catches: &[Catch]) -> Result<(), Error<'e>>
         requires { IsTrue (block_type ty).is_covered }
         ensures appended { Puts S.rules (IsInstr (try_table_instr ty catches.now)) self.old.out.now
@@ -378,12 +331,8 @@ impl<'s, S: Sink> InstructionSink<'s, S> {
 
     /// Appends a load or a store of a lane (binary format: vector instructions).
     ///
-    /// For example, `v128.load8_lane offset=4 3` is `fd 54 00 04 03`.
-    ///
-    /// # Requires
-    ///
-    /// - `aligned`: the logarithm of the alignment is below 64 ([`MemArg::is_aligned`]).
-    /// - `covered`: a supported memory argument ([`MemArg::is_covered`]).
+    /// For example, `v128.load8_lane offset=4 3` is `fd 54 00 04 03`. Test [`MemArg::is_aligned`]
+    /// and [`MemArg::is_covered`] first.
     pub fn mem_lane<'e>(&mut self, op: MemLaneOp, memarg: MemArg, lane: u8) -> Result<(), Error<'e>>
         requires aligned { IsTrue (is_aligned memarg) }
         requires covered { IsTrue (memargs.memarg memarg).is_covered }
@@ -396,13 +345,9 @@ impl<'s, S: Sink> InstructionSink<'s, S> {
 
     /// Appends `ref.test` or `ref.cast` (binary format: reference instructions).
     ///
-    /// # Example
-    ///
     ///     sink.cast(CastOp::Test, reference(false, i31))?;        // fb 14 6c
     ///
-    /// # Requires
-    ///
-    /// A supported reference type ([`RefType::is_covered`]).
+    /// Test [`RefType::is_covered`] first.
     pub fn cast<'e>(&mut self, op: CastOp, ty: RefType) -> Result<(), Error<'e>>
         requires { IsTrue (ref_type ty).is_covered }
         ensures appended { Puts S.rules (IsInstr (cast_instr op ty)) self.old.out.now self.new.out.now
@@ -414,14 +359,10 @@ impl<'s, S: Sink> InstructionSink<'s, S> {
 
     /// Appends a branch on a cast from one type to another (binary format: control instructions).
     ///
-    /// # Example
-    ///
     ///     let target = reference(true, HeapType::Concrete(3));
     ///     sink.br_cast(BrCastOp::Succeeds, 128, reference(false, i31), target)?;  // fb 18 02 80 01 6c 03
     ///
-    /// # Requires
-    ///
-    /// Supported reference types (`from`, `to`).
+    /// Test [`RefType::is_covered`] first.
     pub fn br_cast<'e>(
         &mut self,
         op: BrCastOp,
@@ -446,13 +387,9 @@ impl<'s, S: Sink> InstructionSink<'s, S> {
 
     /// Appends `atomic.fence` (binary format: atomic memory instructions).
     ///
-    /// # Example
-    ///
     ///     sink.fence(Ordering::SeqCst)        // fe 03 00
     ///
-    /// # Requires
-    ///
-    /// A supported ordering ([`Ordering::is_covered`]).
+    /// Test [`Ordering::is_covered`] first.
     pub fn fence<'e>(&mut self, ordering: Ordering) -> Result<(), Error<'e>>
         requires { IsTrue (is_covered_ordering ordering) }
         ensures appended { Puts S.rules (IsInstr (fence_instr ordering)) self.old.out.now self.new.out.now

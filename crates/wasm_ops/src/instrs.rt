@@ -54,13 +54,6 @@ impl HasOpcode for IndexPairOp {
 /// An instruction with an index (binary format: instructions).
 ///
 /// For example, `call 3` is `10 03`.
-///
-/// # Example
-///
-///     let call = IndexInstr {
-///         op: IndexOp::Call,
-///         index: *index,
-///     };
 #[derive(Clone, Copy, Debug, PartialEq, Eq)]
 pub struct IndexInstr {
     /// The instruction.
@@ -205,13 +198,6 @@ impl Encode for F64Const {
 /// An instruction with a memory argument (binary format: memory instructions).
 ///
 /// For example, `i32.load offset=4` is `28 02 04`.
-///
-/// # Example
-///
-///     let load = MemInstr {
-///         op: MemOp::i32_load,
-///         memarg: first,
-///     };
 #[derive(Clone, Copy, Debug, PartialEq, Eq)]
 pub struct MemInstr {
     /// The instruction.

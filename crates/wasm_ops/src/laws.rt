@@ -12,50 +12,32 @@ ghost use Rattle.wasm_ops.specs.Table.{Instr, IsInstr, table, kinds_of, are_dist
 ghost use Rattle.wasm_ops.specs.declared.blocks.Catch.{Catch};
 ghost use Rattle.wasm_ops.specs.declared.types.ExportKind.{ExportKind};
 
-/// The theorem of unsigned numbers: bytes determine their number, and a number its bytes.
+/// Theorem: an unsigned number has one shortest encoding, and bytes begin with that of at most one
+/// number (binary format: integers).
 ///
 /// For example, `e5 8e 26` is the only encoding of 624485 that [`write_u32`](crate::write_u32) can
-/// append, although LEB128 permits longer ones (binary format: integers).
-///
-/// # Guarantees
-///
-/// - `exists`: `unsigned n` encodes `n` in the fewest bytes.
-/// - `only`: no other bytes do.
-/// - `begins`: if two byte lists both begin with the encoding of a number, and are equal, the
-///   numbers and the remaining bytes are equal too.
+/// append, although LEB128 permits longer ones.
 pub fn unsigned_law()
     ensures exists { (n : ℕ) → SpellsUnsigned (unsigned n) n }
     ensures only { (bytes : List ℕ) (n : ℕ) → SpellsUnsigned bytes n → bytes ≡ unsigned n }
     ensures begins { (m n : ℕ) (r s : List ℕ) → unsigned m ++ r ≡ unsigned n ++ s → (m ≡ n) × (r ≡ s) }
 {}
 
-/// The theorem of signed numbers: bytes determine their number, and a number its bytes.
+/// Theorem: a signed number has one shortest encoding, and bytes begin with that of at most one
+/// number (binary format: integers).
 ///
-/// For example, `bf 7f` is the only encoding of -65 in the fewest bytes (binary format: integers).
-///
-/// # Guarantees
-///
-/// - `exists`: `signed z` encodes `z` in the fewest bytes.
-/// - `only`: no other bytes do.
-/// - `begins`: if two byte lists both begin with the encoding of a number, and are equal, the
-///   numbers and the remaining bytes are equal too.
+/// For example, `bf 7f` is the only encoding of -65 in the fewest bytes.
 pub fn signed_law()
     ensures exists { (z : ℤ) → SpellsSigned (signed z) z }
     ensures only { (bytes : List ℕ) (z : ℤ) → SpellsSigned bytes z → bytes ≡ signed z }
     ensures begins { (y z : ℤ) (r s : List ℕ) → signed y ++ r ≡ signed z ++ s → (y ≡ z) × (r ≡ s) }
 {}
 
-/// The theorem of names and types: bytes begin with the encoding of at most one value of a kind.
+/// Theorem: bytes begin with the encoding of at most one value of each kind: names, types, catch
+/// clauses and kinds of exports (binary format: values, types).
 ///
-/// For example, `64 70` is `(ref func)`, and no other value type begins with these bytes (binary
-/// format: values, types). Each clause is restricted to values that the encoder supports.
-///
-/// # Guarantees
-///
-/// `names`, `heap_types`, `ref_types`, `val_types`, `block_types`, `catches`, `storage_types`,
-/// `field_types`, `export_kinds`, `func_types`, `struct_types`, `array_types`, `composite_types`,
-/// `sub_types`, `table_types`, `memory_types`, `global_types`, `tag_types`, `entity_types`: the
-/// encoding of this kind of value is such a code (`IsCode`).
+/// For example, `64 70` is `(ref func)`, and no other value type begins with these bytes. Each
+/// clause is restricted to values that the encoder supports.
 pub fn type_spelling_law()
     ensures names { IsCode (List ℕ) InRangeName name }
     ensures heap_types { IsPrefixCode heap_type }
@@ -78,19 +60,12 @@ pub fn type_spelling_law()
     ensures entity_types { IsPrefixCode entity_type }
 {}
 
-/// The theorem of instructions: bytes begin with at most one instruction, and with one expression.
+/// Theorem: bytes begin with at most one instruction, and with at most one constant expression
+/// (binary format: instructions, expressions).
 ///
-/// For example, `fc 0a 03 04` is `memory.copy 3 4`, and nothing else (binary format: instructions,
-/// expressions).
-///
-/// # Guarantees
-///
-/// - `distinct`: no two entries of the opcode table have the same opcode.
-/// - `apart`: no opcode of one byte is the prefix byte of another one.
-/// - `instructions`: bytes begin with the encoding of at most one instruction.
-/// - `end`: the byte `0b`, which ends an expression, is an entry without immediates.
-/// - `expressions`: bytes begin with at most one constant expression, because its blocks are all
-///   closed.
+/// For example, `fc 0a 03 04` is `memory.copy 3 4`, and nothing else. No two entries of the opcode
+/// table have the same opcode, and no opcode of one byte is a prefix byte. The byte `0b`, which
+/// ends an expression, is an entry without immediates.
 pub fn instruction_law()
     ensures distinct { are_distinct table ≡ true }
     ensures apart { all_apart table ≡ true }

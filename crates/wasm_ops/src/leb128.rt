@@ -1,4 +1,4 @@
-//! LEB128 numbers, unsigned and signed (binary format: integers).
+//! LEB128 numbers, unsigned and signed, in the fewest bytes (binary format: integers).
 
 ghost use Rattle.std.specs.Prelude.{◌≡◌, true, ◌≤◌, ◌<◌, ◌+◌, ◌^◌, ◌≤ℤ◌, pos, negsuc, take, length, vec_len, vec_capacity};
 ghost use Rattle.wasm_ops.specs.Leb128.{unsigned, signed, digits, complement_if};
@@ -27,9 +27,8 @@ pub(crate) fn unsigned_bytes(n: u64) -> ([u8; 10], usize)
     (bytes, len + 1)
 }
 
-/// Returns how many bytes the LEB128 encoding of an unsigned number has.
-///
-/// For example, it returns 1 for 127 and 2 for 128 (binary format: integers, `u64`).
+/// Returns how many bytes the shortest LEB128 encoding of an unsigned integer has (binary format:
+/// integers, `u64`). For example, it returns 1 for 127 and 2 for 128.
 pub fn width(n: u64) -> u64
     ensures { result ≡ length (unsigned n) }
 {
@@ -78,38 +77,18 @@ pub(crate) fn set_unsigned(out: &mut Vec<u8>, at: usize, n: u64)
     out[place] = rest as u8;
 }
 
-/// Appends an unsigned number of 64 bits in LEB128 (binary format: integers, `u64`).
-///
-/// # Example
+/// Appends a 64-bit unsigned integer in LEB128 (binary format: integers, `u64`).
 ///
 ///     write_u64(out, 18446744073709551615)?;      // ff ff ff ff ff ff ff ff ff 01
-///
-/// # Errors
-///
-/// The sink's error, only if the bytes do not fit. Nothing is appended then.
-///
-/// # Guarantees
-///
-/// The bytes are `unsigned n`, the shortest encoding.
 pub fn write_u64<'e, S: Sink>(out: &mut S, n: u64) -> Result<(), Error<'e>>
     ensures { Puts S.rules (Unit {0}) out.old out.new (unsigned n) result }
 {
     Ok(out.push_number(n)?)
 }
 
-/// Appends an unsigned number of 32 bits in LEB128 (binary format: integers, `u32`).
-///
-/// # Example
+/// Appends a 32-bit unsigned integer in LEB128 (binary format: integers, `u32`).
 ///
 ///     write_u32(out, 624485)?;        // e5 8e 26
-///
-/// # Errors
-///
-/// The sink's error, only if the bytes do not fit. Nothing is appended then.
-///
-/// # Guarantees
-///
-/// The bytes are `unsigned n`, the shortest encoding.
 pub fn write_u32<'e, S: Sink>(out: &mut S, n: u32) -> Result<(), Error<'e>>
     ensures { Puts S.rules (Unit {0}) out.old out.new (unsigned n) result }
 {
@@ -190,64 +169,30 @@ impl Encode for Signed {
     }
 }
 
-/// Appends a signed number of 64 bits in LEB128 (binary format: integers, `s64`).
-///
-/// # Example
+/// Appends a 64-bit signed integer in LEB128 (binary format: integers, `s64`).
 ///
 ///     write_s64(out, -9223372036854775808)?;      // 80 80 80 80 80 80 80 80 80 7f
-///
-/// # Errors
-///
-/// The sink's error, only if the bytes do not fit. Nothing is appended then.
-///
-/// # Guarantees
-///
-/// The bytes are `signed n`, the shortest encoding.
 pub fn write_s64<'e, S: Sink>(out: &mut S, n: i64) -> Result<(), Error<'e>>
     ensures { Puts S.rules (Unit {0}) out.old out.new (signed n) result }
 {
     Ok(push_signed(out, n)?)
 }
 
-/// Appends a signed number of 32 bits in LEB128 (binary format: integers, `s32`).
-///
-/// # Example
+/// Appends a 32-bit signed integer in LEB128 (binary format: integers, `s32`).
 ///
 ///     write_s32(out, -65)?;       // bf 7f
-///
-/// # Errors
-///
-/// The sink's error, only if the bytes do not fit. Nothing is appended then.
-///
-/// # Guarantees
-///
-/// The bytes are `signed n`, the shortest encoding.
 pub fn write_s32<'e, S: Sink>(out: &mut S, n: i32) -> Result<(), Error<'e>>
     ensures { Puts S.rules (Unit {0}) out.old out.new (signed n) result }
 {
     write_s64(out, i64::from(n))
 }
 
-/// Appends a signed number of 33 bits in LEB128 (binary format: integers, `s33`).
-///
-/// Block types and heap types use this form for a type index, because their other variants are
-/// encoded as negative numbers.
-///
-/// # Example
+/// Appends a 33-bit signed integer in LEB128 (binary format: integers, `s33`).
 ///
 ///     write_s33(out, 4294967295)?;        // ff ff ff ff 0f
 ///
-/// # Requires
-///
-/// `n` is from -2^32 to 2^32 - 1 (`low`, `high`).
-///
-/// # Errors
-///
-/// The sink's error, only if the bytes do not fit. Nothing is appended then.
-///
-/// # Guarantees
-///
-/// The bytes are `signed n`, the shortest encoding.
+/// Type indices in block types and heap types have this form, because negative numbers encode
+/// their other variants.
 pub fn write_s33<'e, S: Sink>(out: &mut S, n: i64) -> Result<(), Error<'e>>
     requires low { negsuc 4294967295 ≤ℤ n }
     requires high { n ≤ℤ pos 4294967295 }

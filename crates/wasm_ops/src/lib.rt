@@ -9,6 +9,11 @@
 //!     sink.plain(Plain::Bare(BareOp::drop))?;     // 1a
 //!     sink.index(IndexOp::Call, 300)?;            // 10 ac 02
 //!
+//! A call that writes appends the whole encoding of its value, or nothing. It fails only if the
+//! bytes do not fit, or if a number, count or length is out of range. In the first case the error
+//! is that of the sink: E12 for a vector, E10 for a [`Room`] or a [`Length`]. In the second case it
+//! is E10.
+//!
 //! # Modules
 //!
 //! - `sink`, `room`: the destinations of bytes: a vector, a count, reserved memory, or a
@@ -19,15 +24,8 @@
 //! - `opcodes`, `instrs`, `control`, `casts`, `vectors`, `memargs`: instructions by kinds of
 //!   immediates.
 //! - `instr_sink`: one method for each kind of instruction. `const_exprs`: constant expressions.
-//! - `laws`: theorems about the encodings, for callers who prove more.
-//!
-//! # Guarantees
-//!
-//! - A call appends the whole encoding of its value, or nothing (`Writes` and `Puts` in
-//!   specs/Sinks.antt).
-//! - `unsigned_law`, `signed_law`: a number has one encoding, and it is the shortest.
-//! - `type_spelling_law`, `instruction_law`: no encoding is the beginning of another one of the
-//!   same kind, so that bytes determine their value.
+//! - `laws`: theorems, for callers who prove more: a value has one encoding, and no encoding is the
+//!   beginning of another one of the same kind.
 #![tactic(auto)]
 
 mod blocks;

@@ -41,15 +41,8 @@ impl Model for Room {
 }
 
 impl Room {
-    /// Reserves memory for `size` bytes. The room contains no bytes yet.
-    ///
-    /// # Errors
-    ///
-    /// E12: allocation failed.
-    ///
-    /// # Memory
-    ///
-    /// Allocates `size` bytes at once.
+    /// Reserves memory for `size` bytes with one allocation (E12 if it fails). The room contains no
+    /// bytes yet.
     pub fn reserve<'e>(alloc: Global, size: usize) -> Result<Room, Error<'e>>
         ensures ok { IfOk result (λ r. r ≡ record { items = []; left = size }) }
         ensures err { IfErr result (λ e. e ≡ out_of_memory) }

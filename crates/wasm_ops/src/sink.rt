@@ -16,8 +16,6 @@ use wast_base::{Error, Fault};
 /// `?` converts it to an [`Error`] without a position: [`Refusal::TooLarge`] is E10, and
 /// [`Refusal::Memory`] is E12.
 ///
-/// # Example
-///
 ///     assert!(rt; Error::from(Refusal::Memory).number() == 12);
 #[derive(Clone, Copy, Debug, PartialEq, Eq)]
 pub enum Refusal {
@@ -53,32 +51,20 @@ fn refusal_of(error: &Error) -> Refusal
 
 /// A destination that takes bytes at its end. All sizes and counts are numbers of bytes.
 ///
-/// A writer appends all of its bytes, or leaves the sink unchanged. An implementation defines
-/// [`Sink::put`], [`Sink::size`] and [`Sink::cut`]. The other calls have bodies that use these
-/// three. An implementation may replace them to be faster: [`Length`] counts a number without its
-/// bytes.
-///
-/// # Example
+/// A writer appends all of its bytes, or none. An implementation defines [`Sink::put`],
+/// [`Sink::size`] and [`Sink::cut`]. The other calls have bodies that need no more. An
+/// implementation may replace them to be faster: [`Length`] counts a number without its bytes.
 ///
 /// Three bytes of reserved memory take three bytes, and no fourth one:
 ///
 ///     let mut room = Room::reserve(rt.alloc(), 3).expect(&rt, "memory");
 ///     assert!(rt; room.put(&[7, 8, 9]).is_ok() && room.left() == 0);
-///
-/// # Guarantees
-///
-/// - `rules`: each implementation states what it contains, how many bytes fit, and its error.
-/// - `laws`: what was appended can be joined and cut back. [`Encode`](crate::Encode) relies on it.
 pub trait Sink {
     /// What the sink contains, how many bytes fit, and its error if they do not.
     ghost rules: { SinkRules Self };
 
-    /// Appends bytes, or nothing if they do not fit.
-    ///
-    /// # Errors
-    ///
-    /// The sink's error, only if so many bytes do not fit: E12 for a vector, E10 for a room and a
-    /// count. Nothing is appended then.
+    /// Appends bytes, or nothing if they do not fit. The error is then that of the sink: E12 for a
+    /// vector, E10 for a room or a count.
     fn put<'e>(&mut self, bytes: &[u8]) -> Result<(), Error<'e>>
         ensures { Puts rules (Unit {0}) self.old self.new bytes.now result };
 
@@ -87,19 +73,11 @@ pub trait Sink {
         ensures { result ≡ rules.size_of self.now };
 
     /// Removes bytes from the end, so that `size` bytes are left.
-    ///
-    /// # Requires
-    ///
-    /// `size` is at most [`Sink::size`].
     fn cut(&mut self, size: u64)
         requires { size ≤ rules.size_of self.old }
         ensures { rules.is_cut self.old size self.new };
 
     /// Appends bytes like [`Sink::put`], and returns the error as a [`Refusal`].
-    ///
-    /// # Errors
-    ///
-    /// The sink's error, only if so many bytes do not fit. Nothing is appended then.
     fn push_bytes(&mut self, bytes: &[u8]) -> Result<(), Refusal>
         ensures { Writes rules (Unit {0}) self.old self.new bytes.now result }
     {
@@ -109,13 +87,9 @@ pub trait Sink {
         }
     }
 
-    /// Appends the LEB128 encoding of an unsigned number (binary format: integers, `u64`).
+    /// Appends an unsigned integer in LEB128, in the fewest bytes (binary format: integers, `u64`).
     ///
-    /// The encoding is the shortest one: 300 is `ac 02`.
-    ///
-    /// # Errors
-    ///
-    /// The sink's error, only if so many bytes do not fit. Nothing is appended then.
+    /// For example, 300 is `ac 02`.
     fn push_number(&mut self, n: u64) -> Result<(), Refusal>
         ensures { Writes rules (Unit {0}) self.old self.new (unsigned n) result }
     {
@@ -128,8 +102,6 @@ pub trait Sink {
     /// After `true` the sink is as if any `count` bytes had been appended. After `false` it is
     /// unchanged. A sink that stores its bytes returns `false`.
     ///
-    /// # Example
-    ///
     ///     assert!(rt; length.skip(300) && !length.skip(u64::MAX) && length.count() == 300);
     fn skip(&mut self, count: u64) -> bool
         ensures { Skips rules self.old self.new count result }
@@ -140,19 +112,12 @@ pub trait Sink {
 
     /// Replaces the byte at `at` by the LEB128 encoding of `n`, and returns whether it did.
     ///
-    /// The bytes after that byte move if the encoding has more than one byte. This is how a length
-    /// is written before its content: one byte reserves the position, and the length replaces it at
-    /// the end. After `true` the sink is as if the encoding had been appended at that position.
-    /// After `false` it is unchanged. A sink that cannot change bytes returns `false`.
-    ///
-    /// # Example
+    /// The bytes after that byte move if the encoding has more than one byte. A length is written
+    /// before its content in this way: one byte reserves the position, and the length replaces it
+    /// at the end. A sink that cannot do so returns `false`, and nothing is appended then.
     ///
     ///     assert!(rt; kept.bytes.set_number(1, 16384));
     ///     assert!(rt; kept.bytes.as_slice() == [0x84, 0x80, 0x80, 0x01, 0x02].as_slice());
-    ///
-    /// # Requires
-    ///
-    /// `at` is below [`Sink::size`].
     fn set_number(&mut self, at: u64, n: u64) -> bool
         requires { at < rules.size_of self.old }
         ensures { Sets rules self.old self.new at n result }

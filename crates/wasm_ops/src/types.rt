@@ -211,8 +211,6 @@ fn are_covered(types: &[ValType]) -> bool
 
 /// A function type (binary format: composite types).
 ///
-/// # Example
-///
 /// `(func (param i32 i32) (result i32))` is `60 02 7f 7f 01 7f`:
 ///
 ///     let params = Seq::from_vec(Vec::from_slice(alloc, &[ValType::I32, ValType::I32])?);
@@ -365,7 +363,7 @@ impl Encode for CompositeInnerType {
     }
 }
 
-/// A composite type with its extensions: sharing and descriptors (binary format: composite types).
+/// A composite type, with sharing and descriptors (binary format: composite types).
 ///
 /// # Example
 ///

@@ -41,15 +41,7 @@ impl Function {
     /// Creates a body with these locals, and no instructions yet (binary format: code section).
     ///
     /// The locals are encoded as maximal runs of equal types: `i32 i32 i64` is `02 02 7f 01 7e`.
-    ///
-    /// # Requires
-    ///
-    /// Supported types (`is_covered` of `ValType`).
-    ///
-    /// # Errors
-    ///
-    /// - E10, only if there are 2^32 locals or more.
-    /// - E12: allocation failed.
+    /// Test [`ValType::is_covered`] of each type first.
     pub fn new_with_locals_types<'e>(
         alloc: Global,
         types: &[ValType],
@@ -66,14 +58,6 @@ impl Function {
     ///
     /// Blocks may be left open, or closed without being opened, because a body is read up to its
     /// length.
-    ///
-    /// # Requires
-    ///
-    /// The bytes are the encoding of a list of instructions (`SpellsInstrs`).
-    ///
-    /// # Errors
-    ///
-    /// E12: allocation failed. The body is unchanged then.
     pub fn raw<'e>(&mut self, bytes: &[u8]) -> Result<(), Error<'e>>
         requires { SpellsInstrs bytes.now }
         ensures { Appends (Unit {0}) self.old self.new bytes.now result }
@@ -84,8 +68,6 @@ impl Function {
     /// Returns how many bytes the body has so far, without its length (binary format: code
     /// section).
     ///
-    /// # Example
-    ///
     ///     assert!(rt; body.byte_len() == 8 && section.byte_len() == 9);
     pub fn byte_len(&self) -> usize
         ensures { result ≡ length self.now }
@@ -94,10 +76,6 @@ impl Function {
     }
 
     /// Appends the `end` of the body, `0b` (binary format: expressions).
-    ///
-    /// # Errors
-    ///
-    /// E12: allocation failed. The body is unchanged then.
     pub fn end<'e>(&mut self) -> Result<(), Error<'e>>
         ensures { Appends (Unit {0}) self.old self.new (0x0b ∷ []) result }
     {

@@ -34,15 +34,8 @@ pub trait ListKind {
 /// Its model in contracts is the number of items and their bytes. The names [`TypeSection`],
 /// [`CodeSection`] and so on are this type, and each has its own methods to add items.
 ///
-/// # Example
-///
 ///     let mut functions = FunctionSection::new(alloc);
 ///     functions.function(0)?;
-///
-/// # Guarantees
-///
-/// Each method that adds an item adds the encoding in its contract, or leaves the section
-/// unchanged.
 #[derive(Debug, Drop)]
 pub struct ListSection<K: ListKind> {
     pub(crate) items: BuiltItems,
@@ -102,27 +95,16 @@ impl ListKind for Types {
     }
 }
 
-/// The type section (binary format: type section). Its model in contracts is its items.
+/// The type section (binary format: type section).
 pub type TypeSection = ListSection<Types>;
 
 impl TypeSection {
     /// Adds a type definition that is not in a `rec` group (binary format: type section).
     ///
-    /// # Example
-    ///
     ///     let mut types = TypeSection::new(alloc);
     ///     types.subtype(&function_type(alloc)?)?;
     ///
-    /// # Requires
-    ///
-    /// A supported type (`is_covered` of `SubType`).
-    ///
-    /// # Errors
-    ///
-    /// - E10, only if there would be 2^32 items, or if a list in the type has 2^32 items or more.
-    /// - E12: allocation failed.
-    ///
-    /// The section is unchanged then.
+    /// Test [`SubType::is_covered`] first.
     pub fn subtype<'e>(&mut self, ty: &SubType) -> Result<(), Error<'e>>
         requires { IsTrue (sub_type ty.now).is_covered }
         ensures { Adds (InRangeU32 (self.old.count + 1) × (sub_type ty.now).in_range) self.old self.new
@@ -134,22 +116,10 @@ impl TypeSection {
     /// Adds a `rec` group of type definitions, which may refer to one another (binary format: type
     /// section).
     ///
-    /// # Example
-    ///
     ///     let group = [plain(alloc, true), plain(alloc, false)];
     ///     section.rec(&group)?;
     ///
-    /// # Requires
-    ///
-    /// Supported types (`is_covered` of `SubType`).
-    ///
-    /// # Errors
-    ///
-    /// - E10, only if there would be 2^32 items, or if the group or a list in one of its types has
-    ///   2^32 items or more.
-    /// - E12: allocation failed.
-    ///
-    /// The section is unchanged then.
+    /// Test [`SubType::is_covered`] of each type first.
     pub fn rec<'e>(&mut self, types: &[SubType]) -> Result<(), Error<'e>>
         requires { IsTrue (list_all (λ x. (sub_type x).is_covered) types.now) }
         ensures { Adds (InRangeU32 (self.old.count + 1) × (type_entry (Group types.now)).in_range) self.old self.new
@@ -171,23 +141,13 @@ impl ListKind for Functions {
     }
 }
 
-/// The function section: the type of each function (binary format: function section). Its model in
-/// contracts is its items.
+/// The function section: the type of each function (binary format: function section).
 pub type FunctionSection = ListSection<Functions>;
 
 impl FunctionSection {
     /// Adds a function of the type at an index.
     ///
-    /// # Example
-    ///
     ///     functions.function(0)?;
-    ///
-    /// # Errors
-    ///
-    /// - E10, only if there would be 2^32 functions.
-    /// - E12: allocation failed.
-    ///
-    /// The section is unchanged then.
     pub fn function<'e>(&mut self, type_index: u32) -> Result<(), Error<'e>>
         ensures { Adds (InRangeU32 (self.old.count + 1)) self.old self.new (unsigned type_index) result }
     {
@@ -207,22 +167,13 @@ impl ListKind for Exports {
     }
 }
 
-/// The export section (binary format: export section). Its model in contracts is its items.
+/// The export section (binary format: export section).
 pub type ExportSection = ListSection<Exports>;
 
 impl ExportSection {
     /// Adds an export: a name, and the kind and index of the exported item.
     ///
-    /// # Example
-    ///
     ///     exports.export("sum", ExportKind::Func, 0)?;
-    ///
-    /// # Errors
-    ///
-    /// - E10, only if there would be 2^32 exports, or if the name has 2^32 bytes or more.
-    /// - E12: allocation failed.
-    ///
-    /// The section is unchanged then.
     pub fn export<'e>(&mut self, text: &str, kind: ExportKind, index: u32) -> Result<(), Error<'e>>
         ensures { Adds (InRangeU32 (self.old.count + 1) × InRangeName text.now) self.old self.new
             (export_entry (record { name = text.now; kind = kind; index = index })).bytes result }
@@ -243,28 +194,14 @@ impl ListKind for Code {
     }
 }
 
-/// The code section: the body of each function (binary format: code section). Its model in
-/// contracts is its items.
+/// The code section: the body of each function (binary format: code section).
 pub type CodeSection = ListSection<Code>;
 
 impl CodeSection {
-    /// Adds a function body, after its length in bytes.
-    ///
-    /// # Example
+    /// Adds a function body, after its length in bytes. Call [`Function::end`] on it first.
     ///
     ///     let mut code = CodeSection::new(alloc);
     ///     code.function(&body(alloc)?)?;
-    ///
-    /// # Requires
-    ///
-    /// The function is the encoding of a body: locals, instructions, and an `end` (`SpellsBody`).
-    ///
-    /// # Errors
-    ///
-    /// - E10, only if there would be 2^32 bodies, or if the body has 2^32 bytes or more.
-    /// - E12: allocation failed.
-    ///
-    /// The section is unchanged then.
     pub fn function<'e>(&mut self, function: &Function) -> Result<(), Error<'e>>
         requires { SpellsBody function.now }
         ensures { Adds (InRangeU32 (self.old.count + 1) × InRangeU32 (length function.now)) self.old self.new
@@ -274,8 +211,6 @@ impl CodeSection {
     }
 
     /// Returns how many bytes were added, without the number of bodies.
-    ///
-    /// # Example
     ///
     ///     assert!(rt; body.byte_len() == 8 && section.byte_len() == 9);
     pub fn byte_len(&self) -> usize

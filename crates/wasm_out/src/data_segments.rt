@@ -80,22 +80,13 @@ impl ListKind for DataSegments {
     }
 }
 
-/// The data section (binary format: data section). Its model in contracts is its items.
+/// The data section (binary format: data section).
 pub type DataSection = ListSection<DataSegments>;
 
 impl DataSection {
     /// Adds a passive segment, which instructions such as `memory.init` copy.
     ///
-    /// # Example
-    ///
     ///     section.passive(b"x")?;
-    ///
-    /// # Errors
-    ///
-    /// - E10, only if there would be 2^32 segments, or if there are 2^32 bytes or more.
-    /// - E12: allocation failed.
-    ///
-    /// The section is unchanged then.
     pub fn passive<'e>(&mut self, bytes: &[u8]) -> Result<(), Error<'e>>
         ensures { Adds (InRangeU32 (self.old.count + 1) × InRangeU32 (length bytes.now)) self.old self.new
             (kept_bytes bytes.now) result }
@@ -108,16 +99,7 @@ impl DataSection {
 
     /// Adds an active segment, which fills a memory from an offset on.
     ///
-    /// # Example
-    ///
     ///     section.active(0, &offset, b"yz")?;
-    ///
-    /// # Errors
-    ///
-    /// - E10, only if there would be 2^32 segments, or if there are 2^32 bytes or more.
-    /// - E12: allocation failed.
-    ///
-    /// The section is unchanged then.
     pub fn active<'e>(
         &mut self,
         memory: u32,

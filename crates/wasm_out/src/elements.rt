@@ -111,14 +111,12 @@ impl<O: Encode, L: Encode> Encode for ElementSegment<O, L> {
 /// The elements of a segment that is added to an [`ElementSection`] (binary format: element
 /// section).
 ///
-/// # Example
-///
 ///     let functions = Elements::Functions(vec![in alloc; 0]?);
 #[derive(Debug, Drop)]
 pub enum Elements {
     /// Functions, by index.
     Functions(Vec<u32>),
-    /// Expressions of a reference type.
+    /// Expressions of a reference type, which the encoder must support ([`RefType::is_covered`]).
     Expressions(RefType, Vec<ConstExpr>),
 }
 
@@ -134,26 +132,13 @@ impl ListKind for ElementSegments {
     }
 }
 
-/// The element section (binary format: element section). Its model in contracts is its items.
+/// The element section (binary format: element section).
 pub type ElementSection = ListSection<ElementSegments>;
 
 impl ElementSection {
     /// Adds a passive segment, which instructions such as `table.init` copy.
     ///
-    /// # Example
-    ///
     ///     section.passive(&functions)?;
-    ///
-    /// # Requires
-    ///
-    /// If the elements are expressions, their type is supported (`AreElements`).
-    ///
-    /// # Errors
-    ///
-    /// - E10, only if there would be 2^32 segments, or if there are 2^32 elements or more.
-    /// - E12: allocation failed.
-    ///
-    /// The section is unchanged then.
     pub fn passive<'e>(&mut self, elements: &Elements) -> Result<(), Error<'e>>
         requires { AreElements elements.now }
         ensures { Adds (InRangeU32 (self.old.count + 1) × InRangeElements elements.now) self.old self.new
@@ -164,20 +149,7 @@ impl ElementSection {
 
     /// Adds a declarative segment: functions that `ref.func` may refer to.
     ///
-    /// # Example
-    ///
     ///     section.declared(&functions)?;
-    ///
-    /// # Requires
-    ///
-    /// If the elements are expressions, their type is supported (`AreElements`).
-    ///
-    /// # Errors
-    ///
-    /// - E10, only if there would be 2^32 segments, or if there are 2^32 elements or more.
-    /// - E12: allocation failed.
-    ///
-    /// The section is unchanged then.
     pub fn declared<'e>(&mut self, elements: &Elements) -> Result<(), Error<'e>>
         requires { AreElements elements.now }
         ensures { Adds (InRangeU32 (self.old.count + 1) × InRangeElements elements.now) self.old self.new
@@ -189,21 +161,9 @@ impl ElementSection {
     /// Adds an active segment, which fills a table from an offset on. Without an index it is table
     /// 0.
     ///
-    /// # Example
-    ///
     ///     section.active(Some(1), &offset, &expressions)?;
     ///
-    /// # Requires
-    ///
-    /// - `elements`: if the elements are expressions, their type is supported.
-    /// - `form`: without a table index, expressions have the type `funcref`.
-    ///
-    /// # Errors
-    ///
-    /// - E10, only if there would be 2^32 segments, or if there are 2^32 elements or more.
-    /// - E12: allocation failed.
-    ///
-    /// The section is unchanged then.
+    /// Without a table index, expressions must have the type `funcref`.
     pub fn active<'e>(
         &mut self,
         table: Option<u32>,

@@ -24,27 +24,16 @@ impl ListKind for Imports {
     }
 }
 
-/// The import section (binary format: import section). Its model in contracts is its items.
+/// The import section (binary format: import section).
 pub type ImportSection = ListSection<Imports>;
 
 impl ImportSection {
     /// Adds an import: the names of the module and of the item, and its type.
     ///
-    /// # Example
-    ///
     ///     let tag = EntityType::Tag(TagType { func_type_idx: 0 });
     ///     imports.import("m", "t", &tag)?;
     ///
-    /// # Requires
-    ///
-    /// A supported type (`is_covered` of `EntityType`).
-    ///
-    /// # Errors
-    ///
-    /// - E10, only if there would be 2^32 imports, or if one of the names has 2^32 bytes or more.
-    /// - E12: allocation failed.
-    ///
-    /// The section is unchanged then.
+    /// Test [`EntityType::is_covered`] first.
     pub fn import<'e>(&mut self, module: &str, name: &str, ty: &EntityType) -> Result<(), Error<'e>>
         requires { IsTrue (entity_type ty.now).is_covered }
         ensures { Adds (InRangeU32 (self.old.count + 1)
@@ -67,7 +56,7 @@ impl ListKind for Tables {
     }
 }
 
-/// The table section (binary format: table section). Its model in contracts is its items.
+/// The table section (binary format: table section).
 pub type TableSection = ListSection<Tables>;
 
 impl TableSection {
@@ -84,16 +73,7 @@ impl TableSection {
     ///     };
     ///     section.table(&ty)?;
     ///
-    /// # Requires
-    ///
-    /// A supported type (`is_covered` of `TableType`).
-    ///
-    /// # Errors
-    ///
-    /// - E10, only if there would be 2^32 tables.
-    /// - E12: allocation failed.
-    ///
-    /// The section is unchanged then.
+    /// Test [`TableType::is_covered`] first.
     pub fn table<'e>(&mut self, ty: &TableType) -> Result<(), Error<'e>>
         requires { IsTrue (table_type ty.now).is_covered }
         ensures { Adds (InRangeU32 (self.old.count + 1) × (table_type ty.now).in_range) self.old self.new
@@ -104,20 +84,9 @@ impl TableSection {
 
     /// Adds a table whose elements have the value of an expression at first.
     ///
-    /// # Example
-    ///
     ///     section.table_with_init(&wide, &init)?;
     ///
-    /// # Requires
-    ///
-    /// A supported type (`is_covered` of `TableType`).
-    ///
-    /// # Errors
-    ///
-    /// - E10, only if there would be 2^32 tables.
-    /// - E12: allocation failed.
-    ///
-    /// The section is unchanged then.
+    /// Test [`TableType::is_covered`] first.
     pub fn table_with_init<'e>(&mut self, ty: &TableType, init: &ConstExpr) -> Result<(), Error<'e>>
         requires { IsTrue (table_type ty.now).is_covered }
         ensures { Adds (InRangeU32 (self.old.count + 1) × (table_type ty.now).in_range) self.old self.new
@@ -139,7 +108,7 @@ impl ListKind for Memories {
     }
 }
 
-/// The memory section (binary format: memory section). Its model in contracts is its items.
+/// The memory section (binary format: memory section).
 pub type MemorySection = ListSection<Memories>;
 
 impl MemorySection {
@@ -156,16 +125,7 @@ impl MemorySection {
     ///     };
     ///     memories.memory(&ty)?;
     ///
-    /// # Requires
-    ///
-    /// A supported type. All memory types are.
-    ///
-    /// # Errors
-    ///
-    /// - E10, only if there would be 2^32 memories.
-    /// - E12: allocation failed.
-    ///
-    /// The section is unchanged then.
+    /// The encoder supports all memory types.
     pub fn memory<'e>(&mut self, ty: &MemoryType) -> Result<(), Error<'e>>
         requires { IsTrue (memory_type ty.now).is_covered }
         ensures { Adds (InRangeU32 (self.old.count + 1) × (memory_type ty.now).in_range) self.old self.new
@@ -187,26 +147,15 @@ impl ListKind for Tags {
     }
 }
 
-/// The tag section (binary format: tag section). Its model in contracts is its items.
+/// The tag section (binary format: tag section).
 pub type TagSection = ListSection<Tags>;
 
 impl TagSection {
     /// Adds a tag.
     ///
-    /// # Example
-    ///
     ///     tags.tag(&TagType { func_type_idx: 0 })?;
     ///
-    /// # Requires
-    ///
-    /// A supported type. All tag types are.
-    ///
-    /// # Errors
-    ///
-    /// - E10, only if there would be 2^32 tags.
-    /// - E12: allocation failed.
-    ///
-    /// The section is unchanged then.
+    /// The encoder supports all tag types.
     pub fn tag<'e>(&mut self, ty: &TagType) -> Result<(), Error<'e>>
         requires { IsTrue (tag_type ty.now).is_covered }
         ensures { Adds (InRangeU32 (self.old.count + 1) × (tag_type ty.now).in_range) self.old self.new
@@ -228,27 +177,16 @@ impl ListKind for Globals {
     }
 }
 
-/// The global section (binary format: global section). Its model in contracts is its items.
+/// The global section (binary format: global section).
 pub type GlobalSection = ListSection<Globals>;
 
 impl GlobalSection {
     /// Adds a global that has the value of an expression at first.
     ///
-    /// # Example
-    ///
     ///     let init = number(alloc, -1)?;
     ///     globals.global(&ty, &init)?;
     ///
-    /// # Requires
-    ///
-    /// A supported type (`is_covered` of `GlobalType`).
-    ///
-    /// # Errors
-    ///
-    /// - E10, only if there would be 2^32 globals.
-    /// - E12: allocation failed.
-    ///
-    /// The section is unchanged then.
+    /// Test [`GlobalType::is_covered`] first.
     pub fn global<'e>(&mut self, ty: &GlobalType, init: &ConstExpr) -> Result<(), Error<'e>>
         requires { IsTrue (global_type ty.now).is_covered }
         ensures { Adds (InRangeU32 (self.old.count + 1) × (global_type ty.now).in_range) self.old self.new

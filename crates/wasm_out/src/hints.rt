@@ -47,8 +47,6 @@ impl Encode for BranchHint {
 ///
 /// It comes before the code section. Its model in contracts is its functions.
 ///
-/// # Example
-///
 ///     section.function_hints(0, &first)?;
 #[derive(Debug, Drop)]
 pub struct BranchHints {
@@ -80,24 +78,10 @@ impl BranchHints {
         self.items.is_empty()
     }
 
-    /// Adds the hints of a function, in the order of their instructions.
-    ///
+    /// Adds the hints of a function, in the order of their instructions. Each value must be 0 or 1.
     /// The index counts imported functions too.
     ///
-    /// # Example
-    ///
     ///     section.function_hints(0, &first)?;
-    ///
-    /// # Requires
-    ///
-    /// Each hint has the value 0 or 1 (`is_likely_or_not`).
-    ///
-    /// # Errors
-    ///
-    /// - E10, only if there would be 2^32 functions, or if there are 2^32 hints or more.
-    /// - E12: allocation failed.
-    ///
-    /// The section is unchanged then.
     pub fn function_hints<'e>(
         &mut self,
         function_index: u32,

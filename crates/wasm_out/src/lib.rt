@@ -10,11 +10,14 @@
 //!     let mut functions = FunctionSection::new(alloc);
 //!     functions.function(0)?;
 //!
-//! Then a module is made of the sections, in the order of the binary format:
+//! Then the sections are added to a module, in the order of the binary format:
 //!
 //!     let mut module = Module::new(alloc)?;
 //!     module.section(&types)?;
 //!     module.section(&functions)?;
+//!
+//! A call that returns a `Result` fails with E10 only if a count or length would be 2^32 or more,
+//! and with E12 if allocation fails. Nothing is added then.
 //!
 //! # Modules
 //!
@@ -24,14 +27,8 @@
 //! - `bodies`, `locals`: function bodies, and their locals as runs of equal types.
 //! - `elements`, `data_segments`: element and data segments in each form.
 //! - `names`, `producers`, `hints`: custom sections. `worked_bytes`: examples with their bytes.
-//! - `laws`: theorems about modules, for callers who prove more.
-//!
-//! # Guarantees
-//!
-//! - A call adds one item, or leaves the section unchanged (`Adds` in specs/Built.antt).
-//! - `building_law`: the payload of a section is the encoding of the items that were added.
-//! - `part_spelling_law`, `reading_laws`: the bytes of a module determine its sections, and the
-//!   sections determine the bytes.
+//! - `laws`: theorems, for callers who prove more: the bytes of a module determine its sections,
+//!   and the sections the bytes.
 #![tactic(auto)]
 
 mod bodies;

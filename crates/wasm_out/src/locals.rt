@@ -21,10 +21,6 @@ pub trait LocalType<T> {
     ghost is_ready: { Self → T → Bool };
 
     /// Returns the type of an item, as the type of a local.
-    ///
-    /// # Requires
-    ///
-    /// An item whose type can be read (`is_ready`).
     fn local_type(&self, item: &T) -> ValType
         requires { IsTrue (is_ready self.now item.now) }
         ensures { result ≡ ty self.now item.now };
@@ -66,8 +62,7 @@ fn put_run<S: Sink>(out: &mut S, run: (usize, ValType)) -> Result<(), Refusal>
 
 /// Appends the maximal runs of equal types, and returns how many there are.
 ///
-/// There must be fewer than 2^32 items, of supported types. It fails like [`Encode::encode`], and
-/// nothing is appended then.
+/// Fails like [`Encode::encode`].
 fn put_runs<T, W: LocalType<T>, S: Sink>(
     items: &[T],
     way: &W,
@@ -156,7 +151,7 @@ fn put_locals<T, W: LocalType<T>, S: Sink>(items: &[T], way: &W, out: &mut S) ->
 /// section).
 ///
 /// The number of runs comes first, then each run as its length and its type: `i32 i32 i64` is
-/// `02 02 7f 01 7e`. A number of locals of 2^32 or more is out of range. Only the sink allocates.
+/// `02 02 7f 01 7e`. A list of 2^32 locals or more is out of range. Only the sink allocates.
 #[derive(Clone, Copy)]
 pub struct Locals<'a, T, W>(pub &'a [T], pub W);
 

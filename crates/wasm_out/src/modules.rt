@@ -45,10 +45,6 @@ impl Model for Module {
 
 impl Module {
     /// Creates a module without sections, which is only the [`HEADER`].
-    ///
-    /// # Errors
-    ///
-    /// E12: allocation failed.
     pub fn new<'e>(alloc: Global) -> Result<Module, Error<'e>>
         ensures { Makes (Unit {0}) header result }
     {
@@ -59,17 +55,7 @@ impl Module {
 
     /// Appends a section: its id, the length of its payload, and its payload.
     ///
-    /// # Example
-    ///
     ///     module.section(&types)?;
-    ///
-    /// # Errors
-    ///
-    /// - E10, only if the payload has 2^32 bytes or more, or a count or length in it is out of
-    ///   range.
-    /// - E12: allocation failed.
-    ///
-    /// The module is unchanged then.
     pub fn section<'e, S: Section>(&mut self, content: &S) -> Result<(), Error<'e>>
         ensures { Appends (InRangeSized S.in_range S.payload content.now) self.old self.new
             (section (S.number content.now) (S.payload content.now)) result }

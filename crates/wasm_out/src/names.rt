@@ -19,8 +19,6 @@ use wast_base::Error;
 ///
 /// Its model in contracts is its items. Use it as [`NameMap`] or [`IndirectNameMap`].
 ///
-/// # Example
-///
 ///     assert!(rt; NameMap::new(alloc).is_empty() && IndirectNameMap::new(alloc).is_empty());
 #[derive(Debug, Drop)]
 pub struct IndexedNames<K> {
@@ -59,23 +57,14 @@ impl<K> IndexedNames<K> {
 #[derive(Clone, Copy, Debug)]
 pub struct Direct;
 
-/// A map from indices to names (custom sections: name maps). Its model in contracts is its items.
+/// A map from indices to names (custom sections: name maps).
 pub type NameMap = IndexedNames<Direct>;
 
 impl NameMap {
     /// Adds the name of the item at an index.
     ///
-    /// # Example
-    ///
     ///     let mut map = NameMap::new(alloc);
     ///     map.append(2, "x")?;
-    ///
-    /// # Errors
-    ///
-    /// - E10, only if there would be 2^32 names, or if the name has 2^32 bytes or more.
-    /// - E12: allocation failed.
-    ///
-    /// The map is unchanged then.
     pub fn append<'e>(&mut self, index: u32, text: &str) -> Result<(), Error<'e>>
         ensures { Adds (InRangeU32 (self.old.count + 1) × InRangeName text.now) self.old self.new
             (name_entry (index, text.now)).bytes result }
@@ -88,24 +77,14 @@ impl NameMap {
 #[derive(Clone, Copy, Debug)]
 pub struct Indirect;
 
-/// A map from indices to name maps (custom sections: indirect name maps). Its model in contracts is
-/// its items.
+/// A map from indices to name maps (custom sections: indirect name maps).
 pub type IndirectNameMap = IndexedNames<Indirect>;
 
 impl IndirectNameMap {
     /// Adds the names that belong to the item at an index, such as the locals of a function.
     ///
-    /// # Example
-    ///
     ///     let mut maps = IndirectNameMap::new(alloc);
     ///     maps.append(3, &map)?;
-    ///
-    /// # Errors
-    ///
-    /// - E10, only if there would be 2^32 maps.
-    /// - E12: allocation failed.
-    ///
-    /// The map is unchanged then.
     pub fn append<'e>(&mut self, index: u32, names: &NameMap) -> Result<(), Error<'e>>
         ensures { Adds (InRangeU32 (self.old.count + 1)) self.old self.new
             (unsigned index ++ behind_count names.now) result }
@@ -130,13 +109,6 @@ impl IndirectNameMap {
 ///     names.module("m")?;
 ///     names.functions(map)?;
 ///     names.locals(maps)?;
-///
-/// # Errors
-///
-/// Each method returns these, and leaves the section unchanged then:
-///
-/// - E10, only if the subsection has 2^32 bytes or more.
-/// - E12: allocation failed.
 #[derive(Debug, Drop)]
 pub struct NameSection {
     bytes: Vec<u8>,
@@ -176,9 +148,7 @@ impl NameSection {
         Ok((id, WithLength(content)).encode(&mut self.bytes)?)
     }
 
-    /// Appends the name of the module.
-    ///
-    /// E10 also comes if the name has 2^32 bytes or more.
+    /// Appends the name of the module (subsection 0).
     pub fn module<'e>(&mut self, text: &str) -> Result<(), Error<'e>>
         ensures { Appends (InRangeSized InRangeName name text.now) self.old self.new
             (subsection named.Whole (name text.now)) result }

@@ -16,8 +16,6 @@ use wast_base::Error;
 ///
 /// Its model in contracts is its items.
 ///
-/// # Example
-///
 ///     let mut values = ProducersField::new(alloc);
 ///     values.value("R", "1")?;
 #[derive(Debug, Drop)]
@@ -52,16 +50,7 @@ impl ProducersField {
 
     /// Adds a value: its name and its version.
     ///
-    /// # Example
-    ///
     ///     values.value("R", "1")?;
-    ///
-    /// # Errors
-    ///
-    /// - E10, only if there would be 2^32 values, or if a text has 2^32 bytes or more.
-    /// - E12: allocation failed.
-    ///
-    /// The field is unchanged then.
     pub fn value<'e>(&mut self, text: &str, version: &str) -> Result<(), Error<'e>>
         ensures { Adds (InRangeU32 (self.old.count + 1) × (InRangeName text.now × InRangeName version.now))
             self.old self.new (producer_value (text.now, version.now)).bytes result }
@@ -73,8 +62,6 @@ impl ProducersField {
 /// The custom section `producers` (tool conventions: producers section).
 ///
 /// Its model in contracts is its items.
-///
-/// # Example
 ///
 ///     let mut section = ProducersSection::new(alloc);
 ///     section.field("language", &values)?;
@@ -110,16 +97,7 @@ impl ProducersSection {
 
     /// Adds a field: its name and its values.
     ///
-    /// # Example
-    ///
     ///     section.field("language", &values)?;
-    ///
-    /// # Errors
-    ///
-    /// - E10, only if there would be 2^32 fields, or if the name has 2^32 bytes or more.
-    /// - E12: allocation failed.
-    ///
-    /// The section is unchanged then.
     pub fn field<'e>(&mut self, text: &str, values: &ProducersField) -> Result<(), Error<'e>>
         ensures { Adds (InRangeU32 (self.old.count + 1) × InRangeName text.now) self.old self.new
             (name text.now ++ behind_count values.now) result }

@@ -70,20 +70,11 @@ pub trait Section {
         ensures { result ≡ number self.now };
 
     /// Appends the payload of the section, without id and length.
-    ///
-    /// # Errors
-    ///
-    /// - E10, only if a count or length is out of range: 2^32 or more.
-    /// - E12: allocation failed.
-    ///
-    /// `out` is unchanged then.
     fn append_to<'e>(&self, out: &mut Vec<u8>) -> Result<(), Error<'e>>
         ensures { Appends (in_range self.now) out.old.items out.new.items (payload self.now) result };
 }
 
 /// A section that starts empty and is filled item by item.
-///
-/// # Example
 ///
 ///     assert!(rt; TypeSection::new(alloc).is_empty() && NameSection::new(alloc).is_empty());
 pub trait Build: Section {
@@ -103,8 +94,6 @@ pub trait Build: Section {
 }
 
 /// The start section, with the function that runs first (binary format: start section).
-///
-/// # Example
 ///
 ///     whole.section(&StartSection { function_index: 0 })?;
 #[derive(Clone, Copy, Debug, PartialEq, Eq)]
@@ -131,8 +120,6 @@ impl Section for StartSection {
 
 /// The data count section: the number of data segments, before the code (binary format: data count
 /// section).
-///
-/// # Example
 ///
 ///     whole.section(&DataCountSection { count: 2 })?;
 #[derive(Clone, Copy, Debug, PartialEq, Eq)]

@@ -10,7 +10,7 @@ use std::marker::Model;
 /// A `Box` whose model in contracts is the value inside.
 ///
 /// Large parts of the AST are boxed, and the model lets contracts compare them by value, not by
-/// address. `{:?}` prints the value, as for a `Box`.
+/// address. `{:?}` prints the value, as for a `Box`. Only [`Boxed::new`] allocates.
 ///
 /// # Example
 ///
@@ -18,10 +18,6 @@ use std::marker::Model;
 ///     assert!(rt; *boxed.get() == 7);
 ///     *boxed.get_mut() = 8;
 ///     assert!(rt; boxed.into_inner() == 8);
-///
-/// # Memory
-///
-/// Only [`Boxed::new`] allocates.
 #[derive(Drop)]
 pub struct Boxed<T> {
     inner: Box<T>,
@@ -46,11 +42,6 @@ impl<T> Boxed<T> {
     }
 
     /// Borrows the value mutably.
-    ///
-    /// # Guarantees
-    ///
-    /// - `writes_back`: once the borrow ends, the box holds the last value written through it.
-    /// - `value`: the borrow begins with the current value.
     pub fn get_mut(&mut self) -> &mut T
         ensures* writes_back { sem 𝓛 (LendsValue T.row self.entry result) }
         ensures value { result.now ≡ self.old }
@@ -68,11 +59,7 @@ impl<T> Boxed<T> {
 }
 
 impl<T: Drop> Boxed<T> {
-    /// Allocates a box for the value.
-    ///
-    /// # Errors
-    ///
-    /// `AllocError` if the allocation failed. The value is then dropped.
+    /// Allocates a box for the value. If the allocation fails, the value is dropped.
     pub fn new(alloc: Global, value: T) -> Result<Self, AllocError>
         ensures { IfOk result (λ b. b ≡ value) }
     {

@@ -76,7 +76,7 @@ pub enum Fault<'a> {
 ///
 /// Two errors are equal if their faults and their positions are. `?` turns a failed allocation into
 /// E12. `{}` prints the message without the position; [`line_and_column`](crate::line_and_column)
-/// converts [`Error::span`] for a reader.
+/// converts [`Error::span`] for a reader. No call on an error allocates.
 ///
 /// # Example
 ///
@@ -87,10 +87,6 @@ pub enum Fault<'a> {
 ///         println!(rt; "{line}:{column}: {error}")
 ///     }
 ///     None => println!(rt; "{error}"),
-///
-/// # Memory
-///
-/// No call on an error allocates.
 #[derive(Clone, Copy, Debug, PartialEq, Eq)]
 pub struct Error<'a> {
     pub(crate) span: Option<Span>,
@@ -98,15 +94,9 @@ pub struct Error<'a> {
 }
 
 impl<'a> Error<'a> {
-    /// Makes an error with a position.
-    ///
-    /// # Example
+    /// Makes an error of E1 to E9, which has a position.
     ///
     ///     assert!(rt; twice == Err(Error::new(at(40), Fault::Duplicate("func"))));
-    ///
-    /// # Requires
-    ///
-    /// A fault that has a position. It needs one of E1 to E9.
     pub fn new(span: Span, fault: Fault<'a>) -> Self
         requires { IsTrue (is_placed fault) }
         ensures { result ≡ error_at span fault.entry }
@@ -117,15 +107,9 @@ impl<'a> Error<'a> {
         }
     }
 
-    /// Makes an error without a position.
-    ///
-    /// # Example
+    /// Makes an error of E10 to E13, which has no position.
     ///
     ///     let too_large = Error::refusal(Fault::TooLarge);
-    ///
-    /// # Requires
-    ///
-    /// A fault that has no position: one of E10 to E13.
     pub fn refusal(fault: Fault<'a>) -> Self
         requires { IsTrue (not (is_placed fault)) }
         ensures { result ≡ error_without_place fault.entry }
@@ -187,7 +171,7 @@ impl fmt::Display for Form {
     }
 }
 
-/// Returns the message for the rule of well-formedness with this number. Does not allocate.
+/// Returns the message for the rule of well-formedness with this number.
 ///
 /// For example, rule 1 has `alignment must be a power of two`. `ill_formed` of `wast_tree` lists the
 /// rules.

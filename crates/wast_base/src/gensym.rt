@@ -13,6 +13,9 @@ use std::marker::Model;
 /// more items are added before the item. The number of a generated id is its generation. The model
 /// of the counter in contracts is the generation of its next id, which is at least 1.
 ///
+/// If the counter is at the greatest `u64`, generating an id fails with E10 and changes nothing. No
+/// call on the counter allocates.
+///
 /// # Example
 ///
 ///     let mut gensym = Gensym::new(1);
@@ -20,10 +23,6 @@ use std::marker::Model;
 ///     let next = gensym.generate(at(5)).expect(&rt, "counter");
 ///
 /// The two ids have the generations 1 and 2.
-///
-/// # Memory
-///
-/// No call on the counter allocates.
 #[derive(Debug, Drop)]
 pub struct Gensym {
     next: u64,
@@ -40,11 +39,7 @@ impl Model for Gensym {
 }
 
 impl Gensym {
-    /// Makes a counter whose first id has the generation `first`.
-    ///
-    /// # Requires
-    ///
-    /// `first` is 1 or more, because generation 0 is that of source ids.
+    /// Makes a counter whose first id has the generation `first`. Source ids have generation 0.
     pub fn new(first: u64) -> Self
         requires { 1 ≤ first }
         ensures { result ≡ first }
@@ -52,7 +47,7 @@ impl Gensym {
         Gensym { next: first }
     }
 
-    /// Returns the generation of the next id, which is 1 or more.
+    /// Returns the generation of the next id.
     pub fn peek(&self) -> u64
         ensures next { result ≡ self.now }
         ensures positive { 1 ≤ result }
@@ -61,10 +56,6 @@ impl Gensym {
     }
 
     /// Returns a new id at the position `span`, and raises the counter by one.
-    ///
-    /// # Errors
-    ///
-    /// E10 if the counter is at the greatest `u64`. The counter is then unchanged.
     pub fn generate<'a>(&mut self, span: Span) -> Result<Id<'a>, Error<'a>>
         ensures { Generates self.old span result self.new }
     {
@@ -88,10 +79,6 @@ impl Gensym {
     ///     let id = gensym.fill(at(4), &mut slot).expect(&rt, "counter");
     ///
     /// The id has generation 3 and is in `slot`, and a second call returns it again.
-    ///
-    /// # Errors
-    ///
-    /// E10 if `slot` is `None` and the counter is at the greatest `u64`. Nothing is then changed.
     pub fn fill<'a>(&mut self, span: Span, slot: &mut Option<Id<'a>>) -> Result<Id<'a>, Error<'a>>
         ensures { Fills self.old span slot.old result slot.new self.new }
     {

@@ -33,8 +33,6 @@ pub(crate) enum Name<'a> {
 /// Ids are ordered so that they can be keys of maps. Source ids, by the bytes of their names, come
 /// before generated ids, by their generations. No call on an id allocates.
 ///
-/// # Example
-///
 ///     let id: Index<'static> = Id::new("f", at(4)).into();
 ///     assert!(rt; id == Index::Id(Id::new("f", at(9))) && id.span() == at(4));
 #[derive(Clone, Copy, Debug)]
@@ -52,8 +50,6 @@ pub struct Id<'a> {
 ///
 /// Indices are ordered so that they can be keys of maps: numbers come before ids. No call on an
 /// index allocates.
-///
-/// # Example
 ///
 ///     let number = Index::from(7);
 ///     assert!(rt; number == Index::Num(7, at(3)) && number.span() == at(0));

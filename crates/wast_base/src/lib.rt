@@ -24,11 +24,8 @@
 //! - `seq`, `boxed`: a list and a box that contracts see by their contents.
 //! - `lines`: the line and column of a position.
 //!
-//! # Guarantees
-//!
-//! The contracts state the result of every call exactly. A failed allocation is the exception:
-//! contracts permit it from every call that can allocate, and its comment then has `# Memory` or
-//! `# Errors`.
+//! The contracts state the result of every call exactly, except that an allocation may fail. Only
+//! [`Seq::push`] and [`Boxed::new`] allocate.
 #![tactic(auto)]
 
 mod boxed;

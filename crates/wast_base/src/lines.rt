@@ -17,22 +17,16 @@ fn behind_last_line_feed(bytes: &[u8]) -> usize
     bytes.len() - start
 }
 
-/// Returns the line and the column of a position in a text, for a message. Does not allocate.
-///
-/// Both count from 1. The line counts the line feeds (`\n`) before the position, and the column
-/// counts the bytes after the last of them. A position after the end of the text has the line and
-/// column of the end.
-///
-/// # Example
+/// Returns the line and the column of a position in a text, for a message.
 ///
 ///     let (line, column) = line_and_column(TEXT, place);
 ///     println!(rt; "{line}:{column}: {error}")
 ///
 /// For offset 11 of the lines `(module` and ` $m)`, the result is line 2, column 4.
 ///
-/// # Guarantees
-///
-/// `line`, `column`: the numbers are those of the definitions `line_of` and `column_of`.
+/// Both count from 1. The line counts the line feeds (`\n`) before the position, and the column
+/// counts the bytes after the last of them. A position after the end of the text has the line and
+/// column of the end.
 pub fn line_and_column(text: &str, place: Span) -> (usize, usize)
     ensures line { result.0 ≡ line_of text.now place }
     ensures column { result.1 ≡ column_of text.now place }

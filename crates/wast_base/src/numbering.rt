@@ -22,7 +22,7 @@ pub trait Numbering<'a> {
         ensures { result ≡ numbers self.now (name_of id.now) };
 }
 
-/// Returns the number that an index refers to, or `None` for an unknown id. Takes no memory.
+/// Returns the number that an index refers to, or `None` for an unknown id.
 ///
 /// For example, if `$f` has the number 2, the result for the index `$f` is 2, and for the index 5
 /// it is 5.
@@ -35,16 +35,11 @@ pub fn denoted_number<'a, N: Numbering<'a>>(numbering: &N, idx: &Index<'a>) -> O
     }
 }
 
-/// Replaces a known id by its number, and returns the number, or `None` for an unknown id.
+/// Replaces a known id by its number. Returns the number that the index refers to, or `None` for an
+/// unknown id.
 ///
-/// The number has the position of the id. An index that is a number is returned and left unchanged,
-/// and so is an unknown id. For example, if `$f` has the number 2, `$f` at offset 8 becomes the
-/// number 2 at offset 8. Takes no memory.
-///
-/// # Guarantees
-///
-/// - `number`: the result is the number that the index referred to.
-/// - `index`: the new index is as described.
+/// The number has the position of the id. A number and an unknown id are left unchanged. For
+/// example, if `$f` has the number 2, `$f` at offset 8 becomes the number 2 at offset 8.
 pub fn try_number<'a, N: Numbering<'a>>(numbering: &N, idx: &mut Index<'a>) -> Option<u32>
     ensures number { result ≡ denoted (N.numbers numbering.now) idx.old }
     ensures index { idx.new ≡ resolved_index (N.numbers numbering.now) idx.old }
@@ -58,19 +53,10 @@ pub fn try_number<'a, N: Numbering<'a>>(numbering: &N, idx: &mut Index<'a>) -> O
     Some(number)
 }
 
-/// Resolves an index as [`try_number`] does, and fails if the id is unknown. Takes no memory.
+/// Resolves an index as [`try_number`] does, but an unknown id is E4. Takes no memory.
 ///
-/// For example, with the word "func" an unknown `$g` at offset 8 is the error "unknown func: failed
-/// to find name `$g`" at 8.
-///
-/// # Errors
-///
-/// E4 at the position of an unknown id. `word` is the kind in its message. The index is unchanged.
-///
-/// # Guarantees
-///
-/// - `answer`: the call fails exactly if the id is unknown, and E4 is the only error.
-/// - `number`, `index`: as for [`try_number`].
+/// `word` is the kind of item in the message. For example, with the word "func" an unknown `$g` at
+/// offset 8 is the error "unknown func: failed to find name `$g`" at 8.
 pub fn number_index<'a, N: Numbering<'a>>(
     numbering: &N,
     idx: &mut Index<'a>,

@@ -35,7 +35,7 @@ impl<'a> Key<'a> {
 /// Compares two ids by the bytes of their names, then source before generated, then by generation.
 ///
 /// Positions are ignored. The name of a generated id is `gensym`, so that generated ids sort among
-/// source ids: `$a`, `$gensym`, generation 1, generation 2, `$h`. Takes no memory.
+/// source ids: `$a`, `$gensym`, generation 1, generation 2, `$h`.
 #[tactic(auto, using(crate::proofs::Keys::compared))]
 pub fn compare_names<'a>(a: &Id<'a>, b: &Id<'a>) -> Ordering
     ensures { result ≡ key_cmp (key_of (name_of a.now)) (key_of (name_of b.now)) }
@@ -71,14 +71,10 @@ impl<'a> Named<'a> for (Id<'a>, u32) {
     }
 }
 
-/// Returns the position of a name in a sorted slice, by binary search. Takes no memory.
+/// Returns the position of a name in a slice sorted by [`compare_names`], by binary search.
 ///
 /// All names before the position are less than the name, and all others are not. For example, `$b`
 /// in `$a $b $b $d` has position 1, and `$c` has position 3.
-///
-/// # Requires
-///
-/// The names are sorted in the order of [`compare_names`]. Equal names are allowed.
 pub fn place_among<'a, T: Named<'a>>(named: &[T], id: &Id<'a>) -> usize
     requires { AreInOrder (map T.name named.now) }
     ensures { IsPlaceOf (map T.name named.now) (name_of id.now) result }

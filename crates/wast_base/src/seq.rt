@@ -15,7 +15,7 @@ use std::{ops, slice, vec};
 ///
 /// The lists of the AST have this type. Contracts see a `Vec` with its pointer and capacity, so
 /// they could not state that two `Vec`s are equal. `for item in &list` and `list[index]` work as
-/// for a `Vec`, and `{:?}` prints the list of elements.
+/// for a `Vec`, and `{:?}` prints the list of elements. Only [`Seq::push`] allocates.
 ///
 /// # Example
 ///
@@ -25,10 +25,6 @@ use std::{ops, slice, vec};
 ///     list.push(2).expect(&rt, "memory");
 ///     *list.at_mut(1) = 5;
 ///     assert!(rt; !list.is_empty() && list.len() == 2 && list.as_slice() == [1, 5].as_slice());
-///
-/// # Memory
-///
-/// Only [`Seq::push`] allocates.
 #[derive(Drop)]
 pub struct Seq<T> {
     items: Vec<T>,
@@ -48,7 +44,7 @@ impl<T> Model for Seq<T> {
 impl<T> Seq<T> {
     ghost use Rattle.wast_base.specs.Lending.{LendsItem};
 
-    /// Makes an empty list. Takes no memory; [`Seq::push`] allocates from `alloc`.
+    /// Makes an empty list. [`Seq::push`] allocates from `alloc`.
     pub fn new(alloc: Global) -> Self
         ensures { result ≡ [] }
     {
@@ -57,7 +53,7 @@ impl<T> Seq<T> {
         }
     }
 
-    /// Makes a list of the elements of a vector, in order. Takes no memory.
+    /// Makes a list of the elements of a vector, in order.
     pub fn from_vec(items: Vec<T>) -> Self
         ensures { result ≡ items.items }
     {
@@ -79,12 +75,7 @@ impl<T> Seq<T> {
         self.items.as_slice()
     }
 
-    /// Iterates over the elements, in order, as `for item in &list` does. Takes no memory.
-    ///
-    /// # Guarantees
-    ///
-    /// - `rest`, `len`, `bound`: the iterator has all elements, which are fewer than 2^64.
-    /// - `runs`, `runs_back`: it returns them in order, or in reverse order from the back.
+    /// Iterates over the elements, in order, as `for item in &list` does.
     pub fn iter(&self) -> slice::Iter<'_, T>
         ensures rest { iter_rest result ≡ self.now }
         ensures len { length (iter_rest result) ≡ length self.now }
@@ -110,16 +101,6 @@ impl<T> Seq<T> {
     }
 
     /// Borrows the element at `index` mutably.
-    ///
-    /// # Requires
-    ///
-    /// `index` is less than the length.
-    ///
-    /// # Guarantees
-    ///
-    /// - `writes_back`: once the borrow ends, the element is the last value written through it, and
-    ///   the other elements are unchanged.
-    /// - `value`: the borrow begins with the element at `index`.
     pub fn at_mut(&mut self, index: usize) -> &mut T
         requires { index < length self.old }
         ensures* writes_back { sem 𝓛 (LendsItem T.row self.entry index result) }
@@ -130,15 +111,7 @@ impl<T> Seq<T> {
 }
 
 impl<T: Drop> Seq<T> {
-    /// Appends an element. It may allocate.
-    ///
-    /// # Errors
-    ///
-    /// `AllocError` if an allocation failed. The list is then unchanged and the element is dropped.
-    ///
-    /// # Guarantees
-    ///
-    /// `ok`, `err`: the list has the element at its end, or is unchanged.
+    /// Appends an element. If an allocation fails, the list is unchanged and `item` is dropped.
     pub fn push(&mut self, item: T) -> Result<(), AllocError>
         ensures ok { OnOk result (self.new ≡ self.old ++ item ∷ []) }
         ensures err { OnErr result (self.new ≡ self.old) }
@@ -149,7 +122,7 @@ impl<T: Drop> Seq<T> {
 }
 
 impl<T> Seq<T> {
-    /// Returns an iterator over the elements by value, in order. Takes no memory.
+    /// Returns an iterator over the elements by value, in order.
     ///
     /// # Example
     ///

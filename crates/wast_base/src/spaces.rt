@@ -10,8 +10,6 @@ use std::fmt;
 /// In `(module (func $a) (memory $a))` both items have index 0, because functions and memories are
 /// in different index spaces. `{}` prints [`Space::word`].
 ///
-/// # Example
-///
 ///     let space = Space::ALL[rank];
 ///     assert!(rt; space.rank() == rank && space.word() == words[rank]);
 #[derive(Clone, Copy, Debug, PartialEq, Eq, Hash)]

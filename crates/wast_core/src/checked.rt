@@ -63,8 +63,6 @@ pub enum CheckError<'a> {
 impl<'a> CheckError<'a> {
     /// Returns the position of the error, if it has one.
     ///
-    /// # Example
-    ///
     ///     assert!(rt; error == Some(found) && found.span() == Some(at(23)));
     pub fn span(&self) -> Option<Span>
         ensures { result ≡ check_span self.now }
@@ -116,19 +114,12 @@ impl<'a> Module<'a> {
     /// Checks what [`Module::resolve`] and [`EncodeOptions::encode_module`] require: a well-formed
     /// module, and an id counter past its generated ids.
     ///
-    /// # Example
-    ///
     ///     assert!(rt; made.check(&gensym).is_ok());
     ///
     /// # Errors
     ///
     /// - [`NotReady::IllFormed`]: the module breaks a rule of well-formedness.
     /// - [`NotReady::CounterTooLow`]: it breaks none, and the counter is not past its ids.
-    ///
-    /// # Guarantees
-    ///
-    /// - `ok`: the module is ready (`IsReady`).
-    /// - `err`: it is not, for this reason.
     pub fn check(&self, gensym: &Gensym) -> Result<(), NotReady>
         ensures ok { IfOk result (λ _. IsReady self.now gensym.now) }
         ensures err { IfErr result (IsUnready self.now gensym.now) }
@@ -145,22 +136,10 @@ impl<'a> Module<'a> {
         }
     }
 
-    /// Checks the module, and resolves it as [`Module::resolve`] does.
-    ///
-    /// # Example
+    /// Checks the module as [`Module::check`] does, and resolves it as [`Module::resolve`] does.
+    /// The module keeps an error of [`Module::resolve`].
     ///
     ///     let names = made.check_and_resolve(alloc, &mut gensym);
-    ///
-    /// # Errors
-    ///
-    /// - [`CheckError::NotReady`], as [`Module::check`].
-    /// - [`CheckError::Failed`], with an error of [`Module::resolve`]. The module keeps it.
-    ///
-    /// # Guarantees
-    ///
-    /// - `answer`: on a ready module, the result is that of [`Module::resolve`].
-    /// - `stays`: `span`, `id` and `name` do not change. `ready`: a module that was ready still is.
-    /// - `at_rest`: as [`Module::resolve`].
     pub fn check_and_resolve(
         &mut self,
         alloc: Global,
@@ -182,25 +161,12 @@ impl<'a> Module<'a> {
 }
 
 impl EncodeOptions {
-    /// Checks the module, and encodes it as [`EncodeOptions::encode_module`] does.
-    ///
-    /// It requires nothing, so a caller without proofs can call it on any module.
-    ///
-    /// # Example
+    /// Checks the module as [`Module::check`] does, and encodes it as
+    /// [`EncodeOptions::encode_module`] does. A caller without proofs can call it on any module.
     ///
     ///     let answer = EncodeOptions::new().check_and_encode(alloc, &mut module, &mut gensym);
     ///
     /// For `(module (func))` it returns the bytes that `encode_module` returns.
-    ///
-    /// # Errors
-    ///
-    /// - [`CheckError::NotReady`], as [`Module::check`].
-    /// - [`CheckError::Failed`], with an error of [`EncodeOptions::encode_module`].
-    ///
-    /// # Guarantees
-    ///
-    /// - `answer`: on a ready module, the result is that of [`EncodeOptions::encode_module`].
-    /// - `stays` and `ready`: as [`Module::check_and_resolve`].
     pub fn check_and_encode<'a>(
         &self,
         alloc: Global,

@@ -27,8 +27,7 @@ fn join<'e>(alloc: Global, pieces: &[&[u8]]) -> Result<Vec<u8>, Error<'e>>
     Ok(out)
 }
 
-/// Returns the bytes of a module that is already resolved, or the error that it keeps. The module
-/// does not change.
+/// Returns the bytes of a module that is already resolved, or the error that it keeps.
 fn encode_resolved<'a>(alloc: Global, module: &Module<'a>) -> Result<Vec<u8>, Error<'a>>
     requires { IsAtRest «module».now.kind }
     ensures { EncodesResolved (name_of_module «module».now) «module».now.kind result }
@@ -42,8 +41,6 @@ fn encode_resolved<'a>(alloc: Global, module: &Module<'a>) -> Result<Vec<u8>, Er
 }
 
 /// The options of encoding. There are none yet.
-///
-/// # Example
 ///
 ///     let bytes = EncodeOptions::new().encode_module(alloc, module, gensym)?;
 #[derive(Clone, Copy, Debug)]
@@ -65,20 +62,16 @@ impl EncodeOptions {
 
     /// Resolves the module and returns its binary encoding (binary format: modules).
     ///
-    /// Call it directly on a module from a parser. Calling [`Module::resolve`] first is only needed
-    /// to look up ids. Afterwards the module is resolved, and a second call returns the same bytes,
-    /// unless it returns E10 or E12 ([`at_rest`](crate::laws::at_rest)).
-    ///
-    /// # Example
-    ///
     ///     let bytes = EncodeOptions::new().encode_module(alloc, module, gensym)?;
     ///
-    /// For `(module (func))` the bytes are `00 61 73 6d 01 00 00 00`, a type section `01 04 01 60
-    /// 00 00`, a function section `03 02 01 00` and a code section `0a 04 01 02 00 0b`.
+    /// For `(module (func))` the bytes are `00 61 73 6d 01 00 00 00`, a type section
+    /// `01 04 01 60 00 00`, a function section `03 02 01 00` and a code section
+    /// `0a 04 01 02 00 0b`. For a binary module they are its pieces, joined, whatever they contain.
     ///
-    /// # Requires
-    ///
-    /// As [`Module::resolve`]: a well-formed module, and an id counter past its generated ids.
+    /// Call it directly on a module from a parser. Calling [`Module::resolve`] first is only needed
+    /// to look up ids. Test what both require with [`Module::check`]. Afterwards the module is
+    /// resolved, and a second call returns the same bytes, unless it returns E10 or E12
+    /// ([`at_rest`](crate::laws::at_rest)).
     ///
     /// # Errors
     ///
@@ -91,16 +84,6 @@ impl EncodeOptions {
     ///
     /// After E10, E11 and E12 from encoding the module stays resolved, so a caller can report
     /// `first_uncovered` of `wast_tree`, which has a position.
-    ///
-    /// # Guarantees
-    ///
-    /// - `answer`: the formal grammar of the binary format reads the bytes as the sections that the
-    ///   definition `meaning` has for the module as it was before the call. By
-    ///   [`one_meaning`](crate::laws::one_meaning) it reads them as no other module. A binary
-    ///   module returns its pieces, joined, whatever they contain.
-    /// - `order`: the sections of a text module are in the standard's order, and each is there at
-    ///   most once, except custom and start sections.
-    /// - `stays` and `ready`: as [`Module::resolve`].
     pub fn encode_module<'a>(
         &self,
         alloc: Global,
@@ -120,7 +103,8 @@ impl EncodeOptions {
         encode_resolved(alloc, module)
     }
 
-    /// Appends the bytes of a resolved text module to a sink (binary format: modules).
+    /// Appends the bytes of a resolved text module to a sink (binary format: modules). Allocates
+    /// nothing, except in the sink.
     ///
     /// # Example
     ///
@@ -129,24 +113,16 @@ impl EncodeOptions {
     ///     let mut out = Vec::new(alloc);
     ///     assert!(rt; options.put_module(&module, &mut out).is_ok());
     ///
-    /// # Requires
-    ///
-    /// A text module on which [`Module::resolve`] succeeded (its clause `at_rest`). So inline
-    /// exports, imports, elements and data are fields, indices are numbers, and each type use has
-    /// an index unless it is a short block type.
+    /// [`Module::resolve`] must have succeeded on the module before.
     ///
     /// # Errors
     ///
-    /// After an error the sink is as it was.
+    /// After an error the sink is unchanged.
     ///
     /// - E11: the module has an unsupported construct. It names the first one. If there is one, no
     ///   other error is returned.
     /// - The error of the sink, only if the bytes do not fit in it.
     /// - E10, only if a count, length or position does not fit in 32 bits.
-    ///
-    /// # Memory
-    ///
-    /// Allocates nothing, except in the sink.
     pub fn put_module<'e, S: Sink>(self, module: &Module, out: &mut S) -> Result<(), Error<'e>>
         requires { IsTextAtRest «module».now.kind }
         ensures { PutsModule S.rules (name_of_module «module».now) «module».now.kind out.old out.new result }
@@ -161,8 +137,6 @@ impl EncodeOptions {
 
 impl<'a> Module<'a> {
     /// Encodes the module with the default options, as [`EncodeOptions::encode_module`] does.
-    ///
-    /// # Example
     ///
     ///     let first = module.encode(alloc, &mut gensym);
     pub fn encode(&mut self, alloc: Global, gensym: &mut Gensym) -> Result<Vec<u8>, Error<'a>>

@@ -16,17 +16,12 @@ pub use wast_core_sections::{customs_law, hint_places, order_law};
 use wast_resolve::laws::naming_laws;
 use wast_resolve::resolved_laws;
 
-/// Bytes are the encoding of one module only, and a module has one encoding (binary format:
-/// modules).
+/// Theorem: bytes are the encoding of one module only, and a module has one encoding (binary
+/// format: modules).
 ///
 /// So the grammar reads the bytes that
 /// [`EncodeOptions::encode_module`](crate::EncodeOptions::encode_module) returns as what the module
 /// means, as no other module, and it reads no other bytes as this module.
-///
-/// # Guarantees
-///
-/// - `one_module`: no bytes are read as two lists of parts.
-/// - `one_spelling`: no list of parts is read from two lists of bytes.
 pub fn one_meaning()
     ensures one_module { (bytes : List ℕ) (p q : List Part) → Reads bytes p → Reads bytes q → p ≡ q }
     ensures one_spelling { (b c : List ℕ) (p : List Part) → Reads b p → Reads c p → b ≡ c }
@@ -34,52 +29,45 @@ pub fn one_meaning()
     reading_laws();
 }
 
-/// The meaning of a module does not depend on the counter that resolved it (binary format:
+/// Theorem: the meaning of a module does not depend on the counter that resolved it (binary format:
 /// modules).
 ///
-/// If every check passes and the counter is past the ids of the fields, the parts of the resolved
-/// fields are those of `meaning`. That definition numbers items by position and generates no ids.
+/// If every check passes and the counter is past the ids of the fields, the resolved fields have
+/// the parts that the source means. The meaning numbers items by position, without generated ids.
 pub fn meaning_law()
     ensures { MeansWhatIsWritten }
 {
     resolved_laws();
 }
 
-/// Fields that are too large to resolve are also too large to encode.
+/// Theorem: fields that are too large to resolve are also too large to encode.
 ///
-/// So a caller that knows that a module is bounded (`IsBounded`) knows that neither resolving nor
-/// encoding returns E10. For example, a module with 2^32 functions is not bounded, and neither is
-/// one with so many locals in a function.
+/// So for a bounded module neither resolving nor encoding returns E10. For example, a module with
+/// 2^32 functions is not bounded, and neither is one with so many locals in a function.
 pub fn bounded_law()
     ensures { TooLargeIsUnbounded }
 {}
 
-/// Renaming ids changes nothing but names (text format: identifiers).
-///
-/// Each id of a module gets another name at the same position, and no two names become the same.
-/// Then:
+/// Theorem: renaming ids changes nothing but names (text format: identifiers). Each id of a module
+/// gets another name at the same position, and no two names become the same.
 ///
 /// - Resolving succeeds for both or fails for both. The first failed check has the same error at
-///   the same position, because checks compare names and do not read them. An error that has a name
-///   has the new name of an id there (`answer`).
-/// - Both have as many items, fields of structs, parameters, locals and enclosing blocks
-///   (`counts`). As many ids are generated (`filled`). E10 from resolving is possible for both or
-///   for neither (`large`).
+///   the same position, because checks compare names and do not read them. If the error names an
+///   id, that of the renamed module names the new id.
+/// - Both have as many items, fields of structs, parameters, locals and enclosing blocks. As many
+///   ids are generated. E10 from resolving is possible for both or for neither.
 /// - Both have the same unsupported constructs in the same order. So E11 comes for both or for
-///   neither, and names the same construct (`uncovered`).
+///   neither, and names the same construct.
 /// - The parts before the name section are the same. So the bytes that
 ///   [`EncodeOptions::encode_module`](crate::EncodeOptions::encode_module) returns begin the same,
-///   each with its own name section after them (`parts`, `bytes`).
+///   each with its own name section after them.
 ///
-/// The same holds for what `deinline::run` produces from a counter past the ids of the fields: it
-/// has the same result. If each check passes, it also has the same unsupported constructs and the
-/// same parts before its names. This is so with its generated ids and with other names for them,
-/// for example with source ids (the `written` clauses).
+/// The same holds after `deinline::run` from a counter past the ids of the fields, with its
+/// generated ids or with other names for them, for example source ids. For unsupported constructs
+/// and for the parts before the names, each check has to pass too.
 ///
-/// A caller describes the other names by a finite map, for example from the names of one tree.
-/// `extended` makes a map of all names of it (`injective`, `agrees`), and `renaming_by` renames
-/// each id. If `is_injective` of the map is true, that is a renaming for which all of this holds
-/// (`finite`).
+/// A caller describes the other names by a finite map, for example from the names of one tree. If
+/// no two names in it become one, the map extends to all names.
 pub fn renaming()
     ensures answer { RenamedAnswer }
     ensures counts { RenamedCounts }

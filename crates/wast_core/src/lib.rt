@@ -3,14 +3,9 @@
 //! This is the crate that callers use: they take a module from a parser, or build one with
 //! `wast_tree`, and encode it here.
 //!
-//! # Example
-//!
-//!     let names = module.resolve(alloc, gensym)?;
+//!     let bytes = EncodeOptions::new().encode_module(alloc, module, gensym)?;
 //!
 //! The program `crates/wast_core_example` builds a module, resolves ids in it and prints its bytes.
-//! To encode a module, one call is enough:
-//!
-//!     let bytes = EncodeOptions::new().encode_module(alloc, module, gensym)?;
 //!
 //! # Modules
 //!
@@ -21,16 +16,10 @@
 //! - [`laws`] and `rests` have theorems about modules, for callers' proofs.
 //! - `examples` has example modules whose meaning the prover computes.
 //!
-//! The rules are in `specs/`: `Headline` has the contracts, `Meaning` defines the sections of a
-//! module, and `Bounded` when a module is too large.
-//!
-//! # Guarantees
-//!
-//! - [`Module::resolve`], `answer`: it succeeds only if every check of resolving passes. An error
-//!   is that of the first check that fails, or E10 or E12.
-//! - [`EncodeOptions::encode_module`], `answer`: the grammar of the binary format reads the bytes
-//!   of a text module as what the module means.
-//! - [`one_meaning`]: it reads the bytes as no other module.
+//! [`Module::resolve`] succeeds only if every check of resolving passes. The grammar of the binary
+//! format reads the bytes of [`EncodeOptions::encode_module`] as what the text module means, and as
+//! no other module ([`one_meaning`]). The definitions are in `specs/`: `Headline` has the
+//! contracts, `Meaning` defines the sections of a module, and `Bounded` when a module is too large.
 #![tactic(auto)]
 
 mod checked;

@@ -17,8 +17,6 @@ use wast_tree_visit::{gensym_bound, ill_formed, well_formed};
 
 /// The content of a module.
 ///
-/// # Example
-///
 ///     let kind = ModuleKind::Text(fields(alloc, start)?);
 #[derive(Drop)]
 pub enum ModuleKind<'a> {
@@ -81,8 +79,8 @@ impl<'a> Module<'a> {
     /// Returns a module with these fields, without an id and without a name (text format: modules).
     /// Its position is the start of the text.
     ///
-    /// For example, the module of no fields is `(module)`, and its bytes are `00 61 73 6d 01 00 00
-    /// 00`.
+    /// For example, the module of no fields is `(module)`, and its bytes are
+    /// `00 61 73 6d 01 00 00 00`.
     pub fn new(fields: Seq<ModuleField<'a>>) -> Self
         ensures { result ≡ record { span = text_start; id = None; name = None; kind = module_kind.Text fields.entry } }
     {
@@ -111,13 +109,12 @@ impl<'a> Module<'a> {
     }
 
     /// Returns whether the module is well formed, as [`Module::resolve`] and
-    /// [`EncodeOptions::encode_module`](crate::EncodeOptions::encode_module) require.
-    ///
-    /// To learn which rule it breaks, call [`Module::ill_formed`]. Does not allocate.
-    ///
-    /// # Example
+    /// [`EncodeOptions::encode_module`](crate::EncodeOptions::encode_module) require. Does not
+    /// allocate.
     ///
     ///     let is_ready = module.well_formed() && module.gensym_bound() < gensym.peek();
+    ///
+    /// To learn which rule it breaks, call [`Module::ill_formed`].
     pub fn well_formed(&self) -> bool
         ensures { result ≡ is_well_formed self.now }
     {
@@ -168,26 +165,22 @@ impl<'a> Module<'a> {
         own.max(held)
     }
 
-    /// Resolves the module: desugars it, and replaces every id by the index that it names.
+    /// Resolves the module: desugars it, and replaces every id by the index that it names (text
+    /// format: abbreviations, type uses, indices).
     ///
     /// Inline exports, imports, elements and data become fields of their own. A type use without an
     /// index gets one; if no type definition matches, one is appended after all fields. For
-    /// example, `(func (export "a") (result i32) i32.const 7)` becomes `(export "a" (func 0)) (func
-    /// (type 0) (result i32) i32.const 7)` and `(type (func (result i32)))` (text format:
-    /// abbreviations, type uses, indices).
-    ///
-    /// The returned [`Names`] look up more ids, for indices that the caller keeps outside the
-    /// module. A binary module is not changed and has no names.
-    ///
-    /// # Example
+    /// example, `(func (export "a") (result i32) i32.const 7)` becomes `(export "a" (func 0))`,
+    /// `(func (type 0) (result i32) i32.const 7)` and `(type (func (result i32)))`.
     ///
     ///     let names = module.resolve(alloc, gensym)?;
     ///     let mut read = Index::Id(Id::new("read", at(244)));
     ///
-    /// # Requires
+    /// The returned [`Names`] look up more ids, for indices that the caller keeps outside the
+    /// module. A binary module is not changed and has no names.
     ///
-    /// A well-formed module and an id counter that is past every generated id in it (`IsReady`).
-    /// Test both with [`Module::well_formed`] and `module.gensym_bound() < gensym.peek()`.
+    /// The module must be well formed, and the id counter past every generated id in it. Test both
+    /// with [`Module::well_formed`] and `module.gensym_bound() < gensym.peek()`.
     ///
     /// # Errors
     ///
@@ -211,17 +204,8 @@ impl<'a> Module<'a> {
     ///   as many bytes of inline data.
     /// - E12: allocation failed.
     ///
-    /// The module keeps the error, and every later call returns it again.
-    ///
-    /// # Guarantees
-    ///
-    /// - `answer`: all of the above. On success the counter rises by the number of ids generated.
-    ///   After an error it has its old value, so other modules can reuse it.
-    /// - `stays`: `span`, `id` and `name` do not change. `ready`: the requirements hold again.
-    /// - `at_rest`: the module is what
-    ///   [`EncodeOptions::put_module`](crate::EncodeOptions::put_module) requires, if it is a text
-    ///   module. If `uncovered` of `wast_tree` finds no unsupported construct in it, each of its
-    ///   fields is also what [`SectionItem`](crate::SectionItem) and [`conv`](crate::conv) require.
+    /// The module keeps the error, and every later call returns it again. The counter has its old
+    /// value, so other modules can reuse it.
     pub fn resolve(&mut self, alloc: Global, gensym: &mut Gensym) -> Result<Names<'a>, Error<'a>>
         requires { IsReady self.old gensym.old }
         ensures answer { Resolves self.old.kind gensym.old result self.new.kind gensym.new }
@@ -272,8 +256,6 @@ fn discard_kind(kind: ModuleKind<'_>) {
 }
 
 /// Frees a module.
-///
-/// # Example
 ///
 ///     discard_module(module);
 pub fn discard_module(module: Module<'_>) {

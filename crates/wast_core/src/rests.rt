@@ -6,30 +6,20 @@ ghost use Rattle.wast_core.specs.AtRest.{StartsLast, NumbersLast, RestsBounded, 
 use crate::laws::{bounded_law, meaning_law, one_meaning};
 use wast_resolve::{resolved_laws, resting_laws};
 
-/// A resolved module does not change when it is resolved again (text format: modules; binary
-/// format: start section). The function does nothing when it runs.
+/// Theorem: a resolved module does not change when it is resolved again (text format: modules;
+/// binary format: start section).
 ///
 /// So a second [`Module::resolve`](crate::Module::resolve), from any counter, succeeds. It returns
 /// names that know the same, and changes neither a field nor the counter. A second
 /// [`EncodeOptions::encode_module`](crate::EncodeOptions::encode_module) returns the same bytes.
 ///
 /// A second call can still return E12, if allocation fails. It does not return E10, if the fields
-/// were bounded and the counter is below 2^64, because the resolved fields are then bounded too
-/// (`bounded`). So a caller that knows this of the source has nothing to check of the resolved
-/// fields.
+/// were bounded and the counter is below 2^64, because the resolved fields are then bounded too.
 ///
-/// # Guarantees
-///
-/// For a module whose checks all pass:
-///
-/// - `met`, `still`, `fills`: the checks of the resolved fields pass. Resolving them again from any
-///   counter returns them, and generates no id.
-/// - `well_formed`, `below`, `numbers_last`: the same holds with start fields of numbers after
-///   them. These fields are well formed if the module is, have its largest generation, and mean
-///   what the module means with these start fields last.
-/// - `starts_last`: so do start fields of ids that name functions, once each is a number.
-/// - `second_resolve`, `second_encoding`, `withheld`: the second calls, as above.
-/// - `bounded`: the resolved fields are bounded if the fields are.
+/// With start fields of numbers after them, resolved fields do not change either. They are then
+/// well formed if the module is, have its largest generation, and mean what the module means with
+/// these start fields last. Start fields of ids that name functions mean this too, once each is a
+/// number.
 pub fn at_rest()
     ensures met { RestsMet }
     ensures still { RestsStill }

@@ -10,12 +10,10 @@ use wast_tree_nodes::Dylink0Subsection;
 
 /// A part of a module that can be encoded on its own (binary format).
 ///
-/// It is implemented for the subsections of `dylink.0`.
-///
-/// # Example
-///
 ///     let mut out = Vec::new(alloc);
 ///     subsection.encode(&mut out).expect(rt, "memory");
+///
+/// It is implemented for the subsections of `dylink.0`.
 pub trait Encode {
     /// The bytes of the part.
     ghost spelling: { Self → List ℕ };
@@ -26,15 +24,10 @@ pub trait Encode {
     /// Whether it has no unsupported construct.
     ghost is_covered: { Self → Bool };
 
-    /// Appends the bytes of the part.
-    ///
-    /// # Requires
-    ///
-    /// A part without unsupported constructs.
+    /// Appends the bytes of the part, which must have no unsupported construct. After an error the
+    /// bytes are as they were.
     ///
     /// # Errors
-    ///
-    /// After an error the bytes are as they were.
     ///
     /// - E10, only if a number, count or length in the part does not fit in 32 bits.
     /// - E12: allocation failed.

@@ -9,8 +9,6 @@ use wast_base::{Error, Fault, Gensym, Span};
 
 /// The content of a text (text format: modules).
 ///
-/// # Example
-///
 ///     let mut wat = Wat::Module(row(&rt, alloc, 27));
 ///     let answer = wat.encode(alloc, &mut Gensym::new(1));
 #[derive(Debug, Drop)]
@@ -25,19 +23,10 @@ impl EncodeOptions {
     /// Encodes the module of a text, as [`EncodeOptions::encode_module`] does, with the same
     /// requirements and errors.
     ///
-    /// # Example
-    ///
     ///     let mut wat = Wat::Module(row(&rt, alloc, 27));
     ///     let answer = EncodeOptions::new().encode_wat(alloc, &mut wat, &mut Gensym::new(1));
     ///
-    /// # Errors
-    ///
-    /// E13: the text is a component. Nothing changes then, and nothing is allocated.
-    ///
-    /// # Guarantees
-    ///
-    /// - `answer`: the result for the module, or E13.
-    /// - `ready`: the requirements hold again.
+    /// For a component it fails with E13. Nothing changes then, and nothing is allocated.
     pub fn encode_wat<'a>(
         &self,
         alloc: Global,

@@ -1,9 +1,8 @@
 //! Parts of a resolved module as values of the binary format.
 //!
-//! Each call requires a resolved part: every index in it is a number. The clause `at_rest` of
-//! `Module::resolve` of `wast_core` provides this, if the module has no unsupported construct.
-//!
-//! # Example
+//! Every index in a part must be a number, each type use must have an index, and some calls need a
+//! supported construct. After a successful `Module::resolve` of `wast_core` this is so, if the
+//! module has no unsupported construct. A call that allocates fails with E12 if that fails.
 //!
 //!     let given = FunctionType::empty(alloc);
 //!     let function = conv::func_type(alloc, &given).expect(&rt, "memory");
@@ -52,7 +51,7 @@ pub(crate) trait Convert {
         ensures { result ≡ becomes self.now };
 }
 
-/// Converts each item of a list. The only error is E12: allocation failed.
+/// Converts each item of a list.
 pub(crate) fn converted<'e, T: Convert>(
     alloc: Global,
     items: &[T],
@@ -68,13 +67,8 @@ pub(crate) fn converted<'e, T: Convert>(
     Ok(made)
 }
 
-/// Returns the number of a resolved index (text format: indices).
-///
-/// For example, the index `3` in `(start 3)` has the number 3.
-///
-/// # Requires
-///
-/// A resolved index: a number, not an id.
+/// Returns the number of a resolved index (text format: indices). For example, the index `3` in
+/// `(start 3)` has the number 3.
 pub fn index(index: &Index) -> u32
     requires { IsTrue (is_number index.now) }
     ensures { result ≡ meaning.index_value index.now }
@@ -119,8 +113,7 @@ fn abstract_type(ty: wast_tree_nodes::AbstractHeapType) -> wasm_ops::AbstractHea
 }
 
 /// Converts a heap type (binary format: heap types). For example, `func` becomes
-/// `HeapType::Abstract`, and the type index `3` becomes `HeapType::Concrete(3)`. Requires a
-/// resolved index.
+/// `HeapType::Abstract`, and the type index `3` becomes `HeapType::Concrete(3)`.
 pub fn heap_type(ty: &wast_tree_nodes::HeapType) -> wasm_ops::HeapType
     requires { IsTrue (are_numbered (in_heap ty.now)) }
     ensures { result ≡ meaning.as_heap_type ty.now }
@@ -136,7 +129,7 @@ pub fn heap_type(ty: &wast_tree_nodes::HeapType) -> wasm_ops::HeapType
 }
 
 /// Converts a reference type (binary format: reference types). For example, `externref` becomes a
-/// nullable reference to `extern`. Requires a resolved index.
+/// nullable reference to `extern`.
 pub fn ref_type(ty: &wast_tree_nodes::RefType) -> wasm_ops::RefType
     requires { IsTrue (are_numbered (in_ref ty.now)) }
     ensures { result ≡ meaning.as_ref_type ty.now }
@@ -148,7 +141,6 @@ pub fn ref_type(ty: &wast_tree_nodes::RefType) -> wasm_ops::RefType
 }
 
 /// Converts a value type (binary format: value types). For example, `i32` becomes `ValType::I32`.
-/// Requires a resolved index.
 pub fn val_type(ty: &wast_tree_nodes::ValType) -> wasm_ops::ValType
     requires { IsTrue (are_numbered (in_val ty.now)) }
     ensures { result ≡ meaning.as_val_type ty.now }
@@ -163,8 +155,8 @@ pub fn val_type(ty: &wast_tree_nodes::ValType) -> wasm_ops::ValType
     }
 }
 
-/// Converts the type that a struct field or an array element is stored as (binary format: composite
-/// types). For example, `i8` becomes `StorageType::I8`. Requires a resolved index.
+/// Converts the storage type of a struct field or an array element (binary format: composite
+/// types). For example, `i8` becomes `StorageType::I8`.
 pub fn storage_type(ty: &wast_tree_nodes::StorageType) -> wasm_ops::StorageType
     requires { IsTrue (are_numbered (in_storage ty.now)) }
     ensures { result ≡ meaning.as_storage_type ty.now }
@@ -177,7 +169,7 @@ pub fn storage_type(ty: &wast_tree_nodes::StorageType) -> wasm_ops::StorageType
 }
 
 /// Converts a field of a struct type (binary format: composite types). For example, `(mut i16)`
-/// becomes a mutable field of `StorageType::I16`. Requires a resolved index.
+/// becomes a mutable field of `StorageType::I16`.
 pub fn field_type(field: &wast_tree_nodes::StructField) -> wasm_ops::FieldType
     requires { IsTrue (are_numbered (in_struct_field field.now)) }
     ensures { result ≡ meaning.as_field_type field.now }
@@ -188,9 +180,7 @@ pub fn field_type(field: &wast_tree_nodes::StructField) -> wasm_ops::FieldType
     }
 }
 
-/// Converts an array type (binary format: composite types). Requires a resolved index.
-///
-/// # Example
+/// Converts an array type (binary format: composite types).
 ///
 ///     let array = conv::array_type(&ArrayType {
 ///         mutable: true,
@@ -248,22 +238,12 @@ impl Convert for wast_tree_nodes::StructField<'_> {
     }
 }
 
-/// Converts a function type: the types of its parameters and results, without the parameters' ids
-/// (binary format: composite types).
-///
-/// # Example
+/// Converts a function type (binary format: composite types). The ids of its parameters are left
+/// out.
 ///
 ///     let made = conv::func_type(alloc, &function).expect(&rt, "memory");
 ///     assert!(rt; made.params.as_slice() == [wasm_ops::ValType::I32].as_slice());
 ///     assert!(rt; made.results.as_slice() == [wasm_ops::ValType::F32].as_slice());
-///
-/// # Requires
-///
-/// Resolved indices.
-///
-/// # Errors
-///
-/// E12: allocation failed.
 pub fn func_type<'e>(alloc: Global, ty: &FunctionType) -> Result<FuncType, Error<'e>>
     requires { IsTrue (are_numbered (in_signature ty.now)) }
     ensures value { IfOk result (λ made. made ≡ meaning.as_func_type ty.now) }
@@ -274,20 +254,10 @@ pub fn func_type<'e>(alloc: Global, ty: &FunctionType) -> Result<FuncType, Error
     Ok(FuncType { params, results })
 }
 
-/// Converts a struct type: its fields (binary format: composite types).
-///
-/// # Example
+/// Converts a struct type (binary format: composite types).
 ///
 ///     let structure = conv::struct_type(alloc, &given).expect(&rt, "memory");
 ///     assert!(rt; structure.fields.as_slice() == [want].as_slice());
-///
-/// # Requires
-///
-/// Resolved indices.
-///
-/// # Errors
-///
-/// E12: allocation failed.
 pub fn struct_type<'e>(
     alloc: Global,
     ty: &wast_tree_nodes::StructType,
@@ -300,10 +270,7 @@ pub fn struct_type<'e>(
     Ok(StructType { fields })
 }
 
-/// Converts a continuation type: the index of its function type (stack switching). Requires a
-/// resolved index.
-///
-/// # Example
+/// Converts a continuation type: the index of its function type (stack switching).
 ///
 ///     let of = Index::Num(3, at(0));
 ///     assert!(rt; conv::cont_type(&ContType(of)) == wasm_ops::ContType(3));
@@ -340,21 +307,11 @@ pub(crate) fn optional_index(optional: &Option<Index>) -> Option<u32>
 /// Converts a type definition: its composite type, its supertypes, and whether it is final (binary
 /// format: recursive types).
 ///
-/// A definition without `sub` is final, because `(type (func))` abbreviates `(type (sub final
-/// (func)))`.
-///
-/// # Example
-///
 ///     let made = conv::sub_type(alloc, &ty.def).expect(&rt, "memory");
 ///     assert!(rt; !made.is_final && made.supertype_idxs.as_slice() == [3].as_slice());
 ///
-/// # Requires
-///
-/// Resolved indices.
-///
-/// # Errors
-///
-/// E12: allocation failed.
+/// A definition without `sub` is final, because `(type (func))` abbreviates `(type (sub final
+/// (func)))`.
 pub fn sub_type<'e>(alloc: Global, ty: &TypeDef) -> Result<SubType, Error<'e>>
     requires { IsTrue (are_numbered (in_def ty.now)) }
     ensures value { IfOk result (λ made. made ≡ meaning.as_sub_type ty.now) }
@@ -374,7 +331,7 @@ pub fn sub_type<'e>(alloc: Global, ty: &TypeDef) -> Result<SubType, Error<'e>>
     })
 }
 
-/// Converts each type of a recursion group. The only error is E12: allocation failed.
+/// Converts each type of a recursion group.
 pub(crate) fn group<'e>(alloc: Global, types: &[Type]) -> Result<Seq<SubType>, Error<'e>>
     requires { IsTrue (list_all (λ t. are_numbered (in_type t)) types.now) }
     ensures value { IfOk result (λ made. made ≡ map (λ t. meaning.as_sub_type t.def) types.now) }
@@ -414,26 +371,19 @@ fn instrs_bytes<'e>(alloc: Global, instructions: &[Instruction]) -> Result<Vec<u
     Ok(bytes)
 }
 
-/// Converts a constant expression: its instructions as bytes (binary format: expressions).
-///
-/// The builders of sections take the expression that this returns. Encoding it appends the final
-/// `end`.
-///
-/// # Example
+/// Converts a constant expression: its instructions as bytes (binary format: expressions). Encoding
+/// the result appends the final `end`.
 ///
 ///     let expression = conv::const_expr(alloc, &given).expect(&rt, "memory");
 ///     let mut bytes = Vec::new(alloc);
 ///     assert!(rt; expression.encode(&mut bytes).is_ok());
 ///     assert!(rt; bytes.as_slice() == [0x41, 8, 0x0b].as_slice());
 ///
-/// # Requires
-///
-/// Resolved indices, supported constructs only, and balanced blocks (`is_encodable_expression`).
+/// Its blocks must be balanced.
 ///
 /// # Errors
 ///
-/// - E10, only if a number in an instruction is out of range (`refusal`).
-/// - E12: allocation failed.
+/// E10, only if a number in an instruction is out of range.
 pub fn const_expr<'e>(alloc: Global, expression: &Expression) -> Result<ConstExpr, Error<'e>>
     requires { IsTrue (is_encodable_expression expression.now) }
     ensures value { IfOk result (λ made.

@@ -11,7 +11,7 @@ use wasm_ops::EntityType;
 use wast_tree_nodes::{FunctionType, ItemKind, TypeUse};
 
 /// Converts a table type (binary format: table types). For example, `1 2 externref` has a minimum
-/// of 1 and a maximum of 2. Requires a resolved index.
+/// of 1 and a maximum of 2.
 pub fn table_type(ty: &wast_tree_nodes::TableType) -> wasm_ops::TableType
     requires { IsTrue (are_numbered (in_table_type ty.now)) }
     ensures { result ≡ meaning.as_table_type ty.now }
@@ -40,7 +40,7 @@ pub fn memory_type(ty: &wast_tree_nodes::MemoryType) -> wasm_ops::MemoryType
 }
 
 /// Converts a global type (binary format: global types). For example, `(mut i64)` is a mutable
-/// `i64`. Requires a resolved index.
+/// `i64`.
 pub fn global_type(ty: &wast_tree_nodes::GlobalType) -> wasm_ops::GlobalType
     requires { IsTrue (are_numbered (in_global_type ty.now)) }
     ensures { result ≡ meaning.as_global_type ty.now }
@@ -64,8 +64,7 @@ pub(crate) fn type_index(type_use: &TypeUse<FunctionType>) -> u32
 }
 
 /// Converts a tag type (binary format: tag types). For example, `(tag (type 3))` has the function
-/// type
-/// 3. Requires an index in the type use, and resolved indices.
+/// type 3.
 pub fn tag_type(ty: &wast_tree_nodes::TagType) -> wasm_ops::TagType
     requires { IsTrue (are_resolved (in_tag_type ty.now)) }
     ensures { result ≡ meaning.as_tag_type ty.now }
@@ -77,9 +76,8 @@ pub fn tag_type(ty: &wast_tree_nodes::TagType) -> wasm_ops::TagType
     }
 }
 
-/// Converts the type of an imported item (binary format: external types). For example, `(func (type
-/// 3))` becomes `EntityType::Function(3)`. Requires an index in each type use, and resolved
-/// indices.
+/// Converts the type of an imported item (binary format: external types). For example,
+/// `(func (type 3))` becomes `EntityType::Function(3)`.
 pub fn entity_type(kind: &ItemKind) -> EntityType
     requires { IsTrue (are_resolved (in_item_kind kind.now)) }
     ensures { result ≡ meaning.as_entity_type kind.now }

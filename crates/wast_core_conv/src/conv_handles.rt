@@ -13,10 +13,6 @@ use wast_tree_nodes::{Handle, ResumeTable};
 
 /// An iterator over the handlers of a `resume` instruction, converted one by one.
 ///
-/// Its model in contracts is the list of the handlers that are left. No call on it allocates.
-///
-/// # Example
-///
 ///     let mut handles = conv::handles(&table);
 ///     assert!(rt; handles.next() == Some(wasm_ops::Handle::OnSwitch { tag: 3 }));
 ///     assert!(rt; handles.next() == None);
@@ -26,7 +22,7 @@ pub struct Handles<'b, 'a> {
 }
 
 impl<'b, 'a> Handles<'b, 'a> {
-    /// Returns the handlers of a resume table. Requires resolved indices.
+    /// Returns the handlers of a resume table.
     pub(crate) fn of(table: &'b ResumeTable<'a>) -> Self
         requires { IsTrue (list_all is_resolved_handle table.now.handlers) }
         ensures { result ≡ map meaning.as_handle table.now.handlers }

@@ -38,19 +38,13 @@ fn short_type(inline: &Option<FunctionType>) -> wasm_ops::BlockType
     }
 }
 
-/// Converts the type of a block (binary format: control instructions).
-///
-/// If the block has a type index, that index is its type, and an inline type beside it is not
-/// written. For example, `block (result i32)` becomes `BlockType::Result` of `i32`.
-///
-/// # Example
+/// Converts the type of a block (binary format: control instructions). For example,
+/// `block (result i32)` becomes `BlockType::Result` of `i32`.
 ///
 ///     assert!(rt; conv::block_type(&block) == wasm_ops::BlockType::FunctionType(3));
 ///
-/// # Requires
-///
-/// Resolved indices, and a type index unless the inline type has no parameters and at most one
-/// result.
+/// If the block has a type index, an inline type next to it is not written. Without an index, the
+/// inline type must have no parameters and at most one result.
 pub fn block_type(block: &wast_tree_nodes::BlockType) -> wasm_ops::BlockType
     requires { IsTrue (are_resolved (in_use OfBlock block.now.ty)) }
     ensures { result ≡ meaning.as_block_type block.now }
@@ -63,7 +57,6 @@ pub fn block_type(block: &wast_tree_nodes::BlockType) -> wasm_ops::BlockType
 
 /// Converts a catch clause of `try_table`, with the label that it branches to (binary format:
 /// control instructions). For example, `(catch 1 0)` becomes `Catch::One` of tag 1 and label 0.
-/// Requires resolved indices.
 pub fn catch(clause: &TryTableCatch) -> wasm_ops::Catch
     requires { IsTrue (are_resolved (in_catch constant_context.blocks clause.now)) }
     ensures { result ≡ meaning.as_catch clause.now }
@@ -84,7 +77,7 @@ pub fn catch(clause: &TryTableCatch) -> wasm_ops::Catch
 }
 
 /// Returns the table index of an instruction (binary format: table instructions). For example,
-/// `table.get 1` has the index 1. Requires a resolved index.
+/// `table.get 1` has the index 1.
 pub fn table_arg(arg: &TableArg) -> u32
     requires { IsTrue (is_number arg.now.dst) }
     ensures { result ≡ meaning.index_value arg.now.dst }
@@ -93,7 +86,7 @@ pub fn table_arg(arg: &TableArg) -> u32
 }
 
 /// Returns the memory index of an instruction (binary format: memory instructions). For example,
-/// `memory.size 1` has the index 1. Requires a resolved index.
+/// `memory.size 1` has the index 1.
 pub fn memory_arg(arg: &MemoryArg) -> u32
     requires { IsTrue (is_number arg.now.mem) }
     ensures { result ≡ meaning.index_value arg.now.mem }
@@ -102,7 +95,7 @@ pub fn memory_arg(arg: &MemoryArg) -> u32
 }
 
 /// Converts the target of a memory argument: a memory, or the type of an array (binary format:
-/// memory instructions). Requires a resolved index.
+/// memory instructions).
 fn mem_arg_target(target: &wast_tree_nodes::MemArgTarget) -> wasm_ops::MemArgTarget
     requires { IsTrue (are_numbered (in_target target.now)) }
     ensures { result ≡ meaning.as_mem_arg_target target.now }
@@ -126,17 +119,8 @@ fn logarithm(align: u64) -> u32
 
 /// Converts a memory argument (binary format: memory instructions).
 ///
-/// The binary format stores the logarithm of the alignment. This counts the trailing zero bits,
-/// which is the same for a power of two. For example, `align=8` becomes 3.
-///
-/// # Requires
-///
-/// A resolved index.
-///
-/// # Guarantees
-///
-/// `value`: the result is the value that `as_mem_arg` defines. `aligned`: the logarithm is below
-/// 64, if the alignment is a power of two.
+/// The binary format stores the logarithm of the alignment. For example, `align=8` becomes 3. If an
+/// alignment is not a power of two, this is the number of its trailing zero bits.
 pub fn mem_arg(arg: &wast_tree_nodes::MemArg) -> wasm_ops::MemArg
     requires { IsTrue (are_numbered (in_target arg.now.target)) }
     ensures value { result ≡ meaning.as_mem_arg arg.now }
@@ -151,7 +135,7 @@ pub fn mem_arg(arg: &wast_tree_nodes::MemArg) -> wasm_ops::MemArg
 }
 
 /// Converts a handler of a `resume` instruction (stack switching). For example, `(on 3 switch)`
-/// becomes `Handle::OnSwitch` of tag 3. Requires resolved indices.
+/// becomes `Handle::OnSwitch` of tag 3.
 pub fn handle(handle: &wast_tree_nodes::Handle) -> wasm_ops::Handle
     requires { IsTrue (is_resolved_handle handle.now) }
     ensures { result ≡ meaning.as_handle handle.now }
@@ -166,7 +150,7 @@ pub fn handle(handle: &wast_tree_nodes::Handle) -> wasm_ops::Handle
 }
 
 /// Returns an iterator over the handlers of a resume table, in source order (stack switching).
-/// [`Handles`] has an example. Requires resolved indices.
+/// [`Handles`] has an example.
 pub fn handles<'b, 'a>(table: &'b ResumeTable<'a>) -> Handles<'b, 'a>
     requires { IsTrue (list_all is_resolved_handle table.now.handlers) }
     ensures { result ≡ map meaning.as_handle table.now.handlers }

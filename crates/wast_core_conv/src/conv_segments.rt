@@ -31,12 +31,8 @@ fn const_exprs<'e>(alloc: Global, expressions: &[Expression]) -> Result<Seq<Cons
     Ok(made)
 }
 
-/// Converts the elements of a segment. Requires supported constructs with resolved indices.
-///
-/// # Errors
-///
-/// - E10, only if a number in an instruction is out of range.
-/// - E12: allocation failed.
+/// Converts the elements of a segment. Fails with E10 only if a number in an instruction is out of
+/// range.
 pub(crate) fn elements<'e>(alloc: Global, payload: &ElemPayload) -> Result<Elements, Error<'e>>
     requires { IsTrue (is_encodable_payload payload.now) }
     ensures value { IfOk result (ArePayload payload.now) }
@@ -54,7 +50,7 @@ pub(crate) fn elements<'e>(alloc: Global, payload: &ElemPayload) -> Result<Eleme
     }
 }
 
-/// Joins the pieces of a data segment. The only error is E12: allocation failed.
+/// Joins the pieces of a data segment.
 pub(crate) fn data_bytes<'e>(alloc: Global, pieces: &[DataVal]) -> Result<Vec<u8>, Error<'e>>
     ensures value { IfOk result (λ made. made.items ≡ all_bytes pieces.now) }
     ensures refusal { IfErr result (λ e. e ≡ out_of_memory) }

@@ -160,8 +160,8 @@ pub fn v128_const(value: &V128Const) -> i128
     i128::from_le_bytes(lane_bytes(value))
 }
 
-/// Returns a lane number (binary format: vector instructions). For example, `i8x16.extract_lane_s
-/// 3` has the lane 3.
+/// Returns a lane index (binary format: vector instructions). For example,
+/// `i8x16.extract_lane_s 3` has the lane 3.
 pub fn lane_arg(arg: &LaneArg) -> u8
     ensures { result ≡ arg.now.lane }
 {
@@ -176,7 +176,7 @@ pub fn shuffle(arg: &I8x16Shuffle) -> [u8; 16]
 }
 
 /// Returns the type index of `array.fill` (binary format: aggregate instructions). For example,
-/// `array.fill 3` has the index 3. Requires a resolved index.
+/// `array.fill 3` has the index 3.
 pub fn array_fill(arg: &ArrayFill) -> u32
     requires { IsTrue (is_number arg.now.array) }
     ensures { result ≡ meaning.index_value arg.now.array }

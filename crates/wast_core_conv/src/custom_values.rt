@@ -94,13 +94,9 @@ impl<'a> EncodeWith<(&'a str, &'a str, u32)> for Resolved {
 }
 
 /// The content of a `dylink.0` subsection, without its number and length (tool conventions: dynamic
-/// linking).
+/// linking). `TargetArch` is an unsupported construct and must not be encoded.
 ///
 /// For example, `(mem-info (memory 1 2))` has the content `01 02 00 00`.
-///
-/// # Requires
-///
-/// Encoding requires any subsection but `TargetArch`, which is an unsupported construct.
 #[derive(Clone, Copy)]
 pub struct SubsectionContent<'b, 'a>(pub &'b Dylink0Subsection<'a>);
 
@@ -144,8 +140,8 @@ impl EncodeWith<Dylink0Subsection<'_>> for Resolved {
     }
 }
 
-/// The payload of a custom section: its name and its bytes (binary format: custom section).
-/// Requires that no subsection is a `TargetArch`.
+/// The payload of a custom section: its name and its bytes (binary format: custom section). No
+/// subsection may be a `TargetArch`.
 #[derive(Clone, Copy)]
 pub(crate) struct CustomPayload<'b, 'a>(pub &'b Custom<'a>);
 

@@ -123,20 +123,11 @@ fn put_hints<'b, 'a, S: Sink>(
 }
 
 /// The branch hints of a function: their number, and each hint with its offset and value (branch
-/// hinting).
+/// hinting). Nothing is allocated, except in the sink.
 ///
-/// The offset is the number of bytes of the body before the instruction, counted from the locals
 /// on. For example, in `(func (param i32) local.get 0 (@metadata.code.branch_hint "\01") if end)`
-/// the `if` comes after the bytes `00 20 00` of the empty locals and of `local.get 0`. So the offset
-/// is 3.
-///
-/// # Requires
-///
-/// A body that can be encoded, and hints that are on its instructions (`are_encodable_hints`).
-///
-/// # Memory
-///
-/// Allocates nothing, except in the sink that it writes to.
+/// the `if` comes after the bytes `00 20 00` of the empty locals and of `local.get 0`. So the
+/// offset is 3.
 #[derive(Clone, Copy)]
 pub struct BodyHints<'b, 'a>(pub &'b FuncKind<'a>);
 

@@ -4,8 +4,6 @@
 //! `wast_core` uses this crate to encode a module. Callers use it through `wast_core`,
 //! which re-exports [`conv`], [`SectionItem`], [`RecOrType`] and [`FuncSectionTy`].
 //!
-//! # Example
-//!
 //! The type use `(type 3)` is an item of the function section. The payload of a section with this
 //! item alone is the count 1 and the index 3:
 //!
@@ -21,15 +19,9 @@
 //! - `hint_values` writes the branch hints of a function body.
 //! - `section_items`, `field_items` and `segment_items` implement [`SectionItem`] for the fields.
 //!
-//! The rules are in `specs/`: `Values` and `FieldEntries` define the value of each part, and
-//! `Encodable` defines which parts may be encoded.
-//!
-//! # Guarantees
-//!
-//! - A conversion returns the value that `specs/Meaning.antt` defines for the part.
-//! - Bytes that are written directly are the bytes of that value (`spelling` of each
-//!   `EncodeWith` of [`Resolved`]).
-//! - [`SectionItem::encode`] and [`SectionItem::put`] write the same bytes, `spelling`.
+//! Converting a part and writing it directly give the same bytes. The definitions are in `specs/`:
+//! `Values` and `FieldEntries` define the value of each part, and `Encodable` which parts may be
+//! encoded.
 #![tactic(auto)]
 
 pub mod conv;

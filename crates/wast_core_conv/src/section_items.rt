@@ -21,20 +21,17 @@ use wast_tree_nodes::{CustomPlaceAnchor, Export, FunctionType, Rec, Type, TypeUs
 
 /// A field of a module that is an item of a section of the binary format.
 ///
-/// It is implemented for [`RecOrType`], [`FuncSectionTy`], exports, imports, tables, memories,
-/// globals, tags, and element and data segments.
-///
-/// # Example
-///
 ///     let mut section = <I::Section as Build>::new(alloc);
 ///     item.encode(alloc, &mut section).expect(rt, "memory");
 ///
-/// # Requires
+/// It is implemented for [`RecOrType`], [`FuncSectionTy`], exports, imports, tables, memories,
+/// globals, tags, and element and data segments.
 ///
-/// Each call requires a resolved item without unsupported constructs (`is_encodable`). Branch hints
-/// and inline types are not written, so they are not checked. Every item in the fields that
-/// `Module::resolve` of `wast_core` leaves on success qualifies (clause `at_rest`), if `uncovered`
-/// of `wast_tree` finds no unsupported construct in them.
+/// The item must be resolved and have no unsupported construct. All items have this after a
+/// successful `Module::resolve` of `wast_core`, if `uncovered` of `wast_tree` finds nothing. Branch
+/// hints and inline types may have any form, because they are not written.
+///
+/// After an error the section or the sink is unchanged.
 pub trait SectionItem {
     /// The section that holds such items.
     type Section: Build;
@@ -54,13 +51,7 @@ pub trait SectionItem {
 
     /// Appends the item to the section, and adds one to the section's item count.
     ///
-    /// # Requires
-    ///
-    /// A resolved item without unsupported constructs.
-    ///
     /// # Errors
-    ///
-    /// After an error the section is as it was.
     ///
     /// - E10, only if there would be 2^32 items, or a number, count or length in the item is out of
     ///   range.
@@ -72,18 +63,10 @@ pub trait SectionItem {
 
     /// Appends the bytes of the item to a sink.
     ///
-    /// # Example
-    ///
     ///     let mut out = Vec::new(alloc);
     ///     item.put(&mut out).expect(rt, "memory");
     ///
-    /// # Requires
-    ///
-    /// A resolved item without unsupported constructs.
-    ///
     /// # Errors
-    ///
-    /// After an error the sink is as it was.
     ///
     /// - The error of the sink, only if the bytes do not fit in it. For a `Vec` that is E12.
     /// - E10, only if a number, count or length in the item is out of range.
@@ -113,8 +96,6 @@ impl<T: SectionItem> SectionItem for &T {
 }
 
 /// An entry of the type section: a single type or a recursion group (binary format: type section).
-///
-/// # Example
 ///
 ///     has_bytes(&rt, alloc, &RecOrType::Ty(&ty), &[1, 0x60, 0, 0]);
 #[derive(Clone, Copy, Debug)]
@@ -171,8 +152,6 @@ impl SectionItem for RecOrType<'_, '_> {
 }
 
 /// An entry of the function section: the type use of a function (binary format: function section).
-///
-/// # Example
 ///
 ///     let item = FuncSectionTy(&used);
 ///     has_bytes(&rt, alloc, &item, &[1, 3]);

@@ -23,16 +23,12 @@ use wast_tree_nodes::{
     StructType, Type, TypeDef, TypeUse, ValType,
 };
 
-/// Writes parts of a resolved module as bytes, with the number of each index (binary format).
+/// Writes parts of a resolved module as bytes, with the number of each index (binary format). The
+/// parts must have no unsupported construct.
 ///
-/// It is an `EncodeWith` of `wasm_ops`: `Each(items, Resolved)` writes a list of items one after
-/// another, and `Counted(items, Resolved)` writes their number first. For example,
-/// `Counted(&exports, Resolved)` writes the content of an export section.
-///
-/// # Requires
-///
-/// Encoding requires resolved parts without unsupported constructs (`is_ready` of each
-/// implementation).
+/// `Each(items, Resolved)` writes a list of items one after another, and `Counted(items, Resolved)`
+/// writes their number first. For example, `Counted(&exports, Resolved)` writes the content of an
+/// export section.
 #[derive(Clone, Copy)]
 pub struct Resolved;
 

@@ -94,8 +94,7 @@ pub(crate) struct Places {
 }
 
 impl Places {
-    /// Returns a single checkpoint at the first field, which is right for any list. Requires room
-    /// for one number.
+    /// Returns a single checkpoint at the first field, which is right for any list.
     pub(crate) fn none(room: &mut [u32]) -> Places
         requires { 0 < length room.old }
         ensures first { result.first ≡ 0 }
@@ -116,7 +115,7 @@ impl Places {
     /// Returns the checkpoints of these fields, whose types are all between the two positions.
     ///
     /// One walk over these fields counts the types before each checkpoint. With more room the
-    /// checkpoints are closer to each other. Requires room for one number or more.
+    /// checkpoints are closer to each other.
     pub(crate) fn of<'b, T: FieldTypes>(
         fields: &'b [T],
         first: usize,
@@ -199,7 +198,7 @@ impl<T: FieldTypes> Clone for TypesOf<'_, T> {
 impl<T: FieldTypes> Copy for TypesOf<'_, T> {}
 
 impl<'b, T: FieldTypes> TypesOf<'b, T> {
-    /// Pairs fields with their checkpoints. Requires the checkpoints of these fields.
+    /// Pairs fields with their checkpoints.
     pub(crate) fn new(fields: &'b [T], checkpoints: Checkpoints<'b>) -> TypesOf<'b, T>
         requires { AreCheckpoints T.types fields.now checkpoints.places checkpoints.before.now }
         ensures { result.fields.now ≡ fields.now }
@@ -226,9 +225,8 @@ fn arity_from<T: FieldTypes>(fields: &[T], index: usize) -> Option<u64>
     None
 }
 
-/// Looks up a type from the last checkpoint before it. That takes a binary search among the
-/// checkpoints, and one step for each field up to the type. Within a recursion group it takes one
-/// step.
+/// Looks up a type from the last checkpoint before it: a binary search among the checkpoints, then
+/// one step for each field up to the type. Within a recursion group it takes one step.
 impl<T: FieldTypes> Arities for TypesOf<'_, T> {
     ghost types = { λ t. flat_map T.types t.fields.now };
 

@@ -12,7 +12,7 @@ ghost use Rattle.wast_core_name_section.specs.WorkedNames.{Row34, Row35, InlineP
 /// - `generated`: a generated id is not a name.
 /// - `global`, `imported`, `spaces`: items of each index space have names, and so have imports.
 /// - `import_parameter`, `tag_parameter`: an imported function has names of parameters. An imported
-///   tag has none, but it is counted.
+///   tag is counted, but has none.
 /// - `labels`: each instruction that opens a block is counted, with or without a label.
 /// - `grouped_import`, `shared_signature`: each item of an import is counted, and has the names of
 ///   its signature, even if several items share one.

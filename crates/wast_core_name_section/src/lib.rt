@@ -22,12 +22,6 @@
 //!
 //! The rules are in `specs/`: `GivenNames` defines the name of an item, `ModuleNames` the
 //! subsections, and `WithinItems` the lists inside items.
-//!
-//! # Guarantees
-//!
-//! - [`given_name`] returns the name that `GivenNames` defines.
-//! - [`put_names`] writes exactly the subsections that `name_subsections` of `ModuleNames` defines,
-//!   or nothing.
 #![tactic(auto)]
 
 mod arities;

@@ -116,8 +116,8 @@ fn put_both<S: Sink>(
     }
 }
 
-/// Appends the names of the labels of blocks that instructions open, numbered from a position on,
-/// and returns how many there are.
+/// Appends the names of the labels of blocks, numbered from a position on, and returns how many
+/// there are.
 fn put_labels<S: Sink>(first: u64, instrs: &[Instruction], out: &mut S) -> Result<u64, Refusal>
     ensures names { let es = named_from first (flat_map label_in instrs.now) in
         Writes S.rules (All (λ x. (name_entry x).in_range) es) out.old out.new (flat_map (λ x. (name_entry x).bytes) es) result }
@@ -126,8 +126,8 @@ fn put_labels<S: Sink>(first: u64, instrs: &[Instruction], out: &mut S) -> Resul
     put_named(instrs, first, out)
 }
 
-/// Appends the names in a list, with their positions, and returns how many there are. It fails as
-/// [`Encode::encode`] does, and then nothing was appended.
+/// Appends the names in a list, with their positions, and returns how many there are. Fails as
+/// [`Encode::encode`] does.
 fn put_listed<S: Sink>(listed: Listed, out: &mut S) -> Result<u64, Refusal>
     ensures names { Writes S.rules (All (λ x. (name_entry x).in_range) (names_listed listed.entry)) out.old out.new (flat_map (λ x. (name_entry x).bytes) (names_listed listed.entry)) result }
     ensures count { IfOk result (λ n. n ≡ saturated_count (length (names_listed listed.entry))) }

@@ -28,7 +28,7 @@ pub(crate) trait NameItems<T> {
     ghost in_range: { ℕ × Entry → Type 0 };
 
     /// Appends the entries of the items of a value, numbered from a position on, and returns the
-    /// next position. It fails as [`Encode::encode`] does, and then nothing was appended.
+    /// next position. Fails as [`Encode::encode`] does: nothing is appended then.
     fn put<S: Sink>(&self, part: &T, position: u64, out: &mut S) -> Result<u64, Refusal>
         ensures written { WritesItems S.rules entry in_range (items self.now part.now) position out.old out.new result }
         ensures next { IfOk result (λ p. p ≡ saturated_count (position + length (items self.now part.now))) };
@@ -88,8 +88,7 @@ pub(crate) fn put_each<T, W: NameItems<T>, S: Sink>(
     Ok(position)
 }
 
-/// Appends the entry of an item at its position, if it has one, and returns the next position. From
-/// 2^32 on, a position is out of range.
+/// Appends the entry of an item at its position, if it has one, and returns the next position.
 pub(crate) fn put_entry<T: Encode + Copy, S: Sink>(
     position: u64,
     given: Option<T>,
@@ -131,8 +130,8 @@ impl<T, W: NameItems<T>> Encode for Entries<'_, T, W> {
     }
 }
 
-/// Writes the map of the items in a list as a subsection with this id, if it has entries. Requires
-/// the number of entries.
+/// Writes the map of the items in a list as a subsection with this id, if it has entries. `count`
+/// is their number.
 pub(crate) fn put_map<'b, T, W: NameItems<T> + Copy, S: Sink>(
     id: u8,
     count: u64,
@@ -158,7 +157,7 @@ pub(crate) fn put_map<'b, T, W: NameItems<T> + Copy, S: Sink>(
     (id, WithLength((count, entries))).encode(out)
 }
 
-/// The same, for items that can be counted.
+/// Writes such a map, and counts its entries first.
 pub(crate) fn put_counted_map<'b, T, W: CountItems<T> + Copy, S: Sink>(
     id: u8,
     way: W,

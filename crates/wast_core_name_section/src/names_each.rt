@@ -69,8 +69,8 @@ pub(crate) fn from_named<'b, T: MayHaveName>(parts: &'b [T]) -> (u64, &'b [T])
     (before, &[])
 }
 
-/// Appends the names in a list, numbered from a position on, and returns how many there are. It
-/// fails as [`crate::name_maps::NameItems::put`] does, and then nothing was appended.
+/// Appends the names in a list, numbered from a position on, and returns how many there are. Fails
+/// as [`crate::name_maps::NameItems::put`] does.
 pub(crate) fn put_named<T: MayHaveName, S: Sink>(
     parts: &[T],
     first: u64,

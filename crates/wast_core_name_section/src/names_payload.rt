@@ -224,7 +224,7 @@ pub(crate) enum NameMap {
 }
 
 /// Appends the subsection of the lists of names inside items of these fields, if there are any.
-/// Requires the number of items that have one, and the checkpoints of these fields.
+/// `count` is the number of items that have one.
 fn put_lists<'b, T: FieldTypes + PutLists, S: Sink>(
     fields: &'b [T],
     there: &'b [T],
@@ -457,8 +457,8 @@ fn has_names(
     }
 }
 
-/// Appends the name section of these fields: its id, its length and its payload, which is the name
-/// `name` and the subsections.
+/// Appends the name section of these fields: its id, its length, the name `name`, and the
+/// subsections.
 fn put_name_section<'b, T: PutNames, S: Sink>(
     fields: &'b [T],
     name: Option<&'b str>,
@@ -531,22 +531,13 @@ fn put_within<S: Sink>(
 /// For `(module (func $f))` the bytes are `00 0b 04 6e 61 6d 65 01 04 01 00 01 66`. For `(module
 /// (func))` nothing is appended, because there is no name.
 ///
+/// Pass the ranges that [`FieldRanges::of`] returns for these fields. Fails as [`Encode::encode`]
+/// does.
+///
 /// Only fields that can have names are walked: for each name map once to count its entries, and
 /// once more if it has any. Nothing is measured in advance, if the sink can overwrite a number
-/// ([`Sink::set_number`]).
-///
-/// # Requires
-///
-/// The ranges of these fields, as [`FieldRanges::of`] returns them.
-///
-/// # Errors
-///
-/// As [`Encode::encode`]: too large, only if a number, count or length is out of range, or the
-/// error of the sink. After an error nothing was appended.
-///
-/// # Memory
-///
-/// Allocates nothing, except in the sink. Takes up to 4 KiB of the stack for a list of checkpoints.
+/// ([`Sink::set_number`]). Only the sink allocates. A list of checkpoints takes up to 4 KiB of the
+/// stack.
 pub fn put_names<S: Sink>(
     fields: &[ModuleField],
     name: Option<&str>,

@@ -375,8 +375,7 @@ impl<T: PutLists, A: Arities> NameItems<T> for WithinItems<A> {
     }
 }
 
-/// Returns how many items of some fields have a list of names. Requires the checkpoints of these
-/// fields.
+/// Returns how many items of some fields have a list of names.
 pub(crate) fn count_lists<'b, T: FieldTypes + CountLists>(
     fields: &'b [T],
     there: &'b [T],
@@ -395,7 +394,6 @@ pub(crate) fn count_lists<'b, T: FieldTypes + CountLists>(
 }
 
 /// Returns whether any item of some fields has a list of names. Stops at the first field with one.
-/// Requires the checkpoints of these fields.
 pub(crate) fn any_lists<'b, T: FieldTypes + CountLists>(
     fields: &'b [T],
     there: &'b [T],

@@ -28,10 +28,6 @@ pub struct FieldRanges {
 
 impl FieldRanges {
     /// Finds the ranges of all kinds in one walk over the fields. Does not allocate.
-    ///
-    /// # Guarantees
-    ///
-    /// No field of a kind is outside of its range (`are_reaches`).
     pub fn of(fields: &[ModuleField]) -> FieldRanges
         ensures { IsTrue (are_reaches fields.now result) }
     {
@@ -54,10 +50,6 @@ impl FieldRanges {
     }
 
     /// Returns whether the list may contain a custom section. Does not allocate.
-    ///
-    /// # Guarantees
-    ///
-    /// If the result is `false`, the list of these ranges contains no custom section.
     pub fn has_customs(&self) -> bool
         ensures { result ≡ false → (fields : List ModuleField) (place : CustomPlace) → IsTrue (are_reaches fields self.now) → IsTrue (none_pass (is_of (kind.Custom place)) fields) }
     {
@@ -70,10 +62,6 @@ impl FieldRanges {
     }
 
     /// Returns the range of a kind. Does not allocate.
-    ///
-    /// # Guarantees
-    ///
-    /// No field of that kind is outside of the range, in the list of these ranges.
     pub fn of_kind(&self, kind: FieldKind) -> FieldRange
         ensures { (fields : List ModuleField) → IsTrue (are_reaches fields self.now) → IsTrue (is_reach (is_of kind) fields result) }
     {

@@ -8,14 +8,12 @@
 //! In `(func) (export "a" (func 0)) (start 0) (export "b" (func 0))`, the range of exports is from
 //! field 1 to before field 4, and the range of tags is empty.
 //!
+//! It is proved that no field of a kind is outside of its range. That a range is no larger than
+//! needed is tested.
+//!
 //! # Modules
 //!
 //! - `stretches`: a range of fields. `finding`: the ranges of all kinds, found in one walk.
-//!
-//! # Guarantees
-//!
-//! - `FieldRanges::of`, `FieldRanges::of_kind`: no field of a kind is outside of its range. That a
-//!   range is no larger than needed is tested, not proved.
 #![tactic(auto)]
 
 mod finding;

@@ -8,8 +8,6 @@ use wast_tree_nodes::ModuleField;
 
 /// A range of a list of fields, from `first` to before `end`. Both are 0 if the range is empty.
 ///
-/// # Example
-///
 ///     let later = FieldRange { first: 4, end: 5 };
 ///     assert!(rt; is(starts.union(later), 1, 5) && is(later.union(starts), 1, 5));
 #[derive(Clone, Copy)]
@@ -33,16 +31,9 @@ impl FieldRange {
         }
     }
 
-    /// Returns the smallest range that contains both.
-    ///
-    /// # Example
+    /// Returns a range that contains both. That it is the smallest is tested, not proved.
     ///
     ///     assert!(rt; is(starts.union(exports), 0, 6));
-    ///
-    /// # Guarantees
-    ///
-    /// No field of some kinds is outside of the result, if none is outside of `self`. The same
-    /// holds of `other`, for other kinds.
     pub fn union(self, other: FieldRange) -> FieldRange
         ensures { (p q : ModuleField → Bool) (fields : List ModuleField) → IsTrue (is_reach p fields self) → IsTrue (is_reach q fields other) → IsTrue (is_reach (λ f. p f || q f) fields result) }
     {
@@ -58,11 +49,7 @@ impl FieldRange {
         }
     }
 
-    /// Returns the fields in the range.
-    ///
-    /// # Requires
-    ///
-    /// The range is inside this list (`is_inside`).
+    /// Returns the fields in the range, which must be inside the list.
     pub fn of<'b, 'a>(self, fields: &'b [ModuleField<'a>]) -> &'b [ModuleField<'a>]
         requires { IsTrue (is_inside fields.now self) }
         ensures { result.now ≡ fields_in self fields.now }

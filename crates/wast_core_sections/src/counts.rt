@@ -53,7 +53,7 @@ fn functions<'b, 'a>(fields: &'b [ModuleField<'a>], reaches: &FieldRanges) -> &'
 }
 
 /// Returns whether a body of these fields needs a data count. Without an index of a data segment in
-/// the fields it does not walk them. Requires the ranges of these fields.
+/// the fields it does not walk them.
 fn is_counted(fields: &[ModuleField], reaches: &FieldRanges, has_data_index: bool) -> bool
     requires reaches { IsTrue (are_reaches fields.now reaches.now) }
     requires data { IsTrue (may_be_counted fields.now has_data_index) }
@@ -65,8 +65,8 @@ fn is_counted(fields: &[ModuleField], reaches: &FieldRanges, has_data_index: boo
     needs_count(functions(fields, reaches))
 }
 
-/// Appends the data count section, if a body needs it. Requires the ranges of these fields, and
-/// whether they have an index of a data segment.
+/// Appends the data count section, if a body needs it. `has_data_index` says whether the fields
+/// have an index of a data segment.
 pub(crate) fn put_data_count<S: Sink>(
     fields: &[ModuleField],
     reaches: &FieldRanges,

@@ -53,8 +53,7 @@ impl EncodeWith<ModuleField<'_>> for CustomOf {
     }
 }
 
-/// Appends the custom sections at a position, in the order of the fields. Requires the ranges of
-/// these fields.
+/// Appends the custom sections at a position, in the order of the fields.
 pub(crate) fn put_customs<S: Sink>(
     place: CustomPlace,
     fields: &[ModuleField],
@@ -80,7 +79,7 @@ fn is_called_name(field: &ModuleField) -> bool
 }
 
 /// Returns whether one of these fields is a custom section called `name`. The names of the module
-/// are not written then. Requires the ranges of these fields.
+/// are not written then.
 pub(crate) fn has_own_names(fields: &[ModuleField], reaches: &FieldRanges) -> bool
     requires { IsTrue (are_reaches fields.now reaches.now) }
     ensures { result ≡ has_own_names fields.now }

@@ -160,8 +160,7 @@ pub(crate) fn start_fields<'b, 'a>(
     reaches.of_kind(FieldKind::Start).of(fields)
 }
 
-/// Returns how many entries the section of a kind has, if these are less than 2^32. Requires the
-/// ranges of these fields.
+/// Returns how many entries the section of a kind has, if these are less than 2^32.
 pub(crate) fn count_of(
     kind: SectionKind,
     fields: &[ModuleField],
@@ -174,7 +173,7 @@ pub(crate) fn count_of(
     count(kind, section_fields(kind, fields, reaches))
 }
 
-/// Appends the section of a kind, if it has entries. Requires the ranges of these fields.
+/// Appends the section of a kind, if it has entries.
 pub(crate) fn put_section<S: Sink>(
     kind: SectionKind,
     fields: &[ModuleField],

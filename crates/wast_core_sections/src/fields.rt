@@ -30,7 +30,6 @@ fn as_it_is(bytes: Vec<u8>) -> Vec<u8>
 }
 
 /// Counts the bytes of a module without writing them, and fails if the module is too large.
-/// Requires what writing them requires.
 fn count_sections(
     fields: &[ModuleField],
     name: Option<&str>,
@@ -49,7 +48,6 @@ fn count_sections(
 }
 
 /// Writes a module, or returns `None` if its long pieces do not fit in the limit of [`Capped`].
-/// Requires what writing requires.
 fn write_short(
     alloc: Global,
     fields: &[ModuleField],
@@ -73,7 +71,7 @@ fn write_short(
     }
 }
 
-/// Counts a module, and writes it into as much memory. Requires what writing requires.
+/// Counts a module, and writes it into as much memory.
 fn write_counted(
     alloc: Global,
     fields: &[ModuleField],
@@ -93,7 +91,7 @@ fn write_counted(
     }
 }
 
-/// Writes a module. Requires what writing requires.
+/// Writes a module.
 ///
 /// A module with many long pieces is counted first, because otherwise 4 GiB would be written before
 /// a section is found to be too large.
@@ -115,8 +113,8 @@ fn write(
     }
 }
 
-/// Returns the bytes of a resolved module with this name. Requires names that are UTF-8, and
-/// whether the fields have an index of a data segment.
+/// Returns the bytes of a resolved module with this name. `has_data_index` says whether the fields
+/// have an index of a data segment.
 fn encode_fields<'e>(
     alloc: Global,
     fields: &[ModuleField],
@@ -135,26 +133,20 @@ fn encode_fields<'e>(
 }
 
 /// Appends the bytes of a resolved module with this name to a sink, if each construct is supported
-/// (binary format: modules).
+/// (binary format: modules). Allocates nothing, except in the sink.
 ///
 /// For `(module (func (type 0)) (type (func)))` without a name they are the header and three
 /// sections: types, functions and code.
 ///
-/// # Requires
-///
-/// Resolved fields: each index is a number, and nothing is inline.
+/// The fields must be resolved: each index is a number, and nothing is inline.
 ///
 /// # Errors
 ///
-/// After an error the sink is as it was.
+/// After an error the sink is unchanged.
 ///
 /// - E11: the fields have an unsupported construct. It names the first one.
 /// - The error of the sink, only if the bytes do not fit in it.
 /// - E10, only if a count, length or position does not fit in 32 bits.
-///
-/// # Memory
-///
-/// Allocates nothing, except in the sink.
 pub fn put_fields<'e, S: Sink>(
     fields: &[ModuleField],
     name: Option<&str>,
@@ -170,20 +162,11 @@ pub fn put_fields<'e, S: Sink>(
     }
 }
 
-/// Returns the bytes of a resolved module with this name, if each construct is supported (binary
+/// Returns the bytes of a resolved module with this name, as [`put_fields`] appends them (binary
 /// format: modules).
 ///
-/// # Requires
-///
-/// As [`put_fields`].
-///
-/// # Errors
-///
-/// - E11: the fields have an unsupported construct. It names the first one, and nothing is
-///   allocated.
-/// - E10, only if a count, length or position does not fit in 32 bits, or the bytes do not fit in a
-///   `usize`.
-/// - E12: allocation failed.
+/// E10 also comes if the bytes do not fit in a `usize`, and E12 if allocation fails. For E11
+/// nothing is allocated.
 pub fn encode_covered<'e>(
     alloc: Global,
     fields: &[ModuleField],

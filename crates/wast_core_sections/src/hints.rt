@@ -67,8 +67,7 @@ fn count(fields: &[ModuleField]) -> Option<u32>
     Some(sum)
 }
 
-/// Returns how many functions an import defines: none or one. Requires an import that is not a
-/// group.
+/// Returns how many functions an import defines: none or one. The import must not be a group.
 fn imported(imports: &Imports) -> u64
     requires { IsTrue (is_encodable_import imports.now) }
     ensures { result ≡ length (flat_map imported_func (item_sigs imports.now.items)) }
@@ -155,8 +154,8 @@ impl<F: PutHints> Encode for EachHint<'_, F> {
     }
 }
 
-/// Appends the section of the hints of these fields, if a function has some. Requires the number of
-/// functions that have hints.
+/// Appends the section of the hints of these fields, if a function has some. `count` is the number
+/// of functions that have hints.
 fn put_counted<'b, F: PutHints, S: Sink>(
     fields: &'b [F],
     count: u32,
@@ -174,8 +173,7 @@ fn put_counted<'b, F: PutHints, S: Sink>(
     (0u8, WithLength(payload)).encode(out)
 }
 
-/// Appends the section of branch hints, if a function has some. Requires the ranges of these
-/// fields.
+/// Appends the section of branch hints, if a function has some.
 pub(crate) fn put_hints<S: Sink>(
     fields: &[ModuleField],
     reaches: &FieldRanges,

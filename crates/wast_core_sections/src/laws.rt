@@ -4,7 +4,7 @@ ghost use Rattle.wast_core_sections.specs.HintPlaces.{HintsPointAtInstructions};
 ghost use Rattle.wast_core_sections.specs.Slots.{CustomsStandOnce};
 ghost use Rattle.wast_core_sections.specs.StandardOrder.{OrderExamples, PartsAreOrdered};
 
-/// Each custom section has one position in a module (text format: custom annotations).
+/// Theorem: each custom section has one position in a module (text format: custom annotations).
 ///
 /// So each custom section occurs once in the encoding. Custom sections with the same position are
 /// in the order of the fields.
@@ -12,17 +12,17 @@ pub fn customs_law()
     ensures { CustomsStandOnce }
 {}
 
-/// Branch hints point at their instructions (branch hinting).
+/// Theorem: branch hints point at their instructions (branch hinting).
 ///
-/// The theorem is about bytes that are read as the parts of some fields, as those of
-/// `EncodeOptions::encode_module` are. The offset of a hint counts from the first byte after the
-/// size of the body in the code section. At this offset the instruction of the hint begins. The
-/// section of hints has the function by its index.
+/// This is about bytes that are read as the parts of some fields, as those of
+/// `EncodeOptions::encode_module` are. The section of hints has the function by its index. The
+/// offset of a hint counts from the first byte after the size of the body in the code section, and
+/// the instruction of the hint begins there.
 pub fn hint_places()
     ensures { HintsPointAtInstructions }
 {}
 
-/// Sections are in the order of the standard (binary format: modules).
+/// Theorem: sections are in the order of the standard (binary format: modules).
 ///
 /// Each is there at most once. Custom sections can be anywhere, and each start field has a start
 /// section.

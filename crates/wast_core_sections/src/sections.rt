@@ -23,8 +23,7 @@ use wast_core_name_section::put_names;
 use wast_core_ranges::FieldRanges;
 use wast_tree_nodes::ModuleField;
 
-/// Appends the name section, unless a custom section is called `name`. Requires the ranges of these
-/// fields.
+/// Appends the name section, unless a custom section is called `name`.
 fn put_given_names<S: Sink>(
     fields: &[ModuleField],
     name: Option<&str>,
@@ -41,8 +40,7 @@ fn put_given_names<S: Sink>(
     put_names(fields, name, reaches, out)
 }
 
-/// Appends the parts at a position. Requires the ranges of these fields, and whether they have an
-/// index of a data segment.
+/// Appends the parts at a position.
 ///
 /// The fields are the first parameter, here and in all calls. Then the lifetimes of a callee are at
 /// the same positions as those of its caller, and the prover does not compare the whole tree.
@@ -70,7 +68,7 @@ fn put_slot<'b, S: Sink>(
     }
 }
 
-/// Appends the parts at several positions. Requires what `put_slot` requires.
+/// Appends the parts at several positions.
 fn put_slots<'b, S: Sink>(
     fields: &[ModuleField],
     name: Option<&str>,
@@ -97,13 +95,11 @@ fn put_slots<'b, S: Sink>(
 }
 
 /// Appends the bytes of a resolved module with this name: the header, and the parts at each
-/// position.
+/// position. Allocates nothing, except in the sink.
 ///
-/// Each part is written once, and its length is inserted before it afterwards. Requires whether the
-/// fields have an index of a data segment. Allocates nothing, except in the sink.
-///
-/// It fails with the error of the sink, only if the bytes do not fit. It fails as too large, only
-/// if a number, count or length in the module is out of range. After an error nothing was appended.
+/// Each part is written once, and its length is inserted before it afterwards. It fails with the
+/// error of the sink, only if the bytes do not fit. It fails as too large, only if a number, count
+/// or length in the module is out of range.
 pub(crate) fn put_sections<S: Sink>(
     fields: &[ModuleField],
     name: Option<&str>,

@@ -20,14 +20,9 @@
 //!   `ImpliedTypes` of `wast_expand_keys`.
 //! - [`Expander`], [`FuncKey`], [`TypeKey`], [`TypeReference`]: the map from signatures to types,
 //!   for callers with type uses of their own.
-//!
-//! # Guarantees
-//!
-//! - `deinline::run` and `types::expand`, clause `list`: the result is exactly the list that its
-//!   definition states.
-//! - `deinline::run` and `types::expand`, clauses `refusal` and `stays`: the only errors are E10
-//!   and E12, and they restore the counter.
 //! - [`expanded_laws`]: theorems about the result of `types::expand`.
+//!
+//! The only errors of both steps are E10 and E12. After an error the counter has its old value.
 #![tactic(auto)]
 
 pub use wast_expand_inline::deinline;

@@ -1,8 +1,8 @@
 //! Expands the inline exports, imports, elements and data of module fields into fields of their own
 //! (text format: abbreviations).
 //!
-//! This is the first step of resolving: `wast_resolve` calls it before it gives type uses their
-//! types. Callers who need the step alone meet it through `wast_expand`.
+//! This is the first step of resolving: `wast_resolve` calls it before it resolves type uses. To
+//! call only this step, use `wast_expand`.
 //!
 //! # Example
 //!
@@ -20,13 +20,6 @@
 //! - `segments`: segments of inline data and elements, and the size of their memory or table. The
 //!   rule is in `specs/Segments.antt`.
 //! - `laws`: theorems about the result. `examples`: example modules that the definitions compute.
-//!
-//! # Guarantees
-//!
-//! - `deinline::run`, clause `list`: the result is exactly the list that `desugared_from` defines.
-//! - `deinline::run`, clauses `refusal` and `stays`: the only errors are E10 and E12, and they
-//!   restore the counter.
-//! - [`written_laws`]: the result has no inline part left, and expanding it again changes nothing.
 #![tactic(auto)]
 
 mod examples;

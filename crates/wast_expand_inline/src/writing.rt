@@ -27,24 +27,22 @@ use wast_tree_nodes::{
 /// Expands the inline exports, imports, elements and data of fields (text format: functions,
 /// tables, memories, globals, tags; abbreviations).
 ///
+///     fields = deinline::run(alloc, fields, gensym).expect(rt, "memory");
+///
 /// A function, table, memory, global or tag is replaced by these fields, in this order:
 ///
 /// - an export for each inline name;
 /// - the segment of its inline data or elements, at offset 0;
 /// - the field without inline parts, or its import if the import was inline.
 ///
-/// All other fields are unchanged. A memory with inline data gets as many pages as the bytes take,
-/// and that is also its maximum. A table with inline elements gets their number. An inline import
-/// with `exact` becomes an exact import. Exports and segments refer to the item by its id. An item
-/// without an id gets a generated one, at the position of its field. Generated ids are new if the
-/// counter is past `gensym_bound` of `wast_tree`.
-///
-/// # Example
-///
-///     fields = deinline::run(alloc, fields, gensym).expect(rt, "memory");
-///
-/// For example, `(func (export "a") (import "m" "n"))` becomes
+/// Exports and segments refer to the item by its id. If it has none, one is generated at the
+/// position of its field. Generated ids are new if the counter is past `gensym_bound` of
+/// `wast_tree`. For example, `(func (export "a") (import "m" "n"))` becomes
 /// `(export "a" (func [1])) (import "m" "n" (func [1]))`. Here `[1]` is the generated id.
+///
+/// A memory with inline data gets as many pages as the bytes take, and that is also its maximum. A
+/// table with inline elements gets their number. An inline import with `exact` becomes an exact
+/// import. All other fields are unchanged. If no field has an inline part, nothing is allocated.
 ///
 /// # Errors
 ///
@@ -52,21 +50,7 @@ use wast_tree_nodes::{
 ///   more.
 /// - E12: allocation failed.
 ///
-/// After an error the fields are dropped. The counter has its old value, because no id of this call
-/// is left.
-///
-/// # Guarantees
-///
-/// - `list`: the result is `desugared_from`. `counted`: the counter rises by the number of ids
-///   generated.
-/// - `refusal`: the errors are those above. `stays`: after an error the counter has its old value.
-/// - `at_rest`: fields without inline parts return no error. `counter_grows`: the counter never
-///   falls.
-///
-/// # Memory
-///
-/// Allocates the new list and the offsets of segments. Fields without inline parts are returned as
-/// they are, without allocation.
+/// After an error the fields are dropped, and the counter has its old value.
 pub fn run<'a>(
     alloc: Global,
     fields: Seq<ModuleField<'a>>,

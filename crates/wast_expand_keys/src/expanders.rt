@@ -18,7 +18,8 @@ use wast_tree_nodes::{FunctionType, HeapType, ValType};
 /// A map from signatures to the indices of their types, with the ids of the source's types.
 ///
 /// Its model in contracts is a list of signatures with indices and a list of ids. No two signatures
-/// are equal, and their order is not specified.
+/// are equal, and their order is not specified. A call that fails with E12 leaves the model
+/// unchanged, except [`TypeReference::expand`](crate::TypeReference::expand).
 ///
 /// # Example
 ///
@@ -52,11 +53,10 @@ impl<'a> Model for Expander<'a> {
 }
 
 impl<'a> Expander<'a> {
-    /// Returns a map without signatures and without ids of types. Does not allocate.
+    /// Returns a map without signatures and without ids of types. Does not allocate, but later
+    /// calls allocate from `alloc`.
     ///
     /// For example, [`TypeKey::lookup`](crate::TypeKey::lookup) of any key in it returns `None`.
-    /// [`TypeReference::key`](crate::TypeReference::key) and
-    /// [`TypeKey::insert`](crate::TypeKey::insert) allocate from `alloc` later.
     pub fn new(alloc: Global) -> Self
         ensures { result ≡ nothing_bound }
     {
@@ -113,7 +113,7 @@ impl<'a> Expander<'a> {
 /// For example, with the id `$t` alone, [`TypeReference::key`](crate::TypeReference::key) of
 /// `(func (param (ref $t)))` has `(ref 0)`.
 ///
-/// A function and no method, because callers of `wast_expand` meet the methods of [`Expander`].
+/// It is not a method, because methods of [`Expander`] are public in `wast_expand` too.
 #[tactic(auto, using(crate::proofs::Placed::none_placed))]
 pub fn with_names<'a>(alloc: Global, names: NamespaceBuilder<'a>) -> Expander<'a>
     ensures { result ≡ record { names = names.entry; bound = [] } }
@@ -127,19 +127,10 @@ pub fn with_names<'a>(alloc: Global, names: NamespaceBuilder<'a>) -> Expander<'a
     }
 }
 
-/// Adds a key with its index, unless the key has one.
-///
-/// [`TypeKey::insert`](crate::TypeKey::insert) does the same with a copy of the key.
+/// Adds a key with its index, unless the key has one. Other keys keep their indices.
 ///
 /// For example, a second call for the same key with another index changes nothing.
-///
-/// # Errors
-///
-/// E12: allocation failed. Nothing changes then.
-///
-/// # Guarantees
-///
-/// - `ok`: other keys keep their indices. `names`: the ids of types in `cx` are unchanged.
+/// [`TypeKey::insert`](crate::TypeKey::insert) does the same with a copy of the key.
 pub fn put_key<'a>(
     cx: &mut Expander<'a>,
     key: FuncKey<'a>,

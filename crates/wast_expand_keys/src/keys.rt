@@ -23,16 +23,14 @@ use wast_tree_nodes::{FunctionType, HeapType, InnerTypeKind, RefType, TypeDef, V
 /// The signature of a function type as a key: the types of its parameters, and of its results.
 ///
 /// Keys are equal exactly if their signatures are equal. [`TypeReference::key`] replaces each id of
-/// a source type by its number, so the keys of `(ref $t)` and `(ref 0)` are equal if `$t` is type 0
+/// a source type by its number. So the keys of `(ref $t)` and `(ref 0)` are equal if `$t` is type 0
 /// (text format: type uses).
 ///
-/// Keys are ordered so that maps can store them; the order has no meaning in the format. It is by
+///     FuncKey(list_of(rt, alloc, params), list_of(rt, alloc, results))
+///
+/// Keys are ordered so that maps can store them. The order has no meaning in the format. It is by
 /// the number of parameters, then of results, then by the types of the parameters, then of the
 /// results.
-///
-/// # Example
-///
-///     FuncKey(list_of(rt, alloc, params), list_of(rt, alloc, results))
 #[derive(Debug, Drop)]
 pub struct FuncKey<'a>(pub Seq<ValType<'a>>, pub Seq<ValType<'a>>);
 
@@ -101,7 +99,8 @@ impl<'a> Hash for FuncKey<'a> {
     }
 }
 
-/// A type that a type use can have inline (text format: type uses).
+/// A type that a type use can have inline (text format: type uses). The only error of its calls is
+/// E12: allocation failed.
 ///
 /// # Example
 ///
@@ -122,13 +121,9 @@ pub trait TypeReference<'a> {
         ensures { signature result ≡ empty_signature };
 
     /// Returns the key: the signature, with each id of a source type in `cx` replaced by its
-    /// number.
+    /// number. The key is allocated.
     ///
     /// For example, the key of `(func (param (ref $t)))` has `(ref 0)` if `$t` is type 0.
-    ///
-    /// # Errors
-    ///
-    /// E12: allocation failed. The key is allocated.
     fn key(&self, cx: &Expander<'a>) -> Result<Self::Key, Error<'a>>
         ensures key { IfOk result (λ k.
             Self.Key.signature k ≡ numbered_signature (numbers_in cx.now) (signature self.now)) }
@@ -137,15 +132,7 @@ pub trait TypeReference<'a> {
     /// Resolves the type uses inside the type.
     ///
     /// For example, it leaves `(func (param i32))` unchanged, because no type use is inside.
-    ///
-    /// # Errors
-    ///
-    /// E12: allocation failed.
-    ///
-    /// # Guarantees
-    ///
-    /// - `stays`: the signature is unchanged. `keeps`: signatures in `cx` keep their indices.
-    ///   `names`: the ids of types in `cx` are unchanged.
+    /// Signatures in `cx` keep their indices.
     fn expand(&mut self, cx: &mut Expander<'a>) -> Result<(), Error<'a>>
         ensures stays { signature self.new ≡ signature self.old }
         ensures keeps { Keeps cx.old.bound cx.new.bound }
@@ -153,7 +140,8 @@ pub trait TypeReference<'a> {
         ensures refusal { IfErr result (λ e. e ≡ out_of_memory) };
 }
 
-/// The key of a type that a type use can match (text format: type uses).
+/// The key of a type that a type use can match (text format: type uses). The only error of its
+/// calls is E12: allocation failed.
 ///
 /// # Example
 ///
@@ -173,29 +161,15 @@ pub trait TypeKey<'a> {
     /// Returns a type definition with this signature: final, without supertypes, with unnamed
     /// parameters.
     ///
-    /// # Example
-    ///
     ///     let def = found.to_def(alloc, at(3), true).expect(&rt, "memory");
     ///     assert!(rt; def.shared && def.final_type.is_none());
-    ///
-    /// # Errors
-    ///
-    /// E12: allocation failed. The lists of the definition are allocated.
     fn to_def(&self, alloc: Global, span: Span, shared: bool) -> Result<TypeDef<'a>, Error<'a>>
         ensures def { IfOk result (λ d. d ≡ def_of (signature self.now) shared) }
         ensures refusal { IfErr result (λ e. e ≡ out_of_memory) };
 
-    /// Adds the key with an index, unless it has one.
+    /// Adds the key with an index, unless it has one. Other keys keep their indices.
     ///
     /// For example, a second call for the same key with another index changes nothing.
-    ///
-    /// # Errors
-    ///
-    /// E12: allocation failed. Nothing changes then.
-    ///
-    /// # Guarantees
-    ///
-    /// - `ok`: other keys keep their indices. `names`: the ids of types in `cx` are unchanged.
     fn insert(&self, cx: &mut Expander<'a>, index: Index<'a>) -> Result<(), Error<'a>>
         ensures ok { OnOk result (Extends cx.old.bound cx.new.bound ((signature self.now, index.entry) ∷ [])) }
         ensures names { cx.new.names ≡ cx.old.names }
@@ -264,18 +238,8 @@ impl<'a> TypeKey<'a> for FuncKey<'a> {
 
 /// Returns the key of a function type. Sorts the ids of types first, if that helps.
 ///
-/// [`TypeReference::key`] returns the same key, and searches a list of ids that is not sorted from
-/// its first id on. For example, the key of `(func (param (ref $t)))` has `(ref 0)` if `$t` is type
-/// 0.
-///
-/// # Errors
-///
-/// E12: allocation failed.
-///
-/// # Guarantees
-///
-/// - `ok`: the key has the signature, with each id of a source type replaced by its number.
-/// - `stays`: the map is unchanged.
+/// For example, the key of `(func (param (ref $t)))` has `(ref 0)` if `$t` is type 0.
+/// [`TypeReference::key`] returns the same key, but searches unsorted ids one by one.
 pub fn key_in<'a>(ty: &FunctionType<'a>, cx: &mut Expander<'a>) -> Result<FuncKey<'a>, Error<'a>>
     ensures ok { IfOk result (λ key. key ≡ numbered_signature (numbers_in cx.old) (signature_of ty.now)) }
     ensures stays { cx.new ≡ cx.old }

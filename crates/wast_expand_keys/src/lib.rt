@@ -2,8 +2,8 @@
 //! (text format: type uses).
 //!
 //! `wast_expand_types` resolves type uses with it, and `wast_resolve_rules` states the checks of
-//! resolving over its definitions. The two do not wait for one another's proofs. Callers meet its
-//! types through `wast_expand`.
+//! resolving over its definitions. The two do not wait for one another's proofs. `wast_expand`
+//! exports its types.
 //!
 //! # Example
 //!
@@ -19,12 +19,6 @@
 //!   `specs/Signatures.antt` is the rule for equal signatures.
 //! - `expanders`: [`Expander`], the map from signatures to types.
 //! - `examples`: example modules that the definitions compute.
-//!
-//! # Guarantees
-//!
-//! - [`TypeKey::lookup`] and [`put_key`]: a key finds the index that it or an equal key got first.
-//! - [`key_in`], clause `ok`: keys are compared by the numbers of the source's types, as
-//!   `numbered_signature` of `specs/Numbers.antt` defines it.
 #![tactic(auto)]
 
 mod examples;

@@ -1,4 +1,4 @@
-//! The pass that gives ids to types and indices to type uses.
+//! The pass that adds ids to types and indices to type uses.
 
 ghost use Rattle.std.specs.Prelude.{◌≡◌, ◌≤◌, ◌+◌, ◌++◌, All, IfOk, IfErr, IsTrue, OnOk};
 ghost use Rattle.wast_base.specs.Faults.{out_of_memory};
@@ -37,9 +37,13 @@ use wast_tree_nodes::{
 ///
 /// If no eligible type has a signature, one is appended after all fields, in the order of first
 /// use. In it, each id of a source type is replaced by its number. Types are referred to by id. A
-/// type without an id gets a generated one at its position, unless it is a member of a group. Ids
-/// and indices of the source are unchanged, and so are the inline types of functions, imports and
-/// tags. Generated ids are new if the counter is past `gensym_bound` of `wast_tree`.
+/// type without an id gets a generated one at its position, unless it is a member of a group.
+/// Generated ids are new if the counter is past `gensym_bound` of `wast_tree`. Ids and indices of
+/// the source are unchanged, and so are the inline types of functions, imports and tags.
+///
+/// For example, `(type (func)) (func) (func (param i32))` becomes
+/// `(type [1] (func)) (func (type [1]))`, `(func (type [2]) (param i32))` and
+/// `(type [2] (func (param i32)))`.
 ///
 /// # Example
 ///
@@ -47,29 +51,12 @@ use wast_tree_nodes::{
 ///     let count = expanded.len();
 ///     discard_fields(expanded);
 ///
-/// For example, `(type (func)) (func) (func (param i32))` becomes
-/// `(type [1] (func)) (func (type [1]))`, `(func (type [2]) (param i32))` and
-/// `(type [2] (func (param i32)))`.
-///
 /// # Errors
 ///
 /// - E10: the counter would overflow a `u64`, or there are 2^32 source types or more.
 /// - E12: allocation failed.
 ///
-/// After an error the fields are dropped. The counter has its old value, because no id of this call
-/// is left.
-///
-/// # Guarantees
-///
-/// - `list`: the result is `expanded_fields`. `counted`: the counter rises by the number of ids
-///   generated.
-/// - `refusal`: the errors are those above. `stays`: after an error the counter has its old value.
-/// - `counter_grows`: the counter never falls.
-///
-/// # Memory
-///
-/// Allocates a list of the ids of types, a key for each eligible type and type use, and the
-/// appended types.
+/// After an error the fields are dropped, and the counter has its old value.
 pub fn expand<'a>(
     alloc: Global,
     fields: Seq<ModuleField<'a>>,
@@ -84,18 +71,11 @@ pub fn expand<'a>(
     expand_with(alloc, fields, gensym, false)
 }
 
-/// Does what [`expand`] does, and skips the bodies of functions if `skips_bodies`.
+/// Does what [`expand`] does, and skips the bodies of functions if `skips_bodies`, so that a second
+/// expansion does not walk over all instructions again.
 ///
-/// So a second expansion does not walk over all instructions again.
-///
-/// # Requires
-///
-/// With `skips_bodies` there must be nothing to resolve in function bodies: no type use needs a
-/// type, and each block has an index or an inline type (`IsPassedField`).
-///
-/// # Errors
-///
-/// As [`expand`].
+/// Skipped bodies must have nothing to resolve: no type use needs a type, and each block has an
+/// index or an inline type.
 pub fn expand_with<'a>(
     alloc: Global,
     fields: Seq<ModuleField<'a>>,

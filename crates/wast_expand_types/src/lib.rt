@@ -2,7 +2,7 @@
 //! does not define (text format: type uses).
 //!
 //! This is the second step of resolving: `wast_resolve` calls it after inline parts are expanded.
-//! Callers who need the step alone meet it through `wast_expand`.
+//! To call only this step, use `wast_expand`.
 //!
 //! # Example
 //!
@@ -18,14 +18,6 @@
 //! - `binding`, `constants`: one `impl` of `Bind` for each part of the tree. `binder`: the state
 //!   that they share. `type_names`: the ids of the source's types.
 //! - `laws`: theorems about the result.
-//!
-//! # Guarantees
-//!
-//! - `types::expand`, clause `list`: the result is exactly the list that `expanded_fields` defines.
-//! - `types::expand`, clauses `refusal` and `stays`: the only errors are E10 and E12, and they
-//!   restore the counter.
-//! - [`expanded_laws`]: each type use that needs a type has an index, and a second expansion
-//!   changes nothing.
 #![tactic(auto)]
 
 mod binder;

@@ -13,16 +13,15 @@ use wast_tree_nodes::ModuleField;
 /// Checks the order of imports and duplicate ids of fields, without changing them (text format:
 /// modules, identifiers).
 ///
-/// A tool can report these errors while the source is being edited. Any fields are accepted. An
-/// inline import counts as an import at its field.
-///
-/// # Example
-///
 ///     let late = told(&rt, alloc, defined(alloc, 9, 14), imported(alloc, 19, 24));
 ///     assert!(rt; late == Err(Error::new(at(19), Fault::ImportAfter("function"))));
 ///
 /// Here `told` calls `early_fault` on `(func $a) (func $a (import "m" "n"))`. The import comes
-/// after a definition.
+/// after a definition, because an inline import counts as an import at its field.
+///
+/// A tool can report these errors while the source is being edited. An error with a position is
+/// also the one of [`resolve`](crate::resolve). That call checks the uses too: ids at indices,
+/// labels, locals and inline types.
 ///
 /// # Errors
 ///
@@ -30,14 +29,6 @@ use wast_tree_nodes::ModuleField;
 /// - Then, in the order of the items: E2 two items of an index space have the same id; E3 two
 ///   fields of a struct do.
 /// - E10: an index space has 2^32 items or more, or a struct as many fields.
-/// - E12: allocation failed.
-///
-/// # Guarantees
-///
-/// - `met`: on success all these checks pass. Uses are not checked: ids at indices, labels, locals
-///   and inline types. [`resolve`](crate::resolve) checks them.
-/// - `refusal`: the errors are those above. By [`early_law`](crate::early_law) an error with a
-///   position is also the one of `resolve`.
 pub fn early_fault<'a>(alloc: Global, fields: &[ModuleField<'a>]) -> Result<(), Error<'a>>
     ensures met { OnOk result (first_unmet (early_demands fields.now) ≡ None) }
     ensures refusal { IfErr result (λ e.

@@ -6,14 +6,11 @@ ghost use Rattle.wast_resolve.specs.Laws.{SettledStays};
 pub use wast_resolve_laws::{early_law, label_law, naming_laws, resolved_laws, resting_laws};
 pub use wast_resolve_names::core_type_laws;
 
-/// States that an index that qualifies for look-ups before resolving qualifies afterwards (text
-/// format: indices).
+/// Theorem: an index that qualifies for look-ups before resolving qualifies afterwards (text
+/// format: indices). Call it in a proof to obtain its clause.
 ///
-/// The function does nothing. A proof calls it to obtain its clause, which holds for all fields and
-/// counters. A look-up of [`Names`](crate::Names) requires that a generated id is known. This is so
-/// if an item of the fields has that id.
-///
-/// # Example
+/// A look-up of [`Names`](crate::Names) requires that a generated id is known. This is so if an
+/// item of the fields has that id.
 ///
 ///     borne_law();
 ///     let names = module.resolve(alloc, gensym)?;

@@ -2,9 +2,7 @@
 //! names (text format: abbreviations, identifiers, indices, type uses).
 //!
 //! For callers who have fields without a module. `Module::resolve` of `wast_core` calls [`resolve`]
-//! on a text module.
-//!
-//! # Example
+//! on a text module. A call that allocates fails with E12 if allocation fails.
 //!
 //! For example, `(func $f (export "a"))` becomes
 //! `(export "a" (func 0)) (func $f (type 0)) (type [1] (func))`, with the generated id `[1]`.
@@ -13,21 +11,12 @@
 //!
 //! - `resolution`: [`resolve`], and [`Names`] for look-ups afterwards. The rules are in
 //!   `wast_resolve_rules`.
-//! - `early`: [`early_fault`], the checks that need no resolving. The rule is `Early` of
-//!   `wast_resolve_rules`.
+//! - `early`: [`early_fault`], the checks that need no resolving.
 //! - `stable`: whether function bodies can be skipped, because resolving changes nothing in them. So
 //!   a resolved module is encoded without a second walk over its instructions.
-//! - [`names`]: the last step of resolving alone, which `passes` has. [`laws`]: theorems.
+//! - [`names`]: the last step of resolving alone, which `passes` has.
+//! - [`laws`]: theorems for proofs of callers.
 //! - [`resolve_type`] and the like: the indices in a type, by a user-defined [`ResolveCoreType`].
-//!
-//! # Guarantees
-//!
-//! - [`resolve`], clauses `met` and `list`: on success all checks pass, and the fields are
-//!   `resolved_fields_from`.
-//! - [`resolve`], clauses `refusal` and `stays`: an error with a position is that of the first
-//!   check that fails, and errors restore the counter.
-//! - [`resolved_laws`], [`resting_laws`], [`naming_laws`], [`early_law`], [`label_law`],
-//!   [`borne_law`], [`core_type_laws`]: theorems for proofs of callers.
 #![tactic(auto)]
 
 mod early;

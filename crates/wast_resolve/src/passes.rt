@@ -19,43 +19,17 @@ use wast_tree_nodes::{ModuleField, discard_fields};
 /// Replaces each id in the fields by its index, and returns the ids with their indices (text
 /// format: indices).
 ///
-/// The new indices keep the positions of the ids. Any fields are accepted. Inline exports, imports,
-/// elements and data are unchanged. A type use without an index stays without one, because
-/// `types::expand` of `wast_expand_types` adds them.
-///
-/// # Example
-///
 ///     let (fields, resolver) = names::resolve(alloc, fields).expect(rt, "memory");
 ///     discard_fields(fields);
 ///
+/// The new indices keep the positions of the ids. Inline exports, imports, elements and data are
+/// unchanged. A type use without an index stays without one, because `types::expand` of
+/// `wast_expand_types` adds them.
+///
 /// # Errors
 ///
-/// The first check that fails, with its position. First, in the order of the items:
-///
-/// - E2: two items of an index space have the same id. After each struct, E3: two of its fields do.
-///
-/// Then, field by field:
-///
-/// - E4: an id is not defined, also one of a label, a local or a struct field.
-/// - E9: a field is named of a type that is not a struct with named fields.
-/// - E5, E6, E7: an inline type does not match the index beside it.
-/// - E2: two parameters or locals of a function have the same id.
-/// - E8: the label at an `else` or `end` is not that of its block.
-///
-/// Two errors have no position:
-///
-/// - E10: an index space has 2^32 items or more, or a struct as many fields. If no two items have
-///   the same id, also: a function has as many parameters and locals, or a body as many enclosing
-///   blocks.
-/// - E12: allocation failed.
-///
-/// After an error the fields are dropped.
-///
-/// # Guarantees
-///
-/// - `met`: on success all these checks pass. `list`: the fields are `resolved_fields`.
-/// - `names`, `scope`: the resolver has exactly the ids and types of the fields.
-/// - `refusal`: the errors are those above.
+/// The first check that fails, in the order of [`resolve`](crate::resolve), which lists them. There
+/// is no E1. E10 never comes from inline data or from the counter. The fields are then dropped.
 pub fn resolve<'a>(
     alloc: Global,
     fields: Seq<ModuleField<'a>>,

@@ -30,7 +30,13 @@ use wast_tree_nodes::ModuleField;
 /// The ids of a resolved module with their indices, for indices that a caller keeps outside the
 /// module (text format: indices).
 ///
-/// # Example
+/// A look-up replaces an id by its index, and leaves a number as it is. The new index keeps the
+/// position of the id, so that later errors still point into the source. If no item has the id, the
+/// look-up fails with E4 at the id, and leaves the index unchanged. No call allocates.
+///
+/// A generated id must be one that these names know. Numbers and ids from the source always
+/// qualify. For an index that was in the module before it was resolved, call
+/// [`borne_law`](crate::borne_law) to obtain this.
 ///
 ///     let names = module.resolve(alloc, gensym)?;
 ///     let mut read = Index::Id(Id::new("read", at(244)));
@@ -50,9 +56,7 @@ impl<'a> Model for Names<'a> {
 }
 
 impl<'a> Names<'a> {
-    /// Returns names without ids. Does not allocate.
-    ///
-    /// For example, a look-up of `$f` in them fails with E4.
+    /// Returns names without ids. For example, a look-up of `$f` in them fails with E4.
     #[tactic(auto, using(wast_resolve_spaces::proofs::Trying::nothing_known))]
     pub fn empty(alloc: Global) -> Self
         ensures names { known_to result ≡ id_context [] }
@@ -63,10 +67,9 @@ impl<'a> Names<'a> {
         }
     }
 
-    /// Returns the ids of a space with their indices, each once. Does not allocate.
-    ///
-    /// They are ordered by the bytes of the names. A source id comes before a generated one with
-    /// the same name, and generated ids with the same name are ordered by generation.
+    /// Returns the ids of a space with their indices, each once. They are ordered by the bytes of
+    /// the names. A source id comes before a generated one with the same name, and generated ids
+    /// with the same name are ordered by generation.
     ///
     /// For example, for `(module (func $b) (func $a))` the pairs of `Space::Func` are `$a` with 1
     /// and `$b` with 0.
@@ -76,30 +79,11 @@ impl<'a> Names<'a> {
         self.resolver.pairs(space)
     }
 
-    /// Replaces the id of a function by its index. A number is left as it is.
-    ///
-    /// The new index keeps the position of the id, so that later errors still point into the
-    /// source. Does not allocate.
-    ///
-    /// # Example
-    ///
-    /// In `(module (import "host" "ready" (func $ready)) (func $read))`, `$read` is function 1:
+    /// Replaces the id of a function by its index, or fails with E4.
     ///
     ///     names.resolve_func(&mut read)?;
     ///
-    /// # Requires
-    ///
-    /// A generated id must be one that these names know. Numbers and ids from the source always
-    /// qualify. For an index that was in the module before it was resolved, call
-    /// [`borne_law`](crate::borne_law) to obtain this.
-    ///
-    /// # Errors
-    ///
-    /// E4 at the position of the id, if no function has it. `idx` is then not changed.
-    ///
-    /// # Guarantees
-    ///
-    /// `met`, `refusal`: success and failure are exactly these. `index`: the new value of `idx`.
+    /// In `(module (import "host" "ready" (func $ready)) (func $read))`, `$read` is function 1.
     pub fn resolve_func(&self, idx: &mut Index<'a>) -> Result<(), Error<'a>>
         requires { IsSettledFor (known_to self.now) space.Func idx.old }
         ensures met { OnOk result (IsMetBy (known_to self.now) space.Func idx.old) }
@@ -110,18 +94,8 @@ impl<'a> Names<'a> {
         Ok(())
     }
 
-    /// Replaces the id of a memory by its index, as
-    /// [`resolve_func`](Names::resolve_func) does.
-    ///
-    /// Does not allocate. For example, in `(module (memory 1) (memory $m 1))`, `$m` becomes 1.
-    ///
-    /// # Requires
-    ///
-    /// A generated id must be one that these names know.
-    ///
-    /// # Errors
-    ///
-    /// E4 at the position of the id, if no memory has it.
+    /// Replaces the id of a memory by its index, or fails with E4. For example, in
+    /// `(module (memory 1) (memory $m 1))`, `$m` becomes 1.
     pub fn resolve_memory(&self, idx: &mut Index<'a>) -> Result<(), Error<'a>>
         requires { IsSettledFor (known_to self.now) space.Memory idx.old }
         ensures met { OnOk result (IsMetBy (known_to self.now) space.Memory idx.old) }
@@ -132,17 +106,8 @@ impl<'a> Names<'a> {
         Ok(())
     }
 
-    /// Replaces the id of a table by its index, as [`resolve_func`](Names::resolve_func) does.
-    ///
-    /// Does not allocate. For example, in `(module (table $t 1 funcref))` the index `$t` becomes 0.
-    ///
-    /// # Requires
-    ///
-    /// A generated id must be one that these names know.
-    ///
-    /// # Errors
-    ///
-    /// E4 at the position of the id, if no table has it.
+    /// Replaces the id of a table by its index, or fails with E4. For example, in
+    /// `(module (table $t 1 funcref))` the index `$t` becomes 0.
     pub fn resolve_table(&self, idx: &mut Index<'a>) -> Result<(), Error<'a>>
         requires { IsSettledFor (known_to self.now) space.Table idx.old }
         ensures met { OnOk result (IsMetBy (known_to self.now) space.Table idx.old) }
@@ -153,22 +118,9 @@ impl<'a> Names<'a> {
         Ok(())
     }
 
-    /// Replaces the id of a global by its index, as
-    /// [`resolve_func`](Names::resolve_func) does.
-    ///
-    /// Does not allocate.
-    ///
-    /// # Example
+    /// Replaces the id of a global by its index, or fails with E4.
     ///
     ///     names.resolve_global(&mut closed)?;
-    ///
-    /// # Requires
-    ///
-    /// A generated id must be one that these names know.
-    ///
-    /// # Errors
-    ///
-    /// E4 at the position of the id, if no global has it.
     pub fn resolve_global(&self, idx: &mut Index<'a>) -> Result<(), Error<'a>>
         requires { IsSettledFor (known_to self.now) space.Global idx.old }
         ensures met { OnOk result (IsMetBy (known_to self.now) space.Global idx.old) }
@@ -179,21 +131,9 @@ impl<'a> Names<'a> {
         Ok(())
     }
 
-    /// Replaces the id of a tag by its index, as [`resolve_func`](Names::resolve_func) does.
-    ///
-    /// Does not allocate.
-    ///
-    /// # Example
+    /// Replaces the id of a tag by its index, or fails with E4.
     ///
     ///     names.resolve_tag(&mut stop)?;
-    ///
-    /// # Requires
-    ///
-    /// A generated id must be one that these names know.
-    ///
-    /// # Errors
-    ///
-    /// E4 at the position of the id, if no tag has it.
     pub fn resolve_tag(&self, idx: &mut Index<'a>) -> Result<(), Error<'a>>
         requires { IsSettledFor (known_to self.now) space.Tag idx.old }
         ensures met { OnOk result (IsMetBy (known_to self.now) space.Tag idx.old) }
@@ -204,21 +144,9 @@ impl<'a> Names<'a> {
         Ok(())
     }
 
-    /// Replaces the id of a type by its index, as [`resolve_func`](Names::resolve_func) does.
-    ///
-    /// Does not allocate.
-    ///
-    /// # Example
+    /// Replaces the id of a type by its index, or fails with E4.
     ///
     ///     names.resolve_type(&mut reader)?;
-    ///
-    /// # Requires
-    ///
-    /// A generated id must be one that these names know.
-    ///
-    /// # Errors
-    ///
-    /// E4 at the position of the id, if no type has it.
     pub fn resolve_type(&self, idx: &mut Index<'a>) -> Result<(), Error<'a>>
         requires { IsSettledFor (known_to self.now) space.Ty idx.old }
         ensures met { OnOk result (IsMetBy (known_to self.now) space.Ty idx.old) }
@@ -229,18 +157,8 @@ impl<'a> Names<'a> {
         Ok(())
     }
 
-    /// Replaces the id of an element segment by its index, as
-    /// [`resolve_func`](Names::resolve_func) does.
-    ///
-    /// Does not allocate. For example, in `(module (elem $e func))` the index `$e` becomes 0.
-    ///
-    /// # Requires
-    ///
-    /// A generated id must be one that these names know.
-    ///
-    /// # Errors
-    ///
-    /// E4 at the position of the id, if no element segment has it.
+    /// Replaces the id of an element segment by its index, or fails with E4. For example, in
+    /// `(module (elem $e func))` the index `$e` becomes 0.
     pub fn resolve_elem(&self, idx: &mut Index<'a>) -> Result<(), Error<'a>>
         requires { IsSettledFor (known_to self.now) space.Elem idx.old }
         ensures met { OnOk result (IsMetBy (known_to self.now) space.Elem idx.old) }
@@ -251,18 +169,8 @@ impl<'a> Names<'a> {
         Ok(())
     }
 
-    /// Replaces the id of a data segment by its index, as
-    /// [`resolve_func`](Names::resolve_func) does.
-    ///
-    /// Does not allocate. For example, in `(module (data $d "a"))` the index `$d` becomes 0.
-    ///
-    /// # Requires
-    ///
-    /// A generated id must be one that these names know.
-    ///
-    /// # Errors
-    ///
-    /// E4 at the position of the id, if no data segment has it.
+    /// Replaces the id of a data segment by its index, or fails with E4. For example, in
+    /// `(module (data $d "a"))` the index `$d` becomes 0.
     pub fn resolve_data(&self, idx: &mut Index<'a>) -> Result<(), Error<'a>>
         requires { IsSettledFor (known_to self.now) space.Data idx.old }
         ensures met { OnOk result (IsMetBy (known_to self.now) space.Data idx.old) }
@@ -277,12 +185,8 @@ impl<'a> Names<'a> {
 /// Resolves the fields of a module: desugars and checks them, and replaces every id by the index
 /// that it names (text format: abbreviations, identifiers, indices, type uses).
 ///
-/// Each field is replaced by its expansion, as [`deinline::run`] describes. After all fields comes
-/// a type for each signature that a type use needs and no eligible type has. The returned [`Names`]
-/// look up more ids.
-///
-/// Generated ids are numbered in this order: items that inline parts refer to, types without an id,
-/// appended types.
+/// For example, `(func $f (export "a"))` becomes
+/// `(export "a" (func 0)) (func $f (type 0)) (type [1] (func))`, with the generated id `[1]`.
 ///
 /// # Example
 ///
@@ -295,12 +199,13 @@ impl<'a> Names<'a> {
 ///         Err(_) => assert!(rt; false),
 ///     }
 ///
-/// For example, `(func $f (export "a"))` becomes
-/// `(export "a" (func 0)) (func $f (type 0)) (type [1] (func))`, with the generated id `[1]`.
+/// Each field is replaced by its expansion, as [`deinline::run`] describes. After all fields comes
+/// a type for each signature that a type use needs and no eligible type has. The returned [`Names`]
+/// look up more ids.
 ///
-/// # Requires
-///
-/// The id counter is past every generated id in the fields: above `gensym_bound` of `wast_tree`.
+/// Generated ids are numbered in this order: items that inline parts refer to, types without an id,
+/// appended types. The id counter must be past every generated id in the fields: above
+/// `gensym_bound` of `wast_tree`.
 ///
 /// # Errors
 ///
@@ -314,7 +219,7 @@ impl<'a> Names<'a> {
 ///
 /// Then, field by field:
 ///
-/// - E4: an id is not defined.
+/// - E4: an id is not defined, also one of a label, a local or a struct field.
 /// - E9: a field is named of a type that is not a struct with named fields.
 /// - E5, E6, E7: an inline type does not match the index beside it.
 /// - E2: two parameters or locals of a function have the same id.
@@ -329,13 +234,6 @@ impl<'a> Names<'a> {
 ///
 /// After an error the fields are dropped. The counter has its old value, because no id of this call
 /// is left.
-///
-/// # Guarantees
-///
-/// - `met`: on success all these checks pass. `list`: the fields are `resolved_fields_from`.
-/// - `names`: the names have exactly the ids of the result. `refusal`: the errors are those above.
-/// - `counter`: the counter rises by the number of ids generated. `counter_grows`: it never falls.
-/// - `stays`: after an error the counter has its old value.
 pub fn resolve<'a>(
     alloc: Global,
     fields: Seq<ModuleField<'a>>,
@@ -382,10 +280,8 @@ fn resolve_from<'a>(
 }
 
 /// Gives an index to each type use that needs one, and appends types. Also returns whether function
-/// bodies can be skipped, because nothing is left to resolve in them.
-///
-/// For example, those of a module that was resolved before can be skipped, if no `else` or `end`
-/// repeats a label. After an error the fields are dropped.
+/// bodies can be skipped, because nothing is left to resolve in them. This is so for a module that
+/// was resolved before, if no `else` or `end` repeats a label.
 fn expand_types<'a>(
     alloc: Global,
     fields: Seq<ModuleField<'a>>,
@@ -404,8 +300,6 @@ fn expand_types<'a>(
 }
 
 /// Drops names, and frees their memory.
-///
-/// # Example
 ///
 ///     discard_names(names);
 pub fn discard_names(names: Names<'_>) {

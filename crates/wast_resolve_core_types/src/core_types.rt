@@ -42,26 +42,13 @@ pub trait ResolveCoreType<'a> {
 }
 
 /// Resolves each index in a type: supertypes, descriptor and describes first, then the composite
-/// type.
-///
-/// Stops at the first error of the resolver. The indices after it are unchanged, and so is
-/// everything that is not an index. Allocates only if the resolver does.
+/// type. Nothing but indices changes.
 ///
 /// For example, with a resolver that returns 0 for `$a`, `(type (sub $a (func (param (ref $a)))))`
 /// becomes `(type (sub 0 (func (param (ref 0)))))`.
 ///
-/// # Requires
-///
-/// Each index in the type has what the resolver requires (`needs`).
-///
-/// # Errors
-///
-/// The first error of the resolver.
-///
-/// # Guarantees
-///
-/// - `calls`: the resolver is called on each index in order. `rest`: nothing but indices changes.
-/// - `kept`: an index that qualified (`needs`) before still qualifies.
+/// Fails with the first error of the resolver. The indices after it are unchanged. Allocates only
+/// if the resolver does.
 pub fn resolve_type<'a, C: ResolveCoreType<'a>>(
     cx: &mut C,
     ty: &mut Type<'a>,
@@ -75,8 +62,8 @@ pub fn resolve_type<'a, C: ResolveCoreType<'a>>(
     Ok(())
 }
 
-/// Resolves each index in a type definition, in the order of [`resolve_type`], with the same
-/// requirements and errors.
+/// Resolves each index in a type definition, in the order of [`resolve_type`] and with the same
+/// errors.
 ///
 /// For example, with a resolver that returns 0 for `$a`, `(sub $a (func))` becomes
 /// `(sub 0 (func))`.
@@ -93,8 +80,8 @@ pub fn resolve_type_def<'a, C: ResolveCoreType<'a>>(
     Ok(())
 }
 
-/// Resolves each index in a function type: parameters first, then results. Requirements and errors
-/// are those of [`resolve_type`].
+/// Resolves each index in a function type: parameters first, then results. The errors are those of
+/// [`resolve_type`].
 ///
 /// For example, with a resolver that returns 0 for `$a`, `(func (param (ref $a)))` becomes
 /// `(func (param (ref 0)))`.
@@ -111,9 +98,7 @@ pub fn resolve_type_func<'a, C: ResolveCoreType<'a>>(
     Ok(())
 }
 
-/// Resolves each index in a value type. Requirements and errors are those of [`resolve_type`].
-///
-/// # Example
+/// Resolves each index in a value type. The errors are those of [`resolve_type`].
 ///
 ///     assert!(rt; resolve_valtype(&mut cx, &mut value) == Ok(()));
 pub fn resolve_valtype<'a, C: ResolveCoreType<'a>>(
@@ -129,9 +114,7 @@ pub fn resolve_valtype<'a, C: ResolveCoreType<'a>>(
     Ok(())
 }
 
-/// Resolves each index in a reference type. Requirements and errors are those of [`resolve_type`].
-///
-/// # Example
+/// Resolves each index in a reference type. The errors are those of [`resolve_type`].
 ///
 ///     assert!(rt; resolve_reftype(&mut cx, &mut reference) == Ok(()));
 pub fn resolve_reftype<'a, C: ResolveCoreType<'a>>(
@@ -147,9 +130,7 @@ pub fn resolve_reftype<'a, C: ResolveCoreType<'a>>(
     Ok(())
 }
 
-/// Resolves each index in a heap type. Requirements and errors are those of [`resolve_type`].
-///
-/// # Example
+/// Resolves each index in a heap type. The errors are those of [`resolve_type`].
 ///
 ///     assert!(rt; resolve_heaptype(&mut cx, &mut heap) == Ok(()));
 pub fn resolve_heaptype<'a, C: ResolveCoreType<'a>>(
@@ -165,10 +146,8 @@ pub fn resolve_heaptype<'a, C: ResolveCoreType<'a>>(
     Ok(())
 }
 
-/// Resolves each index in the storage type of a struct field or an array. Requirements and errors
-/// are those of [`resolve_type`].
-///
-/// # Example
+/// Resolves each index in the storage type of a struct field or an array. The errors are those of
+/// [`resolve_type`].
 ///
 ///     assert!(rt; resolve_storagetype(&mut cx, &mut storage) == Ok(()));
 pub fn resolve_storagetype<'a, C: ResolveCoreType<'a>>(

@@ -1,7 +1,7 @@
 //! Resolves the indices in a type by a user-defined function (text format: types, indices).
 //!
 //! `wast_resolve_names` implements [`ResolveCoreType`] for the ids of a module, and
-//! `wast_resolve_passes` resolves types with it. Callers meet the calls through `wast_resolve`.
+//! `wast_resolve_passes` resolves types with it. `wast_resolve` exports the calls.
 //!
 //! # Example
 //!
@@ -11,11 +11,6 @@
 //! # Modules
 //!
 //! - `core_types`: the calls. The rule is `CallsOn` of `specs/CoreTypes.antt`.
-//!
-//! # Guarantees
-//!
-//! - [`resolve_type`] and the like, clause `calls`: the calls are on each index in order, up to the
-//!   first error. `rest`: nothing but indices changes.
 #![tactic(auto)]
 
 mod core_types;

@@ -46,7 +46,7 @@ fn has_label<'a>(block: &Option<Id<'a>>, own: u16, mark: u16, id: &Id<'a>) -> bo
     is_labelled(block, id)
 }
 
-/// The same, by name.
+/// Does the same by name.
 fn is_labelled<'a>(block: &Option<Id<'a>>, id: &Id<'a>) -> bool
     ensures { result ≡ is_called (name_of id.now) (label_of block.now) }
 {

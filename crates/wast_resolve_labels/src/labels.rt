@@ -26,16 +26,18 @@ const DUE: usize = 256;
 /// The enclosing blocks of an instruction, by their labels (text format: control instructions,
 /// labels).
 ///
-/// Its model in contracts is the list of labels, innermost first.
+/// Its model in contracts is the list of labels, innermost first. Only [`open`](Labels::open),
+/// [`reach`](Labels::reach) and [`reach_all`](Labels::reach_all) allocate. If allocation fails, the
+/// blocks do not change.
 ///
 /// Look-ups compare the blocks that are not indexed, one by one, and then use an index of the
 /// others, which are the outermost. Each block has a mark, made of the length and the last byte of
 /// its label. Blocks with another mark are skipped.
 ///
-/// If [`reach`](Labels::reach) is called before each look-up, blocks are indexed as soon as
-/// comparing them has taken as long as indexing them. So apart from the 16 innermost, all look-ups
-/// together compare at most a few hundred blocks for each block that is opened, however deep the
-/// nesting is.
+/// If `reach` is called before each look-up, blocks are indexed as soon as comparing them has taken
+/// as long as indexing them. So apart from the 16 innermost, all look-ups together compare at most
+/// a few hundred blocks for each block that is opened, however deep the nesting is. This is tested,
+/// not proved.
 ///
 /// # Example
 ///
@@ -73,7 +75,7 @@ impl<'a> Model for Labels<'a> {
 }
 
 impl<'a> Labels<'a> {
-    /// Creates an empty list: no enclosing blocks. Does not allocate.
+    /// Creates an empty list: no enclosing blocks.
     pub fn new(alloc: Global) -> Self
         ensures { result ≡ [] }
     {
@@ -87,28 +89,17 @@ impl<'a> Labels<'a> {
     }
 
     /// Returns whether there are 4,294,967,295 enclosing blocks, so that no more can be opened.
-    /// Does not allocate.
     pub fn is_full(&self) -> bool
         ensures { IsTrue result ↔ (2 ^ 32 ≤ length self.now + 1) }
     {
         self.open.len() >= u32::MAX as usize
     }
 
-    /// Opens a block with its label, if it has one. It is the innermost block then.
-    ///
-    /// # Example
+    /// Opens a block with its label, if it has one. It is then the innermost block. Test
+    /// [`is_full`](Labels::is_full) first.
     ///
     ///     assert!(rt; !labels.is_full());
     ///     labels.open(label).expect(rt, "memory");
-    ///
-    /// # Requires
-    ///
-    /// There are fewer than 4,294,967,295 enclosing blocks: [`is_full`](Labels::is_full) returns
-    /// `false`.
-    ///
-    /// # Errors
-    ///
-    /// `AllocError`: allocation failed. Nothing changes then.
     pub fn open(&mut self, label: Option<Id<'a>>) -> Result<(), AllocError>
         requires { length self.old + 1 < 2 ^ 32 }
         ensures ok { OnOk result (self.new ≡ name_if (mark_of_option label.entry) ∷ self.old) }
@@ -131,20 +122,13 @@ impl<'a> Labels<'a> {
     /// - none of the innermost blocks has it: at most 16 that are not indexed;
     /// - comparing the others has taken as long by now as indexing them does.
     ///
+    /// A block is indexed once, however many labels are looked up.
+    ///
     /// # Example
     ///
     ///     let mut branch = Index::Id(id(text.as_str()));
     ///     labels.reach(&branch).expect(rt, "memory");
     ///     assert!(rt; labels.number(&mut branch) == Ok(want));
-    ///
-    /// # Errors
-    ///
-    /// `AllocError`: allocation failed. Depths do not change then either.
-    ///
-    /// # Memory
-    ///
-    /// Allocates only if it indexes blocks. A block is indexed once, however many labels are looked
-    /// up.
     pub fn reach(&mut self, idx: &Index<'a>) -> Result<(), AllocError>
         ensures { self.new ≡ self.old }
     {
@@ -158,16 +142,10 @@ impl<'a> Labels<'a> {
 
     /// Prepares for looking up a label that no innermost block has, like [`reach`](Labels::reach).
     ///
-    /// It indexes all enclosing blocks if more than 16 are not indexed, and comparing them has
-    /// taken as long by now as indexing them does.
-    ///
-    /// # Example
-    ///
     ///     labels.reach_all().expect(&rt, "memory");
     ///
-    /// # Errors
-    ///
-    /// `AllocError`: allocation failed. Depths do not change then either.
+    /// It indexes all enclosing blocks if more than 16 are not indexed, and comparing them has
+    /// taken as long by now as indexing them does.
     pub fn reach_all(&mut self) -> Result<(), AllocError>
         ensures { self.new ≡ self.old }
     {
@@ -203,9 +181,8 @@ impl<'a> Labels<'a> {
         true
     }
 
-    /// Returns whether each look-up is fast: at most 16 enclosing blocks are not indexed.
-    ///
-    /// Then [`reach`](Labels::reach) does nothing. Does not allocate.
+    /// Returns whether each look-up is fast: at most 16 enclosing blocks are not indexed. Then
+    /// [`reach`](Labels::reach) does nothing.
     #[inline(always)]
     pub fn is_near(&self) -> bool {
         self.open.len() - self.outer.len() <= NEAR
@@ -216,7 +193,7 @@ impl<'a> Labels<'a> {
         !self.is_near() && self.near(id).is_none()
     }
 
-    /// Closes the innermost block, if there is one. Does not allocate.
+    /// Closes the innermost block, if there is one.
     pub fn close(&mut self)
         ensures { self.new ≡ without_innermost self.old }
     {
@@ -228,10 +205,8 @@ impl<'a> Labels<'a> {
         }
     }
 
-    /// Returns the depth of a label: the number of blocks opened after the innermost one with it.
-    ///
-    /// The result is `None` if no enclosing block has the label. Its position is ignored. Does not
-    /// allocate.
+    /// Returns the depth of a label: how many enclosing blocks are inside the innermost one with
+    /// it. If no enclosing block has the label, it is `None`. The position of the id is ignored.
     ///
     /// # Example
     ///
@@ -290,19 +265,13 @@ impl<'a> Labels<'a> {
         Some(steps as u32)
     }
 
-    /// Replaces a label by its depth if that is fast, and returns whether it did.
-    ///
-    /// It is fast for a number, and for the label of one of the innermost blocks: at most 16 that
-    /// are not indexed. Otherwise the index is unchanged. Does not allocate.
-    ///
-    /// # Example
+    /// Replaces a label by its depth if that is fast, and returns whether it did. Otherwise the
+    /// index is unchanged.
     ///
     ///     assert!(&rt; labels.is_near() && !labels.try_number(&mut outermost));
     ///
-    /// # Guarantees
-    ///
-    /// - `met`, `index`: after `true` the result is that of [`Labels::number`] without an error.
-    /// - `stays`: after `false` the index is unchanged.
+    /// It is fast for a number, and for the label of one of the innermost blocks: at most 16 that
+    /// are not indexed. For the others call [`number`](Labels::number).
     #[inline(always)]
     pub fn try_number(&self, idx: &mut Index<'a>) -> bool
         ensures met { IsTrue result → first_unmet (known_index (number_among self.now) (codes "label") idx.old) ≡ None }
@@ -322,10 +291,8 @@ impl<'a> Labels<'a> {
         }
     }
 
-    /// Returns the depth of a label index, and replaces a label by its depth.
-    ///
-    /// A number is returned as it is. The new index keeps the position of the label. Does not
-    /// allocate.
+    /// Returns the depth of a label index, and replaces a label by its depth, at the position of
+    /// the label. A number is returned as it is.
     ///
     /// # Example
     ///
@@ -335,13 +302,8 @@ impl<'a> Labels<'a> {
     ///
     /// # Errors
     ///
-    /// E4 `label` at the position of the label, if no enclosing block has it. The index is
-    /// unchanged then.
-    ///
-    /// # Guarantees
-    ///
-    /// - `answer`: success and the error are exactly these.
-    /// - `number`, `index`: the result and the new index are the depth.
+    /// E4 `label` at the position of the label, if no enclosing block has it. The index is then
+    /// unchanged.
     pub fn number(&self, idx: &mut Index<'a>) -> Result<u32, Error<'a>>
         ensures answer { Outcome ⊥ ⊥ (first_unmet (known_index (number_among self.now) (codes "label") idx.old)) result }
         ensures number { IfOk result (λ n. denoted (number_among self.now) idx.old ≡ Some n) }
@@ -351,7 +313,6 @@ impl<'a> Labels<'a> {
     }
 
     /// Returns whether the innermost block has this label. Without enclosing blocks it is `false`.
-    /// Does not allocate.
     #[inline(always)]
     pub fn is_innermost(&self, id: &Id<'a>) -> bool
         ensures { result ≡ is_innermost (name_of id.now) self.now }
@@ -365,7 +326,7 @@ impl<'a> Labels<'a> {
     /// Returns whether `else` or `end` may repeat this label (text format: control instructions).
     ///
     /// It may be left out, or be that of the innermost block. Without enclosing blocks any label is
-    /// allowed, as in the `wast` crate. Does not allocate.
+    /// allowed, as in the `wast` crate.
     pub fn expects(&self, label: Option<Id<'a>>) -> bool
         ensures { result ≡ is_expected_label (name_if (mark_of_option label.entry)) self.now }
     {
@@ -375,7 +336,7 @@ impl<'a> Labels<'a> {
         }
     }
 
-    /// Checks the label at an `else` or `end`, before the block is closed. Does not allocate.
+    /// Checks the label at an `else` or `end`, before the block is closed.
     ///
     /// For example, in `block $a end $b` the label `$b` is E8.
     ///

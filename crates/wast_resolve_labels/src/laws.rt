@@ -2,20 +2,15 @@
 
 ghost use Rattle.wast_resolve_labels.specs.Laws.{StepsAsCounted, WalksAsCounted, HasFewBlocks, HasRoom, DenotesTheLast, DenotesNothing, ExpectsTheLast, ExpectsAny};
 
-/// States the theorems about walking an expression. It does nothing.
+/// Theorem: a walk over instructions has the blocks that are opened and not closed yet (text
+/// format: control instructions, labels).
 ///
-/// A walk opens a block at each opener and closes one at each closer. They hold for each list of
-/// instructions, reduced to their effects on blocks (text format: control instructions, labels).
-/// For example, after `block $a loop $b block nop end` the enclosing blocks are `$b`, `$a`.
+/// They are at most as many as the openers before the position. Before an opener they are fewer
+/// than all openers. The depth of a label is the number of unclosed openers after the last unclosed
+/// one with the label. Without such an opener it has no depth.
 ///
-/// # Guarantees
-///
-/// - `step`, `walk`: at each position the walk has the blocks that are opened and not closed.
-/// - `few`: they are at most as many as the openers before it.
-/// - `room`: before an opener they are fewer than all openers of the expression.
-/// - `denotes`: the depth of a label is the number of unclosed openers after the last unclosed one
-///   with the label.
-/// - `denotes_nothing`: a label has no depth if no unclosed opener has it.
+/// For example, after `block $a loop $b block nop end` the enclosing blocks are `$b`, `$a`. Call it
+/// in a proof to obtain its clauses.
 pub fn walking_law()
     ensures step { StepsAsCounted }
     ensures walk { WalksAsCounted }
@@ -25,17 +20,11 @@ pub fn walking_law()
     ensures denotes_nothing { DenotesNothing }
 {}
 
-/// States the theorems about labels at `else` and `end`. It does nothing.
+/// Theorem: which labels `else` and `end` may have (text format: control instructions, labels).
 ///
-/// They hold for each list of instructions, reduced to their effects on blocks (text format:
-/// control instructions, labels). For example, after `block $a` the label of `end $a` is allowed,
-/// and that of `end $b` is not.
-///
-/// # Guarantees
-///
-/// - `last`: if a block is open, a label is allowed exactly if it is that of the last unclosed
-///   opener.
-/// - `any`: if no block is open, any label is allowed.
+/// If a block is open, a label is allowed exactly if it is that of the last unclosed opener. If no
+/// block is open, any label is allowed. For example, after `block $a` the label of `end $a` is
+/// allowed, and that of `end $b` is not.
 pub fn expecting_law()
     ensures last { ExpectsTheLast }
     ensures any { ExpectsAny }

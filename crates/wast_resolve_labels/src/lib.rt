@@ -16,13 +16,6 @@
 //! - `index`: an index of blocks by label, for deep nesting. `marks`: two bytes of a label,
 //!   compared first.
 //! - `laws`: theorems for proofs about whole expressions. `examples`: an expression that computes.
-//!
-//! # Guarantees
-//!
-//! - `Labels::denotes`: returns the depth of the label, that is, the number of blocks that were
-//!   opened after the innermost one with the label.
-//! - `walking_law`, `expecting_law`: a walk over an expression has the blocks that its instructions
-//!   open and close. That look-ups are fast is tested, not proved.
 #![tactic(auto)]
 
 mod examples;

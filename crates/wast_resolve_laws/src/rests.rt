@@ -3,31 +3,17 @@
 ghost use Rattle.wast_resolve_laws.specs.WorkedRests.{Row27, Row9, Row48};
 ghost use Rattle.wast_resolve_laws.specs.Rests.{RestsMet, RestsStill, RestsByPosition, FillsNoMore, StartsStayWellFormed, StartsStayBelow, StartsAreMet, StartsComeBefore};
 
-/// States that resolving resolved fields changes nothing, also with start fields after them (text
-/// format: abbreviations, indices, start functions).
-///
-/// The function does nothing. A proof calls it to obtain its clauses.
-///
-/// # Example
+/// Theorem: resolving resolved fields changes nothing, also with start fields after them (text
+/// format: abbreviations, indices, start functions). Call it in a proof to obtain its clauses.
 ///
 /// For example, resolving `(func (type 0)) (type [1] (func)) (start 0)` returns the same fields.
 ///
-/// # Guarantees
+/// These start fields have numbers. All checks pass again if those of the original fields pass and
+/// the counter was past the generated ids in them. No id is generated.
 ///
-/// Clauses about checks assume that the counter was past the generated ids of the original fields.
-///
-/// For resolved fields, followed by any start fields with numbers:
-///
-/// - `met`: if the checks of the original fields pass, all checks pass again. `well_formed`:
-///   likewise for well-formed fields.
-/// - `still`, `by_position`: resolving them again changes nothing. `fills`: it generates no id.
-///
-/// For any fields, followed by start fields whose generated ids are those of functions:
-///
-/// - `below`: the greatest generated id is that of the fields.
-/// - `starts_met`: if each start field names a function, the checks still pass.
-/// - `starts`: after resolving, the start fields come before the appended types, and other fields
-///   are the same.
+/// Start fields with generated ids of functions may follow any fields. The greatest generated id is
+/// still that of the fields. If each start field names a function, the checks still pass. After
+/// resolving, the start fields come before the appended types, and other fields are the same.
 #[tactic(auto, using(crate::proofs::Rested::rests_are_met, crate::proofs::Rested::rests_by_position, crate::proofs::Rested::fills_no_more, crate::proofs::Rested::starts_stay_well_formed, crate::proofs::StartsKept::starts_stay_below, crate::proofs::StartsFinished::starts_are_met))]
 pub fn resting_laws()
     ensures met { RestsMet }

@@ -25,10 +25,10 @@ const SPREAD: u64 = 0x9e37_79b9_7f4a_7c15;
 
 /// An index space, with a hash table of positions.
 ///
-/// A cached position is only a hint. The id at that position is compared, and if it differs or
-/// there is no position, the index space is searched.
-///
 /// For example, `$f` in the index space of `(func $f) (func)` has the number 0.
+///
+/// A cached position is only a hint. The id at that position is compared. If it differs or there is
+/// no position, the index space is searched. Only [`filled`] allocates.
 #[derive(Drop)]
 pub struct CachedNames<'a> {
     names: Namespace<'a>,
@@ -47,16 +47,14 @@ impl<'a> Model for CachedNames<'a> {
 }
 
 impl<'a> CachedNames<'a> {
-    /// Returns an empty index space with count 0. Does not allocate.
-    ///
-    /// For example, it is the index space of no items.
+    /// Returns an empty index space with count 0.
     pub fn new(alloc: Global) -> Self
         ensures { result ≡ empty_from 0 }
     {
         CachedNames::with_count(alloc, 0)
     }
 
-    /// Returns an index space without ids, with this count. Does not allocate.
+    /// Returns an index space without ids, with this count.
     ///
     /// For example, with count 2 it is the index space of `(func) (func)`.
     pub fn with_count(alloc: Global, count: u32) -> Self
@@ -76,8 +74,7 @@ impl<'a> CachedNames<'a> {
         Ok(CachedNames { names, slots })
     }
 
-    /// Returns the number of an id, if it is known. Its position does not matter. Does not
-    /// allocate.
+    /// Returns the number of an id, if it is known. Its position does not matter.
     pub fn find(&self, id: &Id<'a>) -> Option<u32>
         ensures { result ≡ number_in self.now (name_of id.now) }
     {
@@ -88,8 +85,7 @@ impl<'a> CachedNames<'a> {
         self.names.find(id)
     }
 
-    /// Returns the ids with their numbers, each once, as [`Namespace::pairs`] does. Does not
-    /// allocate.
+    /// Returns the ids with their numbers, each once, as [`Namespace::pairs`] does.
     pub fn pairs(&self) -> &[(Id<'a>, u32)]
         ensures { entries_of result.now ≡ finmap.entries self.now.names }
     {
@@ -108,9 +104,9 @@ impl<'a> Numbering<'a> for CachedNames<'a> {
 /// Returns the index space of collected items, or the position of the first item with an id of an
 /// earlier one.
 ///
-/// Allocates only for more than 16 ids: for the hash table, and to sort more than 20.
-///
 /// For example, it returns the position 2 for `$a`, `$b` and `$a`.
+///
+/// Allocates only for more than 16 ids: for the hash table, and to sort more than 20.
 pub fn filled<'a>(
     gathering: NamespaceBuilder<'a>,
     alloc: Global,

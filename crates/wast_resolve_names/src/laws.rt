@@ -5,21 +5,14 @@ ghost use Rattle.wast_tree_map.specs.Mapped.{mapped_heap, mapped_ref, mapped_val
 ghost use Rattle.wast_resolve_core_types.specs.CoreTypes.{with_def};
 ghost use Rattle.wast_resolve_names.specs.Laws.{ByResolver, NeedsOfResolver};
 
-/// States theorems about the calls of [`ResolveCoreType`](crate::ResolveCoreType) with a
-/// [`Resolver`](crate::Resolver).
+/// Theorem: with a [`Resolver`](crate::Resolver), the calls of `wast_resolve_core_types` replace
+/// the ids in a type by the numbers of the module's types (text format: types, indices).
 ///
-/// The function does nothing. A proof calls it to obtain its clauses.
+/// If an id is not that of a type, the error is E4 at the first such id. Generated ids must be
+/// those of types, as in well-formed fields.
 ///
-/// For example, if each id in `(func (param (ref $a)))` is defined, `resolve_type_func` returns it
-/// with numbers.
-///
-/// # Guarantees
-///
-/// - `types`, `defs`, `functions`, `values`, `references`, `heaps`, `storages`: if each id in the
-///   part is a type of the module, the part gets its numbers. Otherwise the error is E4 at the
-///   first that is not.
-/// - `types_needs` and the like: the call's requirement holds if each generated id in the part is
-///   that of a type, as in well-formed fields.
+/// For example, if each id in `(func (param (ref $a)))` is defined, `resolve_type_func` replaces it
+/// by its number. Call it in a proof to obtain its clauses.
 #[tactic(auto, using(crate::proofs::CallingNames::by_resolver, crate::proofs::CallingNames::needs_of_resolver, wast_resolve_core_types::proofs::PartsOfTypes::heap_part, wast_resolve_core_types::proofs::PartsOfTypes::ref_part, wast_resolve_core_types::proofs::PartsOfTypes::val_part, wast_resolve_core_types::proofs::PartsOfTypes::storage_part))]
 pub fn core_type_laws()
     ensures types { ByResolver in_type with_def }

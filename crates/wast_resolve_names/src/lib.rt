@@ -1,8 +1,8 @@
 //! The ids and types of a module, and look-ups in them (text format: identifiers, indices, types).
 //!
 //! `wast_resolve_spaces` makes a [`Resolver`] of the fields of a module, and `wast_resolve_passes`
-//! replaces ids by what it looks up. The two do not wait for one another's proofs. Callers meet the
-//! resolver through `wast_resolve`.
+//! replaces ids by what it looks up. The two do not wait for one another's proofs. `wast_resolve`
+//! exports the resolver.
 //!
 //! # Example
 //!
@@ -17,12 +17,6 @@
 //!   inline types.
 //! - `listed_ids`: the ids of fields of a struct, of parameters and of locals.
 //! - `laws`: theorems about types that are resolved with a [`Resolver`].
-//!
-//! # Guarantees
-//!
-//! - [`Resolver::number`]: an index gets its number, or the error is E4 at the id.
-//! - [`core_type_laws`]: with a [`Resolver`], the calls of `wast_resolve_core_types` number a type
-//!   like the pass does.
 #![tactic(auto)]
 
 mod guesses;

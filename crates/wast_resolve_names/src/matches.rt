@@ -129,17 +129,12 @@ pub trait TypeReference<'a> {
     /// The checks of the type beside an index.
     ghost matched: { Scope → Index → Self → List Demand };
 
-    /// Checks that the type at an index has the same kind and signature. Does not allocate, and
-    /// changes nothing.
+    /// Checks that the type at an index, which is a number, has the same kind and signature. Does
+    /// not allocate, and changes nothing.
     ///
     /// For example, `(param i32)` beside the index of `(type (func))` fails with E7.
     ///
     /// Indices are compared by the type that they name. An unknown id equals nothing.
-    ///
-    /// # Requires
-    ///
-    /// The index is a number.
-    ///
     /// # Errors
     ///
     /// At the position of the index: E6 no type has the number; E5 the type is not a function type;
@@ -150,15 +145,9 @@ pub trait TypeReference<'a> {
         ensures unchanged { self.new ≡ self.old };
 
     /// Replaces each id of a type in it by its index: those of the parameters, then those of the
-    /// results. Does not allocate.
-    ///
-    /// # Example
+    /// results. A generated id must be one that the resolver has. Does not allocate.
     ///
     ///     assert!(rt; names::TypeReference::resolve(&mut function, &cx) == Ok(()));
-    ///
-    /// # Requires
-    ///
-    /// A generated id must be one that the resolver has.
     ///
     /// # Errors
     ///

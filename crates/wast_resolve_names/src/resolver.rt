@@ -115,10 +115,10 @@ impl<'a> TypeShape<'a> {
 
 /// The ids of a module with their indices, and its types (text format: indices, types).
 ///
-/// # Example
-///
 ///     let (fields, resolver) = names::resolve(alloc, fields).expect(rt, "memory");
 ///     discard_fields(fields);
+///
+/// Look-ups do not allocate.
 #[derive(Drop)]
 pub struct Resolver<'a> {
     spaces: Vec<CachedNames<'a>>,
@@ -139,7 +139,7 @@ impl<'a> Model for Resolver<'a> {
 }
 
 impl<'a> Resolver<'a> {
-    /// Returns a resolver without ids and types. Does not allocate.
+    /// Returns a resolver without ids and types.
     ///
     /// For example, a look-up of `$f` in it fails with E4.
     pub fn empty(alloc: Global) -> Self
@@ -150,22 +150,14 @@ impl<'a> Resolver<'a> {
 
     /// Replaces an id by its index, and returns the number. A number is unchanged.
     ///
-    /// The new index keeps the position of the id. Does not allocate.
-    ///
     /// For example, in `(module (func $f) (func $g))` the index `$g` of `Ns::Func` becomes 1.
     ///
-    /// # Requires
-    ///
-    /// A generated id must be one that the resolver has. Numbers and source ids always qualify.
+    /// The new index keeps the position of the id. A generated id must be one that the resolver
+    /// has.
     ///
     /// # Errors
     ///
     /// E4 at the position of the id, if no item has it. The index is then unchanged.
-    ///
-    /// # Guarantees
-    ///
-    /// - `number`: the number is that of the item. `refusal`: the error is E4. `index`: the new
-    ///   value of `idx`.
     pub fn resolve(&self, idx: &mut Index<'a>, ns: Ns) -> Result<u32, Error<'a>>
         requires { IsSettledFor (known_of self.now) (space_of ns) idx.old }
         ensures number { IfOk result (λ n. denoted ((known_of self.now).number (space_of ns)) idx.old ≡ Some n) }
@@ -175,19 +167,13 @@ impl<'a> Resolver<'a> {
         self.number(idx, ns.space())
     }
 
-    /// Replaces an id by its index, and returns the number. Generated ids need not be known. Does
-    /// not allocate.
+    /// Does what [`resolve`](Resolver::resolve) does, but generated ids need not be known.
     ///
     /// For example, in `(module (func $f) (func $g))` the index `$g` of `Space::Func` becomes 1.
     ///
     /// # Errors
     ///
     /// E4 at the position of the id, if no item has it. The index is then unchanged.
-    ///
-    /// # Guarantees
-    ///
-    /// - `number`: the number is that of the item. `refusal`: the error is E4. `index`: the new
-    ///   value of `idx`.
     pub fn number(&self, idx: &mut Index<'a>, space: Space) -> Result<u32, Error<'a>>
         ensures number { IfOk result (λ n. denoted ((known_of self.now).number space) idx.old ≡ Some n) }
         ensures refusal { IfErr result (AnswersFor (known_of self.now) space idx.old) }
@@ -278,8 +264,7 @@ impl<'a> Resolver<'a> {
         }
     }
 
-    /// Returns the ids of a space with their numbers, each once, in the order of
-    /// [`Namespace::pairs`]. Does not allocate.
+    /// Returns the ids of a space with their numbers, each once, as [`CachedNames::pairs`] does.
     ///
     /// For example, for `(module (func $a) (func) (func $b))` the pairs of `Space::Func` are `$a`
     /// with 0 and `$b` with 2.
@@ -300,8 +285,8 @@ impl<'a> Resolver<'a> {
 ///
 /// For example, with the index space of `(func $f)` first, `$f` is function 0.
 ///
-/// A function and no method, as those below, because callers of `wast_resolve` meet the methods of
-/// [`Resolver`].
+/// It and the functions below are not methods, because methods of [`Resolver`] are public in
+/// `wast_resolve` too.
 pub fn resolver_of<'a>(alloc: Global, spaces: Vec<CachedNames<'a>>) -> Resolver<'a>
     ensures { result ≡ without_types spaces.entry.items }
 {

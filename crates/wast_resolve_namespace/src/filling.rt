@@ -16,7 +16,7 @@ use wast_base::{Id, Numbering, compare_names};
 /// The items of an index space in order, before their namespace is built.
 ///
 /// Its model in contracts is the list of their names. Building sorts all ids once, so it is faster
-/// than adding them one by one.
+/// than adding them one by one. The only error is `AllocError`: allocation failed.
 ///
 /// # Example
 ///
@@ -47,10 +47,6 @@ impl<'a> NamespaceBuilder<'a> {
     }
 
     /// Creates a builder without items, with memory for `room` ids.
-    ///
-    /// # Errors
-    ///
-    /// `AllocError`: allocation failed.
     pub fn new(alloc: Global, room: usize) -> Result<Self, AllocError>
         ensures { IfOk result (λ g. g ≡ []) }
     {
@@ -59,25 +55,13 @@ impl<'a> NamespaceBuilder<'a> {
         Ok(NamespaceBuilder { pairs, count: 0 })
     }
 
-    /// Adds an item, with its id if it has one.
-    ///
-    /// # Example
+    /// Adds an item, with its id if it has one. Test [`is_full`](NamespaceBuilder::is_full) first.
     ///
     ///     assert!(rt; !items.is_full());
     ///     items.add(item).expect(rt, "memory");
     ///
-    /// # Requires
-    ///
-    /// There are fewer than 4,294,967,295 items: [`is_full`](NamespaceBuilder::is_full) returns
-    /// `false`.
-    ///
-    /// # Errors
-    ///
-    /// `AllocError`: allocation failed. The builder is unchanged then.
-    ///
-    /// # Memory
-    ///
-    /// Allocates only if there are more ids than [`NamespaceBuilder::new`] reserved memory for.
+    /// Allocates only if there are more ids than [`NamespaceBuilder::new`] reserved memory for. If
+    /// that fails, the builder is unchanged.
     pub fn add(&mut self, id: Option<Id<'a>>) -> Result<(), AllocError>
         requires { length self.old + 1 < 2 ^ 32 }
         ensures ok { OnOk result (self.new ≡ self.old ++ name_if (mark_of_option id.entry) ∷ []) }
@@ -102,16 +86,8 @@ impl<'a> NamespaceBuilder<'a> {
     ///
     /// For example, the ids `$a $b $a $b` have the first duplicate at position 2.
     ///
-    /// # Example
-    ///
     ///     let none = gathered(rt, alloc, ids).first_clash(alloc);
     ///     assert!(rt; none.expect(rt, "memory") == None);
-    ///
-    /// # Errors
-    ///
-    /// `AllocError`: allocation failed.
-    ///
-    /// # Memory
     ///
     /// Allocates only if there are more than 20 ids, to sort them, and frees it.
     pub fn first_clash(self, alloc: Global) -> Result<Option<u32>, AllocError>
@@ -124,23 +100,11 @@ impl<'a> NamespaceBuilder<'a> {
 
     /// Returns the namespace of the items, or the position of the first duplicate.
     ///
-    /// # Example
-    ///
     ///     let filled = items.build(rt.alloc()).expect(&rt, "memory");
     ///     let mut space: Namespace<'_> = filled.expect(&rt, "no clash");
     ///
-    /// # Errors
-    ///
-    /// `AllocError`: allocation failed.
-    ///
-    /// # Guarantees
-    ///
-    /// The inner result is `Ok` exactly if no two items have the same name (`FillsSpace`). Then
-    /// each name has the position of its item.
-    ///
-    /// # Memory
-    ///
-    /// Allocates only if there are more than 20 ids, to sort them.
+    /// Each name has the position of its item. Allocates only if there are more than 20 ids, to
+    /// sort them.
     pub fn build(self, alloc: Global) -> Result<Result<Namespace<'a>, u32>, AllocError>
         ensures { IfOk result (FillsSpace self.entry) }
     {
@@ -154,19 +118,8 @@ impl<'a> NamespaceBuilder<'a> {
 
     /// Returns the namespace of the items, in which a duplicate id is that of the first item.
     ///
-    /// # Example
-    ///
     ///     let space: Namespace<'_> = items.build_first_wins(rt.alloc()).expect(&rt, "memory");
     ///     assert!(rt; space.find(&a) == Some(1) && space.find(&b) == Some(3));
-    ///
-    /// # Errors
-    ///
-    /// `AllocError`: allocation failed.
-    ///
-    /// # Guarantees
-    ///
-    /// - `names`: each name has the position of the first item with it.
-    /// - `count`: the count is the number of items.
     pub fn build_first_wins(&self, alloc: Global) -> Result<Namespace<'a>, AllocError>
         ensures names { IfOk result (Denotes self.now) }
         ensures count { IfOk result (λ s. s.count ≡ length self.now) }

@@ -276,8 +276,7 @@ pub fn leading(bytes: &[u8]) -> u64 {
     first_eight(bytes)
 }
 
-/// The same with a contract: if the numbers of two texts differ, the texts have the order of the
-/// numbers.
+/// Does the same, with a contract: if the numbers of two texts differ, the texts have their order.
 #[inline(always)]
 pub(crate) fn first_eight(text: &[u8]) -> u64
     ensures { IsHead text.now result }

@@ -14,13 +14,6 @@
 //! - `namespace`: look-ups, and adding one item at a time.
 //! - `filling`: building a namespace from all items, and finding the first duplicate id.
 //! - `sorting`, `heads`: sorting names, by eight bytes as one number if possible.
-//!
-//! # Guarantees
-//!
-//! - `Namespace::find`: returns the number in the model, a finite map. `Namespace::register`: E2
-//!   only if the id is in the namespace already, and success only if it is not.
-//! - `NamespaceBuilder::build`: the namespace has the position of each id, or the result is the
-//!   first duplicate.
 #![tactic(auto)]
 
 mod filling;

@@ -25,6 +25,7 @@ const FEW: usize = 32;
 ///
 /// Its model in contracts is both. Names are those of ids, without their positions. Look-ups are a
 /// binary search. Up to 32 names are searched linearly first. The count is at most 4,294,967,295.
+/// Adding an id can fail with E12: allocation failed. The namespace is then unchanged.
 ///
 /// # Example
 ///
@@ -71,29 +72,18 @@ impl<'a> Namespace<'a> {
         Namespace { names, count }
     }
 
-    /// Adds an item with its id, if it has one, and returns its number, which is the count before.
+    /// Adds an item, with its id if it has one, and returns its number, which is the count before.
+    /// Test [`is_full`](Namespace::is_full) first.
+    ///
+    ///     assert!(rt; space.register(Some(written("abcdefgh1")), "func") == Ok(1));
     ///
     /// A new name moves the greater ones in memory, so n calls take time that grows with n². To
     /// build a namespace of many items, use [`NamespaceBuilder`](crate::NamespaceBuilder).
     ///
-    /// # Example
-    ///
-    ///     assert!(rt; space.register(Some(written("abcdefgh1")), "func") == Ok(1));
-    ///
-    /// # Requires
-    ///
-    /// The count is below 4,294,967,295: [`is_full`](Namespace::is_full) returns `false`.
-    ///
     /// # Errors
     ///
-    /// - E2 at the position of the id, only if the namespace has the name already. `desc` is the
-    ///   kind of item in the message. The item is still counted, and the name has the new number.
-    /// - E12: allocation failed, only if there is an id. The namespace is unchanged then.
-    ///
-    /// # Guarantees
-    ///
-    /// - `answer`: success means that the name was not in the namespace, and the errors are these.
-    /// - `state`: the new namespace is the one described.
+    /// E2 at the id, if the namespace has the name already. The item is still counted, and the name
+    /// has the new number. `desc` is the kind of item in the message.
     pub fn register(&mut self, id: Option<Id<'a>>, desc: &'a str) -> Result<u32, Error<'a>>
         requires { self.old.count + 1 < 2 ^ 32 }
         ensures answer { Gives (IsTrue (is_some id.entry)) (first_unmet (new_item self.old desc.now (mark_of_option id.entry))) self.old.count result }
@@ -112,11 +102,7 @@ impl<'a> Namespace<'a> {
     }
 
     /// Adds an item without an id, and returns its number, which is the count before. Does not
-    /// allocate.
-    ///
-    /// # Requires
-    ///
-    /// The count is below 4,294,967,295: [`is_full`](Namespace::is_full) returns `false`.
+    /// allocate. Test [`is_full`](Namespace::is_full) first.
     pub fn alloc(&mut self) -> u32
         requires { self.old.count + 1 < 2 ^ 32 }
         ensures number { result ≡ self.old.count }
@@ -136,22 +122,14 @@ impl<'a> Namespace<'a> {
 
     /// Sets the number of an id, and leaves the count unchanged.
     ///
-    /// For example, the fields of a struct are numbered with it.
-    ///
-    /// # Example
-    ///
     ///     assert!(rt; space.register_specific(written("b"), 9, "func") == Ok(()));
+    ///
+    /// For example, the fields of a struct are numbered with it.
     ///
     /// # Errors
     ///
-    /// - E3 at the position of the id, only if the namespace has the name already. The name has the
-    ///   new number then.
-    /// - E12: allocation failed. The namespace is unchanged then.
-    ///
-    /// # Guarantees
-    ///
-    /// - `answer`: success means that the name was not in the namespace, and the errors are these.
-    /// - `state`: the new namespace is the one described.
+    /// E3 at the id, if the namespace has the name already. It has the new number all the same.
+    /// `desc` is the kind of item in the message.
     pub fn register_specific(
         &mut self,
         id: Id<'a>,
@@ -181,22 +159,13 @@ impl<'a> Namespace<'a> {
 
     /// Returns the number of an index, and replaces an id by its number. An unknown id is an error.
     ///
-    /// The new index keeps the position of the id, as in [`Namespace::try_resolve`]. Does not
-    /// allocate.
-    ///
-    /// # Requires
-    ///
-    /// A generated id is in the namespace. Numbers and ids from the source always qualify.
+    /// The new index keeps the position of the id, as in [`Namespace::try_resolve`]. A generated id
+    /// must be in the namespace. Does not allocate.
     ///
     /// # Errors
     ///
     /// E4 at the position of the id, if the namespace does not have it. `desc` is the kind of item
     /// in the message. The index is unchanged then.
-    ///
-    /// # Guarantees
-    ///
-    /// - `number`: the number is that of the index. `index`: the new index is the one described.
-    /// - `refusal`: an error is E4, and then the id is unknown.
     pub fn resolve(&self, idx: &mut Index<'a>, desc: &'a str) -> Result<u32, Error<'a>>
         requires { IsTrue (is_settled_index (number_in self.now) idx.old) }
         ensures number { IfOk result (λ n. denoted (number_in self.now) idx.old ≡ Some n) }
@@ -326,11 +295,8 @@ fn put_among<'a>(
 
 /// Returns E4 at the position of an id: the id is not defined.
 ///
-/// `ns` is the kind of item in the message, such as `func`.
-///
-/// # Requires
-///
-/// An id from the source, because a generated id has no text for the message.
+/// `ns` is the kind of item in the message, such as `func`. A generated id has no text for it, so
+/// the id must be from the source.
 pub fn resolve_error<'a>(id: Id<'a>, ns: &'a str) -> Error<'a>
     requires { IsTrue (not (is_generated (name_of id))) }
     ensures { diagnostic_of result ≡ At (Unknown ns.now (text_of (name_of id.entry))) (place_of id.entry) }

@@ -48,9 +48,8 @@ pub(crate) trait WalkConstants<'a> {
     /// The part of the tree that a change maps this one to.
     ghost mapped: { Change → Self → Self };
 
-    /// Resolves the part. Fails with the first check that fails, or without a position: E12 if
-    /// allocation for the blocks of an expression fails, E10 if it has 2^32 enclosing blocks or
-    /// more.
+    /// Resolves the part. Fails with the first check that fails. Or the error has no position: E12,
+    /// or E10 if an expression has 2^32 enclosing blocks or more.
     fn walk_constants(
         &mut self,
         alloc: alloc::Global,

@@ -830,8 +830,7 @@ fn walk_instrs<'a>(
 
 /// Resolves the instructions of an expression, in a function with these parameters and locals.
 ///
-/// Allocates for enclosing blocks. Fails with E12 if that fails, and with E10 if there are 2^32 of
-/// them or more.
+/// Allocates for enclosing blocks: E12 if that fails, E10 if there are 2^32 of them or more.
 pub(crate) fn walk_expression<'a>(
     alloc: Global,
     names: &Resolver<'a>,

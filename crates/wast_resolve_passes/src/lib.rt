@@ -2,7 +2,7 @@
 //! uses (text format: identifiers, indices, type uses).
 //!
 //! This is the last step of resolving: `wast_resolve` calls it with the ids and types that
-//! `wast_resolve_spaces` found. Callers who need the step alone meet it through `wast_resolve`.
+//! `wast_resolve_spaces` found.
 //!
 //! # Example
 //!
@@ -14,11 +14,6 @@
 //! - `walks`, `apart`, `constants`, `instrs`: one walk for each part of the tree (E4, E8, E9). The
 //!   rule is `resolved_fields` of `wast_resolve_rules`.
 //! - `locals`, `local_names`: the parameters and locals of a function (E2).
-//!
-//! # Guarantees
-//!
-//! - [`walk_fields`]: on success all checks pass, and the fields have their numbers. Otherwise an
-//!   error with a position is that of the first check that fails.
 #![tactic(auto)]
 
 mod apart;

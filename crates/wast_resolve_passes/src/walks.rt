@@ -473,7 +473,7 @@ fn walk_body<'a>(
 /// Resolves the contents of a function: the types of its locals, duplicate ids of parameters and
 /// locals, and the body. The type use has been resolved before, and has the same parameters.
 ///
-/// `skips_bodies` requires that nothing is left to resolve in the body, which is then skipped.
+/// With `skips_bodies` the body is skipped, so nothing may be left to resolve in it.
 fn walk_kind<'a>(
     alloc: Global,
     names: &Resolver<'a>,
@@ -539,16 +539,18 @@ fn walk_field<'a>(
     }
 }
 
-/// Resolves the fields, in order.
+/// Replaces each id in the fields by its index, in order (text format: identifiers, indices).
 ///
-/// Allocates for the ids of parameters and locals, and for enclosing blocks. Fails with E12 if
-/// allocation fails, and with E10 if a function has 2^32 parameters and locals, or an expression as
-/// many enclosing blocks.
+/// For example, `(func $f call $f)` becomes `(func $f call 0)`.
 ///
-/// # Requires
+/// With `skips_bodies` the bodies of functions are skipped. Then nothing may be left to resolve in
+/// them: each index is a number, and no check of a type use or a label can fail.
 ///
-/// With `skips_bodies` the bodies of functions are skipped, so nothing may be left to resolve in
-/// them: each index is a number, and no check of a type use or a label can fail (`IsNumberedField`).
+/// # Errors
+///
+/// - E2 or E4 to E9: the first check that fails.
+/// - E10: a function has 2^32 parameters and locals, or an expression as many enclosing blocks.
+/// - E12: allocation for ids or enclosing blocks failed.
 pub fn walk_fields<'a>(
     alloc: Global,
     names: &Resolver<'a>,

@@ -35,7 +35,7 @@ pub(crate) fn without_an_index()
     ensures twice { TwoFunctions }
 {}
 
-/// A number of no type is not checked.
+/// A number is not checked, even if no type has it.
 #[tactic(auto, using(crate::proofs::Worked::row24))]
 pub(crate) fn row24()
     ensures { Row24 }
@@ -56,8 +56,8 @@ pub(crate) fn fields_of_structs()
     ensures order { ClashesInOrder }
 {}
 
-/// Inline types beside an index: a different signature (E7), no such type (E6), and no function
-/// type (E5).
+/// Inline types beside an index: the signatures differ (E7), the type does not exist (E6), or is
+/// not a function type (E5).
 #[tactic(auto, using(crate::proofs::Worked::row14, crate::proofs::Worked::row22, crate::proofs::Worked::row23))]
 pub(crate) fn inline_types()
     ensures no_match { Row14 }

@@ -1,9 +1,9 @@
 //! Defines the checks of resolving, in the order in which they are reported, and what fields are
 //! resolved to (text format: identifiers, indices, modules).
 //!
-//! The crate has definitions and no functions for callers. The contracts of `wast_resolve_passes`,
-//! `wast_resolve_laws`, `wast_resolve` and `wast_core` use them. They are a separate crate, so that
-//! a change of a pass does not prove the example modules again.
+//! The crate has only definitions, for the contracts of `wast_resolve_passes`,
+//! `wast_resolve_laws`, `wast_resolve` and `wast_core`. It is a crate of its own, so that the
+//! example modules are not proved again after a change of a pass.
 //!
 //! # Example
 //!
@@ -19,12 +19,8 @@
 //! - `specs/Explicit.antt`: the fields after inline parts are expanded and types appended.
 //! - `specs/Resolved.antt`, `specs/Finished.antt`: the fields after ids are replaced by numbers.
 //! - `specs/Stripped.antt`: resolved fields without generated ids.
-//! - `examples`: example modules that the definitions compute.
-//!
-//! # Guarantees
-//!
-//! - Each function of `examples` proves that the definitions compute the result of its modules. For
-//!   example, `row32` proves that two types with one id fail with E2 at the second.
+//! - `examples`: example modules whose results the definitions compute. For example, `row32` has
+//!   two types with one id, which fail with E2 at the second.
 #![tactic(auto)]
 
 mod examples;

@@ -69,10 +69,7 @@ fn clash<'a>(space: Space, id: &Option<Id<'a>>) -> Option<Error<'a>>
 }
 
 /// Returns the position of the first field of a struct with the id of an earlier field, if there is
-/// one.
-///
-/// Allocates for the ids. Fails with E12 if that fails, and with E10 if there are 2^32 fields or
-/// more.
+/// one. Fails with E10 if there are 2^32 fields or more.
 fn try_fields<'a>(alloc: Global, fields: &[StructField<'a>]) -> Result<Option<u32>, Error<'a>>
     ensures found { IfOk result (HasFirstClash (map name_if (field_ids fields.now))) }
     ensures stops { IfErr result (λ e. Stops (diagnostic_of e) 0 (length (map name_if (field_ids fields.now)))) }
@@ -81,10 +78,8 @@ fn try_fields<'a>(alloc: Global, fields: &[StructField<'a>]) -> Result<Option<u3
     Ok(gathering.first_clash(alloc)?)
 }
 
-/// Returns E3 at the first field of a struct with the id of an earlier field, if there is one.
-///
-/// Allocates only if a field has an id. Returns E12 if that fails, and E10 if there are 2^32 fields
-/// or more.
+/// Returns E3 at the first field of a struct with the id of an earlier field, if there is one, or
+/// E10 if there are 2^32 fields or more. Allocates only if a field has an id.
 fn clash_among<'a>(alloc: Global, fields: &[StructField<'a>]) -> Option<Error<'a>>
     ensures { FindsAmong (field_ids fields.now) (option_map diagnostic_of result) }
 {
@@ -108,11 +103,10 @@ fn field_clash<'a>(id: &Option<Id<'a>>) -> Option<Error<'a>>
 }
 
 /// Returns the first duplicate in the order of the items: E2 at an item, or then E3 at a field of
-/// its struct.
+/// its struct. Returns E10 if a struct has 2^32 fields or more.
 ///
-/// Requires, for each space by rank, the position of the first item with an id of an earlier one.
-/// Allocates only for structs in which a field has an id. Returns E12 if that fails, and E10 if a
-/// struct has 2^32 fields or more.
+/// `clashes` has, for each space by rank, the position of the first item with the id of an earlier
+/// one. Allocates only for structs in which a field has an id.
 pub(crate) fn first_clash<'a>(
     alloc: Global,
     fields: &[ModuleField<'a>],

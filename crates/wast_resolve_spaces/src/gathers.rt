@@ -62,7 +62,7 @@ fn add_to<'a>(gathered: &mut Result<NamespaceBuilder<'a>, Error<'a>>, id: Option
     }
 }
 
-/// Returns an empty list with capacity for some ids. Fails with E12 if allocation fails.
+/// Returns an empty list with capacity for some ids.
 fn start<'a>(alloc: Global, ids: usize) -> Result<NamespaceBuilder<'a>, Error<'a>>
     ensures { Gathers (Ok []) [] result }
 {
@@ -89,7 +89,7 @@ fn start_each<'a>(
 /// Returns the items of each space, by rank, or an error for the space: E10 if it has 2^32 items or
 /// more, E12 if allocation fails.
 ///
-/// Allocates once for each space, and once for all. If the latter fails, the call fails with E12.
+/// Allocates once for each space, and once for all.
 pub(crate) fn gather<'a>(
     alloc: Global,
     fields: &[ModuleField<'a>],
@@ -107,10 +107,9 @@ pub(crate) fn gather<'a>(
     Ok(gatherer.gathered)
 }
 
-/// Returns the ids of the fields of a struct.
+/// Returns the ids of the fields of a struct. Fails with E10 if there are 2^32 fields or more.
 ///
-/// Allocates once, and only if a field has an id. Fails with E12 if that fails, and with E10 if
-/// there are 2^32 fields or more.
+/// Allocates once, and only if a field has an id.
 #[inline(always)]
 pub(crate) fn gather_fields<'a>(
     alloc: Global,

@@ -99,13 +99,10 @@ fn check_import<'e>(field: &ModuleField<'_>, last: Option<Space>) -> Result<(), 
     }
 }
 
-/// Checks that each import comes before all definitions. Does not allocate.
+/// Checks that each import comes before all definitions, or fails with E1 at the first that does
+/// not. Does not allocate.
 ///
 /// For example, `(func) (import "" "" (func))` fails at the import.
-///
-/// # Errors
-///
-/// E1 at the first import that comes after a definition.
 pub fn check_order<'e>(fields: &[ModuleField<'_>]) -> Result<(), Error<'e>>
     ensures { Outcome ⊥ ⊥ (first_unmet (order_demands fields.now)) result }
 {
@@ -128,18 +125,11 @@ fn check_list<'a, 'e>(fields: &mut Seq<ModuleField<'a>>) -> Result<(), Error<'e>
     check_order(fields.as_slice())
 }
 
-/// Returns the fields, if each import comes before all definitions. Does not allocate.
+/// Returns the fields, if each import comes before all definitions. Otherwise the fields are
+/// dropped, and the call fails with E1 at the first import that does not. Does not allocate.
 ///
 /// For example, `(import "" "" (func)) (func)` is returned, and `(func) (import "" "" (func))`
 /// fails at the import.
-///
-/// # Errors
-///
-/// E1 at the first import that comes after a definition. The fields are dropped.
-///
-/// # Guarantees
-///
-/// - `met`, `list`: on success the check passes, and the fields are unchanged. `refusal`: the error
 ///   is E1.
 pub fn in_order<'a>(fields: Seq<ModuleField<'a>>) -> Result<Seq<ModuleField<'a>>, Error<'a>>
     ensures met { OnOk result (first_unmet (order_demands fields.entry) ≡ None) }

@@ -18,10 +18,8 @@ use wast_expand_keys::{Expander, TypeReference};
 use wast_resolve_names::{CachedNames, TypeShape, filled, have_ids};
 use wast_tree_nodes::{FunctionType, InnerTypeKind, ModuleField, StructField, Type};
 
-/// Returns the ids of the fields of a struct with their numbers. No two are the same.
-///
-/// Allocates for the ids. Fails with E12 if that fails, and with E10 if there are 2^32 fields or
-/// more.
+/// Returns the ids of the fields of a struct with their numbers. No two ids may be the same. Fails
+/// with E10 if there are 2^32 fields or more.
 fn field_names<'a>(alloc: Global, fields: &[StructField<'a>]) -> Result<CachedNames<'a>, Error<'a>>
     requires { first_unmet (field_demands (field_ids fields.now)) ≡ None }
     ensures names { IfOk result (NamesFields (field_ids fields.now)) }
@@ -128,11 +126,10 @@ fn add_field<'a>(
     }
 }
 
-/// Returns the data of the types of a module, by index. Requires that no two fields of a struct
-/// have the same id.
+/// Returns the data of the types of a module, by index. No two fields of a struct may have the same
+/// id. Fails with E10 if a struct in which a field has an id has 2^32 fields or more.
 ///
-/// Allocates for each function type, and for each struct in which a field has an id. Fails with E12
-/// if that fails, and with E10 if such a struct has 2^32 fields or more.
+/// Allocates for each function type, and for each struct in which a field has an id.
 pub fn type_shapes<'a>(
     alloc: Global,
     fields: &[ModuleField<'a>],

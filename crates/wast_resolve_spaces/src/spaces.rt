@@ -35,7 +35,7 @@ fn try_space<'a>(
     }
 }
 
-/// Returns the ids of all items of the fields with their indices.
+/// Returns the ids of all items of the fields with their indices (text format: identifiers).
 ///
 /// For example, for `(module (func $f) (type $t (func)))` it has `$f` as function 0 and `$t` as
 /// type 0.
@@ -47,12 +47,6 @@ fn try_space<'a>(
 /// - E2: an item has the id of an earlier one in its space. After each struct, E3: a field has the
 ///   id of an earlier one.
 /// - E10: an index space has 2^32 items or more, or a struct as many fields.
-/// - E12: allocation failed.
-///
-/// # Guarantees
-///
-/// - `met`: on success no such duplicate exists. `names`: the ids and indices are those of the
-///   fields. `refusal`: the errors are those above.
 pub fn name_spaces<'a>(alloc: Global, fields: &[ModuleField<'a>]) -> Result<Resolver<'a>, Error<'a>>
     ensures met { OnOk result (first_unmet (item_demands (items fields.now)) ≡ None) }
     ensures names { IfOk result (λ r. known_of r ≡ id_context (items fields.now)) }

@@ -18,13 +18,6 @@
 //!
 //! The rules are in `specs/`: `Answers` defines the line of a module, `Runs` what a run reads and
 //! writes, and `Starting` what adding a start field returns.
-//!
-//! # Guarantees
-//!
-//! - [`run`]: each line of the output is the line of the module with that number. After an error the
-//!   output is a prefix of such lines. This holds for readers and writers with known bytes.
-//! - [`add_start`], `answer`: the grammar reads the bytes as the module with the start field at the
-//!   end, and as no other module.
 #![tactic(auto)]
 
 mod answers;

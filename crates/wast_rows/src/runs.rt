@@ -186,10 +186,8 @@ fn read_piece<'b, R: Read>(
 ///
 /// A read or a write that is interrupted is tried again.
 ///
-/// # Guarantees
-///
-/// The contract is about readers and writers with known bytes, as `&[u8]` and `Vec<u8>` have. For
-/// others, such as the standard streams, it does not state what was read and written.
+/// The contract states what was read and written only for readers and writers with known bytes, as
+/// `&[u8]` and `Vec<u8>` have. It does not for the standard streams.
 pub fn run<'a, R: Read, W: Write, F: Fn(u32) -> Option<Result<Module<'a>, Error<'a>>>>(
     alloc: Global,
     reader: &mut R,

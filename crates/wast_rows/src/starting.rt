@@ -70,11 +70,8 @@ fn put_start<'a>(module: &mut Module<'a>, start: Index<'a>) -> Result<(), Error<
 ///
 ///     let answer = add_start(alloc, &mut module, &mut gensym, by_id("f", 80));
 ///
-/// # Requires
-///
-/// - `ready`: what [`Module::resolve`] requires.
-/// - `text`: the module is not binary.
-/// - `settled`: a generated id in the index is that of a function of the module.
+/// The module must be ready for [`Module::resolve`], and not binary. A generated id in the index
+/// must be that of a function of the module.
 ///
 /// # Errors
 ///
@@ -86,14 +83,6 @@ fn put_start<'a>(module: &mut Module<'a>, start: Index<'a>) -> Result<(), Error<
 /// - E12 or E10 when the fields are resolved again with the start field. The module keeps it.
 /// - E11, E10 and E12 of [`EncodeOptions::encode_module`]. The module is then resolved, with the
 ///   field.
-///
-/// # Guarantees
-///
-/// - `answer`: the grammar reads the bytes as what the module with this start field at the end
-///   means, and as no other module. The module has the field, with the number of the function.
-/// - `stays`: `span`, `id` and `name` do not change. `ready`: the requirements hold again.
-/// - `counter`: it rises by the number of ids that resolving the module generates, because a start
-///   field needs no id. If that fails, the counter does not change.
 pub fn add_start<'a>(
     alloc: Global,
     module: &mut Module<'a>,

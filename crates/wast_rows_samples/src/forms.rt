@@ -193,7 +193,7 @@ fn fields_of_form<'a>(alloc: Global, maker: &mut TreeBuilder, form: Form) -> Seq
     }
 }
 
-/// Returns the fields of a small module with this unsupported construct and no other.
+/// Returns the fields of a small module with this unsupported construct, once, and no other.
 ///
 /// For example, for `Form::Shared` they are those of `(module (type (shared (func))))`.
 ///
@@ -204,10 +204,6 @@ fn fields_of_form<'a>(alloc: Global, maker: &mut TreeBuilder, form: Form) -> Seq
 /// # Errors
 ///
 /// E12: allocation failed.
-///
-/// # Guarantees
-///
-/// `alone`: the fields have this unsupported construct once, and no other.
 pub fn form_fields<'a>(alloc: Global, form: Form) -> Result<Seq<ModuleField<'a>>, Error<'a>>
     ensures alone { IfOk result (λ fields. HoldsAlone form fields) }
     ensures refusal { IfErr result (λ e. e ≡ out_of_memory) }

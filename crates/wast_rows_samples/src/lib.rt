@@ -21,12 +21,6 @@
 //!
 //! A function with the name of a module returns its fields. If an allocation failed, some of them
 //! may be missing. The caller that made the builder gets the error from `finish`.
-//!
-//! # Guarantees
-//!
-//! - [`sample_fields`], `there`: there is a module for each number that `is_row` accepts.
-//!   `refusal`: the only error is E12.
-//! - [`form_fields`], `alone`: the fields have this unsupported construct once, and no other.
 #![tactic(auto)]
 
 mod built_rows;

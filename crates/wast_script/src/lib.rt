@@ -14,15 +14,9 @@
 //! - `directives`, `modules`, `actions`, `constants`: the reader of each part, over the tokens that `reader` has.
 //! - `words`: the words that begin commands and values, `examples`: scripts whose commands the definitions compute.
 //!
-//! Which commands a text has is defined in `specs/Grammar.antt`, and its values in `specs/Constants.antt`.
-//!
-//! # Guarantees
-//!
-//! - `commands` and `refuses` of [`read_script`]: the commands are those that the rules of scripts read from the text, and a text that
-//!   is rejected has none.
-//! - `denotes` and `refuses` of [`Script::read`]: the module is the one that the rules of the text format read from its own tokens.
-//! - `places` and `place` of [`read_script`]: the positions of commands, and of an error, are in the text or at its end.
-//! - `well_formed` of [`Script::read`]: the fields of a module are well formed.
+//! Which commands a text has is defined in `specs/Grammar.antt`, and its values in
+//! `specs/Constants.antt`. The commands that are read are those. Each module is the one that the
+//! rules of the text format read from its own tokens.
 #![tactic(auto)]
 
 mod actions;

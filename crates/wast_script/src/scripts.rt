@@ -155,13 +155,6 @@ fn script_of<'a>(
 ///
 /// A [`TextFault`] with its position: the text is not a script, or allocation failed ([`TextFault::Memory`]). Commands of the
 /// component model are not read.
-///
-/// # Guarantees
-///
-/// - `commands`: the commands are those that the rules of scripts read from the text (`script_of`), in order.
-/// - `refuses`: unless the error is [`TextFault::Memory`], the rules read the text as no script.
-/// - `places`: the position of each command is in the text or at its end.
-/// - `place`: and so is that of an error.
 #[tactic(auto, using(crate::proofs::Reading::moved))]
 pub fn read_script<'a>(
     alloc: Global,
@@ -306,13 +299,6 @@ impl<'a> Script<'a> {
     /// # Errors
     ///
     /// As [`read`](wat_text::read): the module is not one of the text format, or allocation failed ([`TextFault::Memory`]).
-    ///
-    /// # Guarantees
-    ///
-    /// - `well_formed`: the fields are well formed.
-    /// - `denotes`: the rules of the text format read the tokens of this module of the script as the module that is returned.
-    /// - `refuses`: unless the error is [`TextFault::Memory`], they read these tokens as no module.
-    /// - `place`: the position of an error is in the text of the script or at its end.
     pub fn read(
         &self,
         alloc: Global,
@@ -336,10 +322,6 @@ impl<'a> Script<'a> {
     /// # Errors
     ///
     /// [`AllocError`]: allocation failed.
-    ///
-    /// # Guarantees
-    ///
-    /// - `strings`: the bytes are those of the strings of this module, one after another.
     #[tactic(auto, using(crate::proofs::Joining::joined_none))]
     pub fn bytes(&self, alloc: Global, module: &ScriptModule<'a>) -> Result<Vec<u8>, AllocError>
         ensures strings { IfOk result (λ b. b.items ≡ joined_bytes (module_in (script_tokens self.now) «module».now).strings) }

@@ -215,11 +215,6 @@ fn write_separator(json: &mut Json, is_first: bool, is_end: bool) -> Result<(), 
 
 impl<'a> ScriptJson<'a> {
     /// Begins a script from a file of this name, up to its first command.
-    ///
-    /// # Guarantees
-    ///
-    /// - `text`: the text is the beginning of the file.
-    /// - `stands`: the next command is the first one, and nothing is known yet.
     #[tactic(auto, using(crate::proofs::Pieces::begins))]
     pub fn new(alloc: Global, source: &str) -> Result<ScriptJson<'a>, AllocError>
         ensures text { IfOk result (λ w. written w.json ≡ beginning source.now) }
@@ -238,11 +233,6 @@ impl<'a> ScriptJson<'a> {
     }
 
     /// Appends a command. `converted` is what its module is converted to, if it has one.
-    ///
-    /// # Guarantees
-    ///
-    /// - `appends`: the text has the object of the command, by what is known before it, and what was known before it and the command
-    ///   are known before the next one.
     pub fn command(
         &mut self,
         script: &Script<'a>,
@@ -266,10 +256,6 @@ impl<'a> ScriptJson<'a> {
     }
 
     /// Ends the script after its last command.
-    ///
-    /// # Guarantees
-    ///
-    /// - The text has the end of the file.
     pub fn end(&mut self) -> Result<(), AllocError>
         ensures { OnOk result (written self.new.json ≡ written self.old.json ++ closing) }
     {
@@ -283,12 +269,7 @@ impl<'a> ScriptJson<'a> {
         self.json.text()
     }
 
-    /// Forgets the text, which was written to a file.
-    ///
-    /// # Guarantees
-    ///
-    /// - `text`: there is no text.
-    /// - `stands`: the next command is the same, and what is known before it.
+    /// Forgets the text, which was written to a file. What is known before the next command stays.
     pub fn clear(&mut self)
         ensures text { written self.new.json ≡ [] }
         ensures stands { (text : List ℕ) (s : State) (is_first : Bool) → Stands text s is_first self.old → Stands text s is_first self.new }

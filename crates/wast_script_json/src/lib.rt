@@ -14,14 +14,8 @@
 //! - `instances` knows which modules commands refer to. `interfaces` and `binary` read the exports of a module from its bytes.
 //! - `examples` has examples that the definitions compute.
 //!
-//! # Guarantees
-//!
-//! - `appends` of [`ScriptJson::command`]: the text that it appends is the object of the command (`command_text` of
-//!   `specs/Commands.antt`), by what is known before it (`specs/References.antt`). `IsJson` of `specs/Files.antt` is the whole file.
-//! - A string, an id, a number, a key and a member are the texts of the definitions in `specs/Json.antt`, and arguments and results
-//!   those of `specs/Values.antt`.
-//!
-//! No contract says how the exports of a module are read from its bytes.
+//! The object of each command is defined in `specs/Commands.antt`, and the whole file in
+//! `specs/Files.antt`. No contract says how the exports of a module are read from its bytes.
 #![tactic(auto)]
 
 mod binary;

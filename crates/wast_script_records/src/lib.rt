@@ -27,16 +27,13 @@
 //! - Results and arguments are two words: the number of the first value, and how many they are. A module and an action of a command
 //!   are the number of its record, or [`NONE`].
 //! - The source of a module is its start and size in the text of the script. The end of a token is an offset in that text.
+//! - Types, kinds, forms, shapes and heap types have the numbers that `specs/Numbers.antt` defines.
 //!
 //! # Modules
 //!
 //! - `records` has [`records_of`], the tables and the header. `commands`, `modules`, `actions` and `values` write the records of each.
 //! - `encodes` has [`encode_module`], the bytes of a module or the error of its text, and the diagnostic of that error.
 //! - `words` writes words, and `lines` counts lines and columns. `examples` has numbers that the prover computes.
-//!
-//! # Guarantees
-//!
-//! Types, kinds, forms, shapes and heap types have the numbers that `specs/Numbers.antt` defines.
 #![tactic(auto)]
 
 mod actions;

@@ -27,14 +27,10 @@
 //! - `wast_tree_build`: `TreeBuilder`.
 //! - `wast_tree_visit`: `well_formed`, `uncovered`, `gensym_bound`, and visitors.
 //!
-//! # Guarantees
+//! # Memory
 //!
-//! - The contract of a constructor is the value that it returns, field by field.
-//! - `well_formed`, `uncovered`, `is_written_out` and `gensym_bound` return exactly the tests and
-//!   numbers of the definitions `is_well_formed`, `uncovered_forms`, `is_written_out` and
-//!   `greatest_generation`.
-//! - A call allocates only if its comment, or that of its type, has `# Memory`, or if it can fail
-//!   with E12 or `AllocError`.
+//! A call allocates only if its comment, or that of its type, has `# Memory`, or if it can fail
+//! with E12 or `AllocError`.
 #![tactic(auto)]
 
 pub use wast_base::{

@@ -1,8 +1,8 @@
 //! `TreeBuilder`, which builds the lists of an AST and reports a failed allocation once, at the
 //! end.
 //!
-//! Callers that build a module by hand, and the parser `wat_text`, use it. It is re-exported by
-//! `wast_tree`.
+//! Callers that build a module by hand use it, and so does the parser `wat_text`. `wast_tree`
+//! re-exports it.
 //!
 //! # Example
 //!
@@ -16,12 +16,6 @@
 //! # Modules
 //!
 //! - `makers`: `TreeBuilder` and `BlockKind`.
-//!
-//! # Guarantees
-//!
-//! - `made`: if no allocation failed, each call made what it promises.
-//! - `empty_on_failure`: after a failed allocation, a new list is complete or empty, and a list
-//!   that was to be extended has the new element or is unchanged.
 #![tactic(auto)]
 
 mod makers;

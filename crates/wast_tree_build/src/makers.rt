@@ -19,8 +19,6 @@ use wast_tree_nodes::{
 
 /// An instruction that opens a block and has only a block type (text format: control instructions).
 ///
-/// # Example
-///
 ///     make.push_block(&mut body, BlockKind::If, BlockType::empty());
 #[derive(Clone, Copy, Debug, PartialEq, Eq)]
 pub enum BlockKind {
@@ -51,8 +49,9 @@ impl BlockKind {
 /// Builds the lists of an AST, and keeps a failed allocation until [`TreeBuilder::finish`].
 ///
 /// Code that builds a module has no error to pass on and nothing to drop, because only `finish`
-/// fails. After a failed allocation, a list that was to be extended is unchanged and a list that
-/// was to be made is empty. The model in contracts is whether an allocation failed.
+/// fails. After a failed allocation, a new list may be empty, an extended list may lack the new
+/// element, and an instruction with boxed immediates may be `unreachable`. The model in contracts
+/// is whether an allocation failed.
 ///
 /// # Example
 ///
@@ -60,14 +59,6 @@ impl BlockKind {
 ///     let ty = make.function_type(&[(None, None, I32); 2], &[I32]);
 ///     let ty = Type::new(at(11), id("reader", 16), TypeDef::func(alloc, ty));
 ///     make.push_field(&mut fields, ModuleField::Ty(ty));
-///
-/// # Guarantees
-///
-/// All calls that build state the same clauses:
-///
-/// - `made`: a failure is kept, and if there was none, the call did exactly what it promises.
-/// - `empty_on_failure`: a list has the elements, or an allocation failed and it is empty
-///   (unchanged, if it was to be extended).
 ///
 /// # Memory
 ///
@@ -103,8 +94,6 @@ impl TreeBuilder {
 
     /// Returns whether an allocation failed.
     ///
-    /// # Example
-    ///
     ///     maker.push_data(&mut pieces, DataVal::String(b"ab"));
     ///     assert!(rt; !maker.is_refused());
     pub fn is_refused(&self) -> bool
@@ -114,8 +103,6 @@ impl TreeBuilder {
     }
 
     /// Appends a field to a list (text format: modules).
-    ///
-    /// # Example
     ///
     ///     make.push_field(&mut fields, ModuleField::Start(index(start, 504)));
     pub fn push_field<'a>(&mut self, fields: &mut Seq<ModuleField<'a>>, field: ModuleField<'a>)
@@ -161,10 +148,10 @@ impl TreeBuilder {
         }
     }
 
-    /// Makes `call_indirect $t (type $f)`, or `unreachable` if the allocation failed.
+    /// Makes `call_indirect $t (type $f)`.
     ///
-    /// The calls for `return_call_indirect`, `br_on_cast` and so on are alike. They box their
-    /// immediates, because an [`Instruction`] has a fixed size.
+    /// This call and those for `return_call_indirect`, `br_on_cast` and so on box the immediates,
+    /// because an [`Instruction`] has a fixed size.
     pub fn call_indirect<'a>(&mut self, arg: CallIndirect<'a>) -> Instruction<'a>
         ensures made { Makes self.old self.new (result ≡ instr.call_indirect arg.entry) }
     {
@@ -174,7 +161,7 @@ impl TreeBuilder {
         }
     }
 
-    /// Makes `return_call_indirect $t (type $f)`, or `unreachable` if the allocation failed.
+    /// Makes `return_call_indirect $t (type $f)`.
     pub fn return_call_indirect<'a>(&mut self, arg: CallIndirect<'a>) -> Instruction<'a>
         ensures made { Makes self.old self.new (result ≡ instr.return_call_indirect arg.entry) }
     {
@@ -184,7 +171,7 @@ impl TreeBuilder {
         }
     }
 
-    /// Makes `br_on_cast $l anyref (ref $t)`, or `unreachable` if the allocation failed.
+    /// Makes `br_on_cast $l anyref (ref $t)`.
     pub fn br_on_cast<'a>(&mut self, arg: BrOnCast<'a>) -> Instruction<'a>
         ensures made { Makes self.old self.new (result ≡ instr.br_on_cast arg.entry) }
     {
@@ -194,7 +181,7 @@ impl TreeBuilder {
         }
     }
 
-    /// Makes `br_on_cast_fail $l anyref (ref $t)`, or `unreachable` if the allocation failed.
+    /// Makes `br_on_cast_fail $l anyref (ref $t)`.
     pub fn br_on_cast_fail<'a>(&mut self, arg: BrOnCastFail<'a>) -> Instruction<'a>
         ensures made { Makes self.old self.new (result ≡ instr.br_on_cast_fail arg.entry) }
     {
@@ -204,7 +191,7 @@ impl TreeBuilder {
         }
     }
 
-    /// Makes `br_on_cast_desc_eq $l anyref (ref $t)`, or `unreachable` if the allocation failed.
+    /// Makes `br_on_cast_desc_eq $l anyref (ref $t)`.
     pub fn br_on_cast_desc_eq<'a>(&mut self, arg: BrOnCastDescEq<'a>) -> Instruction<'a>
         ensures made { Makes self.old self.new (result ≡ instr.br_on_cast_desc_eq arg.entry) }
     {
@@ -214,7 +201,7 @@ impl TreeBuilder {
         }
     }
 
-    /// Makes `br_on_cast_desc_eq_fail $l anyref (ref $t)`; `unreachable` if the allocation failed.
+    /// Makes `br_on_cast_desc_eq_fail $l anyref (ref $t)`.
     pub fn br_on_cast_desc_eq_fail<'a>(&mut self, arg: BrOnCastDescEqFail<'a>) -> Instruction<'a>
         ensures made { Makes self.old self.new (result ≡ instr.br_on_cast_desc_eq_fail arg.entry) }
     {
@@ -224,7 +211,7 @@ impl TreeBuilder {
         }
     }
 
-    /// Makes `resume_throw $t $x (on $e $l)`, or `unreachable` if the allocation failed.
+    /// Makes `resume_throw $t $x (on $e $l)`.
     pub fn resume_throw<'a>(&mut self, arg: ResumeThrow<'a>) -> Instruction<'a>
         ensures made { Makes self.old self.new (result ≡ instr.resume_throw arg.entry) }
     {
@@ -235,8 +222,6 @@ impl TreeBuilder {
     }
 
     /// Appends an instruction that opens a block to a list (text format: control instructions).
-    ///
-    /// # Example
     ///
     ///     let block = BlockType::new(Some(Id::new(name, at(24))), TypeUse::none());
     ///     maker.push_block(&mut instrs, BlockKind::Block, block);
@@ -290,8 +275,6 @@ impl TreeBuilder {
 
     /// Appends a type to those of a `rec` group (text format: recursive types).
     ///
-    /// # Example
-    ///
     ///     let mut types = Seq::new(alloc);
     ///     maker.push_type(&mut types, Type::new(at(14), None, def));
     pub fn push_type<'a>(&mut self, types: &mut Seq<Type<'a>>, ty: Type<'a>)
@@ -304,8 +287,6 @@ impl TreeBuilder {
     }
 
     /// Appends an expression to the elements of a segment (text format: element segments).
-    ///
-    /// # Example
     ///
     ///     let mut exprs = Seq::new(alloc);
     ///     maker.push_expression(&mut exprs, null);
@@ -324,8 +305,6 @@ impl TreeBuilder {
 
     /// Appends a piece to the bytes of a data segment (text format: data segments).
     ///
-    /// # Example
-    ///
     ///     maker.push_data(&mut pieces, DataVal::String(b"ab"));
     pub fn push_data<'a>(&mut self, pieces: &mut Seq<DataVal<'a>>, piece: DataVal<'a>)
         ensures made { Makes self.old self.new (pieces.new ≡ pieces.old ++ piece.entry ∷ []) }
@@ -337,8 +316,6 @@ impl TreeBuilder {
     }
 
     /// Makes an expression of one instruction, without branch hints (text format: expressions).
-    ///
-    /// # Example
     ///
     ///     let zero = make.one_instruction(i32_const(0));
     pub fn one_instruction<'a>(&mut self, instruction: Instruction<'a>) -> Expression<'a>
@@ -353,8 +330,6 @@ impl TreeBuilder {
 
     /// Makes a list of branch hints.
     ///
-    /// # Example
-    ///
     ///     let hints = maker.hints(hints);
     ///     one(alloc, maker, ModuleField::Func(func.with_hints(hints)))
     pub fn hints(&mut self, hints: &[BranchHint]) -> Seq<BranchHint>
@@ -364,18 +339,11 @@ impl TreeBuilder {
         copied(self, hints)
     }
 
-    /// Makes a function type, from the id, name annotation and type of each parameter, and results.
-    ///
-    /// # Example
-    ///
-    /// `(func (param i32 i32) (result i32))`:
+    /// Makes a function type, such as `(func (param i32 i32) (result i32))`.
     ///
     ///     let ty = make.function_type(&[(None, None, I32); 2], &[I32]);
     ///
-    /// # Guarantees
-    ///
-    /// `made`; `lacks_params`, `lacks_results`: after a failed allocation each of the two lists is
-    /// complete or empty.
+    /// A parameter has an id, a name annotation and a type.
     pub fn function_type<'a>(
         &mut self,
         params: &[(Option<Id<'a>>, Option<NameAnnotation<'a>>, ValType<'a>)],
@@ -391,8 +359,6 @@ impl TreeBuilder {
 
     /// Makes a list of value types, such as the results of a function.
     ///
-    /// # Example
-    ///
     ///     let results = maker.values(&[ty]);
     pub fn values<'a>(&mut self, values: &[ValType<'a>]) -> Seq<ValType<'a>>
         ensures made { Makes self.old self.new (result ≡ values.now) }
@@ -402,8 +368,6 @@ impl TreeBuilder {
     }
 
     /// Makes a list of parameters, of the id, name annotation and type of each.
-    ///
-    /// # Example
     ///
     ///     let params = maker.params(&[(None, None, ty)]);
     pub fn params<'a>(
@@ -418,8 +382,6 @@ impl TreeBuilder {
 
     /// Makes a list of locals.
     ///
-    /// # Example
-    ///
     ///     let locals = make.locals(&[Local::new(id("address", 342), I32)]);
     pub fn locals<'a>(&mut self, locals: &[Local<'a>]) -> Seq<Local<'a>>
         ensures made { Makes self.old self.new (result ≡ locals.now) }
@@ -429,8 +391,6 @@ impl TreeBuilder {
     }
 
     /// Makes a list of struct fields.
-    ///
-    /// # Example
     ///
     ///     let fields = maker.struct_fields(fields);
     pub fn struct_fields<'a>(&mut self, fields: &[StructField<'a>]) -> Seq<StructField<'a>>
@@ -450,8 +410,6 @@ impl TreeBuilder {
 
     /// Makes a list of names, such as those of the subsection `needed`.
     ///
-    /// # Example
-    ///
     ///     let names = maker.names(names);
     pub fn names<'a>(&mut self, names: &[&'a str]) -> Seq<&'a str>
         ensures made { Makes self.old self.new (result ≡ names.now) }
@@ -461,8 +419,6 @@ impl TreeBuilder {
     }
 
     /// Makes the inline exports of a field (text format: exports).
-    ///
-    /// # Example
     ///
     ///     let names: [&'a str; 1] = ["read"];
     ///     func.with_name("byte").with_exports(make.exports(&names))
@@ -476,8 +432,6 @@ impl TreeBuilder {
     }
 
     /// Makes the bytes of a data segment of one string (text format: data segments).
-    ///
-    /// # Example
     ///
     ///     let bytes = Memory::inline(alloc, at(149), id("bytes", 156), make.string(b"ready"));
     pub fn string<'a>(&mut self, string: &'a [u8]) -> Seq<DataVal<'a>>
@@ -528,8 +482,6 @@ impl TreeBuilder {
 
     /// Appends a subsection to those of `dylink.0` (tool conventions: dynamic linking).
     ///
-    /// # Example
-    ///
     ///     maker.push_subsection(&mut subsections, Dylink0Subsection::TargetArch("a"));
     pub fn push_subsection<'a>(
         &mut self,
@@ -546,8 +498,6 @@ impl TreeBuilder {
 
     /// Makes the names of exports with their flags (tool conventions: dynamic linking).
     ///
-    /// # Example
-    ///
     ///     let exported = Dylink0Subsection::ExportInfo(maker.export_flags(&[("a", 128)]));
     pub fn export_flags<'a>(&mut self, flags: &[(&'a str, u32)]) -> Seq<(&'a str, u32)>
         ensures made { Makes self.old self.new (result ≡ flags.now) }
@@ -557,8 +507,6 @@ impl TreeBuilder {
     }
 
     /// Makes the modules and names of imports with their flags (tool conventions: dynamic linking).
-    ///
-    /// # Example
     ///
     ///     let imported = Dylink0Subsection::ImportInfo(maker.import_flags(&[("a", "b", 3)]));
     pub fn import_flags<'a>(
@@ -571,21 +519,10 @@ impl TreeBuilder {
         copied(self, flags)
     }
 
-    /// Returns the fields of a module, or E12 if an allocation failed.
-    ///
-    /// # Example
+    /// Returns the fields, or drops them and returns E12 if an allocation of this builder failed.
     ///
     ///     make.push_field(&mut fields, ModuleField::Start(index(start, 504)));
     ///     make.finish(fields)
-    ///
-    /// # Errors
-    ///
-    /// E12: an allocation of this builder failed. The fields are then dropped. No other error
-    /// occurs.
-    ///
-    /// # Guarantees
-    ///
-    /// `fields`, `refusal`: success means that no allocation failed, and an error that one did.
     pub fn finish<'a, 'e>(
         self,
         fields: Seq<ModuleField<'a>>,

@@ -83,8 +83,6 @@ pub struct RawCustomSection<'a> {
 /// `(before func)` and `(after func)` are relative to the function section, even if the module has
 /// none (text format: custom annotations).
 ///
-/// # Example
-///
 ///     let before = CustomPlace::Before(CustomPlaceAnchor::Code);
 #[derive(Clone, Copy, Debug, PartialEq, Eq)]
 pub enum CustomPlace {

@@ -6,8 +6,6 @@ use crate::types::{FunctionType, RefType, TypeUse, ValType};
 
 /// The limits of a table or memory: a minimum, and an optional maximum (text format: limits).
 ///
-/// # Example
-///
 ///     let ty = TableType::new(Limits::new(0, None), RefType::funcref());
 #[derive(Clone, Copy, Debug, PartialEq, Eq)]
 pub struct Limits {
@@ -69,8 +67,6 @@ impl<'a> TableType<'a> {
 
 /// A memory type, such as `1 2` (text format: memory types).
 ///
-/// # Example
-///
 ///     let ty = MemoryType::new(Limits::new(0, None));
 #[derive(Clone, Copy, Debug, PartialEq, Eq)]
 pub struct MemoryType {
@@ -96,8 +92,6 @@ impl MemoryType {
 }
 
 /// A global type, such as `(mut i32)` (text format: global types).
-///
-/// # Example
 ///
 ///     let ty = GlobalType::new(I32, true);
 #[derive(Clone, Copy, Debug, PartialEq, Eq)]

@@ -21,8 +21,6 @@ use wast_base::{Id, Index, NameAnnotation, Seq, Space, Span};
 
 /// A field of a module (text format: modules).
 ///
-/// # Example
-///
 ///     let stop = Tag::new(alloc, at(225), id("stop", 229), TypeUse::none());
 ///     make.push_field(&mut fields, ModuleField::Tag(stop));
 #[derive(Debug, Drop)]
@@ -118,8 +116,6 @@ pub struct Func<'a> {
 
 impl<'a> Func<'a> {
     /// Makes `(func $f ..)` with a type use, locals and a body (text format: functions).
-    ///
-    /// It has no name annotation, inline exports or branch hints.
     pub fn new(
         alloc: alloc::Global,
         span: Span,
@@ -144,8 +140,6 @@ impl<'a> Func<'a> {
     }
 
     /// Makes `(func $f (import "a" "b") ..)`, a function with an inline import.
-    ///
-    /// It has no name annotation and no inline exports, and its type is not `exact`.
     pub fn imported(
         alloc: alloc::Global,
         span: Span,
@@ -233,8 +227,6 @@ impl<'a> FuncKind<'a> {
 
 /// A local of a function, such as `(local $x i32)` (text format: functions).
 ///
-/// # Example
-///
 ///     let locals = make.locals(&[Local::new(id("address", 342), I32)]);
 #[derive(Clone, Copy, Debug, PartialEq, Eq)]
 pub struct Local<'a> {
@@ -247,7 +239,7 @@ pub struct Local<'a> {
 }
 
 impl<'a> Local<'a> {
-    /// Makes `(local $x ..)` without a name annotation.
+    /// Makes `(local $x ..)`.
     pub fn new(id: Option<Id<'a>>, ty: ValType<'a>) -> Local<'a>
         ensures { result ≡ record { id = id.entry; name = None; ty = ty.entry } }
     {
@@ -279,9 +271,7 @@ pub struct Table<'a> {
 }
 
 impl<'a> Table<'a> {
-    /// Makes `(table $t ..)` of a table type (text format: tables).
-    ///
-    /// It has no name annotation, inline exports or initial value.
+    /// Makes `(table $t ..)` of a table type, without an initial value (text format: tables).
     pub fn new(alloc: alloc::Global, span: Span, id: Option<Id<'a>>, ty: TableType<'a>) -> Table<'a>
         ensures { result ≡ record { span = span; id = id.entry; name = None; exports = record { names = [] }; kind = table.Normal ty.entry None } }
     {
@@ -297,9 +287,7 @@ impl<'a> Table<'a> {
         }
     }
 
-    /// Makes `(table $t funcref (elem ..))`, a table with inline elements.
-    ///
-    /// Its indices have 32 bits. It is not shared, and has no name annotation or inline exports.
+    /// Makes `(table $t funcref (elem ..))`, a table with inline elements and 32-bit indices.
     pub fn inline(
         alloc: alloc::Global,
         span: Span,
@@ -356,8 +344,6 @@ pub enum TableKind<'a> {
 
 /// A memory, such as `(memory $m 1)` (text format: memories).
 ///
-/// # Example
-///
 ///     let bytes = Memory::inline(alloc, at(149), id("bytes", 156), make.string(b"ready"));
 ///     make.push_field(&mut fields, ModuleField::Memory(bytes));
 #[derive(Debug, Drop)]
@@ -375,7 +361,7 @@ pub struct Memory<'a> {
 }
 
 impl<'a> Memory<'a> {
-    /// Makes `(memory $m ..)` of a memory type, without a name annotation or inline exports.
+    /// Makes `(memory $m ..)` of a memory type.
     pub fn new(alloc: alloc::Global, span: Span, id: Option<Id<'a>>, ty: MemoryType) -> Memory<'a>
         ensures { result ≡ record { span = span; id = id.entry; name = None; exports = record { names = [] }; kind = memory.Normal ty } }
     {
@@ -390,8 +376,7 @@ impl<'a> Memory<'a> {
 
     /// Makes `(memory $m (data ..))`, a memory with inline data (text format: memories).
     ///
-    /// Its addresses have 32 bits and its pages 65,536 bytes. It has no name annotation or inline
-    /// exports.
+    /// Its addresses have 32 bits and its pages 65,536 bytes.
     pub fn inline(
         alloc: alloc::Global,
         span: Span,
@@ -413,7 +398,7 @@ impl<'a> Memory<'a> {
         }
     }
 
-    /// Makes `(memory $m (import "a" "b") ..)`, without a name annotation or inline exports.
+    /// Makes `(memory $m (import "a" "b") ..)`, a memory with an inline import.
     pub fn imported(
         alloc: alloc::Global,
         span: Span,
@@ -499,8 +484,6 @@ pub struct Global<'a> {
 
 impl<'a> Global<'a> {
     /// Makes `(global $g ..)` of a type and an initial value (text format: globals).
-    ///
-    /// It has no name annotation and no inline exports.
     pub fn new(
         alloc: alloc::Global,
         span: Span,
@@ -532,8 +515,6 @@ pub enum GlobalKind<'a> {
 
 /// A tag, such as `(tag $t (param i32))` (text format: tags).
 ///
-/// # Example
-///
 ///     let stop = Tag::new(alloc, at(225), id("stop", 229), TypeUse::none());
 ///     make.push_field(&mut fields, ModuleField::Tag(stop));
 #[derive(Debug, Drop)]
@@ -553,7 +534,7 @@ pub struct Tag<'a> {
 }
 
 impl<'a> Tag<'a> {
-    /// Makes `(tag $t ..)` for exceptions, without a name annotation or inline exports.
+    /// Makes `(tag $t ..)`, a tag for exceptions.
     pub fn new(
         alloc: alloc::Global,
         span: Span,
@@ -578,7 +559,7 @@ impl<'a> Tag<'a> {
 pub enum TagKind<'a> {
     /// An inline import.
     Import(InlineImport<'a>),
-    /// Defined in the module, by its type alone.
+    /// Defined in the module.
     Inline,
 }
 
@@ -613,8 +594,6 @@ impl ExportKind {
 }
 
 /// An export, such as `(export "a" (func $f))` (text format: exports).
-///
-/// # Example
 ///
 ///     let export = Export::new(at(9), "a", ExportKind::Func, Index::Id(id));
 ///     one(alloc, maker, ModuleField::Export(export))

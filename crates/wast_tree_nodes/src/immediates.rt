@@ -8,8 +8,6 @@ use wast_base::{Boxed, Id, Index, NameAnnotation, Seq};
 
 /// The label and type of a block, such as `$l (result i32)` (text format: control instructions).
 ///
-/// # Example
-///
 ///     let block = BlockType::new(Some(Id::new(name, at(24))), TypeUse::none());
 ///     maker.push_block(&mut instrs, BlockKind::Block, block);
 #[derive(Debug, Drop)]
@@ -23,7 +21,7 @@ pub struct BlockType<'a> {
 }
 
 impl<'a> BlockType<'a> {
-    /// Makes a block type of a label and a type, without a name annotation.
+    /// Makes a block type of a label and a type.
     pub fn new(label: Option<Id<'a>>, ty: TypeUse<'a, FunctionType<'a>>) -> BlockType<'a>
         ensures { result ≡ record { label = label.entry; label_name = None; ty = ty.entry } }
     {
@@ -35,8 +33,6 @@ impl<'a> BlockType<'a> {
     }
 
     /// Makes a block type without a label, parameters and results.
-    ///
-    /// # Example
     ///
     ///     make.push_block(&mut body, BlockKind::If, BlockType::empty());
     pub fn empty() -> BlockType<'a>
@@ -183,7 +179,7 @@ pub struct MemArg<'a> {
 }
 
 impl<'a> MemArg<'a> {
-    /// Makes the argument of an access to a memory, without an ordering. Both numbers are in bytes.
+    /// Makes the argument of an access to a memory. Both numbers are in bytes.
     pub fn new(memory: Index<'a>, align: u64, offset: u64) -> MemArg<'a>
         ensures { result ≡ record { align = align; offset = offset; target = target.Memory memory.entry; ordering = None } }
     {

@@ -72,7 +72,7 @@ pub struct ItemSig<'a> {
 }
 
 impl<'a> ItemSig<'a> {
-    /// Makes the signature of an imported item, without a name annotation.
+    /// Makes the signature of an imported item.
     pub fn new(span: Span, id: Option<Id<'a>>, kind: ItemKind<'a>) -> ItemSig<'a>
         ensures { result ≡ record { span = span; id = id.entry; name = None; kind = kind.entry } }
     {
@@ -157,21 +157,9 @@ impl<'a> Imports<'a> {
         }
     }
 
-    /// Returns the signatures of the items in order, one for each item.
-    ///
-    /// A signature that items share occurs once for each of them.
-    ///
-    /// # Example
+    /// Returns the signature of each item, in order. A shared one occurs once for each item.
     ///
     ///     let sigs = imports.item_sigs(alloc).expect(rt, "memory");
-    ///
-    /// # Errors
-    ///
-    /// E12: allocation failed. No other error occurs.
-    ///
-    /// # Guarantees
-    ///
-    /// `sigs`: these signatures. `refusal`: an error is E12.
     pub fn item_sigs<'s, 'e>(&'s self, alloc: Global) -> Result<Vec<&'s ItemSig<'a>>, Error<'e>>
         ensures sigs { IfOk result (λ v. map (λ s. s.now) v.items ≡ item_sigs self.now.items) }
         ensures refusal { IfErr result (λ e. e ≡ out_of_memory) }
@@ -189,8 +177,6 @@ impl<'a> Imports<'a> {
 
     /// Returns the number of signatures in the source. One that items share counts once.
     ///
-    /// # Example
-    ///
     ///     assert!(rt; shared.unique_sigs() == 1);
     ///     shared.unique_sig_mut(0).span = at(8);
     pub fn unique_sigs(&self) -> usize
@@ -202,11 +188,9 @@ impl<'a> Imports<'a> {
         }
     }
 
-    /// Borrows the signature number `i` in the source mutably, counted from 0.
+    /// Borrows signature number `i` of the source mutably, counted from 0.
     ///
-    /// # Requires
-    ///
-    /// `i` is less than [`Imports::unique_sigs`].
+    /// Test that `i` is below [`Imports::unique_sigs`] first.
     pub fn unique_sig_mut(&mut self, i: usize) -> &mut ItemSig<'a>
         requires { i < length (unique_sigs self.old.items) }
         ensures value { result.now ≡ slice_index_or (unique_sigs self.old.items) i result.now }

@@ -29,8 +29,6 @@ use wast_base::{Boxed, Error, Id, Index, LaneOp, MemLaneOp, MemOp, Plain, Seq};
 /// An instruction has 96 bytes. Larger immediates, such as those of `call_indirect`, are boxed
 /// ([`Boxed`]), because each pass over a list reads all its bytes.
 ///
-/// # Example
-///
 ///     maker.push_instruction(&mut instrs, Instruction::Mem(MemOp::i32_load, arg));
 ///     maker.push_instruction(&mut instrs, Instruction::Plain(Plain::Bare(BareOp::drop)));
 #[allow(non_camel_case_types)]
@@ -304,8 +302,6 @@ impl<'a> Instruction<'a> {
 
 /// A branch hint, such as `(@metadata.code.branch_hint "\01")` (text format: custom annotations).
 ///
-/// # Example
-///
 /// In the body `i32.const 0 if end`, a hint on the `if` that the branch is not likely:
 ///
 ///     let on_if = BranchHint::new(1, 0);
@@ -329,8 +325,6 @@ impl BranchHint {
 /// A flat list of instructions, without the final `end`, and its branch hints.
 ///
 /// It is the body of a function, or a constant expression (text format: expressions).
-///
-/// # Example
 ///
 ///     let value = Expression::new(alloc, instrs);
 #[derive(Debug, Drop)]
@@ -364,13 +358,7 @@ impl<'a> Expression<'a> {
 
     /// Makes an expression of one instruction, without branch hints.
     ///
-    /// # Example
-    ///
     ///     Expression::one(alloc, Instruction::i32_const(8))
-    ///
-    /// # Errors
-    ///
-    /// E12: allocation failed. The instruction is then dropped. No other error occurs.
     pub fn one<'e>(alloc: Global, instruction: Instruction<'a>) -> Result<Expression<'a>, Error<'e>>
         ensures expression { IfOk result (λ e. e ≡ record { instrs = instruction.entry ∷ []; branch_hints = [] }) }
         ensures refusal { IfErr result (λ e. e ≡ out_of_memory) }

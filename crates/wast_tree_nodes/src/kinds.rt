@@ -12,8 +12,6 @@ use crate::profiles::profile_of;
 /// There is a kind for each variant of [`ModuleField`]. Custom sections have a kind for each
 /// position in the binary module, because the encoder writes each position separately.
 ///
-/// # Example
-///
 ///     let starts = reaches.of_kind(FieldKind::Start);
 #[derive(Clone, Copy)]
 pub enum FieldKind {

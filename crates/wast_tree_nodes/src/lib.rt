@@ -4,8 +4,6 @@
 //! A parser, or a caller by hand, builds these types; `wast_resolve` and `wast_core` resolve and
 //! encode them. Callers import them from `wast_tree`. Names follow the `ast` of the crate `wast`.
 //!
-//! # Example
-//!
 //! The tag `(tag $stop)`, at offset 225:
 //!
 //!     let stop = Tag::new(alloc, at(225), id("stop", 229), TypeUse::none());
@@ -20,11 +18,15 @@
 //! - `written_out`: whether fields are desugared.
 //! - `moves`: functions that append, take out and drop parts of the AST.
 //!
-//! # Guarantees
+//! # Constructors
 //!
-//! - A constructor's contract is the value that it returns, field by field.
-//! - The definition `Sites` lists everything in a module that is checked. `Items` lists its items.
-//! - A call allocates only if its comment has E12 among its errors.
+//! A constructor leaves out what it has no argument for: name annotations, inline exports, branch
+//! hints, orderings, and modifiers such as `shared`.
+//!
+//! # Errors
+//!
+//! Only calls that return a `Result` allocate. Their only error is E12: allocation failed. A list
+//! to append to is then unchanged, and a value that the call took is dropped.
 #![tactic(auto)]
 
 mod continuations;

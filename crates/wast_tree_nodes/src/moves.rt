@@ -19,11 +19,6 @@ use std::alloc::Global;
 use wast_base::{Boxed, Error, Index, Seq, Span};
 
 /// Appends a field to a list.
-///
-/// # Errors
-///
-/// E12: allocation failed. The list is then unchanged and the field is dropped. No other error
-/// occurs.
 #[inline(always)]
 pub fn push_field<'a, 'e>(
     fields: &mut Seq<ModuleField<'a>>,
@@ -38,11 +33,6 @@ pub fn push_field<'a, 'e>(
 }
 
 /// Appends an instruction to a list.
-///
-/// # Errors
-///
-/// E12: allocation failed. The list is then unchanged and the instruction is dropped. No other
-/// error occurs.
 #[inline(always)]
 pub fn push_instruction<'a, 'e>(
     instrs: &mut Seq<Instruction<'a>>,
@@ -57,11 +47,6 @@ pub fn push_instruction<'a, 'e>(
 }
 
 /// Appends a type to a list.
-///
-/// # Errors
-///
-/// E12: allocation failed. The list is then unchanged and the type is dropped. No other error
-/// occurs.
 #[inline(always)]
 pub fn push_type<'a, 'e>(types: &mut Seq<Type<'a>>, ty: Type<'a>) -> Result<(), Error<'e>>
     ensures pushed { OnOk result (types.new ≡ types.old ++ ty.entry ∷ []) }
@@ -73,11 +58,6 @@ pub fn push_type<'a, 'e>(types: &mut Seq<Type<'a>>, ty: Type<'a>) -> Result<(), 
 }
 
 /// Appends an expression to a list.
-///
-/// # Errors
-///
-/// E12: allocation failed. The list is then unchanged and the expression is dropped. No other
-/// error occurs.
 #[inline(always)]
 pub fn push_expression<'a, 'e>(
     exprs: &mut Seq<Expression<'a>>,
@@ -92,11 +72,6 @@ pub fn push_expression<'a, 'e>(
 }
 
 /// Appends a piece of a data segment to a list.
-///
-/// # Errors
-///
-/// E12: allocation failed. The list is then unchanged and the piece is dropped. No other error
-/// occurs.
 #[inline(always)]
 pub fn push_data<'a, 'e>(pieces: &mut Seq<DataVal<'a>>, piece: DataVal<'a>) -> Result<(), Error<'e>>
     ensures pushed { OnOk result (pieces.new ≡ pieces.old ++ piece.entry ∷ []) }
@@ -108,11 +83,6 @@ pub fn push_data<'a, 'e>(pieces: &mut Seq<DataVal<'a>>, piece: DataVal<'a>) -> R
 }
 
 /// Appends a subsection of `dylink.0` to a list.
-///
-/// # Errors
-///
-/// E12: allocation failed. The list is then unchanged and the subsection is dropped. No other
-/// error occurs.
 #[inline(always)]
 pub fn push_subsection<'a, 'e>(
     subsections: &mut Seq<Dylink0Subsection<'a>>,
@@ -127,10 +97,6 @@ pub fn push_subsection<'a, 'e>(
 }
 
 /// Moves a block's label and type into a new box.
-///
-/// # Errors
-///
-/// E12: allocation failed. The block type is then dropped. No other error occurs.
 #[inline(always)]
 pub fn boxed_block<'a, 'e>(
     alloc: Global,
@@ -144,13 +110,7 @@ pub fn boxed_block<'a, 'e>(
 
 /// Makes an empty list of fields, with room for `capacity` fields.
 ///
-/// # Example
-///
 ///     let mut fields = fields_with_capacity(alloc, 2).expect(rt, "memory");
-///
-/// # Errors
-///
-/// E12: allocation failed. No other error occurs.
 pub fn fields_with_capacity<'a, 'e>(
     alloc: Global,
     capacity: usize,
@@ -170,52 +130,52 @@ pub fn take_field<'a>(place: &mut ModuleField<'a>) -> ModuleField<'a>
     std::mem::replace(place, ModuleField::Start(Index::Num(0, Span { offset: 0 })))
 }
 
-/// Drops a list of fields, and frees its memory.
+/// Drops a list of fields.
 pub fn discard_fields(fields: Seq<ModuleField<'_>>) {
     drop(fields);
 }
 
-/// Drops a field, and frees its memory.
+/// Drops a field.
 pub fn discard_field(field: ModuleField<'_>) {
     drop(field);
 }
 
-/// Drops a function, and frees its memory.
+/// Drops a function.
 pub fn discard_func(func: Func<'_>) {
     drop(func);
 }
 
-/// Drops the locals and body of a function, and frees their memory.
+/// Drops the locals and body of a function.
 pub fn discard_func_kind(kind: FuncKind<'_>) {
     drop(kind);
 }
 
-/// Drops the kind of an imported item, and frees its memory.
+/// Drops the kind of an imported item.
 pub fn discard_item_kind(kind: ItemKind<'_>) {
     drop(kind);
 }
 
-/// Drops the type of a tag, and frees its memory.
+/// Drops the type of a tag.
 pub fn discard_tag_type(ty: TagType<'_>) {
     drop(ty);
 }
 
-/// Drops an instruction, and frees its memory.
+/// Drops an instruction.
 pub fn discard_instruction(instruction: Instruction<'_>) {
     drop(instruction);
 }
 
-/// Drops an expression, and frees its memory.
+/// Drops an expression.
 pub fn discard_expression(expression: Expression<'_>) {
     drop(expression);
 }
 
-/// Drops the inline exports of a field, and frees their memory.
+/// Drops the inline exports of a field.
 pub fn discard_exports(exports: InlineExport<'_>) {
     drop(exports);
 }
 
-/// Drops a type use, and frees its memory.
+/// Drops a type use.
 pub fn discard_type_use<'a>(ty: TypeUse<'a, FunctionType<'a>>) {
     drop(ty);
 }
@@ -231,22 +191,22 @@ pub fn discard_said_inline<'a>(ty: &mut TypeUse<'a, FunctionType<'a>>)
     }
 }
 
-/// Drops a function type, and frees its memory.
+/// Drops a function type.
 pub fn discard_function_type(ty: FunctionType<'_>) {
     drop(ty);
 }
 
-/// Drops a type definition, and frees its memory.
+/// Drops a type definition.
 pub fn discard_type(ty: Type<'_>) {
     drop(ty);
 }
 
-/// Drops the elements of a segment, and frees their memory.
+/// Drops the elements of a segment.
 pub fn discard_elem_payload(payload: ElemPayload<'_>) {
     drop(payload);
 }
 
-/// Drops the bytes of a data segment, and frees their memory.
+/// Drops the bytes of a data segment.
 pub fn discard_data(bytes: Seq<DataVal<'_>>) {
     drop(bytes);
 }

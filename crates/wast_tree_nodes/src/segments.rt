@@ -11,8 +11,6 @@ use wast_base::{Error, Id, Index, NameAnnotation, Seq, Span};
 
 /// An element segment, such as `(elem $e (table $t) (offset ..) func $f)`.
 ///
-/// # Example
-///
 ///     let elem = Elem::new(at(9), None, kind, ElemPayload::Exprs { ty, exprs });
 ///     one(alloc, maker, ModuleField::Elem(elem))
 #[derive(Debug, Drop)]
@@ -30,7 +28,7 @@ pub struct Elem<'a> {
 }
 
 impl<'a> Elem<'a> {
-    /// Makes `(elem $e ..)` without a name annotation.
+    /// Makes `(elem $e ..)`.
     pub fn new(
         span: Span,
         id: Option<Id<'a>>,
@@ -95,7 +93,7 @@ pub struct Data<'a> {
 }
 
 impl<'a> Data<'a> {
-    /// Makes `(data $d ..)` without a name annotation.
+    /// Makes `(data $d ..)`.
     pub fn new(
         span: Span,
         id: Option<Id<'a>>,
@@ -166,13 +164,7 @@ impl DataVal<'_> {
 
     /// Appends the bytes to `out`.
     ///
-    /// # Example
-    ///
     ///     piece.push_onto(&mut bytes).expect(&rt, "memory");
-    ///
-    /// # Errors
-    ///
-    /// E12: allocation failed. `out` is then unchanged. No other error occurs.
     pub fn push_onto<'e>(&self, out: &mut Vec<u8>) -> Result<(), Error<'e>>
         ensures appended { OnOk result (out.new.items ≡ out.old.items ++ data_bytes self.now) }
         ensures refusal { IfErr result (λ e. e ≡ out_of_memory) }

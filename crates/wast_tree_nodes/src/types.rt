@@ -30,9 +30,7 @@ pub enum ValType<'a> {
 /// A reference type, such as `(ref null $t)` (text format: reference types).
 ///
 /// Reference types are ordered so that they can be keys of maps: not nullable first, then by heap
-/// type. For `funcref` and the other words there is a constructor each.
-///
-/// # Example
+/// type. Keywords such as `funcref` have constructors.
 ///
 ///     let ty = RefType::externref();
 ///     let null = maker.one_instruction(Instruction::ref_null(ty.heap));
@@ -165,7 +163,7 @@ pub struct StructField<'a> {
 }
 
 impl<'a> StructField<'a> {
-    /// Makes `(field $x ..)`, or `(field $x (mut ..))` if `mutable`, without a name annotation.
+    /// Makes `(field $x ..)`, or `(field $x (mut ..))` if `mutable`.
     pub fn new(id: Option<Id<'a>>, mutable: bool, ty: StorageType<'a>) -> StructField<'a>
         ensures { result ≡ record { id = id.entry; name = None; mutable = mutable; ty = ty.entry } }
     {
@@ -199,8 +197,6 @@ pub struct ArrayType<'a> {
 pub struct ContType<'a>(pub Index<'a>);
 
 /// A function type, such as `(param $x i32) (result i64)` (text format: composite types).
-///
-/// # Example
 ///
 ///     let takes = FunctionType::new(maker.params(&[(None, None, ValType::I32)]), Seq::new(alloc));
 #[derive(Debug, Drop)]
@@ -236,8 +232,6 @@ impl<'a> FunctionType<'a> {
 /// `(func (type $t) (result i32))` both. Resolving adds an index to a type use without one, unless
 /// the binary format has a short form for it.
 ///
-/// # Example
-///
 ///     let ty = TypeUse::inline(make.function_type(&params, &[I32]));
 #[derive(Debug, Drop)]
 pub struct TypeUse<'a, T> {
@@ -268,7 +262,7 @@ impl<'a> TypeUse<'a, FunctionType<'a>> {
         }
     }
 
-    /// Makes a type use with an inline type alone, such as `(result i32)`.
+    /// Makes a type use with only an inline type, such as `(result i32)`.
     pub fn inline(ty: FunctionType<'a>) -> TypeUse<'a, FunctionType<'a>>
         ensures { result ≡ record { index = None; inline = Some ty.entry } }
     {
@@ -364,8 +358,6 @@ impl<'a> TypeDef<'a> {
 
 /// A type definition, such as `(type $t (func ..))` (text format: types).
 ///
-/// # Example
-///
 ///     let ty = Type::new(at(11), id("reader", 16), TypeDef::func(alloc, ty));
 ///     make.push_field(&mut fields, ModuleField::Ty(ty));
 #[derive(Debug, Drop)]
@@ -381,7 +373,7 @@ pub struct Type<'a> {
 }
 
 impl<'a> Type<'a> {
-    /// Makes `(type $t ..)` without a name annotation.
+    /// Makes `(type $t ..)`.
     pub fn new(span: Span, id: Option<Id<'a>>, def: TypeDef<'a>) -> Type<'a>
         ensures { result ≡ record { span = span; id = id.entry; name = None; def = def.entry } }
     {

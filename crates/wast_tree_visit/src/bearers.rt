@@ -176,8 +176,8 @@ fn generation_among(items: FieldItems<'_, '_>, item: usize, space: Space) -> u64
 
 /// A field that has items.
 ///
-/// The search is generic in it, because proofs of code on lists of fields would otherwise compare
-/// the type of the whole AST with itself.
+/// The search is generic in it, so that proofs need not compare the type of the whole AST with
+/// itself.
 pub(crate) trait HasItems {
     /// Its items.
     ghost items: { Self → List Item };

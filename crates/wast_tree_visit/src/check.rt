@@ -124,25 +124,18 @@ fn least_failing_own<T: HasItems + Visit>(parts: &[T]) -> Option<u8>
 /// 6. A generated id that is used as an index names an item of its index space. None is used for a
 ///    local, a label or a struct field.
 ///
-/// All else that can be wrong is an error of resolving or encoding. For example, an unknown source
-/// id is E4, and an unsupported construct is E11. To learn the position, call
-/// [`first_ill_formed`](crate::first_ill_formed).
+/// For example, a load with the alignment 3 gives `Some(1)`, and `(module (func))` gives `None`.
+/// [`first_ill_formed`](crate::first_ill_formed) also returns a position.
 ///
-/// The time is linear in the size of the fields, plus the search for each generated id. It takes at
-/// most n log n steps in all for a list of n fields, if generations rise in the order of the items,
-/// as a counter generates them. In another order, each search may read all fields. A search starts
-/// at the last item that was found, if the two ids are at most 16 generations apart, and otherwise
-/// uses binary search. Binary search also needs that at most 63 fields without such an item are
-/// between two items, with up to 15 exceptions.
+/// All else that can be wrong is an error of resolving or encoding, such as an unknown source id
+/// (E4) or an unsupported construct (E11).
 ///
-/// # Example
+/// # Time
 ///
-/// For a load with the alignment 3 the result is `Some(1)`, and for `(module (func))` it is `None`.
-///
-/// # Guarantees
-///
-/// - `least`: the result is the least number of a rule that fails.
-/// - `none`: the result is `None` exactly if the fields are well formed.
+/// The time is linear in the size of the fields, plus a search for each generated id that is used
+/// as an index. All searches take at most n log n steps for n fields, if generations rise in the
+/// order of the items, as a counter generates them. Between two such items may be at most 63 other
+/// fields, with up to 15 exceptions. Otherwise each search may read all fields.
 pub fn ill_formed(fields: &[ModuleField<'_>]) -> Option<u8>
     ensures least { result ≡ ill_formed fields.now }
     ensures none { is_none result ≡ is_well_formed fields.now }
@@ -152,9 +145,7 @@ pub fn ill_formed(fields: &[ModuleField<'_>]) -> Option<u8>
 
 /// Returns whether the fields are well formed, as resolving and encoding require.
 ///
-/// To learn which rule they break, call [`ill_formed`], which lists the rules.
-///
-/// # Example
+/// [`ill_formed`] lists the rules, and returns which one fails.
 ///
 ///     assert!(rt; wast_tree::well_formed(fields.as_slice()));
 pub fn well_formed(fields: &[ModuleField<'_>]) -> bool

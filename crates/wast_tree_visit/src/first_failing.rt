@@ -94,8 +94,8 @@ impl<S: IdResolver> Visitor for First<S> {
 
 /// A field that is searched.
 ///
-/// The search is generic in it, because proofs of code on lists of fields would otherwise compare
-/// the type of the whole AST with itself.
+/// The search is generic in it, so that proofs need not compare the type of the whole AST with
+/// itself.
 trait Searchable {
     /// Its position.
     ghost place: { Self → Span };
@@ -147,21 +147,14 @@ fn first_failing_own<T: HasItems + Searchable>(parts: &[T]) -> Option<IllFormed>
 /// Use it for messages. [`ill_formed`](crate::ill_formed) lists the rules, and returns the least
 /// number instead of the first failure. It takes as long.
 ///
-/// "First" is in the order of the definition `in_module`: field by field, and within a field mostly
-/// in source order. Exceptions: `table.init` and `memory.init` have the segment first, and
-/// `memory.copy` the memory that is read. A branch on a cast has its target type first, element
-/// expressions come before their type, and `descriptor` before `describes`. The rules for hints and
-/// for blocks come after all instructions, and that for a segment's type after the segment.
-///
-/// # Example
-///
-/// For the fields of `(func i32.load)` with the alignment 3, it returns rule 1 at the position of
+/// For example, for `(func i32.load)` with the alignment 3, it returns rule 1 at the position of
 /// the memory's index.
 ///
-/// # Guarantees
-///
-/// - `first`: the result is the definition `first_ill_formed` of the fields.
-/// - `none`: the result is `None` exactly if the fields are well formed.
+/// The order is field by field, and within a field mostly that of the source. Exceptions:
+/// `table.init` and `memory.init` have the segment first, and `memory.copy` the memory that is
+/// read. A branch on a cast has its target type first, element expressions come before their type,
+/// and `descriptor` before `describes`. The rules for hints and for blocks come after all
+/// instructions, and that for a segment's type after the segment.
 pub fn first_ill_formed(fields: &[ModuleField<'_>]) -> Option<IllFormed>
     ensures first { result ≡ first_ill_formed fields.now }
     ensures none { is_none result ≡ is_well_formed fields.now }

@@ -52,13 +52,7 @@ impl Visitor for Surveyor {
 /// It reads the fields once. Without an index of a data segment no function body needs a data count
 /// section (binary format: data count section). [`uncovered`] lists the unsupported forms.
 ///
-/// # Example
-///
-/// For `(func data.drop 0)` the result has no form, and `has_data_index` is true.
-///
-/// # Guarantees
-///
-/// `uncovered`, `data`: the two parts of the result are exactly these.
+/// For example, `(func data.drop 0)` has no unsupported form, and `has_data_index` is true.
 pub fn scan_for_encoding(fields: &[ModuleField<'_>]) -> EncodingScan
     ensures uncovered { result.uncovered ≡ head_of (uncovered_forms fields.now) }
     ensures data { result.has_data_index ≡ list_any is_of_data (checks_of (in_module fields.now)) }
@@ -88,12 +82,10 @@ pub fn scan_for_encoding(fields: &[ModuleField<'_>]) -> EncodingScan
 /// - `dylink.0` with a target architecture
 /// - instructions that are not in the opcode table, and `memory.discard`
 ///
-/// Inline types count too, even those that are not encoded because there is an index beside them.
+/// Inline types count too, even if they are not encoded because the type use also has an index.
 ///
-/// # Example
-///
-/// For `(func suspend 0)` the result is `Some(Form::StackSwitching)`. The position is in the result
-/// of [`first_uncovered`](crate::first_uncovered).
+/// For example, `(func suspend 0)` gives `Some(Form::StackSwitching)`.
+/// [`first_uncovered`](crate::first_uncovered) also returns a position.
 pub fn uncovered(fields: &[ModuleField<'_>]) -> Option<Form>
     ensures { result ≡ head_of (uncovered_forms fields.now) }
 {

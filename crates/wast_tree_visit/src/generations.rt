@@ -65,9 +65,7 @@ impl Visitor for Greatest {
 ///
 /// An id counter that starts above it generates ids that are new to the fields, as resolving
 /// requires. All ids count: those of items, parameters, locals, labels and struct fields, and those
-/// that are used as indices. So does that of a signature that an import shares among no names.
-///
-/// # Example
+/// that are used as indices. The id of a signature counts even if its import group has no names.
 ///
 ///     assert!(rt; wast_tree::gensym_bound(fields.as_slice()) == 0);
 pub fn gensym_bound(fields: &[ModuleField<'_>]) -> u64

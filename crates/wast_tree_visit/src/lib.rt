@@ -3,9 +3,7 @@
 //! `wast_tree` re-exports these calls. Resolving and encoding require what the checks test. No call
 //! allocates, and none fails.
 //!
-//! # Example
-//!
-//! The fields of a module are ready for an id counter at 1:
+//! If both hold, the fields of a module are ready for an id counter at 1:
 //!
 //!     assert!(rt; wast_tree::well_formed(fields.as_slice()));
 //!     assert!(rt; wast_tree::gensym_bound(fields.as_slice()) == 0);
@@ -13,19 +11,12 @@
 //! # Modules
 //!
 //! - `visits`, `field_visits`, `continuation_visits`: visitors of items, and of everything else
-//!   that is checked, in the order of the definition `in_module`.
+//!   that is checked, in order.
 //! - `check`: `well_formed` and `ill_formed`. `first_failing`: `first_ill_formed`, with a position.
 //! - `clauses`: the rules of well-formedness for single parts.
 //! - `settling`, `bearers`, `halving`: whether a generated id names an item, and the search for it.
 //! - `forms`: `uncovered` and `scan_for_encoding`. `uncovered_places`: `first_uncovered`.
 //! - `generations`: `gensym_bound`. `field_items`: the items of a field.
-//!
-//! # Guarantees
-//!
-//! - `well_formed` returns exactly the test `is_well_formed`, and `ill_formed` the least number of
-//!   a rule that fails (`least`, `none`).
-//! - `uncovered` and `first_uncovered` return the first unsupported form (`first`, `form`).
-//! - A visitor is called for each item or check, once and in order (`Visits`).
 #![tactic(auto)]
 
 mod bearers;

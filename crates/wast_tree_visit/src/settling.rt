@@ -62,8 +62,7 @@ pub(crate) struct IdOwners<'f, T> {
 }
 
 impl<'f, T: HasItems> IdOwners<'f, T> {
-    /// Makes the owners of ids of these fields. The first search in each index space starts at the
-    /// first field.
+    /// Makes the owners of ids of these fields.
     pub(crate) fn new(fields: &'f [T]) -> Self
         ensures { result.fields.now ≡ fields.now }
     {

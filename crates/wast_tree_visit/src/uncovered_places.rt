@@ -57,8 +57,8 @@ impl Visitor for Finder {
 
 /// A part of the AST that has a position.
 ///
-/// The search is generic in it, because proofs of code on lists of fields would otherwise compare
-/// the type of the whole AST with itself.
+/// The search is generic in it, so that proofs need not compare the type of the whole AST with
+/// itself.
 trait Placed {
     /// Its position.
     ghost place: { Self → Span };
@@ -96,14 +96,7 @@ fn first_in<T: Visit + Placed>(parts: &[T]) -> Option<Uncovered>
 /// The form is that of [`uncovered`](crate::uncovered), which lists them, and so that of E11. E11
 /// itself has no position.
 ///
-/// # Example
-///
-/// For `(func $f suspend $e)` it returns the form `StackSwitching` at the position of `$e`.
-///
-/// # Guarantees
-///
-/// - `first`: the result is the definition `first_uncovered` of the fields.
-/// - `form`: its form is the first unsupported form of the fields.
+/// For example, for `(func $f suspend $e)` it returns `StackSwitching` at the position of `$e`.
 pub fn first_uncovered(fields: &[ModuleField<'_>]) -> Option<Uncovered>
     ensures first { result ≡ first_uncovered fields.now }
     ensures form { option_map (λ u. u.form) result ≡ head_of (uncovered_forms fields.now) }

@@ -75,10 +75,6 @@ pub trait Visitor {
 ///
 /// Items without an id are visited too. For example, `(import "a" "b" (func)) (func $f)` has two:
 /// a function without an id, and the function `$f`.
-///
-/// # Guarantees
-///
-/// The visitor is called once for each item, in order (`Visits`, `items`).
 pub fn visit_items<'a, V: ItemVisitor<'a>>(fields: &[ModuleField<'a>], visitor: &mut V)
     ensures { Visits V.told visitor.old (items fields.now) visitor.new }
 {
@@ -805,14 +801,8 @@ impl Visit for ModuleField<'_> {
 /// These are indices, ids, rules of well-formedness and unsupported forms. For example,
 /// `(export "a" (func $f))` has one index, `$f`.
 ///
-/// # Example
-///
 ///     let mut digits = Digits { told: 0 };
 ///     visit_fields(fields.as_slice(), &mut digits);
-///
-/// # Guarantees
-///
-/// The visitor is called once for each check, in order (`Visits`, `checks_of`, `in_module`).
 pub fn visit_fields<V: Visitor>(fields: &[ModuleField<'_>], visitor: &mut V)
     ensures { Visits V.told visitor.old (checks_of (in_module fields.now)) visitor.new }
 {

@@ -241,12 +241,6 @@ fn write_output<W: Write>(
 
 /// Converts the bytes of a file, and writes the output to standard output or to a file. If it is the
 /// last file, its module is not freed, because the process ends soon.
-///
-/// # Guarantees
-///
-/// - `whole`: after success, standard output has the output for the text, whole, if it goes there.
-/// - `nothing`: after a failure, nothing was written to standard output; or the text has an output,
-///   and a front of it was written.
 fn convert_bytes<W: Write>(
     rt: &HostRuntime,
     options: &Options,

@@ -91,12 +91,6 @@ fn encoded_module<'a>(
 ///   [`first_uncovered`](wast_tree::first_uncovered) finds in the resolved fields, and no token.
 ///   [`encode_text`] has the token.
 /// - [`Refused::Module`]: each other error of `encode_module` of `wast_core`.
-///
-/// # Guarantees
-///
-/// The result is that of `encode_module` of `wast_core` for this module, with the id counter at 1
-/// (`EncodesModule`), if the module may be resolved (`OrUnready`). The contract permits E12 from any
-/// call that allocates. Tests check that it comes only if an allocation fails.
 pub fn encoded_text<'a>(alloc: Global, text: TextModule<'a>) -> Result<Vec<u8>, Refused<'a>>
     ensures { OrUnready EncodesModule (module_of text.entry) result }
 {
@@ -106,8 +100,8 @@ pub fn encoded_text<'a>(alloc: Global, text: TextModule<'a>) -> Result<Vec<u8>, 
     answer
 }
 
-/// Returns the bytes of the module of this text. An unsupported construct has its token, or the
-/// error is E12. If `is_last` is true, the module is not freed.
+/// Returns the bytes of the module of this text. An unsupported construct has its token. If
+/// `is_last` is true, the module is not freed.
 #[tactic(auto, using(crate::proofs::OutOfMemory::memory_instead))]
 fn encoded_in<'a>(
     alloc: Global,
@@ -145,27 +139,20 @@ fn encode<'a>(
     }
 }
 
-/// Parses a module in the text format, resolves it and encodes it (text format: modules; binary
-/// format: modules). Strings with escapes are stored in `strings`.
-///
-/// # Example
+/// Converts a module from the text format to the binary format (text format: modules; binary
+/// format: modules).
 ///
 ///     let of_text = encode_text(rt.alloc(), text, &strings).expect(&rt, "bytes");
 ///
+/// `strings` stores strings with escapes. For a module that is already parsed, call
+/// [`encoded_text`].
+///
 /// # Errors
 ///
-/// - [`Refused::Text`]: each error of [`read`](wat_text::read).
-/// - [`Refused::Module`] and [`Refused::Uncovered`]: as [`encoded_text`] of the module. For E11 the
-///   text is read again, so that the error has the unsupported token. For example, that is
-///   `i64.add128` at offset 14 in `(module (func i64.add128))`.
-///
-/// # Guarantees
-///
-/// - `answer`: the result is that of [`encoded_text`] for the module that the text denotes, or an
-///   error of the text, which denotes no module then, unless allocation failed (`OfText`). That
-///   module is a function of the text (`module_of` in `wat_text`). It may always be resolved
-///   (`ready_laws` of `wat_ready`), so neither it nor its ids are checked for that.
-/// - `place`: an error of the text is in the text or at its end.
+/// - [`Refused::Text`]: the text is not a module. The position is in the text or at its end.
+/// - [`Refused::Module`]: a check of resolving fails (E1 to E9), or the module is too large (E10).
+/// - [`Refused::Uncovered`]: an unsupported construct (E11). To find its token, the text is read
+///   again. In `(module (func i64.add128))` it is `i64.add128` at offset 14.
 pub fn encode_text<'a>(
     alloc: Global,
     text: &'a str,
@@ -179,29 +166,14 @@ pub fn encode_text<'a>(
 
 /// Encodes the last text of a program, as [`encode_text`] does, and leaks the tree of its module.
 ///
-/// It is for a program that ends soon after the call. The memory of the tree is left to the end of
-/// the process, because freeing it takes two hundredths of the time of the conversion. For example,
-/// `wat a.wat b.wat` calls [`encode_text`] for `a.wat`, and this function for `b.wat`. A program
-/// that goes on, or a library, calls [`encode_text`].
-///
-/// # Example
-///
 ///     let last = encode_last_text(rt.alloc(), text, &strings);
 ///
-/// # Errors
+/// It is for a program that ends soon after the call, because freeing the tree takes two hundredths
+/// of the time of the conversion. For example, `wat a.wat b.wat` calls [`encode_text`] for `a.wat`,
+/// and this function for `b.wat`. A library, or a program that goes on, calls [`encode_text`].
 ///
-/// As [`encode_text`]. After E1 to E9 and after an error of the text nothing is leaked, because the
-/// tree is freed before they are returned.
-///
-/// # Guarantees
-///
-/// `answer` and `place`: as [`encode_text`]. So both calls have one result for a text, as
-/// [`one_result`](crate::one_result) states.
-///
-/// # Memory
-///
-/// Allocates as [`encode_text`]. The tree keeps its memory until the process ends. The bytes and
-/// `strings` are the caller's, and are freed as always.
+/// The tree keeps its memory until the process ends. After E1 to E9 and after an error of the text
+/// nothing is leaked. The bytes and `strings` are freed as always.
 pub fn encode_last_text<'a>(
     alloc: Global,
     text: &'a str,

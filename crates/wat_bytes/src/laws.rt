@@ -12,36 +12,21 @@ pub(crate) fn bare_laws()
     meaning_laws();
 }
 
-/// A text has one result (text format: modules).
+/// Theorem: the result for a text depends on the text alone (text format: modules).
 ///
-/// A contract on a text speaks of the module of the text, which is a function of the text
-/// (`module_of` in `wat_text`). So the theorems follow from what a contract says of one module. They
-/// are about [`encode_text`](crate::encode_text), [`names_of_text`](crate::names_of_text) and
-/// [`number_in_text`](crate::number_in_text). They are also about
-/// [`encode_last_text`](crate::encode_last_text) and
-/// [`names_of_last_text`](crate::names_of_last_text), which have the contracts of the first two.
-///
-/// # Example
+/// Two calls for one text that succeed return the same bytes, list of names, or index of a name. If
+/// one succeeds, another of the same function fails only with E10 or E12. If two calls of
+/// [`encode_text`](crate::encode_text) fail otherwise, both have an error of the text, or the same
+/// error of the module at the same position. Only tests check the position of E11, and which error
+/// a text has.
 ///
 /// For example, each call that returns bytes for `(module (func $f) (export "a" (func $f)))`
 /// returns the same bytes, and each list of its names has `$f` at 14 as function 0. For
 /// `(module (func $f) (func $f))` no call returns bytes.
 ///
-/// # Guarantees
-///
-/// - `bytes`: two calls that succeed for one text return the same bytes.
-/// - `success`: if one call of `encode_text` succeeds for a text, another fails only because an
-///   allocation failed (E12) or because the module is too large (E10).
-/// - `error`: if two calls of `encode_text` fail for a text, and neither because of E12 or E10, both
-///   return an error of the text, or both the same error of the module. Its position is the same too.
-///   Only tests check the position of E11, and which error a text has.
-/// - `number`: two calls that look a name up in an index space of one text return the same index, or
-///   both return none.
-/// - `look_up`: if one call that looks a name up succeeds, another with the same text, index space and
-///   name fails only because of E12 or E10.
-/// - `list`: two calls that list the names of one text return the same index spaces, names,
-///   positions and indices in the same order.
-/// - `listing`: if one call that lists the names of a text succeeds, another fails only because of E12
+/// The other functions are [`names_of_text`](crate::names_of_text) and
+/// [`number_in_text`](crate::number_in_text). The calls for a last text have the same contracts.
+/// Call it in a proof to obtain its clauses.
 ///   or E10.
 pub fn one_result()
     ensures bytes { SameBytes }

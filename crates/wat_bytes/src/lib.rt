@@ -14,8 +14,8 @@
 //! - `encodes` has [`encode_text`], and [`encoded_text`] for a module that is already parsed.
 //! - `names` has [`names_of_text`] and [`number_in_text`], and the same for a parsed module.
 //!   `lister` lists the ids of the items of fields.
-//! - [`encode_last_text`] and [`names_of_last_text`] are for programs that end after the call. They do
-//!   not free the tree.
+//! - [`encode_last_text`] and [`names_of_last_text`] are for programs that end after the call. They
+//!   do not free the tree.
 //! - `refusals` has the errors, and `uncovered` finds the token of an unsupported construct.
 //! - `modules` makes a module of `wast_core` from a parsed one.
 //! - `laws` states that a text has one result, and `examples` has results that the prover computes.
@@ -23,19 +23,11 @@
 //! The rules are in `specs/`: `Texts` for the bytes of a text, `Names` for its ids, and `OneText`
 //! for the theorems.
 //!
-//! # Guarantees
+//! What is proved: the result for a text is that of encoding or resolving the module that the text
+//! denotes. Otherwise it is an error of the text, which denotes no module then, unless allocation
+//! failed. [`one_result`] states in what the results of two calls for one text agree.
 //!
-//! - [`encode_text`], `answer`: the result is that of `encode_module` for the module that the text
-//!   denotes. Otherwise it is an error of the text, which denotes no module then, unless allocation
-//!   failed.
-//! - [`names_of_text`], `answer`: the list has the index, the name and the position of each source id
-//!   of that module.
-//! - [`one_result`]: two calls that succeed for one text return the same bytes, the same list of
-//!   names, and the same index for a name. If one call succeeds, another of the same function fails
-//!   only because an allocation failed or the module is too large. If two calls of [`encode_text`]
-//!   fail for other reasons, they return the same error of the module, or both an error of the text.
-//! - `place`: an error of the text has a position in the text or at its end.
-//! - A call without an allocator among its parameters does not allocate.
+//! A call without an allocator among its parameters does not allocate.
 #![tactic(auto)]
 
 mod encodes;

@@ -20,8 +20,8 @@ struct Lister<'a> {
     next: u32,
     /// The list, with the ids of other index spaces at its front.
     listed: Vec<Denoted<'a>>,
-    /// Whether an entry is missing: allocation failed, or the index space has 2^32 items. A module
-    /// with so many items is not resolved (E10), so they are never visited.
+    /// Whether an entry is missing: allocation failed, or the index space has 2^32 items. Resolving
+    /// fails for so many items (E10), so they are never visited.
     is_stopped: bool,
 }
 
@@ -122,7 +122,7 @@ fn of_fields<'a>(alloc: Global, fields: &[ModuleField<'a>]) -> Result<Vec<Denote
 }
 
 /// Returns the source ids of the fields that a module holds. It takes `&mut` and changes nothing,
-/// because for a `&` the prover would compare the type of the whole tree with itself.
+/// for the reason that `is_ready` has.
 pub(crate) fn of_module<'a>(
     alloc: Global,
     module: &mut Module<'a>,

@@ -14,8 +14,7 @@ use wat_text::{Strings, TextError, TextFault, TextKind, TextModule, read};
 /// The rule of well-formedness about generated ids.
 const GENERATED: u8 = 6;
 
-/// Parses a text. What is proved of the result for a text goes back to this call: see `IsRead`. The
-/// module may be resolved with a counter at 1, because the rules read no other.
+/// Parses a text. The module may be resolved with a counter at 1, because the rules read no other.
 pub(crate) fn read_text<'a>(
     alloc: Global,
     text: &'a str,
@@ -32,15 +31,8 @@ pub(crate) fn read_text<'a>(
 /// Returns a parsed module as a [`Module`], for example to resolve it and to keep the tree (text
 /// format: modules).
 ///
-/// # Example
-///
 ///     let parsed = read(rt.alloc(), text, &strings).expect(&rt, "a module");
 ///     let mut module = module_of(parsed);
-///
-/// # Guarantees
-///
-/// The module has the position, the id, the name annotation and the content of the parsed one. The
-/// call does not allocate.
 pub fn module_of<'a>(text: TextModule<'a>) -> Module<'a>
     ensures { result ≡ module_of text.entry }
 {
@@ -62,10 +54,10 @@ pub fn module_of<'a>(text: TextModule<'a>) -> Module<'a>
     }
 }
 
-/// Returns whether a module may be resolved with a counter at 1.
+/// Returns whether a module may be resolved with a counter at 1. A caller may have changed it.
 ///
-/// It is for a module that a caller may have changed. It takes `&mut` and changes nothing, because
-/// for a `&` the prover would compare the type of the whole tree with itself.
+/// It takes `&mut` and changes nothing, because for a `&` the prover would compare the type of the
+/// whole tree with itself.
 pub(crate) fn is_ready(module: &mut Module<'_>) -> bool
     ensures ready { IsTrue result → IsReady «module».old 1 }
     ensures unready { IsFalse result → IsReady «module».old 1 → ⊥ }

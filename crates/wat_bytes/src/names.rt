@@ -49,8 +49,7 @@ fn resolved<'a>(alloc: Global, module: &mut Module<'a>) -> Result<Names<'a>, Err
     module.resolve(alloc, &mut gensym)
 }
 
-/// Returns the names of a module that may be resolved with a counter at 1, or the error as one of
-/// this crate.
+/// Does what [`resolved`] does, with an error of this crate.
 fn names_known<'a>(alloc: Global, module: &mut Module<'a>) -> Result<Names<'a>, Refused<'a>>
     requires ready { IsReady «module».old 1 }
     ensures { ResolvesModule «module».old result }
@@ -75,8 +74,7 @@ fn listed<'a>(alloc: Global, module: &mut Module<'a>) -> Result<Vec<Denoted<'a>>
     }
 }
 
-/// Returns the source ids of a module that may be resolved with a counter at 1, or the error as one
-/// of this crate.
+/// Does what [`listed`] does, with an error of this crate.
 fn all_listed<'a>(alloc: Global, module: &mut Module<'a>) -> Result<Vec<Denoted<'a>>, Refused<'a>>
     requires ready { IsReady «module».old 1 }
     ensures { ListsModule «module».old result }
@@ -120,25 +118,19 @@ fn names_in<'a>(
 /// Resolves a parsed module, and returns each of its ids with its index and its position (text
 /// format: identifiers, indices).
 ///
-/// The list is ordered by the index space, as [`Space::ALL`](wast_tree::Space::ALL) is, and then by
-/// the index. Ids that resolving generates are not in it. For example, for `(module (func) (func
-/// $f) (type $t (func)))` it has `$f` at 21, the function 1, and `$t` at 31, the type 0.
-///
-/// # Example
-///
 ///     let module = read(rt.alloc(), text, &strings).expect(&rt, "a module");
 ///     assert!(rt; names_of(rt.alloc(), module).expect(&rt, "names").len() == 1);
+///
+/// The list is ordered by the index space, as [`Space::ALL`](wast_tree::Space::ALL) is, and then by
+/// the index. Ids that resolving generates are not in it. For example, for
+/// `(module (func) (func $f) (type $t (func)))` it has `$f` at 21, the function 1, and `$t` at 31,
+/// the type 0.
 ///
 /// # Errors
 ///
 /// - [`Refused::Text`]: the module is not well formed, or has a generated id, as
 ///   [`encoded_text`](crate::encoded_text).
-/// - [`Refused::Module`]: each error of `Module::resolve` of `wast_core`, and E12.
-///
-/// # Guarantees
-///
-/// The list has the name, the index and the position of each source id of the items of the module,
-/// and of no other (`ListsModule`), if the module may be resolved (`OrUnready`).
+/// - [`Refused::Module`]: each error of `Module::resolve` of `wast_core`.
 pub fn names_of<'a>(alloc: Global, text: TextModule<'a>) -> Result<Vec<Denoted<'a>>, Refused<'a>>
     ensures { OrUnready ListsModule (module_of text.entry) result }
 {
@@ -166,24 +158,17 @@ fn list_names<'a>(
 }
 
 /// Parses a module in the text format, resolves it, and returns each of its ids with its index and
-/// its position (text format: identifiers, indices), as [`names_of`] does. Strings with escapes are
-/// stored in `strings`.
-///
-/// # Example
+/// its position (text format: identifiers, indices). The order is that of [`names_of`].
 ///
 ///     let names = names_of_text(rt.alloc(), EACH_SPACE, &strings).expect(&rt, "names");
 ///     assert!(rt; names.len() == 8);
 ///
+/// `strings` stores strings with escapes.
+///
 /// # Errors
 ///
-/// - [`Refused::Text`]: each error of [`read`](wat_text::read).
-/// - [`Refused::Module`]: as [`names_of`] of the module.
-///
-/// # Guarantees
-///
-/// - `answer`: the result is that of [`names_of`] for the module that the text denotes, or an error
-///   of the text, which denotes no module then, unless allocation failed (`OfText`).
-/// - `place`: an error of the text is in the text or at its end.
+/// - [`Refused::Text`]: the text is not a module. The position is in the text or at its end.
+/// - [`Refused::Module`]: as [`names_of`].
 pub fn names_of_text<'a>(
     alloc: Global,
     text: &'a str,
@@ -198,26 +183,11 @@ pub fn names_of_text<'a>(
 /// Lists the names of the last text of a program, as [`names_of_text`] does, and leaks the tree of
 /// its module.
 ///
-/// It is for a program that ends soon after the call, as
-/// [`encode_last_text`](crate::encode_last_text) is.
-///
-/// # Example
-///
 ///     let last = names_of_last_text(rt.alloc(), text, &strings);
 ///
-/// # Errors
-///
-/// As [`names_of_text`].
-///
-/// # Guarantees
-///
-/// `answer` and `place`: as [`names_of_text`]. So both calls have one result for a text, as
-/// [`one_result`](crate::one_result) states.
-///
-/// # Memory
-///
-/// Allocates as [`names_of_text`]. The tree keeps its memory until the process ends. The list and
-/// `strings` are the caller's, and are freed as always.
+/// It is for a program that ends soon after the call, as
+/// [`encode_last_text`](crate::encode_last_text) is. The tree keeps its memory until the process
+/// ends. The list and `strings` are freed as always.
 pub fn names_of_last_text<'a>(
     alloc: Global,
     text: &'a str,
@@ -316,24 +286,19 @@ fn found_in_text<'a>(
 /// Resolves a parsed module, and returns the index of a name in an index space (text format:
 /// indices).
 ///
-/// The name is without its `$`. The result is `None` if no item of the index space has the name.
-/// For example, for `(module (func) (func $f))` and `f` it is 1 among the functions, and `None`
-/// among the tables.
-///
 /// # Example
 ///
 ///     let module = read(rt.alloc(), text, &strings).expect(&rt, "a module");
 ///     let number = number_in(rt.alloc(), module, Space::Func, "f").expect(&rt, "a number");
 ///     assert!(rt; number == Some(1));
 ///
+/// The name is without its `$`. The result is `None` if no item of the index space has the name.
+/// For example, for `(module (func) (func $f))` and `f` it is 1 among the functions, and `None`
+/// among the tables.
+///
 /// # Errors
 ///
-/// As [`names_of`], except for E12 of the list, which it does not make.
-///
-/// # Guarantees
-///
-/// The result is exactly what the names that `resolve` returns for this module have for the name
-/// (`NumbersModule`), if the module may be resolved (`OrUnready`).
+/// As [`names_of`].
 pub fn number_in<'a>(
     alloc: Global,
     text: TextModule<'a>,
@@ -349,24 +314,16 @@ pub fn number_in<'a>(
 }
 
 /// Parses a module in the text format, resolves it, and returns the index of a name in an index
-/// space (text format: indices), as [`number_in`] does. Strings with escapes are stored in
-/// `strings`.
-///
-/// # Example
+/// space, as [`number_in`] does (text format: indices).
 ///
 ///     let found = number_in_text(rt.alloc(), EACH_SPACE, &strings, *other, name);
 ///     let found = found.expect(&rt, "a number");
 ///
+/// `strings` stores strings with escapes.
+///
 /// # Errors
 ///
-/// - [`Refused::Text`]: each error of [`read`](wat_text::read).
-/// - [`Refused::Module`]: as [`number_in`] of the module.
-///
-/// # Guarantees
-///
-/// - `answer`: the result is that of [`number_in`] for the module that the text denotes, or an error
-///   of the text, which denotes no module then, unless allocation failed (`OfText`).
-/// - `place`: an error of the text is in the text or at its end.
+/// As [`names_of_text`].
 pub fn number_in_text<'a>(
     alloc: Global,
     text: &'a str,

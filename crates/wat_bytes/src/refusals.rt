@@ -44,6 +44,9 @@ impl fmt::Display for UncoveredForm<'_> {
 ///     let printed = format!(in rt.alloc(); "{refused}").expect(&rt, "memory");
 ///
 /// This prints ``uncovered form: instruction beyond the table: `i64.add128` ``.
+///
+/// The contracts permit E12 from any call that allocates. Tests check that it comes only if an
+/// allocation fails.
 #[derive(Clone, Copy, Debug, PartialEq, Eq)]
 pub enum Refused<'a> {
     /// The text is not a module in the text format, or a parsed module was changed and is not well
@@ -63,10 +66,7 @@ const MEMORY: u32 = 12;
 
 impl Refused<'_> {
     /// Returns the number of the error, 1 for E1 to 13 for E13, or `None` if the text is not a
-    /// module.
-    ///
-    /// It is 12 for each failed allocation, also for one before the text was read. Does not
-    /// allocate.
+    /// module. It is 12 for each failed allocation, also before the text was read.
     pub fn number(&self) -> Option<u32>
         ensures { result ≡ number_of self.now }
     {
@@ -80,7 +80,7 @@ impl Refused<'_> {
         }
     }
 
-    /// Returns the position in the text, if there is one. Does not allocate.
+    /// Returns the position in the text, if there is one.
     pub fn span(&self) -> Option<Span>
         ensures { result ≡ place_of self.now }
     {

@@ -11,8 +11,8 @@ use wast_tree::{Form, Span, Uncovered, first_uncovered};
 use wat_text::{Strings, TextModule, read};
 use wat_tokens::{Key, OwnOp, PairOp, Placed, TextError, Token, UncoveredOp, Word, tokens_of};
 
-/// Returns the first unsupported construct of a module. It takes `&mut` and changes nothing,
-/// because for a `&` the prover would compare the type of the whole tree with itself.
+/// Returns the first unsupported construct of a module. It takes `&mut` and changes nothing, for
+/// the reason that `is_ready` has.
 pub(crate) fn first_form(module: &mut Module<'_>) -> Option<Uncovered>
     ensures form { option_map (λ u. u.form) result ≡ first_form «module».old.kind }
     ensures stays { «module».new ≡ «module».old }
@@ -36,7 +36,7 @@ fn place_in(text: TextModule<'_>, form: Form) -> Option<Span> {
 
 /// Returns the position of the first unsupported construct in the fields before resolving, if it is
 /// this one. Resolving adds positions, for example the start of the text for an index that the text
-/// leaves out. The text was read before, so it fails only if an allocation does.
+/// leaves out. Fails only if an allocation does, because the text was read before.
 fn written_place<'a>(
     alloc: Global,
     text: &'a str,
@@ -83,8 +83,8 @@ fn is_ordering(before: Token<'_>, word: Word) -> bool {
     }
 }
 
-/// Returns whether a word belongs to a construct, between the tokens before and after it. Some words
-/// are also a part of supported constructs: `shared` after the limits of a memory, and `item` before
+/// Returns whether a word belongs to a construct, between the tokens before and after it. Some
+/// words are also in supported constructs: `shared` after the limits of a memory, and `item` before
 /// an expression.
 fn is_of(form: Form, before: Token<'_>, word: Word, after: Option<Token<'_>>) -> bool {
     match form {
@@ -142,7 +142,7 @@ fn field_depth(tokens: &[Placed<'_>]) -> usize {
 
 /// Returns the first token that belongs to a construct, in the field of a position or after it. A
 /// token before the position counts, because the position may be that of an index after its
-/// instruction. For example, that is `1` in `(type (cont 1))`.
+/// instruction, as `1` in `(type (cont 1))`.
 fn first_word<'a>(tokens: &[Placed<'a>], form: Form, from: Span) -> Option<(Span, &'a str)> {
     let field = field_depth(tokens);
     let mut depth = 0_usize;
@@ -192,8 +192,7 @@ fn at_word<'a>(tokens: &[Placed<'a>], form: Form, from: Span) -> UncoveredForm<'
 }
 
 /// Returns an unsupported construct that was found in resolved fields, with its token. It reads the
-/// text again, because E11 is rare and has neither position nor token. So it fails only if an
-/// allocation does.
+/// text again, because E11 is rare and has no token. Fails only if an allocation does.
 pub(crate) fn as_written<'a>(
     alloc: Global,
     text: &'a str,

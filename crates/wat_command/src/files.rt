@@ -139,13 +139,9 @@ fn write_from<W: Write>(writer: &mut W, bytes: &[u8], at: usize) -> io::Result<u
     }
 }
 
-/// Writes all bytes to a writer, for example to standard output. It calls `write` itself, because
-/// the contract of `write_all` does not say what a writer has after an error.
-///
-/// # Guarantees
-///
-/// - `whole`: after success the writer has the bytes, whole.
-/// - `front`: after an error it has a front of the bytes.
+/// Writes all bytes to a writer, for example to standard output. After an error the writer has a
+/// prefix of them. It calls `write` itself, because the contract of `write_all` does not say what a
+/// writer has after an error.
 #[tactic(auto, using(crate::proofs::Fronts::nothing, crate::proofs::Fronts::further, crate::proofs::Fronts::stayed, crate::proofs::Fronts::front, crate::proofs::Fronts::all_of))]
 pub fn write_bytes<W: Write>(writer: &mut W, bytes: &[u8]) -> io::Result<()>
     ensures whole { OnOk result (Appends (W.contents writer.old) (W.contents writer.new) bytes.now) }

@@ -1,11 +1,11 @@
-//! Texts, and what the definitions compute of them.
+//! Texts, and what the definitions compute for them.
 
 ghost use Rattle.wat_grammar.specs.WorkedFloats.{Fractions, Decimals, NoDecimals, Hexadecimals, Magnitudes, Singles, Specials, Doubles};
 ghost use Rattle.wat_grammar.specs.WorkedIntegers.{Digits, Numbers, Naturals, Unsigned, Signed, Integers, SignBefore};
 ghost use Rattle.wat_grammar.specs.WorkedStrings.{Escapes, Strings};
 ghost use Rattle.wat_grammar.specs.WorkedTokens.{Comments, Places, Quoted, Annotations};
 
-/// Digits, and the characters beside them.
+/// Digits, and the characters next to them.
 #[tactic(auto, using(crate::proofs::Worked::digits))]
 pub(crate) fn digits()
     ensures { Digits }
@@ -27,14 +27,14 @@ pub(crate) fn integers()
     ensures sign { SignBefore }
 {}
 
-/// Strings, with escapes and with what is none.
+/// Strings with escapes, and with wrong escapes.
 #[tactic(auto, using(crate::proofs::Worked::escapes, crate::proofs::Worked::strings))]
 pub(crate) fn strings()
     ensures escapes { Escapes }
     ensures whole { Strings }
 {}
 
-/// Floating-point numbers as fractions: decimal, hexadecimal, and what is none.
+/// Floating-point numbers as fractions: decimal, hexadecimal, and texts that are not numbers.
 #[tactic(auto, using(crate::proofs::WorkedFloats::fractions, crate::proofs::WorkedFloats::decimals, crate::proofs::WorkedFloats::no_decimals, crate::proofs::WorkedFloats::hexadecimals, crate::proofs::WorkedFloats::magnitudes))]
 pub(crate) fn floats()
     ensures fractions { Fractions }
@@ -52,7 +52,7 @@ pub(crate) fn float_bits()
     ensures doubles { Doubles }
 {}
 
-/// Comments, tokens at their places, strings and annotations.
+/// Comments, tokens with their offsets, strings and annotations.
 #[tactic(auto, using(crate::proofs::Worked::comments, crate::proofs::Worked::places, crate::proofs::Worked::quoted, crate::proofs::Worked::annotations))]
 pub(crate) fn tokens()
     ensures comments { Comments }

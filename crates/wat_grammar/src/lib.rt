@@ -1,6 +1,6 @@
-//! What the numbers and strings of the WebAssembly text format are: the rules of the specification's chapter on the text format,
-//! as definitions that compute. It has no code: `wat_tokens` cites the definitions in its contracts. `InstrRows` has a row for each
-//! instruction, with its text and its opcode, which `wasm_ops` cites too.
+//! The rules of the WebAssembly text format for tokens, numbers and strings, as definitions that
+//! compute. There is no code: contracts of `wat_tokens` cite the definitions. `InstrRows` has the
+//! text and the opcode of each instruction, and `wasm_ops` cites it too.
 #![tactic(auto)]
 
 mod examples;

@@ -1,14 +1,12 @@
-//! Theorems about how many tokens the rules leave.
+//! Theorems about the number of tokens that the rules leave.
 
 ghost use Rattle.wat_laws.specs.Lengths.{TakesToken};
 
-/// States that an instruction takes a token at least.
+/// Theorem: an instruction has at least one token (text format: instructions).
 ///
-/// The function does nothing. A proof calls it to obtain its clause.
-///
-/// # Guarantees
-///
-/// - `instruction`: after an instruction, fewer tokens are left than before it.
+/// So a loop over instructions needs no more rounds than there are tokens. For example, after
+/// `i32.const 7` in `i32.const 7 drop`, one of three tokens is left. Call it in a proof to obtain
+/// its clause.
 #[tactic(auto, using(crate::proofs::Shrinks::takes_token))]
 pub fn length_laws()
     ensures instruction { TakesToken }

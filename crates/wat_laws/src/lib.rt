@@ -1,10 +1,5 @@
-//! Theorems about the definitions of the text format.
-//!
-//! The crate has no code that runs. A proof calls its function to obtain its clause.
-//!
-//! # Modules
-//!
-//! - `lengths`: an instruction takes a token at least. The statement is in `specs/Lengths.antt`.
+//! A theorem about the text format: an instruction has at least one token. It is stated in
+//! `specs/Lengths.antt`, and the crate has no code that runs.
 #![tactic(auto)]
 
 mod lengths;

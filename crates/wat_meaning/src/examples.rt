@@ -2,7 +2,7 @@
 
 ghost use Rattle.wat_meaning.specs.WorkedMeanings.{TwoTrees};
 
-/// Computes two trees of one text, at any addresses: they are alike, and mean the same.
+/// Computes two trees of one text, at any addresses: they mean the same.
 pub(crate) fn worked_meanings()
     ensures { TwoTrees }
 {}

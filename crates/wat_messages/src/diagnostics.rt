@@ -146,12 +146,8 @@ fn second_place<'a>(detail: Detail<'a>) -> Option<(Saying<'a>, Place<'a>)> {
 }
 
 impl<'a> Diagnostic<'a> {
-    /// Returns the diagnostic of an error in the text format.
-    ///
-    /// # Guarantees
-    ///
-    /// - `marks`: it has a range, which begins at the position of the error, if a character begins
-    ///   there or the text ends there. The range ends in the text.
+    /// Returns the diagnostic of an error in the text format. Its range begins at the position of
+    /// the error, if a character begins there or the text ends there.
     pub fn of_text(text: &'a str, error: TextError) -> Diagnostic<'a>
         ensures marks { Marks text.now (Some error.span) (range_of result) }
         ensures text { text_of result ≡ text.now }
@@ -169,12 +165,8 @@ impl<'a> Diagnostic<'a> {
         }
     }
 
-    /// Returns the diagnostic of an error of the module.
-    ///
-    /// # Guarantees
-    ///
-    /// - `marks`: it has a range if the error has a position. The range begins there, if a character
-    ///   begins there, and ends in the text.
+    /// Returns the diagnostic of an error of the module. It has a range if the error has a
+    /// position.
     pub fn of_module(text: &'a str, error: Error<'a>) -> Diagnostic<'a>
         ensures marks { Marks text.now (span_of error.entry) (range_of result) }
         ensures text { text_of result ≡ text.now }

@@ -29,12 +29,7 @@ fn floor(text: &str, offset: usize) -> usize
 }
 
 /// Returns the range of this many bytes from an offset on, as far as the text has them, with no
-/// character in part.
-///
-/// # Guarantees
-///
-/// - `start`: the range begins at the offset, if a character begins there or the text ends there.
-/// - `range`: it ends in the text, and begins and ends between characters.
+/// character in part. It begins at the offset, if a character begins there or the text ends there.
 pub fn range_in(text: &str, start: usize, count: usize) -> Range
     ensures start { BeginsAt text.now start result }
     ensures range { IsRange text.now result }

@@ -1,4 +1,4 @@
-//! Tokens, and what the rules make of them.
+//! Tokens, and what the rules read them as.
 
 ghost use Rattle.wat_syntax.specs.Keywords.{AreDistinct};
 ghost use Rattle.wat_syntax.specs.WorkedBare.{Addresses, Texts};

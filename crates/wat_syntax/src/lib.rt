@@ -1,5 +1,5 @@
-//! What the tokens of the WebAssembly text format mean: the rules of the specification's chapter on the text format, from tokens to
-//! types, fields and expressions, as definitions that compute. It has no code: `wat_text` cites the definitions in its contracts.
+//! The rules of the WebAssembly text format from tokens to types, expressions and fields, as
+//! definitions that compute. There is no code: contracts of `wat_text` cite the definitions.
 #![tactic(auto)]
 
 mod examples;

@@ -1,10 +1,10 @@
-//! Expressions: instructions one after another, or folded, to any depth.
+//! Reads expressions: instructions in sequence or folded, to any depth.
 //!
-//! What is open is kept in a list, so that calls do not nest as deeply as the text does. Blocks without parentheses are in the
-//! same list, because an `end` must close the block that was opened last, and a `)` must not close a block that has no `end`:
-//! `(func (block loop))` has no `end` for its `loop`.
+//! A list keeps what is open, so calls do not nest as deeply as the text does. Blocks without
+//! parentheses are in the same list, because an `end` closes the block that was opened last. A `)`
+//! must not close a block without `end`, such as the `loop` of `(func (block loop))`.
 //!
-//! Each function here takes a step of the machine in specs/Machine.antt, and proofs/ ties the machine to the grammar.
+//! Each function takes a step of the machine in specs/Machine.antt.
 
 ghost use Rattle.std.specs.Prelude.{◌≡◌, true, false, [], None, Some, map, option_map, reverse};
 ghost use Rattle.wat_syntax.specs.Tokens.{keyword, peek, word_of};
@@ -27,11 +27,12 @@ use wast_tree::{
 };
 use wat_tokens::{Annotation, BlockOp, Key, OwnOp, TextFault, Token, Word};
 
-/// What is open, and so what may come next and what closes it (text format, control instructions, folded instructions).
+/// What is open. It determines what may come next and what closes it (text format: control
+/// instructions, folded instructions).
 #[derive(Clone, Copy)]
 enum Level {
-    /// A block without parentheses that only `end` closes: `block`, `loop`, `try_table`, an `if` after its `else`, or a `try`
-    /// after its `catch_all`.
+    /// A block without parentheses that only `end` closes: `block`, `loop`, `try_table`, an `if`
+    /// after `else`, or a `try` after `catch_all`.
     Plain,
     /// An `if` without parentheses, before its `else`.
     PlainIf,
@@ -76,14 +77,15 @@ enum Part {
     Delegate,
 }
 
-/// A branch hint whose instruction comes next, with its place.
+/// A branch hint whose instruction comes next, with its position.
 #[derive(Clone, Copy)]
 struct Hint {
     value: u32,
     place: Span,
 }
 
-/// What is open, with the place of the word that opened it, and the branch hint of the instruction that waits in it.
+/// An open level, with the position of its keyword and the branch hint of the instruction that
+/// waits in it.
 #[derive(Clone, Copy)]
 struct Open {
     level: Level,
@@ -100,7 +102,7 @@ enum Purpose {
     Constant,
 }
 
-/// An expression that is read: its instructions, those that wait for their operands, and what is open.
+/// An expression that is read: its instructions, those that wait for operands, and what is open.
 struct Body<'a> {
     instrs: Seq<Instruction<'a>>,
     waiting: Seq<Instruction<'a>>,
@@ -113,7 +115,7 @@ fn discard<'a>(alloc: Global, instrs: Seq<Instruction<'a>>) {
     discard_expression(Expression::new(alloc, instrs));
 }
 
-/// The level of a block without parentheses.
+/// Returns the level of a block without parentheses.
 fn plain_level(op: BlockOp) -> Level
     ensures { result ≡ machine.plain_level op }
 {
@@ -124,8 +126,8 @@ fn plain_level(op: BlockOp) -> Level
     }
 }
 
-/// Whether a word is that of an instruction that neither opens a block nor is a part of one. `drop` and `i32.const` are, and
-/// `block`, `else` and `end` are not.
+/// Returns whether a word is an instruction that neither opens a block nor is a part of one. For
+/// example, `drop` is, and `block`, `else` and `end` are not.
 fn is_simple(word: Word) -> bool
     ensures { result ≡ machine.is_simple word }
 {
@@ -139,7 +141,7 @@ fn is_simple(word: Word) -> bool
 }
 
 impl Part {
-    /// The part of a block that a word is, if it is one.
+    /// Returns the part of a block that a word is, if it is one.
     fn of(word: Word) -> Option<Part>
         ensures { option_map in_rule result ≡ part_of (Some word) }
     {
@@ -153,7 +155,7 @@ impl Part {
         }
     }
 
-    /// Its word, as errors have it.
+    /// Returns its word, as errors have it.
     fn name(self) -> &'static str {
         match self {
             Part::End => "`end`",
@@ -164,8 +166,8 @@ impl Part {
         }
     }
 
-    /// The state of the block that was opened last, after this part of it: `Some(None)` if it is closed, and `None` if such a
-    /// part may not come there.
+    /// Returns the state of the innermost block after this part: `Some(None)` if it is closed, and
+    /// `None` if the part may not come there.
     fn after(self, level: Level) -> Option<Option<Level>>
         ensures { result ≡ machine.after_part level (in_rule self) }
     {
@@ -182,7 +184,7 @@ impl Part {
 }
 
 impl<'a> Body<'a> {
-    /// Nothing is read.
+    /// Makes an expression of which nothing is read.
     fn new(alloc: Global) -> Body<'a>
         ensures instrs { result.instrs ≡ [] }
         ensures hints { result.hints ≡ [] }
@@ -197,7 +199,7 @@ impl<'a> Body<'a> {
         }
     }
 
-    /// What was read. Instructions that still wait are dropped.
+    /// Returns what was read, and drops instructions that still wait.
     fn finish(self, alloc: Global) -> Expression<'a>
         ensures { result ≡ record { instrs = self.entry.instrs; branch_hints = self.entry.hints } }
     {
@@ -215,7 +217,7 @@ impl<'a> Body<'a> {
         }
     }
 
-    /// The operator that waits since last.
+    /// Takes the last waiting operator, if there is one.
     fn take_waiting(&mut self, alloc: Global) -> Option<Instruction<'a>>
         ensures last { option_map bare_instr result ≡ machine.last_of (map bare_instr self.old.waiting) }
         ensures others { map bare_instr self.new.waiting ≡ machine.before_last (map bare_instr self.old.waiting) }
@@ -230,7 +232,7 @@ impl<'a> Body<'a> {
         last
     }
 
-    /// What is open since last.
+    /// Returns the innermost level, if one is open.
     fn level(&self) -> Option<Level>
         ensures { result ≡ machine.level_of (reverse self.now.levels.items) }
     {
@@ -240,7 +242,7 @@ impl<'a> Body<'a> {
         }
     }
 
-    /// Whether nothing is open.
+    /// Returns whether nothing is open.
     fn is_closed(&self) -> bool
         ensures { result ≡ machine.is_closed (reverse self.now.levels.items) }
     {
@@ -250,7 +252,7 @@ impl<'a> Body<'a> {
         }
     }
 
-    /// The branch hint of what is open since last.
+    /// Returns the branch hint of the innermost level, if it has one.
     fn open_hint(&self) -> Option<Hint>
         ensures { result ≡ machine.hint_of_level (reverse self.now.levels.items) }
     {
@@ -260,7 +262,7 @@ impl<'a> Body<'a> {
         }
     }
 
-    /// Whether instructions without parentheses may come next.
+    /// Returns whether instructions without parentheses may come next.
     fn takes_plain(&self) -> bool
         ensures { result ≡ machine.takes_plain (machine.level_of (reverse self.now.levels.items)) }
     {
@@ -279,7 +281,7 @@ impl<'a> Body<'a> {
 }
 
 impl<'a> Reader<'a> {
-    /// Opens a level at the place of its word.
+    /// Opens a level at the position of its word.
     fn push_level(&mut self, body: &mut Body<'a>, level: Level, place: Span, hint: Option<Hint>)
         ensures { Does (machine.push_level level place hint) self.old self.new body.old body.new }
     {
@@ -289,7 +291,7 @@ impl<'a> Reader<'a> {
         }
     }
 
-    /// Opens an arm of the level that is open.
+    /// Opens an arm of the innermost level.
     fn push_arm(&mut self, body: &mut Body<'a>)
         ensures { Does machine.push_arm self.old self.new body.old body.new }
     {
@@ -297,7 +299,7 @@ impl<'a> Reader<'a> {
         self.push_level(body, Level::Arm, place, None);
     }
 
-    /// Replaces the last level by another at the same position. Its hint is used.
+    /// Replaces the innermost level by another at the same position. Its hint is used.
     fn replace_level(&mut self, body: &mut Body<'a>, level: Level)
         ensures { Does (machine.replace_level level) self.old self.new body.old body.new }
     {
@@ -306,8 +308,8 @@ impl<'a> Reader<'a> {
         }
     }
 
-    /// Appends a branch hint for the instruction that is appended next. Few instructions have one, so it is not put into its
-    /// callers.
+    /// Appends a branch hint for the instruction that is appended next. It is not inlined, because
+    /// few instructions have one.
     #[cold]
     #[inline(never)]
     fn push_hint(&mut self, body: &mut Body<'a>, hint: Hint)
@@ -335,7 +337,7 @@ impl<'a> Reader<'a> {
         self.make.push_instruction(&mut body.instrs, instruction);
     }
 
-    /// Appends the operator that waits since last, if there is one.
+    /// Appends the last waiting operator, if there is one.
     fn append_operator(&mut self, body: &mut Body<'a>)
         ensures { Does machine.append_operator self.old self.new body.old body.new }
     {
@@ -344,7 +346,7 @@ impl<'a> Reader<'a> {
         }
     }
 
-    /// Appends the operator that waits since last, with its branch hint.
+    /// Appends the last waiting operator, with its branch hint.
     fn append_hinted_operator(&mut self, body: &mut Body<'a>, hint: Option<Hint>)
         ensures { Does (machine.append_hinted_operator hint) self.old self.new body.old body.new }
     {
@@ -366,7 +368,7 @@ impl<'a> Reader<'a> {
         self.instruction(&mut body.instrs);
     }
 
-    /// The value of a branch hint, from its string on to its `)`.
+    /// Reads the value of a branch hint, from its string to its `)`.
     fn hint_value(&mut self) -> u32
         ensures { Decides machine.value_of_hint self.old self.new result }
     {
@@ -383,8 +385,8 @@ impl<'a> Reader<'a> {
         value
     }
 
-    /// Reads `(@metadata.code.branch_hint "\00")`. Few instructions have a hint, so it is not put into its callers. Requires that
-    /// the annotation is next.
+    /// Reads `(@metadata.code.branch_hint "\00")`. It is not inlined, because few instructions have
+    /// a hint.
     #[cold]
     #[inline(never)]
     fn hint_form(&mut self, purpose: Purpose) -> Option<Hint>
@@ -400,7 +402,8 @@ impl<'a> Reader<'a> {
         Some(Hint { value, place })
     }
 
-    /// Reads `(@metadata.code.branch_hint "\00")`, if it comes next. It belongs to the next instruction (branch hinting).
+    /// Reads `(@metadata.code.branch_hint "\00")`, if it is next. The hint is of the next
+    /// instruction (branch hinting).
     #[inline(always)]
     fn hint(&mut self, purpose: Purpose) -> Option<Hint>
         ensures { Decides (machine.hint (machine.may_hint purpose)) self.old self.new result }
@@ -411,7 +414,7 @@ impl<'a> Reader<'a> {
         }
     }
 
-    /// Refuses a branch hint that comes before no instruction.
+    /// Fails if there is a branch hint, because it comes before no instruction.
     fn no_hint(&mut self, hint: Option<Hint>)
         ensures { Expects (machine.without hint) self.old self.new }
     {
@@ -420,7 +423,7 @@ impl<'a> Reader<'a> {
         }
     }
 
-    /// Refuses a branch hint that comes after another.
+    /// Fails because a branch hint comes after another.
     fn second_hint(&mut self, purpose: Purpose)
         ensures { Refuses self.old self.new }
     {
@@ -429,7 +432,7 @@ impl<'a> Reader<'a> {
         self.fail_at(place, TextFault::HintWithoutInstruction);
     }
 
-    /// The part of a block whose word is next.
+    /// Returns the part of a block whose word is next, if one is.
     fn part_in(&self) -> Option<Part>
         ensures { option_map in_rule result ≡ part_of (word_of (peek 0 (left self.now))) }
     {
@@ -551,7 +554,7 @@ impl<'a> Reader<'a> {
         }
     }
 
-    /// Reads a folded block after its `(` (text format, folded instructions).
+    /// Reads a folded block after its `(` (text format: folded instructions).
     fn folded_block(&mut self, body: &mut Body<'a>, op: BlockOp, hint: Option<Hint>)
         ensures { Does (machine.folded_block op hint) self.old self.new body.old body.new }
     {
@@ -574,7 +577,7 @@ impl<'a> Reader<'a> {
         }
     }
 
-    /// Refuses the word of a part of a block, which no operator is.
+    /// Fails if the word of a part of a block is next, because it is not an operator.
     fn no_part(&mut self)
         ensures { Expects machine.no_part self.old self.new }
     {
@@ -583,7 +586,7 @@ impl<'a> Reader<'a> {
         }
     }
 
-    /// Reads an instruction with operands after its `(` (text format, folded instructions).
+    /// Reads an instruction with operands after its `(` (text format: folded instructions).
     fn with_operands(&mut self, body: &mut Body<'a>, hint: Option<Hint>)
         ensures { Does (machine.with_operands hint) self.old self.new body.old body.new }
     {
@@ -593,8 +596,8 @@ impl<'a> Reader<'a> {
         self.push_level(body, Level::Operands, place, hint);
     }
 
-    /// Reads a folded instruction after its `(`, at any token. It is not put into its callers, because most instructions do not
-    /// need it.
+    /// Reads a folded instruction after its `(`, at any token. It is not inlined, because most
+    /// instructions do not need it.
     #[inline(never)]
     fn whole_operator(&mut self, body: &mut Body<'a>, hint: Option<Hint>)
         ensures { Does (machine.folded_operator hint) self.old self.new body.old body.new }
@@ -605,7 +608,7 @@ impl<'a> Reader<'a> {
         }
     }
 
-    /// Reads an operator by its word. It waits for its operands. Requires that the word is next.
+    /// Reads an operator by its word. It waits for its operands.
     fn read_operator_at(&mut self, body: &mut Body<'a>, word: Word, name: &'a str)
         requires { peek 0 (left self.old) ≡ Some (token.Word word (bare_text name)) }
         ensures { Does machine.read_operator self.old self.new body.old body.new }
@@ -613,7 +616,7 @@ impl<'a> Reader<'a> {
         self.worded(word, name, &mut body.waiting);
     }
 
-    /// Reads an instruction with operands after its `(`, by its word. Requires that the word is next, and that it is simple.
+    /// Reads an instruction with operands after its `(`, by its word.
     #[inline(always)]
     fn operator_at(&mut self, body: &mut Body<'a>, word: Word, name: &'a str, hint: Option<Hint>)
         requires next { peek 0 (left self.old) ≡ Some (token.Word word (bare_text name)) }
@@ -625,8 +628,8 @@ impl<'a> Reader<'a> {
         self.push_level(body, Level::Operands, start, hint);
     }
 
-    /// Reads a folded instruction after its `(`, by its word. Most instructions are simple, and are read at once. Requires that the
-    /// word is next.
+    /// Reads a folded instruction after its `(`, by its word. Most instructions are simple, and are
+    /// read at once.
     #[inline(always)]
     fn folded_word(&mut self, body: &mut Body<'a>, word: Word, name: &'a str, hint: Option<Hint>)
         requires { peek 0 (left self.old) ≡ Some (token.Word word (bare_text name)) }
@@ -639,7 +642,7 @@ impl<'a> Reader<'a> {
         }
     }
 
-    /// Reads a folded instruction after its `(` (text format, folded instructions).
+    /// Reads a folded instruction after its `(` (text format: folded instructions).
     #[inline(always)]
     fn folded_operator(&mut self, body: &mut Body<'a>, hint: Option<Hint>)
         ensures { Does (machine.folded_operator hint) self.old self.new body.old body.new }
@@ -662,8 +665,8 @@ impl<'a> Reader<'a> {
         }
     }
 
-    /// Reads what comes after `(` in an expression: an arm of an open `if` or `try`, if one has to come there, or a folded
-    /// instruction. It is put into its callers, because one of them has no hint.
+    /// Reads what comes after `(` in an expression: an arm of an open `if` or `try`, if one has to
+    /// come there, or a folded instruction. It is inlined, because one caller has no hint.
     #[inline(always)]
     fn opened(&mut self, body: &mut Body<'a>, hint: Option<Hint>)
         ensures { Does (machine.opened hint) self.old self.new body.old body.new }
@@ -685,7 +688,7 @@ impl<'a> Reader<'a> {
         }
     }
 
-    /// Refuses an expression in which a block has no `end`, at the place of the block.
+    /// Fails because a block has no `end`, at the position of the block.
     fn unclosed(&mut self, purpose: Purpose, place: Span)
         ensures { Refuses self.old self.new }
     {
@@ -727,7 +730,7 @@ impl<'a> Reader<'a> {
         }
     }
 
-    /// Refuses a part of a block, such as `else`, that no open block takes.
+    /// Fails at a part of a block, such as `else`, that no open block takes.
     fn surplus(&mut self, purpose: Purpose, part: Part)
         ensures { Refuses self.old self.new }
     {
@@ -737,7 +740,7 @@ impl<'a> Reader<'a> {
         }
     }
 
-    /// Closes or changes the block that was opened last, at one of its parts, such as `end` or `else`.
+    /// Closes or changes the innermost block at one of its parts, such as `end` or `else`.
     fn part(&mut self, body: &mut Body<'a>, part: Part, purpose: Purpose)
         ensures { Does (machine.parted (in_rule part)) self.old self.new body.old body.new }
     {
@@ -754,7 +757,7 @@ impl<'a> Reader<'a> {
         }
     }
 
-    /// Closes or changes the block that was opened last, if the next word is a part of a block.
+    /// Closes or changes the innermost block, if the next word is a part of a block.
     fn part_if_any(&mut self, body: &mut Body<'a>, purpose: Purpose)
         ensures { Does machine.parted_if_any self.old self.new body.old body.new }
     {
@@ -763,7 +766,8 @@ impl<'a> Reader<'a> {
         }
     }
 
-    /// Reads an instruction without parentheses after its hint (text format, plain and block instructions).
+    /// Reads an instruction without parentheses after its hint (text format: plain and block
+    /// instructions).
     fn operator_word(&mut self, body: &mut Body<'a>, purpose: Purpose)
         ensures { Does machine.operator_word self.old self.new body.old body.new }
     {
@@ -781,7 +785,7 @@ impl<'a> Reader<'a> {
         }
     }
 
-    /// Reads an instruction without parentheses (text format, plain and block instructions).
+    /// Reads an instruction without parentheses (text format: plain and block instructions).
     fn plain(&mut self, body: &mut Body<'a>, hint: Option<Hint>, purpose: Purpose)
         ensures { Does (machine.plain hint) self.old self.new body.old body.new }
     {
@@ -789,7 +793,7 @@ impl<'a> Reader<'a> {
         self.operator_word(body, purpose);
     }
 
-    /// Refuses a token where only `(` or `)` may come.
+    /// Fails at a token where only `(` or `)` may come.
     fn no_operator(&mut self, body: &Body<'a>)
         ensures { Refuses self.old self.new }
     {
@@ -800,7 +804,8 @@ impl<'a> Reader<'a> {
         }
     }
 
-    /// The next step of an expression after a branch hint, at another token than a parenthesis.
+    /// Does the next step of an expression after a branch hint, at a token that is not a
+    /// parenthesis.
     fn other_step(&mut self, body: &mut Body<'a>, hint: Option<Hint>, purpose: Purpose)
         ensures { Does (machine.other hint) self.old self.new body.old body.new }
     {
@@ -811,7 +816,7 @@ impl<'a> Reader<'a> {
         }
     }
 
-    /// The next step of an expression after a branch hint.
+    /// Does the next step of an expression after a branch hint.
     fn hinted_step(&mut self, body: &mut Body<'a>, hint: Option<Hint>, purpose: Purpose)
         ensures { Does (machine.hinted_step hint) self.old self.new body.old body.new }
     {
@@ -830,7 +835,8 @@ impl<'a> Reader<'a> {
         }
     }
 
-    /// The next step of an expression, at any token. It is not put into its callers, because most steps do not need it.
+    /// Does the next step of an expression, at any token. It is not inlined, because most steps do
+    /// not need it.
     #[inline(never)]
     fn whole_step(&mut self, body: &mut Body<'a>, purpose: Purpose)
         ensures { Does (machine.step (machine.may_hint purpose)) self.old self.new body.old body.new }
@@ -839,7 +845,7 @@ impl<'a> Reader<'a> {
         self.hinted_step(body, hint, purpose);
     }
 
-    /// Reads an instruction by its word, and appends it. Requires that the word is next.
+    /// Reads an instruction by its word, and appends it.
     fn read_instr_at(&mut self, body: &mut Body<'a>, word: Word, name: &'a str)
         requires { peek 0 (left self.old) ≡ Some (token.Word word (bare_text name)) }
         ensures { Does machine.read_instr self.old self.new body.old body.new }
@@ -847,8 +853,8 @@ impl<'a> Reader<'a> {
         self.worded(word, name, &mut body.instrs);
     }
 
-    /// The next step of an expression, at a word. Most instructions are simple, and are read at once: they have no hint, and change
-    /// nothing that is open. Requires that the word is next.
+    /// Does the next step of an expression, at a word. Most instructions are simple, and are read
+    /// at once: they have no hint, and change nothing that is open.
     fn word_step(&mut self, body: &mut Body<'a>, word: Word, name: &'a str, purpose: Purpose)
         requires { peek 0 (left self.old) ≡ Some (token.Word word (bare_text name)) }
         ensures { Does (machine.step (machine.may_hint purpose)) self.old self.new body.old body.new }
@@ -860,7 +866,7 @@ impl<'a> Reader<'a> {
         }
     }
 
-    /// The next step of an expression, at `(`, without a branch hint before it. Requires that `(` is next.
+    /// Does the next step of an expression, at a `(` without a branch hint before it.
     #[inline(never)]
     fn open_step(&mut self, body: &mut Body<'a>)
         requires { peek 0 (left self.old) ≡ Some token.Open }
@@ -870,7 +876,7 @@ impl<'a> Reader<'a> {
         self.opened(body, None);
     }
 
-    /// The next step of an expression, at `)`, without a branch hint before it. Requires that `)` is next.
+    /// Does the next step of an expression, at a `)` without a branch hint before it.
     #[inline(never)]
     fn close_step(&mut self, body: &mut Body<'a>, purpose: Purpose)
         requires { peek 0 (left self.old) ≡ Some token.Close }
@@ -880,8 +886,8 @@ impl<'a> Reader<'a> {
         self.closed(body, None, purpose);
     }
 
-    /// The next step of an expression, at a token. Most tokens are words or parentheses, and one look at them is enough. Requires
-    /// that the token is next.
+    /// Does the next step of an expression, at a token. Most tokens are words or parentheses, for
+    /// which one look is enough.
     #[inline(always)]
     fn token_step(&mut self, body: &mut Body<'a>, next: Token<'a>, purpose: Purpose)
         requires { peek 0 (left self.old) ≡ Some (bare_token next) }
@@ -895,7 +901,7 @@ impl<'a> Reader<'a> {
         }
     }
 
-    /// The next step of an expression. It is put into the loops that call it.
+    /// Does the next step of an expression. It is inlined into the loops that call it.
     #[inline(always)]
     fn body_step(&mut self, body: &mut Body<'a>, purpose: Purpose)
         ensures { Does (machine.step (machine.may_hint purpose)) self.old self.new body.old body.new }
@@ -906,14 +912,14 @@ impl<'a> Reader<'a> {
         }
     }
 
-    /// Whether nothing is open, and the form or the text ends.
+    /// Returns whether nothing is open, and the form or the text ends.
     fn is_done(&self, body: &Body<'a>) -> bool
         ensures { result ≡ machine.is_done (reverse body.now.levels.items) (left self.now) }
     {
         body.is_closed() && self.is_end()
     }
 
-    /// Reads instructions up to the end of the form (text format, expressions).
+    /// Reads instructions up to the end of the form (text format: expressions).
     fn instructions(&mut self, purpose: Purpose) -> Expression<'a>
         ensures { Reads (expression_rule (machine.may_hint purpose)) self.old self.new (bare_expression result) }
     {
@@ -929,21 +935,21 @@ impl<'a> Reader<'a> {
         body.finish(self.alloc)
     }
 
-    /// Reads the body of a function up to the end of the form (text format, functions).
+    /// Reads the body of a function up to the end of the form (text format: functions).
     pub fn function_body(&mut self) -> Expression<'a>
         ensures { Reads (expression_rule true) self.old self.new (bare_expression result) }
     {
         self.instructions(Purpose::Body)
     }
 
-    /// Reads a constant expression up to the end of the form (text format, expressions).
+    /// Reads a constant expression up to the end of the form (text format: expressions).
     pub fn expression(&mut self) -> Expression<'a>
         ensures { Reads (expression_rule false) self.old self.new (bare_expression result) }
     {
         self.instructions(Purpose::Constant)
     }
 
-    /// Reads an expression of one folded instruction (text format, folded instructions).
+    /// Reads an expression of one folded instruction (text format: folded instructions).
     pub fn folded(&mut self) -> Expression<'a>
         ensures { Reads folded_expression self.old self.new (bare_expression result) }
     {
@@ -960,7 +966,7 @@ impl<'a> Reader<'a> {
         body.finish(self.alloc)
     }
 
-    /// Refuses what is left open when no token is left.
+    /// Fails at what is open when no token is left.
     fn unfinished(&mut self, body: &Body<'a>, purpose: Purpose)
         ensures { Refuses self.old self.new }
     {
@@ -979,7 +985,7 @@ impl<'a> Reader<'a> {
         }
     }
 
-    /// Refuses what is left open. Each step takes a token, so no token is left then.
+    /// Fails if something is open. Each step takes a token, so no token is left then.
     fn end_body(&mut self, body: &Body<'a>, is_done: bool, purpose: Purpose)
         ensures { EndsExpression is_done self.old self.new }
     {

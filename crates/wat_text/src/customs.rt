@@ -167,8 +167,8 @@ impl<'a> Reader<'a> {
         self.took(pushed);
     }
 
-    /// Fails because the keyword at a position is no field of `producers`. The field that it returns
-    /// means nothing.
+    /// Fails because the keyword at a position is not a field of `producers`. The result is a
+    /// dummy.
     fn no_tool(&mut self, place: Span) -> Tool
         ensures { Refuses self.old self.new }
     {
@@ -337,7 +337,7 @@ impl<'a> Reader<'a> {
         (size, align)
     }
 
-    /// Reads names up to the closing `)`, and appends them.
+    /// Appends the names up to the closing `)`.
     #[tactic(auto, using(crate::proofs::Steps::one_bare, crate::proofs::Loops::part_end, crate::proofs::Loops::part_last, crate::proofs::Loops::none_after))]
     fn all_names(&mut self, names: &mut Seq<&'a str>)
         ensures { ReadsOnto names_rule self.old self.new (map bare_text names.old) (map bare_text names.new) }
@@ -361,8 +361,8 @@ impl<'a> Reader<'a> {
         names
     }
 
-    /// Reads `)`, `(` and this keyword, if they are next. The entries of neighbouring forms are one
-    /// subsection, so the entry in the next form follows.
+    /// Reads `)`, `(` and this keyword, if they are next. Neighbouring forms are one subsection, so
+    /// the next entry follows.
     fn accept_next(&mut self, key: Key) -> bool
         ensures { Accepts (again key) self.old self.new result }
     {
@@ -479,8 +479,7 @@ impl<'a> Reader<'a> {
         }
     }
 
-    /// Fails because the last token is no name of a subsection. The subsection that it returns means
-    /// nothing.
+    /// Fails because the last token is not a subsection. The result is a dummy.
     fn no_subsection(&mut self) -> Dylink0Subsection<'a>
         ensures { Refuses self.old self.new }
     {
@@ -537,7 +536,7 @@ impl<'a> Reader<'a> {
         self.make.push_subsection(subsections, subsection);
     }
 
-    /// Reads subsections of `dylink.0` up to the closing `)`, and appends them.
+    /// Appends the subsections of `dylink.0` up to the closing `)`.
     #[tactic(auto, using(crate::proofs::Steps::one_built, crate::proofs::Loops::part_end, crate::proofs::Loops::part_last, crate::proofs::Loops::none_after))]
     fn all_subsections(&mut self, found: &mut Seq<Dylink0Subsection<'a>>)
         ensures { ReadsOnto subsections self.old self.new (map bare_subsection found.old) (map bare_subsection found.new) }

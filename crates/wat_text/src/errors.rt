@@ -1,8 +1,8 @@
 //! The first error of a text whose tokens have an error.
 //!
-//! All tokens of a text are read before its fields. So an error in a token is found first, though an
-//! earlier token may already be wrong, as `fnuc` in `(module (fnuc) (data "a))`. The tokens before
-//! the error tell.
+//! All tokens of a text are read before its fields, so an error in a token is found first. An
+//! earlier token may already be wrong, as `fnuc` in `(module (fnuc) (data "a))`. So the tokens
+//! before the error are then read as fields.
 
 ghost use Rattle.std.specs.Prelude.{◌≡◌, ◌≤◌};
 ghost use Rattle.wat_tokens.specs.declared.faults.TextFault.TheVariants as fault;
@@ -16,7 +16,7 @@ use wat_tokens::{Placed, Strings, TextError, TextFault, Token, tokens_of};
 const MOST_OPEN: usize = 3;
 
 /// Returns the tokens of a text up to an offset, but none of a string, a comment or an annotation
-/// that ends after the offset. The only error is that memory is refused.
+/// that ends after it. Fails only if an allocation fails.
 fn tokens_before<'a>(
     alloc: Global,
     text: &'a str,
@@ -37,8 +37,8 @@ fn tokens_before<'a>(
     Ok(Vec::new(alloc))
 }
 
-/// Returns the offset up to which the tokens before an error tell what is wrong. If the last one is
-/// `(`, the token with the error belongs to it.
+/// Returns the offset before which an error of the fields counts. It is that of the token with the
+/// error, or of the `(` before it.
 fn known_before(tokens: &[Placed<'_>], place: Span) -> usize {
     match tokens.last() {
         Some(
@@ -51,8 +51,8 @@ fn known_before(tokens: &[Placed<'_>], place: Span) -> usize {
     }
 }
 
-/// Returns an error if it is before an offset, or if memory was refused. Otherwise returns the other
-/// one.
+/// Returns `error` if it is before the offset `known`, and otherwise `other`. A failed allocation
+/// is always returned.
 fn earlier(error: TextError, known: usize, other: TextError) -> TextError
     ensures place { result.span.offset ≤ other.span.offset }
 {
@@ -80,8 +80,8 @@ fn discard(module: TextModule<'_>) {
     }
 }
 
-/// Returns the error of tokens, which come before that of another token, if it is earlier. The token
-/// after them is one that no rule of the text format takes.
+/// Returns the error of reading the tokens before `error` as fields, if it is earlier, and
+/// otherwise `error`. They end with a token that no rule of the text format takes.
 fn error_before<'a>(
     alloc: Global,
     text: &str,
@@ -109,8 +109,8 @@ fn error_before<'a>(
     }
 }
 
-/// Returns the first error of a text, for the error of its tokens: that of an earlier token, if the
-/// rules take no such tokens, and else the same.
+/// Returns the first error of a text whose tokens have this error: that of its fields, if it is
+/// earlier, and otherwise the same.
 pub(crate) fn first_error<'a>(
     alloc: Global,
     text: &'a str,

@@ -77,8 +77,8 @@ fn export_kind(key: Option<Key>) -> Option<ExportKind>
 }
 
 impl<'a> Reader<'a> {
-    /// Reads the keyword, the id, the name annotation and the inline exports of a field. The
-    /// keyword is skipped without a check, because the caller has checked it.
+    /// Reads the keyword, the id, the name annotation and the inline exports of a field. The caller
+    /// has checked the keyword.
     fn head(&mut self) -> Head<'a>
         ensures { Reads head self.old self.new (bare_head result) }
     {
@@ -94,7 +94,7 @@ impl<'a> Reader<'a> {
         }
     }
 
-    /// Reads `(export "a")` in a field. Requires that `(export` is next.
+    /// Reads `(export "a")` in a field.
     fn inline_export(&mut self) -> &'a str
         requires { is_form key.Export (left self.old) ≡ true }
         ensures { Decides inline_export self.old self.new (bare_text result) }
@@ -197,7 +197,7 @@ impl<'a> Reader<'a> {
         self.unnamed_locals(locals);
     }
 
-    /// Reads `(local ..)`, and appends its locals. Requires that `(local` is next.
+    /// Reads `(local ..)`, and appends its locals.
     #[tactic(auto, using(crate::proofs::Loops::closes))]
     fn local(&mut self, locals: &mut Seq<Local<'a>>)
         requires { is_form key.Local (left self.old) ≡ true }
@@ -565,8 +565,7 @@ impl<'a> Reader<'a> {
     }
 
     /// Reads the type of an imported item, after its keyword, id and name annotation (text format:
-    /// imports). `key` is the keyword, which is at a position. For example, a memory type comes after
-    /// `memory`.
+    /// imports). For example, a memory type comes after `memory`. The keyword is `key`, at `place`.
     fn item_kind(&mut self, key: Option<Key>, place: Span) -> ItemKind<'a>
         ensures { Reads (externtype_of key) self.old self.new (bare_item_kind result) }
     {
@@ -639,7 +638,7 @@ impl<'a> Reader<'a> {
         self.import_group(module, first)
     }
 
-    /// Reads `(item "a")`, and returns the name. Requires that `(item` is next.
+    /// Reads `(item "a")`, and returns the name.
     fn import_name(&mut self) -> &'a str
         requires { is_form key.Item (left self.old) ≡ true }
         ensures { Decides import_name self.old self.new (bare_text result) }
@@ -665,7 +664,7 @@ impl<'a> Reader<'a> {
         }
     }
 
-    /// Reads `(item "a" (func))`. Requires that `(item` is next.
+    /// Reads `(item "a" (func))`.
     fn import_item(&mut self) -> (&'a str, ItemSig<'a>)
         requires { is_form key.Item (left self.old) ≡ true }
         ensures { Reads import_item self.old self.new (bare_import_item result) }

@@ -54,8 +54,8 @@ impl<'a> Reader<'a> {
         }
     }
 
-    /// Reads `align=4`, if it is next. Otherwise it is the natural alignment. It is an error if the
-    /// alignment is not a power of two.
+    /// Reads `align=4`, if it is next. Otherwise it is the natural alignment. An alignment that is
+    /// not a power of two is an error.
     #[tactic(auto, using(crate::proofs::Numbers::unsigned_is, crate::proofs::Numbers::unsigned_not))]
     fn align(&mut self, natural: u64) -> u64
         ensures { Decides (align natural) self.old self.new result }
@@ -136,17 +136,16 @@ impl<'a> Reader<'a> {
         }
     }
 
-    /// Returns whether the number that is next is that of a lane, and not that of a memory. In
-    /// `v128.load8_lane 1` it is that of a lane.
+    /// Returns whether a number is next that is a lane and not a memory, as in
+    /// `v128.load8_lane 1`.
     fn is_lane_alone(&self) -> bool
         ensures { result ≡ is_lane_alone (left self.now) }
     {
         self.is_number(0) && !self.is_number(1) && !self.is_assigned(1)
     }
 
-    /// Reads a memory argument and the number of a lane (text format: vector instructions). A
-    /// number alone is that of the lane. For example, `v128.load8_lane 0 1` has memory 0 and lane
-    /// 1.
+    /// Reads a memory argument and a lane index (text format: vector instructions). A number alone
+    /// is the lane. For example, `v128.load8_lane 0 1` has memory 0 and lane 1.
     pub fn load_or_store_lane(&mut self, natural: u64) -> LoadOrStoreLane<'a>
         ensures { Decides (lane_memarg natural) self.old self.new (bare_mem_lane result) }
     {
@@ -260,8 +259,8 @@ impl<'a> Reader<'a> {
         Instruction::select(SelectTypes { tys: Some(values) })
     }
 
-    /// Reads two indices, of which the first can be left out. It is 0 then, at the position of the
-    /// token before. For example, `memory.init $d` is `memory.init 0 $d`.
+    /// Reads two indices. One alone is the second, and the first is 0, at the position of the token
+    /// before. For example, `memory.init $d` is `memory.init 0 $d`.
     pub fn one_or_two(&mut self) -> (Index<'a>, Index<'a>)
         ensures { Decides one_or_two self.old self.new (bare_two result) }
     {
@@ -273,8 +272,8 @@ impl<'a> Reader<'a> {
         }
     }
 
-    /// Reads two indices, or none. If there is none, both are 0, at the position of the token
-    /// before. For example, `memory.copy` is `memory.copy 0 0`.
+    /// Reads two indices, or none. Without any, both are 0, at the position of the token before.
+    /// For example, `memory.copy` is `memory.copy 0 0`.
     pub fn none_or_two(&mut self) -> (Index<'a>, Index<'a>)
         ensures { Decides none_or_two self.old self.new (bare_two result) }
     {
@@ -298,7 +297,7 @@ impl<'a> Reader<'a> {
         Handle::OnLabel { tag, label }
     }
 
-    /// Reads `(on $tag $label)` or `(on $tag switch)`. Requires that `(on` is next.
+    /// Reads `(on $tag $label)` or `(on $tag switch)`.
     fn on_clause(&mut self) -> Handle<'a>
         requires { is_form key.On (left self.old) ≡ true }
         ensures { Decides on self.old self.new (bare_handle result) }

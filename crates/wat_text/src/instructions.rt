@@ -84,7 +84,7 @@ impl<'a> Reader<'a> {
         self.is_open(0) && self.is_catch_word()
     }
 
-    /// Reads a clause of `try_table`, in its parentheses. Requires that one is next.
+    /// Reads a clause of `try_table`, in its parentheses.
     fn catch_form(&mut self) -> TryTableCatch<'a>
         requires { is_catch (left self.old) ≡ true }
         ensures { Decides catch_rule self.old self.new (bare_catch result) }
@@ -230,9 +230,9 @@ impl<'a> Reader<'a> {
         Instruction::end_(self.id())
     }
 
-    /// Reads the immediates of an instruction of any kind, after its keyword, and returns the
-    /// instruction. If the tree has no variant for it, the result has only its name, as for
-    /// `i64.add128`. Requires that the keyword is that of an instruction and begins no block.
+    /// Reads the immediates of an instruction that begins no block, after its keyword, and returns
+    /// the instruction. If the tree has no variant for it, the result has only its name, as for
+    /// `i64.add128`.
     fn any_operator(&mut self, word: Word, name: &'a str) -> Instruction<'a>
         requires { is_plaininstr word ≡ true }
         ensures { Reads (plaininstr word (bare_text name.entry)) self.old self.new (bare_instr result) }
@@ -311,10 +311,9 @@ impl<'a> Reader<'a> {
         self.push_instruction(instrs, instruction);
     }
 
-    /// Reads the immediates of an instruction of any kind, and appends the instruction, as
-    /// `push_operator` does, which reads the most frequent kinds without this function. The compiler
-    /// sets the locals of all its arms to zero at its start, so it costs more than an instruction
-    /// with one index does.
+    /// Does what `push_operator` does, without its functions for frequent kinds. The compiler sets
+    /// the locals of all arms to zero at its start, so it costs more than an instruction with one
+    /// index.
     #[inline(never)]
     fn push_other(&mut self, word: Word, name: &'a str, instrs: &mut Seq<Instruction<'a>>)
         requires { is_plaininstr word ≡ true }
@@ -326,7 +325,7 @@ impl<'a> Reader<'a> {
 
     /// Reads the immediates of an instruction that begins no block, after its keyword, and appends
     /// the instruction (text format: instructions). Each of the most frequent kinds has a function
-    /// of its own. Requires that the keyword is that of an instruction and begins no block.
+    /// of its own.
     fn push_operator(&mut self, word: Word, name: &'a str, instrs: &mut Seq<Instruction<'a>>)
         requires { is_plaininstr word ≡ true }
         ensures { ReadsOnto (one (plaininstr word (bare_text name.entry))) self.old self.new (map bare_instr instrs.old) (map bare_instr instrs.new) }
@@ -341,7 +340,7 @@ impl<'a> Reader<'a> {
         }
     }
 
-    /// Reads an instruction by its keyword, and appends it. Requires that the keyword is next.
+    /// Reads an instruction by its keyword, and appends it.
     #[tactic(auto, using(crate::proofs::Words::not_opener, crate::proofs::Loops::mapped))]
     pub(crate) fn worded(&mut self, word: Word, name: &'a str, instrs: &mut Seq<Instruction<'a>>)
         requires { peek 0 (left self.old) ≡ Some (token.Word word (bare_text name)) }

@@ -3,11 +3,12 @@
 //! The crate `wat_bytes` encodes what is read, and `wast_script` reads the modules of a test
 //! script.
 //!
-//! # Example
-//!
 //!     let module = read(rt.alloc(), text, &strings).expect(&rt, "a module");
 //!
 //! For the text `(module (func) (func $f))` the module has two fields.
+//!
+//! What is proved: [`read`] returns the module that the rules of the text format read. It fails
+//! with another error than [`TextFault::Memory`] only if they read none.
 //!
 //! # Modules
 //!
@@ -20,15 +21,6 @@
 //!
 //! The rules of the text format are in `wat_grammar` and `wat_syntax`. In `specs/`, `Denotes` has
 //! the rules of a whole module, and `Readers` the contracts of functions that read a part of it.
-//!
-//! # Guarantees
-//!
-//! - [`read`], `denotes`: the rules of the text format read the text as the module that is
-//!   returned.
-//! - [`read`], `refuses`: if the error is not [`TextFault::Memory`], the rules read the text as no
-//!   module.
-//! - [`read`], `well_formed`: the module is well formed, because the rules read no other.
-//! - A text has one module by definition (`module_of`), which is without addresses in memory.
 #![tactic(auto)]
 
 mod bodies;

@@ -106,7 +106,7 @@ impl<'a> Reader<'a> {
         ModuleField::Start(self.index())
     }
 
-    /// Fails because no field is next. The field that it returns means nothing.
+    /// Fails because no field is next. The field that it returns is a dummy.
     fn no_field(&mut self) -> ModuleField<'a>
         ensures { Refuses self.old self.new }
     {
@@ -188,8 +188,8 @@ impl<'a> Reader<'a> {
         Some(span)
     }
 
-    /// Reads `(module`, an id and a name annotation, if the module is in parentheses. Otherwise it
-    /// reads nothing, because a module of fields alone has no id.
+    /// Reads `(module`, an id and a name annotation, if the module is in parentheses. Otherwise
+    /// reads nothing, because fields alone have no id.
     fn module_head(&mut self) -> ModuleHead<'a>
         ensures { Decides opening self.old self.new (bare_opening result) }
     {
@@ -209,7 +209,7 @@ impl<'a> Reader<'a> {
         self.took(pushed);
     }
 
-    /// Reads strings up to the closing `)`, and appends them.
+    /// Appends the strings up to the closing `)`.
     #[tactic(auto, using(crate::proofs::Steps::one_bare, crate::proofs::Loops::part_end, crate::proofs::Loops::part_last, crate::proofs::Loops::none_after))]
     fn all_pieces(&mut self, pieces: &mut Seq<&'a [u8]>)
         ensures { ReadsOnto strings_rule self.old self.new (map bare_text pieces.old) (map bare_text pieces.new) }
@@ -223,8 +223,7 @@ impl<'a> Reader<'a> {
         }
     }
 
-    /// Reads strings up to the closing `)`. They are the pieces of a binary module or of a custom
-    /// section.
+    /// Reads strings up to the closing `)`: the pieces of a binary module or of a custom section.
     #[tactic(auto, using(crate::proofs::Loops::from_nothing))]
     pub(crate) fn pieces(&mut self) -> Seq<&'a [u8]>
         ensures { Reads strings_rule self.old self.new (map bare_text result) }
@@ -267,8 +266,7 @@ impl<'a> Reader<'a> {
         }
     }
 
-    /// Reads strings up to the closing `)`, each with its position. They are the text of
-    /// `(module quote ..)`.
+    /// Reads the strings of `(module quote ..)` up to the closing `)`, each with its position.
     #[tactic(auto, using(crate::proofs::Loops::from_nothing))]
     fn quotes(&mut self) -> Vec<Quote<'a>>
         ensures { Reads quotes_rule self.old self.new (map bare_quote result.items) }
@@ -299,8 +297,7 @@ impl<'a> Reader<'a> {
         }
     }
 
-    /// Reads the end of a module and of the text. If the module is in parentheses, its `)` comes
-    /// first.
+    /// Reads the `)` of a module, if it is in parentheses, and the end of the text.
     fn module_end(&mut self, is_written: bool)
         ensures { Expects (end_rule is_written) self.old self.new }
     {
@@ -340,9 +337,8 @@ fn second_start(fields: &[ModuleField<'_>]) -> Option<Span>
     None
 }
 
-/// Returns the position of the second start function in a list, and leaves the list unchanged. It
-/// borrows the list mutably, because the prover would compare the type of the whole tree with itself
-/// for a shared borrow.
+/// Returns the position of the second start function in a list. It takes `&mut` and changes
+/// nothing, because for a `&` the prover would compare the type of the whole tree with itself.
 fn second_start_in<'a>(fields: &mut Seq<ModuleField<'a>>) -> Option<Span>
     ensures one { is_none result ≡ has_one_start fields.old }
     ensures stays { fields.new ≡ fields.old }
@@ -367,8 +363,8 @@ fn unless<'a>(
     }
 }
 
-/// Reads the fields up to the end of the text. If the module is in parentheses, its `)` comes
-/// before the end.
+/// Reads the fields up to the end of the text, and the `)` before it if the module is in
+/// parentheses.
 fn rest_of_fields<'a>(
     reader: Reader<'a>,
     is_written: bool,
@@ -432,8 +428,7 @@ fn binary_module<'a>(reader: Reader<'a>, head: ModuleHead<'a>) -> Result<TextMod
 }
 
 /// Reads a module in quotes from `quote` on, and returns the module of the text in quotes. It has
-/// the position of the outer module. It also has the id and the name annotation of the outer
-/// module, if there are any.
+/// the position of the outer module, and its id and name annotation, if there are any.
 fn quoted_module<'a>(
     source: &str,
     reader: Reader<'a>,
@@ -467,8 +462,7 @@ fn up_to_end(span: Span, end: Span) -> Span
     }
 }
 
-/// Reads the fields of a module from its tokens, as [`read_tokens`] does. The contract does not
-/// bound the position of an error.
+/// Does what [`read_tokens`] does. The contract does not bound the position of an error.
 fn fields_of_tokens<'a>(
     alloc: Global,
     tokens: Vec<Placed<'a>>,
@@ -524,8 +518,7 @@ fn module_after<'a>(
     }
 }
 
-/// Reads a module from the tokens of a text, as [`read`] does. The contract does not bound the
-/// position of an error.
+/// Reads a module from the tokens of a text. The contract does not bound the position of an error.
 pub(crate) fn module_of_tokens<'a>(
     alloc: Global,
     source: &str,
@@ -542,8 +535,8 @@ pub(crate) fn module_of_tokens<'a>(
     module_after(source, reader, head, strings)
 }
 
-/// Reads a module from the tokens of a text in groups, as [`read`] does. The contract does not bound
-/// the position of an error.
+/// Reads a module from the tokens of a text in groups. The contract does not bound the position of
+/// an error.
 fn module_of_groups<'a>(
     alloc: Global,
     source: &str,
@@ -561,7 +554,7 @@ fn module_of_groups<'a>(
     module_after(source, reader, head, strings)
 }
 
-/// Reads a module from the tokens of a text up to `end`, as [`read`] does.
+/// Reads a module from the tokens of a text up to `end`.
 fn module_up_to<'a>(
     alloc: Global,
     source: &str,
@@ -583,7 +576,7 @@ fn module_up_to<'a>(
     }
 }
 
-/// Reads a module from the tokens of a text in groups up to `end`, as [`read`] does.
+/// Reads a module from the tokens of a text in groups up to `end`.
 fn module_of_groups_up_to<'a>(
     alloc: Global,
     source: &str,
@@ -608,44 +601,32 @@ fn module_of_groups_up_to<'a>(
 
 /// Reads a module in the text format (text format: modules).
 ///
-/// The text has one module, in parentheses or as its fields alone. `(module binary "..")` has the
-/// bytes of a binary module, which are not checked. `(module quote "..")` has the module of the
-/// text in its strings, which are joined to one text.
-///
-/// The position of a field is that of its keyword. The position of an id or a number is that of its
-/// first character, also in the strings of `(module quote ..)`. There, the position of a character
-/// that an escape writes is that of the escape. The tree refers to `strings`, which stores strings
-/// with escapes and the text in quotes. However deeply a text is nested, calls do not nest as
-/// deeply.
-///
-/// # Example
-///
 ///     let module = read(rt.alloc(), text, &strings).expect(&rt, "a module");
 ///
 /// For the text `(module (func) (func $f))` the module has two fields.
 ///
+/// The module is in parentheses, or its fields are alone. The bytes of `(module binary "..")` are
+/// not checked. For `(module quote "..")` the strings are joined to one text, and the result is its
+/// module.
+///
+/// A field has the position of its keyword. An id or a number has that of its first character, also
+/// in the strings of `(module quote ..)`. If an escape writes the character, it is that of the
+/// escape. The tree refers to `strings`, which stores strings with escapes and the text in quotes.
+/// However deeply a text is nested, calls do not nest as deeply.
+///
 /// # Errors
 ///
-/// A [`TextFault`] with a position in the text or at its end: the first error of the text. In the
-/// strings of `(module quote ..)` a wrong token comes before an earlier error of another kind. For
-/// example, it is the `[` of `(module quote "(fnuc) [")`.
+/// The first error of the text, with a position in the text or at its end. In the strings of
+/// `(module quote ..)` a wrong token comes before an earlier error of another kind. For example, it
+/// is the `[` of `(module quote "(fnuc) [")`.
 ///
 /// - [`TextFault::Memory`]: allocation failed.
 /// - Each other fault: the text is not a module. It is never [`TextFault::IllFormed`], because the
 ///   rules read only well-formed fields.
 ///
-/// # Guarantees
-///
-/// - `well_formed`: the fields are well formed, because the rules read no others (`ready_laws` of
-///   `wat_ready`). The bytes of a binary module are not checked.
-/// - `denotes`: the rules of the text format read the text as the module (`Denotes`).
-/// - `refuses`: unless the error is [`TextFault::Memory`], the rules read the text as no module.
-/// - `place`: the position of an error is in the text or at its end.
-///
 /// # Memory
 ///
-/// Allocates for the tokens, the tree and `strings`. All tokens are there before the tree, and are
-/// freed in groups of 512 while it is read.
+/// All tokens are allocated before the tree, and are freed in groups of 512 while it is read.
 #[tactic(auto, using(crate::proofs::Opened::text_ok))]
 pub fn read<'a>(
     alloc: Global,
@@ -667,11 +648,7 @@ pub fn read<'a>(
 /// Reads the fields of a module from its tokens, as [`read`] does from a text (text format:
 /// modules).
 ///
-/// It is for tokens that the caller has changed. For example, the caller replaces ids or positions.
-/// `end` is the position after the last token. The id and the name annotation of the module are not
-/// returned. It is an error if the module is `(module binary ..)` or `(module quote ..)`.
-///
-/// # Example
+/// It is for tokens that the caller has changed, for example their ids or positions.
 ///
 ///     let mut tokens = written_tokens_of(alloc, text)?;
 ///     write_in(&mut tokens, way);
@@ -680,23 +657,9 @@ pub fn read<'a>(
 ///
 ///     read_tokens(alloc, tokens, end)
 ///
-/// # Errors
-///
-/// A [`TextFault`] with a position up to `end`: the tokens are not a module of fields, or allocation
-/// failed.
-///
-/// # Guarantees
-///
-/// - `well_formed`: the fields are well formed.
-/// - `denotes`: the rules of the text format read the tokens as a module with these fields.
-/// - `refuses`: unless the error is [`TextFault::Memory`], the rules read the tokens as no module
-///   of fields.
-/// - `place`: the position of an error is not after `end`. So it is in the text or at its end, if
-///   `end` is.
-///
-/// # Memory
-///
-/// Allocates for the tree.
+/// `end` is the position after the last token, and no error is after it. The id and the name
+/// annotation of the module are not returned. A module `(module binary ..)` or `(module quote ..)`
+/// is an error.
 pub fn read_tokens<'a>(
     alloc: Global,
     tokens: Vec<Placed<'a>>,
@@ -719,24 +682,8 @@ pub fn read_tokens<'a>(
 /// Reads a module from its tokens, as [`read`] does from a text (text format: modules).
 ///
 /// For example, `wast_script` calls it with the tokens of one module of a script. `end` is the
-/// position after the last token. The text of `(module quote ..)` is stored in `strings`. Each token
-/// of that text has the position of the string in which it begins.
-///
-/// # Errors
-///
-/// A [`TextFault`] with a position up to `end`: the tokens are not a module, or allocation failed.
-///
-/// # Guarantees
-///
-/// - `well_formed`: the fields are well formed. The bytes of a binary module are not checked.
-/// - `denotes`: the rules of the text format read the tokens as the module (`IsModule`).
-/// - `refuses`: unless the error is [`TextFault::Memory`], the rules read the tokens as no module.
-/// - `place`: the position of an error is not after `end`. So it is in the text or at its end, if
-///   `end` is.
-///
-/// # Memory
-///
-/// Allocates for the tree and `strings`.
+/// position after the last token, and no error is after it. The text of `(module quote ..)` is
+/// stored in `strings`. Each token of that text has the position of the string in which it begins.
 pub fn read_module_tokens<'a>(
     alloc: Global,
     tokens: Vec<Placed<'a>>,

@@ -2,8 +2,8 @@
 //! scripts: modules).
 //!
 //! The strings are joined to one text, so a token can begin in one string and end in the next. Each
-//! token has the position of its first character in the source. If an escape writes the character,
-//! it is that of the backslash.
+//! token has the position of its first character in the source, or of the escape that writes this
+//! character.
 
 ghost use Rattle.std.specs.Prelude.{◌≡◌, ◌≢◌, ◌++◌, drop, set, map, Some, None, MatchResult, slice_get};
 ghost use Rattle.wat_tokens.specs.declared.faults.TextFault.TheVariants as fault;
@@ -51,7 +51,7 @@ fn text_from(text: &str, offset: usize) -> &[u8]
 }
 
 /// Returns the offset in the source of each byte of a string. If the source does not have the
-/// string, all are that of the string.
+/// string, all are the offset of the string.
 #[tactic(auto, using(crate::proofs::Quoting::exact_same, crate::proofs::Quoting::exact_other))]
 fn source_of(alloc: Global, source: &str, quote: Quote<'_>) -> Result<Vec<usize>, TextFault>
     ensures { MatchResult result (λ places. places.items ≡ source_of source.now quote.entry) (λ f. f ≡ fault.Memory) }

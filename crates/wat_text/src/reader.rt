@@ -1,14 +1,14 @@
 //! Reads the tokens of a text one after another, up to the first error.
 //!
-//! A reader keeps the first error, and has no tokens left from then on. So each function that reads
-//! a part of the tree returns a part, and has no error to pass on and nothing to drop. Each loop
-//! over the tokens that are left also ends.
+//! A reader keeps the first error, and has no tokens left from then on. So a function that reads a
+//! part of the tree always returns one, and has no error to pass on. Each loop over the tokens also
+//! ends.
 //!
 //! The next token is the first one that is left. A form is `(`, a keyword, and all up to the
 //! closing `)`, such as `(result i32 i64)`.
 //!
-//! The tokens of a text are in groups. A group is freed as soon as a token after it is read, so the
-//! tree takes its memory.
+//! The tokens are in groups. A group is freed as soon as a token after it is read, so the tree
+//! takes its memory.
 
 ghost use Rattle.std.specs.Prelude.{◌≡◌, ◌≢◌, ◌-◌, true, false, None, Some, Ok, Err, drop, length, map, option_map, slice_get, IfSome};
 ghost use Rattle.wat_syntax.specs.Tokens.{peek, after, position, position_in, count, is_lparen, is_end, word_of, key_of, is_key, is_form, lparen, rparen, keyword, form};
@@ -27,8 +27,7 @@ use wat_tokens::{
     Annotation, Key, Placed, TextError, TextFault, Token, TokenGroups, Word, unsigned32,
 };
 
-/// Returns the token after `ahead` others in groups of tokens. Returns `None` if they have not so
-/// many.
+/// Returns the token after `ahead` others in groups of tokens, or `None` if they have not so many.
 #[tactic(auto, using(crate::proofs::Groups::first_in, crate::proofs::Groups::later_in, crate::proofs::Groups::none_in))]
 fn token_in<'a>(groups: &VecDeque<Vec<Placed<'a>>>, ahead: usize) -> Option<Placed<'a>>
     ensures { result ≡ token_in groups.now.items ahead }
@@ -50,7 +49,8 @@ fn begins_number(text: &str) -> bool
     matches!(text.as_bytes().first(), Some(b'0'..=b'9' | b'+' | b'-'))
 }
 
-/// Gives back the memory that a list does not use. A list grows by doubling while it is read, and the module keeps it.
+/// Frees the memory that a list does not use. A list grows by doubling while it is read, and the
+/// module keeps it.
 pub(crate) fn fitted<T>(list: Seq<T>) -> Seq<T>
     ensures { result ≡ list }
 {
@@ -80,8 +80,7 @@ pub(crate) struct Reader<'a> {
 }
 
 impl<'a> Reader<'a> {
-    /// Makes a reader that has read no token, of tokens in one list. `end` is the position after
-    /// the last token.
+    /// Makes a reader of the tokens in a list. `end` is the position after the last one.
     #[tactic(auto, unfolding(crate::specs::Readers::left), using(crate::proofs::Groups::one_group))]
     pub(crate) fn new(alloc: Global, tokens: Vec<Placed<'a>>, end: Span) -> Reader<'a>
         ensures left { left result ≡ all_bare tokens.entry.items end }
@@ -101,8 +100,7 @@ impl<'a> Reader<'a> {
         }
     }
 
-    /// Makes a reader that has read no token, of tokens in groups. `end` is the position after the
-    /// last token.
+    /// Makes a reader of the tokens in groups. `end` is the position after the last one.
     #[tactic(auto, unfolding(crate::specs::Readers::left), using(crate::proofs::Groups::all_groups))]
     pub(crate) fn of_groups(alloc: Global, groups: TokenGroups<'a>, end: Span) -> Reader<'a>
         requires { IsCounted groups }
@@ -127,7 +125,7 @@ impl<'a> Reader<'a> {
     }
 
     /// Returns the first error, if there is one. If an allocation of the tree failed, the error is
-    /// `Memory`, whatever else is wrong. So any other error is one of the text.
+    /// `Memory`, whatever else is wrong.
     pub(crate) fn finish(self) -> Option<TextError>
         ensures clean { result ≡ None → IsClean self.entry }
         ensures refused { IfSome result (λ e. e.fault ≢ fault.Memory → (self.entry.make ≡ false) × (self.entry.fault ≡ Some e)) }
@@ -156,8 +154,8 @@ impl<'a> Reader<'a> {
         self.all().saturating_sub(self.at)
     }
 
-    /// Returns the token after `ahead` others in the groups after this one. Returns `None` if no
-    /// such token is counted.
+    /// Returns the token after `ahead` others in the groups after this one, or `None` if no such
+    /// token is counted.
     #[tactic(auto, unfolding(crate::specs::Readers::token_in), using(crate::proofs::Groups::exactly_here, crate::proofs::Groups::exactly_lacks, crate::proofs::Groups::exactly_past))]
     fn token_after(&self, ahead: usize) -> Option<Placed<'a>>
         ensures { result ≡ slice_get (exactly (self.now.count - length self.now.tokens.items) (all_in self.now.later.items)) ahead }
@@ -185,8 +183,8 @@ impl<'a> Reader<'a> {
         }
     }
 
-    /// Looks for the token after `ahead` others, as [`Reader::look`] does, in the groups after this
-    /// one too. Few tokens are looked for there, so it is not put into its callers.
+    /// Does what [`Reader::look`] does, in the groups after this one too. It is not inlined,
+    /// because few tokens are looked for there.
     #[cold]
     #[inline(never)]
     #[tactic(auto, unfolding(crate::specs::Readers::left, wat_syntax::specs::Tokens::peek), using(crate::proofs::Lefts::none_peeked, crate::proofs::Groups::peeked_at, crate::proofs::Groups::none_peeked_at))]
@@ -203,9 +201,9 @@ impl<'a> Reader<'a> {
         }
     }
 
-    /// Returns the token that [`Reader::look_further`] finds, in registers. That function writes the
-    /// token to memory, which the compiler clears first. This function has that memory, so a look
-    /// that finds its token in the group clears nothing.
+    /// Returns the token that [`Reader::look_further`] finds, in registers. That function writes it
+    /// to memory, which the compiler clears first. A look that finds its token in the group clears
+    /// nothing.
     #[inline(always)]
     fn further_token(&self, ahead: usize) -> Option<Token<'a>>
         ensures { option_map bare_token result ≡ peek ahead (left self.now) }
@@ -316,8 +314,8 @@ impl<'a> Reader<'a> {
         }
     }
 
-    /// Stores an error at a position, unless there already is one. A text has one error at most, so
-    /// what stores it is not put into its callers.
+    /// Stores an error at a position, unless there already is one. It is not inlined, because a
+    /// text has at most one error.
     #[cold]
     #[inline(never)]
     pub(crate) fn fail_at(&mut self, span: Span, fault: TextFault)
@@ -339,7 +337,7 @@ impl<'a> Reader<'a> {
         self.fail_at(place, fault);
     }
 
-    /// Stores that something else was expected at the next token, unless there already is an error.
+    /// Stores that `what` was expected at the next token, unless there already is an error.
     pub(crate) fn expected(&mut self, what: &'static str)
         ensures { Fails (fault.Expected what.entry) (position (left self.old)) self.old self.new }
     {
@@ -566,7 +564,7 @@ impl<'a> Reader<'a> {
         }
     }
 
-    /// Reads an unsigned integer of 32 bits.
+    /// Reads an unsigned 32-bit integer.
     #[tactic(auto, using(crate::proofs::Numbers::unsigned_is, crate::proofs::Numbers::unsigned_not))]
     pub(crate) fn number32(&mut self) -> u32
         ensures { Decides u32 self.old self.new result }
@@ -576,7 +574,7 @@ impl<'a> Reader<'a> {
         self.value(place, unsigned32(text), 0)
     }
 
-    /// Reads an unsigned integer of 32 bits, if one is next.
+    /// Reads an unsigned 32-bit integer, if one is next.
     #[tactic(auto, using(crate::proofs::Numbers::unsigned_is, crate::proofs::Numbers::unsigned_not))]
     fn optional_u32(&mut self) -> Option<u32>
         ensures { Finds u32 self.old self.new result }
@@ -609,8 +607,8 @@ impl<'a> Reader<'a> {
         Index::Num(self.number32(), place)
     }
 
-    /// Reads an index: an id or a number (text format: indices). In
-    /// printed modules most indices are numbers, and one look at these is enough.
+    /// Reads an index: an id or a number (text format: indices). In printed modules most indices
+    /// are numbers, for which one look is enough.
     pub(crate) fn index(&mut self) -> Index<'a>
         ensures { Decides index self.old self.new (bare_index result) }
     {

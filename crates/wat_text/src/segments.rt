@@ -39,9 +39,9 @@ fn number_type(key: Option<Key>) -> Option<Key>
     }
 }
 
-/// Returns the table of an active element segment, which is the one that is written. If none is
-/// written and the elements are not of type `funcref`, it is table 0, at the position `place`. The
-/// reason is that a segment without a table has no bytes for another type.
+/// Returns the table of an active element segment, if one is written. If none is, and the elements
+/// are not of type `funcref`, it is table 0, at the position `place`. A segment without a table has
+/// no bytes for another type.
 fn number_or_first<'a>(
     number: Option<Index<'a>>,
     payload: &ElemPayload<'a>,
@@ -69,7 +69,7 @@ impl<'a> Reader<'a> {
         self.folded()
     }
 
-    /// Reads function indices up to the closing `)`, and appends them.
+    /// Appends the function indices up to the closing `)`.
     #[tactic(auto, using(crate::proofs::Steps::one_bare, crate::proofs::Loops::part_end, crate::proofs::Loops::part_last, crate::proofs::Loops::none_after))]
     fn all_functions(&mut self, indices: &mut Seq<Index<'a>>)
         ensures { ReadsOnto funcindices self.old self.new (bare_indices indices.old) (bare_indices indices.new) }
@@ -101,7 +101,7 @@ impl<'a> Reader<'a> {
         self.make.push_expression(exprs, expression);
     }
 
-    /// Reads elements up to the closing `)`, and appends them.
+    /// Appends the elements up to the closing `)`.
     #[tactic(auto, using(crate::proofs::Steps::one_built, crate::proofs::Loops::part_end, crate::proofs::Loops::part_last, crate::proofs::Loops::none_after))]
     fn all_expressions(&mut self, exprs: &mut Seq<Expression<'a>>)
         ensures { ReadsOnto elemexprs self.old self.new (map bare_expression exprs.old) (map bare_expression exprs.new) }
@@ -148,8 +148,8 @@ impl<'a> Reader<'a> {
         }
     }
 
-    /// Reads function indices up to the closing `)`, as expressions of this type. For example, `$f`
-    /// is `ref.func $f`.
+    /// Reads function indices up to the closing `)`, as expressions of this type: `$f` is
+    /// `ref.func $f`.
     #[tactic(auto, using(crate::proofs::Loops::from_nothing))]
     pub(crate) fn function_expressions(&mut self, ty: RefType<'a>) -> ElemPayload<'a>
         ensures { Reads (funcrefs_payload (bare_ref ty.entry)) self.old self.new (bare_payload result) }
@@ -375,7 +375,7 @@ impl<'a> Reader<'a> {
         self.make.push_data(pieces, piece);
     }
 
-    /// Reads strings and numbers up to the closing `)`, and appends them.
+    /// Appends the strings and numbers up to the closing `)`.
     #[tactic(auto, using(crate::proofs::Steps::one_built, crate::proofs::Loops::part_end, crate::proofs::Loops::part_last, crate::proofs::Loops::none_after))]
     fn all_data(&mut self, pieces: &mut Seq<DataVal<'a>>)
         ensures { ReadsOnto datastring self.old self.new (map bare_data_val pieces.old) (map bare_data_val pieces.new) }
@@ -410,8 +410,8 @@ impl<'a> Reader<'a> {
         self.is_open(0) && is_type
     }
 
-    /// Reads the memory of a data segment: `(memory $m)`, or its number alone. If none is written,
-    /// it is memory 0.
+    /// Reads the memory of a data segment: `(memory $m)`, or its number alone. Without one, it is
+    /// memory 0.
     fn data_memory(&mut self) -> Index<'a>
         ensures { Decides memuse self.old self.new (bare_index result) }
     {

@@ -113,7 +113,7 @@ impl<'a> Reader<'a> {
         heap
     }
 
-    /// Fails because no heap type is next. The type that it returns means nothing.
+    /// Fails because no heap type is next. The type that it returns is a dummy.
     fn no_heap_type(&mut self) -> HeapType<'a>
         ensures { Refuses self.old self.new }
     {
@@ -253,7 +253,7 @@ impl<'a> Reader<'a> {
         self.took(pushed);
     }
 
-    /// Reads value types up to the closing `)`, and appends them.
+    /// Appends the value types up to the closing `)`.
     #[tactic(auto, using(crate::proofs::Steps::one_bare, crate::proofs::Loops::part_end, crate::proofs::Loops::part_last, crate::proofs::Loops::none_after))]
     pub(crate) fn values(&mut self, values: &mut Seq<ValType<'a>>)
         ensures { ReadsOnto valtypes self.old self.new (bare_vals values.old) (bare_vals values.new) }
@@ -327,7 +327,7 @@ impl<'a> Reader<'a> {
         self.unnamed_params(params);
     }
 
-    /// Reads `(param ..)`, and appends its parameters. Requires that `(param` is next.
+    /// Reads `(param ..)`, and appends its parameters.
     #[tactic(auto, using(crate::proofs::Loops::closes))]
     fn param(
         &mut self,
@@ -360,7 +360,7 @@ impl<'a> Reader<'a> {
         }
     }
 
-    /// Reads `(result ..)`, and appends its types. Requires that `(result` is next.
+    /// Reads `(result ..)`, and appends its types.
     #[tactic(auto, using(crate::proofs::Loops::closes))]
     fn result(&mut self, results: &mut Seq<ValType<'a>>)
         requires { is_form key.Result (left self.old) ≡ true }
@@ -480,7 +480,7 @@ impl<'a> Reader<'a> {
         self.unnamed_fields(fields);
     }
 
-    /// Reads `(field ..)`, and appends its fields. Requires that `(field` is next.
+    /// Reads `(field ..)`, and appends its fields.
     #[tactic(auto, using(crate::proofs::Loops::closes))]
     fn struct_field(&mut self, fields: &mut Seq<StructField<'a>>)
         requires { is_form key.Field (left self.old) ≡ true }
@@ -672,7 +672,7 @@ impl<'a> Reader<'a> {
         self.make.push_type(types, ty);
     }
 
-    /// Reads the types of a `rec` group, up to the closing `)`, and appends them.
+    /// Appends the types of a `rec` group, up to the closing `)`.
     #[tactic(auto, using(crate::proofs::Steps::one_built, crate::proofs::Loops::part_end, crate::proofs::Loops::part_last, crate::proofs::Loops::none_after))]
     fn rec_types(&mut self, types: &mut Seq<Type<'a>>)
         ensures { ReadsOnto typedefs self.old self.new (map bare_type types.old) (map bare_type types.new) }
@@ -686,8 +686,7 @@ impl<'a> Reader<'a> {
         }
     }
 
-    /// Reads the field `(rec ..)`, without its parentheses (text format: recursive types). Its
-    /// types may refer to each other. Requires that `rec` is next.
+    /// Reads the field `(rec ..)`, without its parentheses (text format: recursive types).
     #[tactic(auto, using(crate::proofs::Loops::from_nothing))]
     pub(crate) fn rec_field(&mut self) -> Rec<'a>
         requires { is_key key.Rec (key_of (peek 0 (left self.old))) ≡ true }
@@ -700,7 +699,7 @@ impl<'a> Reader<'a> {
         Rec::new(span, types)
     }
 
-    /// Reads an unsigned integer of 64 bits.
+    /// Reads an unsigned 64-bit integer.
     #[tactic(auto, using(crate::proofs::Numbers::unsigned_is, crate::proofs::Numbers::unsigned_not))]
     pub(crate) fn number64(&mut self) -> u64
         ensures { Decides u64 self.old self.new result }

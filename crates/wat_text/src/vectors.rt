@@ -17,7 +17,7 @@ use wat_tokens::{
     Key, TextFault, float32, float64, integer8, integer16, integer32, integer64, unsigned8,
 };
 
-/// Returns the bits of a floating-point number of 32 bits, by its text.
+/// Returns the bits of a 32-bit floating-point number, by its text.
 #[tactic(auto, using(crate::proofs::Signs::float_is, crate::proofs::Signs::float_not))]
 pub(crate) fn single(alloc: Global, text: &str) -> Result<F32, TextFault>
     ensures gives { IfOk result (λ x. fN binary32 text.now ≡ Some x.bits) }
@@ -27,7 +27,7 @@ pub(crate) fn single(alloc: Global, text: &str) -> Result<F32, TextFault>
     Ok(F32 { bits })
 }
 
-/// Returns the bits of a floating-point number of 64 bits, by its text.
+/// Returns the bits of a 64-bit floating-point number, by its text.
 #[tactic(auto, using(crate::proofs::Signs::float_is, crate::proofs::Signs::float_not))]
 pub(crate) fn double(alloc: Global, text: &str) -> Result<F64, TextFault>
     ensures gives { IfOk result (λ x. fN binary64 text.now ≡ Some x.bits) }
@@ -38,7 +38,7 @@ pub(crate) fn double(alloc: Global, text: &str) -> Result<F64, TextFault>
 }
 
 impl<'a> Reader<'a> {
-    /// Reads an integer of 8 bits, with or without a sign.
+    /// Reads an 8-bit integer, with or without a sign.
     #[tactic(auto, using(crate::proofs::Signs::signed_is, crate::proofs::Signs::signed_not))]
     pub fn integer8(&mut self) -> i8
         ensures { Decides (signed_number 8) self.old self.new result }
@@ -48,7 +48,7 @@ impl<'a> Reader<'a> {
         self.value(place, integer8(text), 0)
     }
 
-    /// Reads an integer of 16 bits, with or without a sign.
+    /// Reads a 16-bit integer, with or without a sign.
     #[tactic(auto, using(crate::proofs::Signs::signed_is, crate::proofs::Signs::signed_not))]
     pub fn integer16(&mut self) -> i16
         ensures { Decides (signed_number 16) self.old self.new result }
@@ -58,7 +58,7 @@ impl<'a> Reader<'a> {
         self.value(place, integer16(text), 0)
     }
 
-    /// Reads an integer of 32 bits, with or without a sign.
+    /// Reads a 32-bit integer, with or without a sign.
     #[tactic(auto, using(crate::proofs::Signs::signed_is, crate::proofs::Signs::signed_not))]
     pub fn integer32(&mut self) -> i32
         ensures { Decides (signed_number 32) self.old self.new result }
@@ -68,7 +68,7 @@ impl<'a> Reader<'a> {
         self.value(place, integer32(text), 0)
     }
 
-    /// Reads an integer of 64 bits, with or without a sign.
+    /// Reads a 64-bit integer, with or without a sign.
     #[tactic(auto, using(crate::proofs::Signs::signed_is, crate::proofs::Signs::signed_not))]
     pub fn integer64(&mut self) -> i64
         ensures { Decides (signed_number 64) self.old self.new result }
@@ -78,7 +78,7 @@ impl<'a> Reader<'a> {
         self.value(place, integer64(text), 0)
     }
 
-    /// Reads a floating-point number of 32 bits.
+    /// Reads a 32-bit floating-point number.
     pub fn single(&mut self) -> F32
         ensures { Decides f32_rule self.old self.new result }
     {
@@ -93,7 +93,7 @@ impl<'a> Reader<'a> {
         }
     }
 
-    /// Reads a floating-point number of 64 bits.
+    /// Reads a 64-bit floating-point number.
     pub fn double(&mut self) -> F64
         ensures { Decides f64_rule self.old self.new result }
     {
@@ -108,7 +108,7 @@ impl<'a> Reader<'a> {
         }
     }
 
-    /// Reads the number of a lane (text format: vector instructions).
+    /// Reads a lane index (text format: vector instructions).
     #[tactic(auto, using(crate::proofs::Numbers::unsigned_is, crate::proofs::Numbers::unsigned_not))]
     pub fn lane(&mut self) -> u8
         ensures { Decides u8_rule self.old self.new result }
@@ -118,7 +118,7 @@ impl<'a> Reader<'a> {
         self.value(place, unsigned8(text), 0)
     }
 
-    /// Reads the number of a lane, as an immediate.
+    /// Reads a lane index, as an immediate.
     pub fn lane_arg(&mut self) -> LaneArg
         ensures { Decides laneidx self.old self.new result }
     {
@@ -137,7 +137,7 @@ impl<'a> Reader<'a> {
         Instruction::i8x16_shuffle(I8x16Shuffle { lanes })
     }
 
-    /// Reads 16 lanes of 8 bits.
+    /// Reads 16 lanes of 8-bit integers.
     #[tactic(auto, using(crate::proofs::Fills::filled_begun, crate::proofs::Fills::filled_more, crate::proofs::Fills::filled_all))]
     fn lanes16(&mut self) -> V128Const
         ensures { Decides (lanes v128.I8x16 16 (signed_number 8)) self.old self.new result }
@@ -149,7 +149,7 @@ impl<'a> Reader<'a> {
         V128Const::I8x16(lanes)
     }
 
-    /// Reads eight lanes of 16 bits.
+    /// Reads eight lanes of 16-bit integers.
     #[tactic(auto, using(crate::proofs::Fills::filled_begun, crate::proofs::Fills::filled_more, crate::proofs::Fills::filled_all))]
     fn lanes8(&mut self) -> V128Const
         ensures { Decides (lanes v128.I16x8 8 (signed_number 16)) self.old self.new result }
@@ -161,7 +161,7 @@ impl<'a> Reader<'a> {
         V128Const::I16x8(lanes)
     }
 
-    /// Reads four lanes of 32 bits.
+    /// Reads four lanes of 32-bit integers.
     fn lanes4(&mut self) -> V128Const
         ensures { Decides (lanes v128.I32x4 4 (signed_number 32)) self.old self.new result }
     {
@@ -170,7 +170,7 @@ impl<'a> Reader<'a> {
         V128Const::I32x4([a, b, c, d])
     }
 
-    /// Reads four lanes of floating-point numbers of 32 bits.
+    /// Reads four lanes of 32-bit floating-point numbers.
     fn singles4(&mut self) -> V128Const
         ensures { Decides (lanes v128.F32x4 4 f32_rule) self.old self.new result }
     {
@@ -179,14 +179,14 @@ impl<'a> Reader<'a> {
         V128Const::F32x4([a, b, c, d])
     }
 
-    /// Reads two lanes of 64 bits.
+    /// Reads two lanes of 64-bit integers.
     fn lanes2(&mut self) -> V128Const
         ensures { Decides (lanes v128.I64x2 2 (signed_number 64)) self.old self.new result }
     {
         V128Const::I64x2([self.integer64(), self.integer64()])
     }
 
-    /// Reads two lanes of floating-point numbers of 64 bits.
+    /// Reads two lanes of 64-bit floating-point numbers.
     fn doubles2(&mut self) -> V128Const
         ensures { Decides (lanes v128.F64x2 2 f64_rule) self.old self.new result }
     {

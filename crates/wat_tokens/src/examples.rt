@@ -1,9 +1,9 @@
-//! Texts, and the words that they are; strings, and the places of their bytes.
+//! Texts, and the words that they are; strings, and the positions of their bytes.
 
 ghost use Rattle.wat_tokens.specs.WorkedStrings.{Places};
 ghost use Rattle.wat_tokens.specs.WorkedWords.{Words, Others, AreDistinct};
 
-/// Words, texts that are none, and the whole table.
+/// Words, texts that are not words, and the whole table.
 #[tactic(auto, using(crate::proofs::WorkedWords::named, crate::proofs::WorkedWords::others, crate::proofs::WorkedWords::distinct))]
 pub(crate) fn words()
     ensures words { Words }

@@ -1,4 +1,4 @@
-//! Why a text is refused.
+//! Errors in a text.
 
 ghost use Rattle.std.specs.Prelude.{◌≡◌};
 
@@ -6,12 +6,12 @@ use std::alloc::{AllocError, AllocFailed};
 use std::fmt;
 use wast_base::{Span, clause_text};
 
-/// What is wrong with a text (text format).
+/// What is wrong with a text, without its position (text format).
 ///
 /// For example, `(module [)` has [`TextFault::Character`], and prints as `unexpected character`.
 #[derive(Clone, Copy, Debug, PartialEq, Eq)]
 pub enum TextFault {
-    /// Memory was refused.
+    /// Allocation failed.
     Memory,
     /// No token begins with this character.
     Character,
@@ -19,7 +19,7 @@ pub enum TextFault {
     Adjacent,
     /// A string has no end.
     OpenString,
-    /// An escape of a string is wrong, as `\q`.
+    /// An escape in a string is wrong, such as `\q`.
     Escape,
     /// A string contains a control character.
     StringCharacter,
@@ -27,7 +27,7 @@ pub enum TextFault {
     OpenComment,
     /// An annotation has no end.
     OpenAnnotation,
-    /// An annotation has no id, as `(@)`.
+    /// An annotation has no id, as in `(@)`.
     EmptyAnnotation,
     /// An id has no name.
     EmptyId,
@@ -35,17 +35,17 @@ pub enum TextFault {
     Utf8,
     /// Something else was expected.
     Expected(&'static str),
-    /// This may not come here: an `end` of no block, a branch hint in a constant expression.
+    /// This may not come here, for example an `end` without a block.
     Unexpected(&'static str),
-    /// A number is no number of its kind.
+    /// A text is not a number of the expected kind.
     Number,
-    /// A number is out of the range of its kind.
+    /// A number is out of range.
     Range,
-    /// A word is no instruction.
+    /// A word is not an instruction.
     Operator,
-    /// An alignment is no power of two.
+    /// An alignment is not a power of two.
     Alignment,
-    /// A page size is no power of two.
+    /// A page size is not a power of two.
     PageSize,
     /// A branch hint is neither `"\00"` nor `"\01"`.
     Hint,
@@ -55,7 +55,7 @@ pub enum TextFault {
     Trailing,
     /// Several fields are start functions.
     Starts,
-    /// A branch hint comes before no instruction, or after another hint.
+    /// A branch hint is not before an instruction, or comes after another hint.
     HintWithoutInstruction,
     /// A block of a constant expression has no `end`, or an `end` has no block.
     UnbalancedBlocks,
@@ -65,7 +65,7 @@ pub enum TextFault {
 }
 
 impl TextFault {
-    /// What is wrong, in words.
+    /// Returns the message.
     fn text(self) -> &'static str {
         match self {
             TextFault::Memory => "out of memory",
@@ -108,21 +108,20 @@ impl fmt::Display for TextFault {
     }
 }
 
-/// Why a text is refused, and where (text format). It is printed as what is wrong, without the place.
+/// An error in a text, with its position (text format). `{}` prints the fault only.
 ///
-/// For example, of `(module [)` the fault is [`TextFault::Character`], and the place is offset 8.
+/// For example, `(module [)` has [`TextFault::Character`] at offset 8.
 #[derive(Clone, Copy, Debug, PartialEq, Eq)]
 pub struct TextError {
     /// What is wrong.
     pub fault: TextFault,
-    /// The place in the text.
+    /// The position in the text.
     pub span: Span,
 }
 
 impl TextError {
-    /// Returns the error of a fault at a position. Does not allocate.
-    ///
-    /// For example, `TextError::new(span, TextFault::Memory)`.
+    /// Makes an error from a fault and a position, for example
+    /// `TextError::new(span, TextFault::Memory)`.
     pub fn new(span: Span, fault: TextFault) -> TextError
         ensures fault { result.fault ≡ fault }
         ensures span { result.span ≡ span }

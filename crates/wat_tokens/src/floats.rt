@@ -1,7 +1,7 @@
 //! Reads floating-point numbers of the text format as the bits of `f32` and `f64`.
 //!
-//! A decimal number is given to the kit's `fast_float` without its underscores. A hexadecimal number keeps its first digits and whether
-//! another digit is not zero, and is rounded once.
+//! `fast_float` of the kit reads a decimal number without its underscores. For a hexadecimal
+//! number, the first digits are kept, and whether another digit is not zero. It is rounded once.
 
 ghost use Rattle.std.specs.Prelude.{◌≡◌, ◌==◌, ◌||◌, ◌&&◌, ◌<◌, ◌≤◌, ◌+◌, ◌*◌, ◌^◌, ◌++◌, ◌∷◌, [], ℕ, length, OnOk, IfOk, IfErr, MatchOption};
 ghost use Rattle.std.specs.Prelude.{◌-◌, min, nat_lt, if◌then◌else◌, option_map, ⊤, Some, None, true, false};
@@ -37,7 +37,7 @@ fn is_either(byte: u8, upper: u8, lower: u8) -> bool
     byte == upper || byte == lower
 }
 
-/// Cuts a text at the first occurrence of one of two characters: "1.5e2" at 'E' or 'e' is "1.5" and "2".
+/// Cuts a text at the first of two characters: "1.5e2" at 'E' or 'e' is "1.5" and "2".
 fn cut_at(text: &[u8], upper: u8, lower: u8) -> Cut<'_>
     ensures front { result.front.now ≡ (cut upper lower text.now).0 }
     ensures rest { MatchOption result.rest ((cut upper lower text.now).1 ≡ None) (λ r. (cut upper lower text.now).1 ≡ Some r.now) }
@@ -63,7 +63,8 @@ fn is_between(byte: u8, after_digit: bool) -> bool
     byte == b'_' && after_digit
 }
 
-/// Returns whether a text is digits with underscores between them (text format, integers): "1_0" is, and "", "_1" and "1_" are not.
+/// Returns whether a text is digits with underscores between them (text format: integers): "1_0"
+/// is, and "", "_1" and "1_" are not.
 fn is_digits(text: &[u8], is_hex: bool) -> bool
     ensures { result ≡ is_digits is_hex text.now }
 {
@@ -81,7 +82,7 @@ fn is_digits(text: &[u8], is_hex: bool) -> bool
     after_digit
 }
 
-/// A number in pieces (text format, floating-point): "1.5e-2" is "1", "5", a `-` and "2".
+/// A number in pieces (text format: floating-point): "1.5e-2" is "1", "5", a `-` and "2".
 #[derive(Clone, Copy)]
 struct Pieces<'a> {
     /// The digits before the point.
@@ -325,7 +326,7 @@ fn with_payload(digits: &str, format: Format) -> Result<u64, TextFault>
     }
 }
 
-/// Returns the bits of a NaN, where `text` is what comes after `nan`.
+/// Returns the bits of a NaN, for the text after `nan`.
 fn not_a_number(text: &str, format: Format) -> Result<u64, TextFault>
     ensures { result ≡ bits_in (ieee format) (nan text.now) }
 {
@@ -338,7 +339,7 @@ fn not_a_number(text: &str, format: Format) -> Result<u64, TextFault>
     }
 }
 
-/// Returns the bits of infinity, where `text` is what comes after `inf`: it must be empty.
+/// Returns the bits of infinity, for the text after `inf`, which must be empty.
 fn infinite(text: &str, format: Format) -> Result<u64, TextFault>
     ensures { result ≡ bits_in (ieee format) (inf text.now) }
 {
@@ -348,7 +349,7 @@ fn infinite(text: &str, format: Format) -> Result<u64, TextFault>
     }
 }
 
-/// The first of many hexadecimal digits as a number, and whether another digit is not zero. Rounding needs no more.
+/// The first of many hexadecimal digits as a number, and what rounding needs of the others.
 #[derive(Clone, Copy)]
 struct Leading {
     /// The number that the first digits make, below 2 to the 63.
@@ -448,7 +449,7 @@ fn power_of(digits: Option<&[u8]>) -> u64
     }
 }
 
-/// Returns a power if it is to be counted, and else zero.
+/// Returns the power if `is_so`, and else zero.
 fn power_if(is_so: bool, power: u64) -> u64
     ensures { result ≡ (if is_so then power else 0) }
 {
@@ -466,8 +467,8 @@ fn width_of(number: u64) -> u64
     64 - number.leading_zeros() as u64
 }
 
-/// Returns a number divided by 2 to the `count`, rounded to nearest and to even at a tie: 3 for 11 and 2, and 2 for 10 and 2. With
-/// `is_more` the number is a little more, so that 10 and 2 give 3.
+/// Divides a number by 2 to the `count`, rounded to nearest and to even at a tie: 11 and 2 give 3,
+/// 10 and 2 give 2. With `is_more` the number is a little more, so that 10 and 2 give 3.
 fn halved(number: u64, count: u64, is_more: bool) -> u64
     requires { number < 2 ^ 63 }
     ensures { IsHalved number count is_more result }
@@ -487,8 +488,9 @@ fn halved(number: u64, count: u64, is_more: bool) -> u64
     kept + kept % 2
 }
 
-/// Returns the bits of `mantissa` times 2 to the `place - 4096` times the least positive number, rounded to nearest. A number that is
-/// too large has the bits of infinity or more. The place counts from 4096 below the least number, so that it has no sign.
+/// Returns the bits of `mantissa` times 2 to the `place - 4096` times the least positive number,
+/// rounded to nearest. A number that is too large has the bits of infinity or more. 4096 is added
+/// to the place, so that it has no sign.
 fn rounded(mantissa: u64, is_more: bool, place: u64, format: Format) -> u64
     requires some { 0 < mantissa }
     requires most { mantissa < 2 ^ 63 }
@@ -504,8 +506,8 @@ fn rounded(mantissa: u64, is_more: bool, place: u64, format: Format) -> u64
     steps * format.step() + significand
 }
 
-/// Returns the bits of a hexadecimal number, where `text` is what comes after `0x`, rounded to nearest. The error for a text of 2 to
-/// the 59 digits or more is [`TextFault::Memory`], because no memory holds one and counts of digits then have 64 bits.
+/// Returns the bits of a hexadecimal number after its `0x`, rounded to nearest. A text of 2 to the
+/// 59 digits or more is [`TextFault::Memory`], so that counts of bits fit in 64 bits.
 fn hexadecimal(text: &[u8], format: Format) -> Result<u64, TextFault>
     ensures { UnlessMemory (2 ^ 59 ≤ length text.now) result (bits_in (ieee format) (hexfloat text.now)) }
 {
@@ -593,12 +595,16 @@ fn with_sign64(bits: u64, is_negative: bool) -> u64
     bits
 }
 
-/// Returns the bits of a number as an `f32`, rounded to nearest and to even at a tie (text format, floating-point): decimal or
-/// hexadecimal, `inf`, `nan` or `nan:0x1`. Reading a decimal number allocates memory.
+/// Reads a number as the bits of an `f32`, rounded to nearest and to even at a tie (text format:
+/// floating-point).
+///
+/// It is decimal or hexadecimal, `inf`, `nan` or `nan:0x1`. Reading a decimal number allocates.
 ///
 /// # Errors
-/// [`TextFault::Number`]: the text is not a number, for example `.5` or `infinity`. [`TextFault::Range`]: the number rounds to infinity,
-/// or the payload of a NaN is zero or too wide. [`TextFault::Memory`]: allocation failed.
+///
+/// - [`TextFault::Number`]: the text is not a number, for example `.5` or `infinity`.
+/// - [`TextFault::Range`]: the number rounds to infinity, or the payload of a NaN is zero or too
+///   wide.
 pub fn float32(alloc: Global, text: &str) -> Result<u32, TextFault>
     ensures { UnlessMemory (MayLack (sign text.now).1) result (answer (magnitude (sign text.now).1) (fN binary32 text.now)) }
 {
@@ -609,12 +615,9 @@ pub fn float32(alloc: Global, text: &str) -> Result<u32, TextFault>
     }
 }
 
-/// Returns the bits of a number as an `f64`, rounded to nearest and to even at a tie (text format, floating-point): decimal or
-/// hexadecimal, `inf`, `nan` or `nan:0x1`. Reading a decimal number allocates memory.
+/// Reads a number as the bits of an `f64` (text format: floating-point).
 ///
-/// # Errors
-/// [`TextFault::Number`]: the text is not a number, for example `.5` or `infinity`. [`TextFault::Range`]: the number rounds to infinity,
-/// or the payload of a NaN is zero or too wide. [`TextFault::Memory`]: allocation failed.
+/// For the forms, the rounding and the errors, see [`float32`]. Reading a decimal number allocates.
 pub fn float64(alloc: Global, text: &str) -> Result<u64, TextFault>
     ensures { UnlessMemory (MayLack (sign text.now).1) result (answer (magnitude (sign text.now).1) (fN binary64 text.now)) }
 {

@@ -1,7 +1,7 @@
 //! Puts the tokens of a text in groups.
 //!
-//! A reader frees each group as soon as it is read, so that what it builds takes the memory of the groups. No list of tokens has to
-//! be moved to a larger place either.
+//! A reader frees each group after reading it, so that what it builds can reuse the memory. A long
+//! list of tokens would also have to be moved as it grows. Calls fail only if allocation fails.
 
 ghost use Rattle.std.specs.Prelude.{◌≡◌, ◌<◌, ◌∷◌, ◌++◌, [], All, IfOk, MatchResult, vec_len, vec_capacity};
 ghost use Rattle.wat_tokens.specs.Scans.{seen_all, token_of, IsNamed, IsNamedPart};
@@ -14,7 +14,7 @@ use std::alloc::Global;
 use std::collections::VecDeque;
 use std::mem;
 
-/// How many tokens a group has, if it is not the last one. It takes 16 KB.
+/// How many tokens a group has, except for the last one. A group takes 16 KB.
 const GROUP: usize = 512;
 
 /// The tokens of a text in groups, in the order of the text.
@@ -29,7 +29,7 @@ pub struct TokenGroups<'a> {
 }
 
 impl<'a> TokenGroups<'a> {
-    /// Appends a group. The only error is that memory is refused.
+    /// Appends a group.
     #[tactic(auto, using(crate::proofs::Grouped::group_put, crate::proofs::Grouped::group_counted))]
     fn add(&mut self, group: Vec<Placed<'a>>) -> Result<(), TextFault>
         ensures all { MatchResult result (λ u. all_in self.new.groups.items ≡ all_in self.old.groups.items ++ group.entry.items) (λ f. f ≡ fault.Memory) }
@@ -48,7 +48,7 @@ impl<'a> TokenGroups<'a> {
     }
 }
 
-/// Tokens that are put in groups: those that are full, and the last one.
+/// Tokens that are put in groups: the full groups, and the last one.
 #[derive(Drop)]
 pub(crate) struct Grouping<'a> {
     alloc: Global,
@@ -57,7 +57,7 @@ pub(crate) struct Grouping<'a> {
 }
 
 impl<'a> Grouping<'a> {
-    /// Returns groups without tokens. Takes no memory.
+    /// Returns groups without tokens.
     #[tactic(auto, unfolding(crate::specs::Groups::tokens_in), using(crate::proofs::Grouped::nothing_put, crate::proofs::Grouped::nothing_counted))]
     pub(crate) fn new(alloc: Global) -> Grouping<'a>
         ensures none { tokens_in result ≡ [] }
@@ -72,7 +72,7 @@ impl<'a> Grouping<'a> {
         }
     }
 
-    /// Puts the last group after those that are full, and begins a new one. The only error is that memory is refused.
+    /// Puts the last group after the full ones, and begins a new one.
     #[cold]
     #[inline(never)]
     #[tactic(auto, unfolding(crate::specs::Groups::tokens_in), using(crate::proofs::Grouped::group_begun))]
@@ -90,7 +90,7 @@ impl<'a> Grouping<'a> {
         }
     }
 
-    /// Begins a new group, if the last one is full. The only error is that memory is refused.
+    /// Begins a new group, if the last one is full.
     fn make_room(&mut self) -> Result<(), TextFault>
         ensures same { MatchResult result (λ u. tokens_in self.new ≡ tokens_in self.old) (λ f. f ≡ fault.Memory) }
         ensures count { IsCounted self.old.full → IfOk result (λ u. IsCounted self.new.full) }
@@ -101,7 +101,7 @@ impl<'a> Grouping<'a> {
         self.begin_group()
     }
 
-    /// Appends a token to the last group. The only error is that memory is refused.
+    /// Appends a token to the last group.
     #[tactic(auto, unfolding(crate::specs::Groups::tokens_in), using(crate::proofs::Grouped::token_put))]
     fn push_last(&mut self, token: Placed<'a>) -> Result<(), TextFault>
         ensures put { MatchResult result (λ u. tokens_in self.new ≡ tokens_in self.old ++ token.entry ∷ []) (λ f. f ≡ fault.Memory) }
@@ -113,7 +113,7 @@ impl<'a> Grouping<'a> {
         }
     }
 
-    /// Appends a token to the last group. Requires that it has room, so no memory is taken.
+    /// Appends a token to the last group, which has room, so that nothing is allocated.
     #[tactic(auto, unfolding(crate::specs::Groups::tokens_in), using(crate::proofs::Grouped::token_put))]
     fn put_last(&mut self, token: Placed<'a>)
         requires { vec_len self.old.last < vec_capacity self.old.last }
@@ -123,8 +123,8 @@ impl<'a> Grouping<'a> {
         self.last.push_reserved(token);
     }
 
-    /// Appends a token, as `push` does, and takes memory for it, or begins a new group. The loop over a text does not have this
-    /// in it, so that a token need not be in memory before it is in its group. The only error is that memory is refused.
+    /// Appends a token, as `push` does, if the last group has no room. The loop over a text does
+    /// not contain this, so that a token need not be in memory before it is in its group.
     #[cold]
     #[inline(never)]
     fn push_further(&mut self, token: Placed<'a>) -> Result<(), TextFault>
@@ -140,7 +140,7 @@ impl<'a> Grouping<'a> {
         }
     }
 
-    /// Appends a token. The only error is that memory is refused.
+    /// Appends a token.
     #[inline(always)]
     fn push(&mut self, token: Placed<'a>) -> Result<(), TextFault>
         ensures put { MatchResult result (λ u. tokens_in self.new ≡ tokens_in self.old ++ token.entry ∷ []) (λ f. f ≡ fault.Memory) }
@@ -153,7 +153,7 @@ impl<'a> Grouping<'a> {
         self.push_further(token)
     }
 
-    /// Appends a token, if there is one. The only error is that memory is refused.
+    /// Appends a token, if there is one.
     #[inline(always)]
     #[tactic(auto, using(crate::proofs::Steps::seen_more, crate::proofs::Steps::named_more))]
     pub(crate) fn put(&mut self, token: Option<Placed<'a>>) -> Result<(), TextFault>
@@ -170,7 +170,7 @@ impl<'a> Grouping<'a> {
         }
     }
 
-    /// Returns the groups, the last one included. The only error is that memory is refused.
+    /// Returns the groups, including the last one.
     #[tactic(auto, unfolding(crate::specs::Groups::tokens_in))]
     pub(crate) fn finish(self) -> Result<TokenGroups<'a>, TextFault>
         ensures all { MatchResult result (λ found. all_in found.groups.items ≡ tokens_in self.entry) (λ f. f ≡ fault.Memory) }

@@ -1,4 +1,4 @@
-//! Integers of a text.
+//! Reads integers of the text format.
 
 ghost use Rattle.std.specs.Prelude.{◌≡◌, Some, ◌<◌, ◌≤◌, ◌+◌, ◌*◌, ◌^◌, ℕ, IfSome, IfOk, option_map};
 ghost use Rattle.wat_grammar.specs.Integers.{natural, uN, sign, signed, integer, signed_of};
@@ -7,16 +7,16 @@ ghost use Rattle.wat_tokens.specs.Numbers.{answer, digit_in, radix_of, number_in
 use crate::faults::TextFault;
 use crate::strings::hex_digit;
 
-/// A sign and what stands behind it (text format, integers).
+/// A sign and the text after it (text format: integers).
 #[derive(Clone, Copy)]
 pub(crate) struct Signed<'a> {
-    /// Whether it is `-`.
+    /// Whether the sign is `-`.
     pub is_negative: bool,
-    /// What stands behind it.
+    /// The text after the sign.
     pub rest: &'a str,
 }
 
-/// Cuts the sign off.
+/// Splits a text into its sign and the rest.
 pub(crate) fn cut_sign(text: &str) -> Signed<'_>
     ensures negative { result.is_negative ≡ (sign text.now).0 }
     ensures rest { result.rest.now ≡ (sign text.now).1 }
@@ -39,7 +39,7 @@ pub(crate) fn cut_sign(text: &str) -> Signed<'_>
     }
 }
 
-/// The value of a digit, where it is one.
+/// Returns the value of a digit, or `None` if the byte is not a digit.
 pub(crate) fn digit(byte: u8, is_hex: bool) -> Option<u64>
     ensures value { result ≡ digit_in is_hex byte }
     ensures below { IfSome result (λ d. d < 16) }
@@ -51,7 +51,7 @@ pub(crate) fn digit(byte: u8, is_hex: bool) -> Option<u64>
     None
 }
 
-/// The number that digits make, where it has 64 bits.
+/// Returns the value with one more digit, or `None` if it needs more than 64 bits.
 fn with_digit(value: Option<u64>, is_hex: bool, digit: u64) -> Option<u64>
     ensures { (n : ℕ) → value ≡ fits n → result ≡ fits (radix_of is_hex * n + digit) }
 {
@@ -59,7 +59,7 @@ fn with_digit(value: Option<u64>, is_hex: bool, digit: u64) -> Option<u64>
     value?.checked_mul(radix)?.checked_add(digit)
 }
 
-/// The value of digits, with underscores between them.
+/// Returns the value of digits, with underscores between them.
 pub(crate) fn magnitude(digits: &[u8], is_hex: bool) -> Result<u64, TextFault>
     ensures { result ≡ sized (number_in is_hex digits.now) }
 {
@@ -80,8 +80,8 @@ pub(crate) fn magnitude(digits: &[u8], is_hex: bool) -> Result<u64, TextFault>
     }
 }
 
-/// The value of a text of decimal digits without underscores, if it is below 10^18. Most numbers are so short, and for them no sign
-/// and no `0x` is looked for. For other texts it is `None`, whether they are numbers or not.
+/// Returns the value of decimal digits without underscores, if it is below 10^18, or else `None`.
+/// Most numbers are so short, and need no test for a sign or `0x`.
 fn short(text: &[u8]) -> Option<u64>
     ensures value { IfSome result (λ n. natural text.now ≡ Some n) }
     ensures below { IfSome result (λ n. n < 2 ^ 64) }
@@ -99,7 +99,7 @@ fn short(text: &[u8]) -> Option<u64>
     Some(value)
 }
 
-/// The value of an integer without a sign (text format, integers).
+/// Returns the value of an integer without a sign (text format: integers).
 pub(crate) fn natural(text: &str) -> Result<u64, TextFault>
     ensures { result ≡ answer (natural text.now) (uN 64 text.now) }
 {
@@ -112,7 +112,7 @@ pub(crate) fn natural(text: &str) -> Result<u64, TextFault>
     }
 }
 
-/// The bits of a number with its sign, of which there are twice `half`.
+/// Returns the bits of a number with its sign, in two's complement. There are twice `half` numbers.
 fn bits(value: u64, is_negative: bool, half: u64) -> Option<u64>
     requires some { 0 < half }
     requires most { half ≤ 2 ^ 63 }
@@ -133,7 +133,7 @@ fn bits(value: u64, is_negative: bool, half: u64) -> Option<u64>
     None
 }
 
-/// An integer with or without a sign, in two's complement; there are twice `half` of them.
+/// Reads an integer with or without a sign, in two's complement. There are twice `half` integers.
 fn wrapped(text: &str, half: u64) -> Result<u64, TextFault>
     requires some { 0 < half }
     requires most { half ≤ 2 ^ 63 }
@@ -150,12 +150,10 @@ fn wrapped(text: &str, half: u64) -> Result<u64, TextFault>
     }
 }
 
-/// Reads an integer of 8 bits, which may have a sign (text format: integers). It takes no memory.
+/// Reads an integer of 8 bits, which may have a sign (text format: integers). Takes no memory.
 ///
-/// For example, `-1`, `0xff` and `255` are -1, and `256` is out of range.
-///
-/// # Errors
-/// [`TextFault::Number`]: the text is not an integer, as `1_`. [`TextFault::Range`]: the integer has more bits.
+/// For example, `-1`, `0xff` and `255` are -1. The error is [`TextFault::Number`] for `1_`, which
+/// is not an integer, and [`TextFault::Range`] for `256`, which has more bits.
 pub fn integer8(text: &str) -> Result<i8, TextFault>
     ensures { result ≡ answer (signed text.now) (option_map (signed_of 8) (integer 8 text.now)) }
 {
@@ -165,12 +163,9 @@ pub fn integer8(text: &str) -> Result<i8, TextFault>
     }
 }
 
-/// Reads an integer of 16 bits, which may have a sign (text format: integers). It takes no memory.
+/// Reads an integer of 16 bits, which may have a sign (text format: integers). Takes no memory.
 ///
-/// For example, `-1`, `0xffff` and `65_535` are -1.
-///
-/// # Errors
-/// [`TextFault::Number`]: the text is not an integer, as `1_`. [`TextFault::Range`]: the integer has more bits.
+/// For example, `-1`, `0xffff` and `65_535` are -1. The errors are as for [`integer8`].
 pub fn integer16(text: &str) -> Result<i16, TextFault>
     ensures { result ≡ answer (signed text.now) (option_map (signed_of 16) (integer 16 text.now)) }
 {
@@ -180,12 +175,10 @@ pub fn integer16(text: &str) -> Result<i16, TextFault>
     }
 }
 
-/// Reads an integer of 32 bits, which may have a sign (text format: integers). It takes no memory.
+/// Reads an integer of 32 bits, which may have a sign (text format: integers). Takes no memory.
 ///
-/// For example, `-2147483648` and `0x8000_0000` are the least number, and `4294967296` is out of range.
-///
-/// # Errors
-/// [`TextFault::Number`]: the text is not an integer, as `1_`. [`TextFault::Range`]: the integer has more bits.
+/// For example, `-2147483648` and `0x8000_0000` are the least number, and `4294967296` is out of
+/// range. The errors are as for [`integer8`].
 pub fn integer32(text: &str) -> Result<i32, TextFault>
     ensures { result ≡ answer (signed text.now) (option_map (signed_of 32) (integer 32 text.now)) }
 {
@@ -195,12 +188,9 @@ pub fn integer32(text: &str) -> Result<i32, TextFault>
     }
 }
 
-/// Reads an integer of 64 bits, which may have a sign (text format: integers). It takes no memory.
+/// Reads an integer of 64 bits, which may have a sign (text format: integers). Takes no memory.
 ///
-/// For example, `+7` is 7, and `0xffff_ffff_ffff_ffff` is -1.
-///
-/// # Errors
-/// [`TextFault::Number`]: the text is not an integer, as `1_`. [`TextFault::Range`]: the integer has more bits.
+/// For example, `+7` is 7, and `0xffff_ffff_ffff_ffff` is -1. The errors are as for [`integer8`].
 pub fn integer64(text: &str) -> Result<i64, TextFault>
     ensures { result ≡ answer (signed text.now) (option_map (signed_of 64) (integer 64 text.now)) }
 {
@@ -210,36 +200,29 @@ pub fn integer64(text: &str) -> Result<i64, TextFault>
     }
 }
 
-/// Reads an integer of 64 bits without a sign (text format: integers). It takes no memory.
+/// Reads an integer of 64 bits without a sign (text format: integers). Takes no memory.
 ///
-/// For example, `0x10` is 16, and `+1` is not a number of this kind.
-///
-/// # Errors
-/// [`TextFault::Number`]: the text is not an integer, or has a sign. [`TextFault::Range`]: the integer has more bits.
+/// For example, `0x10` is 16. The error is [`TextFault::Number`] for `+1`, which has a sign, and
+/// [`TextFault::Range`] for an integer of more bits.
 pub fn unsigned64(text: &str) -> Result<u64, TextFault>
     ensures { result ≡ answer (natural text.now) (uN 64 text.now) }
 {
     natural(text)
 }
 
-/// Reads an integer of 32 bits without a sign (text format: integers). It takes no memory.
+/// Reads an integer of 32 bits without a sign (text format: integers). Takes no memory.
 ///
-/// For example, `4_294_967_295` is the greatest one, and `4294967296` is out of range.
-///
-/// # Errors
-/// [`TextFault::Number`]: the text is not an integer, or has a sign. [`TextFault::Range`]: the integer has more bits.
+/// For example, `4_294_967_295` is the greatest one, and `4294967296` is out of range. The errors
+/// are as for [`unsigned64`].
 pub fn unsigned32(text: &str) -> Result<u32, TextFault>
     ensures { result ≡ answer (natural text.now) (uN 32 text.now) }
 {
     u32::try_from(natural(text)?).map_err(|_| TextFault::Range)
 }
 
-/// Reads an integer of 8 bits without a sign (text format: integers). It takes no memory.
+/// Reads an integer of 8 bits without a sign (text format: integers). Takes no memory.
 ///
-/// For example, `0xff` is 255, and `256` is out of range.
-///
-/// # Errors
-/// [`TextFault::Number`]: the text is not an integer, or has a sign. [`TextFault::Range`]: the integer has more bits.
+/// For example, `0xff` is 255, and `256` is out of range. The errors are as for [`unsigned64`].
 pub fn unsigned8(text: &str) -> Result<u8, TextFault>
     ensures { result ≡ answer (natural text.now) (uN 8 text.now) }
 {

@@ -1,6 +1,6 @@
-//! The tokens of the text format: words, strings and numbers at their places.
+//! The tokens of the text format: words, strings and numbers with their positions.
 //!
-//! A call takes memory only where its text says so. A call that can fail says when, and with what.
+//! A call allocates only if its comment says so, and may then fail with [`TextFault::Memory`].
 #![tactic(auto)]
 
 mod examples;

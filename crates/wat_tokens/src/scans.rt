@@ -1,4 +1,4 @@
-//! A text is cut into tokens.
+//! Cuts a text into tokens.
 
 ghost use Rattle.std.specs.Prelude.{◌≡◌, ◌≢◌, ◌==◌, ◌&&◌, ◌||◌, ◌<◌, ◌≤◌, ◌+◌, ◌-◌, ◌++◌, suc, true, false, not, length, drop, map, Some, None, IsUtf8, IsCharBoundary, All, IfOk, IfErr, MatchOption, MatchResult};
 ghost use Rattle.std.specs.Simd.Lanes.{mask_l};
@@ -63,8 +63,10 @@ fn word_length(text: &[u8]) -> usize
     text.len()
 }
 
-/// Returns how many spaces, tabs and line ends a text begins with. It looks for their end before the loop too, because most words
-/// have one space before them, and skips four spaces at a time, because most lines of a printed module are indented.
+/// Returns how many spaces, tabs and line ends a text begins with.
+///
+/// It tests for their end before the loop too, because most words have one space before them. It
+/// skips four spaces at a time, because most lines of a printed module are indented.
 #[tactic(auto, using(crate::proofs::FirstBytes::dark_stops))]
 fn blank_length(text: &[u8]) -> usize
     ensures short { result ≤ length text.now }
@@ -85,7 +87,7 @@ fn blank_length(text: &[u8]) -> usize
     text.len() - rest.len()
 }
 
-/// Returns a number that has a bit for each of these bytes, the first one the lowest: 1 if the byte is one of two.
+/// Returns a bit for each byte, from the lowest on: 1 if the byte is one of two.
 #[inline(always)]
 fn either_bits(bytes: u8x16, one: u8, other: u8) -> u64
     ensures { result ≡ mask_l (map (λ c. c == one || c == other) bytes) }
@@ -93,7 +95,8 @@ fn either_bits(bytes: u8x16, one: u8, other: u8) -> u64
     (bytes.simd_eq(u8x16::splat(one)) | bytes.simd_eq(u8x16::splat(other))).to_bitmask()
 }
 
-/// Returns how many bytes at the start of a text are neither of two. It looks at the first 16 bytes, and returns 0 if there are fewer.
+/// Returns how many of the first 16 bytes of a text come before one of two, or 0 for a shorter
+/// text.
 #[inline(always)]
 fn neither_length(text: &[u8], one: u8, other: u8) -> usize
     ensures short { result ≤ length text.now }
@@ -137,7 +140,8 @@ fn begins(text: &[u8], byte: u8) -> bool
     }
 }
 
-/// Returns how many bytes a block comment has after its `(;`, with its `;)`, or `None` if it has no end. Comments nest.
+/// Returns the length of a block comment after its `(;`, including its `;)`, or `None` if it has no
+/// end. Comments nest.
 #[inline(never)]
 fn comment_length(text: &[u8]) -> Option<usize>
     ensures { MatchOption result (blockcomment 0 text.now ≡ None) (λ n. (n ≤ length text.now) × (blockcomment 0 text.now ≡ Some (drop n text.now))) }
@@ -172,8 +176,8 @@ fn comment_length(text: &[u8]) -> Option<usize>
     None
 }
 
-/// Returns the text after the byte that a backslash escapes, for the text after the backslash. If the next byte is neither a quote
-/// nor a backslash, as the second digit of `\01`, it returns the text after that.
+/// Returns the text after the byte that a backslash escapes, for the text after the backslash. It
+/// skips one more byte if that is neither a quote nor a backslash, as the second digit of `\01`.
 fn after_escaped(text: &[u8]) -> &[u8]
     ensures short { length result.now ≤ length text.now }
     ensures past { string_length true text.now ≡ after_these (length text.now - length result.now) (string_length false result.now) }
@@ -189,7 +193,8 @@ fn after_escaped(text: &[u8]) -> &[u8]
     }
 }
 
-/// Returns how many bytes a string has between its quotes, for the text after its first quote, or `None` if it has no end.
+/// Returns how many bytes a string has between its quotes, or `None` if it has no end. `text`
+/// begins after its first quote.
 #[inline(never)]
 fn string_length(text: &[u8]) -> Option<usize>
     ensures { MatchOption result (string_length false text.now ≡ None) (λ n. (n < length text.now) × (string_length false text.now ≡ Some n)) }
@@ -230,7 +235,7 @@ fn ends(rest: &[u8]) -> bool
     }
 }
 
-/// Returns the error of a fault at a place.
+/// Makes an error from a fault and an offset.
 fn fault_at(place: usize, fault: TextFault) -> TextError
     ensures fault { result.fault ≡ fault }
     ensures place { result.span.offset ≡ place }
@@ -278,28 +283,28 @@ fn byte_kind(byte: u8) -> Kind
     }
 }
 
-/// What a string stands for, and the place after it.
+/// The bytes of a string, and the offset after it.
 #[derive(Clone, Copy)]
 struct Bytes<'a> {
     bytes: &'a [u8],
     end: usize,
 }
 
-/// A name or a word, and the place after it.
+/// A name or a word, and the offset after it.
 #[derive(Clone, Copy)]
 struct Name<'a> {
     name: &'a str,
     end: usize,
 }
 
-/// A part of an annotation: whether it opens a parenthesis, and the place after it.
+/// A part of an annotation: whether it opens a parenthesis, and the offset after it.
 #[derive(Clone, Copy)]
 struct Skipped {
     opens: bool,
     end: usize,
 }
 
-/// Returns the part of an annotation that ends at a place and opens no parenthesis.
+/// Returns a part of an annotation that ends at an offset and opens no parenthesis.
 fn skipped_to(end: usize) -> Skipped
     ensures opens { result.opens ≡ false }
     ensures end { result.end ≡ end }
@@ -307,7 +312,7 @@ fn skipped_to(end: usize) -> Skipped
     Skipped { opens: false, end }
 }
 
-/// Returns whether a byte is white space, or makes reserved tokens alone.
+/// Returns whether a byte is white space, or occurs only in reserved tokens.
 fn is_blank_or_reserved(byte: u8) -> bool
     ensures { result ≡ (is_blank byte || is_reserved byte) }
 {
@@ -317,7 +322,7 @@ fn is_blank_or_reserved(byte: u8) -> bool
     )
 }
 
-/// A part of a text: its token, unless it is white space, and the place after it.
+/// A part of a text: its token, unless it is skipped, and the offset after it.
 #[derive(Clone, Copy)]
 struct Part<'a> {
     token: Option<Placed<'a>>,
@@ -328,13 +333,13 @@ struct Part<'a> {
 #[derive(Clone, Copy)]
 struct Source<'a> {
     alloc: Global,
-    /// Where strings with escapes are kept. If it is `None`, strings stay as they are in the text.
+    /// Where strings with escapes are kept. If it is `None`, strings stay as they are written.
     strings: Option<&'a Strings>,
     text: &'a str,
 }
 
 impl<'a> Source<'a> {
-    /// Returns the text from a place on.
+    /// Returns the text from an offset on.
     fn rest(&self, from: usize) -> &'a [u8]
         ensures { result.now ≡ drop from self.now.text.now }
     {
@@ -449,8 +454,9 @@ impl<'a> Source<'a> {
         }
     }
 
-    /// Returns where a token from a place on is wrong that may not end at another. If a word or a string touches it, both are one
-    /// reserved token, which is wrong from its start. Otherwise it is the character after it that is wrong.
+    /// Returns the position of the error for a token that may not end at `end`. If a word or a
+    /// string touches it, both are one reserved token, and the error is at its start. Otherwise it
+    /// is at the character after the token.
     fn touched(&self, place: usize, end: usize) -> usize
         requires place { place < end }
         ensures inside { result ≤ end }
@@ -464,8 +470,8 @@ impl<'a> Source<'a> {
         }
     }
 
-    /// Returns the part that is this token, if a token may end at this place. The loop over the parts of a text has this and all that
-    /// return a part in it, so that no part is ever in memory.
+    /// Returns the part that is this token, if a token may end at `end`. This and all functions
+    /// that return a part are inlined into the loop over a text, so that no part is ever in memory.
     #[inline(always)]
     fn one_token(&self, token: Token<'a>, place: usize, end: usize) -> Result<Part<'a>, TextError>
         requires place { place < end }
@@ -485,7 +491,7 @@ impl<'a> Source<'a> {
         }
     }
 
-    /// Reads a block comment at `place`, and returns the place after it.
+    /// Reads a block comment at `place`, and returns the offset after it.
     fn comment_at(&self, place: usize) -> Result<usize, TextError>
         requires begin { place + 2 ≤ length self.now.text.now }
         ensures { MatchResult result (λ end. (blockcomment 0 (drop (place + 2) self.now.text.now) ≡ Some (drop end self.now.text.now)) × (place < end) × (end ≤ length self.now.text.now)) (λ e. IsFault (blockcomment 0 (drop (place + 2) self.now.text.now)) self.now.text.now e) }
@@ -536,7 +542,7 @@ impl<'a> Source<'a> {
         })
     }
 
-    /// Returns the place after a line comment whose `;;` is at `place`.
+    /// Returns the offset after a line comment whose `;;` is at `place`.
     fn line_comment_end(&self, place: usize) -> usize
         requires begin { place + 2 ≤ length self.now.text.now }
         ensures end { result ≡ place + 2 + length (front is_linechar (drop (place + 2) self.now.text.now)) }
@@ -587,8 +593,9 @@ impl<'a> Source<'a> {
         Err(fault_at(place, TextFault::Character))
     }
 
-    /// Reads the rest of an annotation after its id, up to its `)`, and returns the place after that. It can contain any tokens,
-    /// reserved ones such as `x"y"2` too. The `@` of the annotation is at `mark`.
+    /// Reads the rest of an annotation after its id, and returns the offset after its `)`. It can
+    /// contain any tokens, also reserved ones such as `x"y"2`. The `@` of the annotation is at
+    /// `mark`.
     fn skipped(&self, mark: usize, place: usize) -> Result<usize, TextError>
         requires utf8 { IsUtf8 self.now.text.now }
         requires mark { mark ≤ place }
@@ -739,7 +746,7 @@ impl<'a> Source<'a> {
         }
     }
 
-    /// Reads what the text has at a place: white space, a comment, an annotation or a token.
+    /// Reads white space, a comment, an annotation or a token at `place`.
     #[inline(always)]
     #[tactic(auto, using(crate::proofs::FirstBytes::word_is_idchar, crate::proofs::FirstBytes::is_dollar))]
     fn part_at(&self, place: usize) -> Result<Part<'a>, TextError>
@@ -790,7 +797,7 @@ fn put<'a>(found: &mut Vec<Placed<'a>>, token: Option<Placed<'a>>) -> Result<(),
     }
 }
 
-/// Cuts a text into tokens, with its strings as `strings` gives them.
+/// Cuts a text into tokens, with the bytes of strings, or without `strings` as they are written.
 fn scanned<'a>(
     alloc: Global,
     text: &'a str,
@@ -823,8 +830,8 @@ fn scanned<'a>(
     Ok(found)
 }
 
-/// Cuts a text into tokens in groups, with its strings as `strings` gives them. It is not put into its callers, so that its loop
-/// has the registers.
+/// Cuts a text into tokens in groups, as `scanned` does. It is not inlined, so that its loop has
+/// the registers.
 #[inline(never)]
 fn scanned_in_groups<'a>(
     alloc: Global,
@@ -859,14 +866,16 @@ fn scanned_in_groups<'a>(
     Ok(found)
 }
 
-/// Returns the tokens of a text, without white space, comments and annotations that mean nothing (text format, tokens). Strings
-/// with escapes are kept in `strings`. It allocates memory for the tokens.
+/// Returns the tokens of a text, without white space, comments, and annotations without a meaning
+/// (text format: tokens).
 ///
 /// For example, `(func) ;; a` has the tokens `(`, `func` and `)`, at the offsets 0, 1 and 5.
+/// Strings with escapes are kept in `strings`. It allocates memory for the tokens.
 ///
 /// # Errors
-/// A [`TextFault`] with its position: that of the token or the comment that is wrong, or of what has no end. In a string it is that
-/// of the escape or the control character, and of a character that touches a token that of the character.
+///
+/// A [`TextFault`] at the wrong token, or at the start of what has no end. In a string it is at the
+/// wrong escape or control character. If a character touches a token, it is at the character.
 pub fn tokens_of<'a>(
     alloc: Global,
     text: &'a str,
@@ -879,13 +888,10 @@ pub fn tokens_of<'a>(
     scanned(alloc, text, Some(strings))
 }
 
-/// Returns the tokens of a text as [`tokens_of`] does, in groups of 512. A reader can free each group when it is read. It allocates
-/// memory for the tokens.
+/// Returns the tokens of a text as [`tokens_of`] does, but in groups of 512, so that a reader can
+/// free each group after reading it. It allocates memory for the tokens.
 ///
 /// For example, a text of 600 tokens has two groups, and the second one has 88 tokens.
-///
-/// # Errors
-/// A [`TextFault`] with its position, as [`tokens_of`] returns it.
 pub fn token_groups_of<'a>(
     alloc: Global,
     text: &'a str,
@@ -905,12 +911,11 @@ pub fn token_groups_of<'a>(
     }
 }
 
-/// Returns the tokens of a text as [`tokens_of`] does, but with each string as it is written between its quotes, escapes
-/// included. The tokens are parts of the text alone, so they need no [`Strings`] that live as long. For example the token of
-/// `"\01"` has the three bytes `\01`. It allocates memory for the tokens.
+/// Returns the tokens of a text as [`tokens_of`] does, but with each string as it is written
+/// between its quotes. It allocates memory for the tokens.
 ///
-/// # Errors
-/// A [`TextFault`] with the position of the token or the comment that is wrong. No escape is wrong, because none is read.
+/// For example, the token of `"\01"` has the three bytes `\01`. No escape is wrong, because none is
+/// read. The tokens are parts of the text, so no [`Strings`] has to live as long.
 pub fn written_tokens_of<'a>(alloc: Global, text: &'a str) -> Result<Vec<Placed<'a>>, TextError>
     ensures read { MatchResult result (λ found. tokens as_written text.now ≡ Some (seen_all found.items)) (λ e. e.fault ≢ fault.Memory → tokens as_written text.now ≡ None) }
     ensures words { IfOk result (λ found. All (λ p. IsNamed p.token) found.items) }

@@ -1,4 +1,4 @@
-//! Strings of a text, without their escapes.
+//! Reads strings of the text format.
 
 ghost use Rattle.std.specs.Prelude.{◌≡◌, ◌≢◌, ◌<◌, ◌≤◌, ◌+◌, ◌-◌, ◌^◌, ◌++◌, ◌∷◌, [], not, length, take, drop};
 ghost use Rattle.std.specs.Prelude.{true, map, replicate, None, Some, Ok, Err, IfOk, IfSome, IfErr, MatchOption, MatchResult};
@@ -15,16 +15,16 @@ use bumpalo::Bump;
 use std::alloc::{AllocError, Global};
 use std::simd::prelude::*;
 
-/// Where strings with escapes are kept, for as long as the tree that is read lives. It takes memory as strings come.
+/// Keeps strings with escapes, for as long as the tree that is read lives.
 ///
-/// For example, of `"a\n"` the two bytes 61 0a are kept here, and `"ab"` is a part of the text.
+/// For example, the two bytes 61 0a of `"a\n"` are kept here, and `"ab"` is a part of the text.
 #[derive(Drop)]
 pub struct Strings {
     bump: Bump,
 }
 
 impl Strings {
-    /// Makes a place for strings, without any. It takes no memory.
+    /// Makes an empty store for strings.
     ///
     /// For example, `read(alloc, text, &Strings::new(alloc))` reads a module.
     pub fn new(alloc: Global) -> Strings {
@@ -33,12 +33,9 @@ impl Strings {
         }
     }
 
-    /// Keeps a copy of bytes for as long as the strings live. It allocates memory for the copy.
+    /// Allocates a copy of bytes, and keeps it for as long as the strings live.
     ///
     /// For example, the text that the strings of `(module quote ..)` make is kept so.
-    ///
-    /// # Errors
-    /// [`TextFault::Memory`]: allocation failed.
     pub fn keep(&self, bytes: &[u8]) -> Result<&[u8], TextFault>
         ensures { MatchResult result (λ kept. kept.now ≡ bytes.now) (λ f. f ≡ fault.Memory) }
     {
@@ -48,14 +45,15 @@ impl Strings {
         }
     }
 
-    /// Returns the bytes of a string whose characters between the quotes are `content` (text format, strings): these characters,
-    /// or a copy that is kept here if there are escapes, which allocates memory.
+    /// Returns the bytes of a string, for the text between its quotes (text format: strings).
     ///
-    /// For example, of `a\n` the bytes are 61 0a, and of `\u{e9}` they are c3 a9.
+    /// For example, `a\n` has the bytes 61 0a, and `\u{e9}` has c3 a9. If there are escapes, it
+    /// allocates a copy, which is kept here. Otherwise the result is `content`.
     ///
     /// # Errors
-    /// [`TextFault::Escape`]: a wrong escape, with its offset in `content`. [`TextFault::StringCharacter`]: a control character,
-    /// with its offset. [`TextFault::Memory`]: allocation failed.
+    ///
+    /// [`TextFault::Escape`] for a wrong escape, and [`TextFault::StringCharacter`] for a control
+    /// character or a quote, with the offset in `content`.
     #[tactic(auto, using(crate::proofs::Elements::all_raw))]
     pub fn read<'a>(&'a self, alloc: Global, content: &'a [u8]) -> Result<&'a [u8], StringError>
         ensures read { MatchResult result (λ bytes. string content.now ≡ Ok bytes.now) (λ e. e.fault ≢ fault.Memory → (string content.now ≡ Err e.offset) × (e.fault ≡ element_fault (drop e.offset content.now))) }
@@ -74,14 +72,14 @@ impl Strings {
     }
 }
 
-/// Why a string has no bytes (text format, strings).
+/// An error in a string (text format: strings).
 ///
-/// For example, of `a\q` the fault is [`TextFault::Escape`] and the offset is 1.
+/// For example, `a\q` has [`TextFault::Escape`] at offset 1.
 #[derive(Clone, Copy, Debug, PartialEq, Eq)]
 pub struct StringError {
     /// What is wrong.
     pub fault: TextFault,
-    /// How many bytes of the string come before the character or the escape that is wrong: 1 for the string `"a\q"`.
+    /// How many bytes come before the wrong character or escape, without the first quote.
     pub offset: usize,
 }
 
@@ -92,7 +90,7 @@ fn is_raw(byte: u8) -> bool
     byte >= 0x20 && byte != 0x7f && byte != b'"' && byte != b'\\'
 }
 
-/// Returns a number that has a bit for each of these bytes, the first one the lowest: 1 if the byte is not itself in a string.
+/// Returns a bit for each byte, from the lowest on: 1 if the byte is not itself in a string.
 #[inline(always)]
 fn not_raw_bits(bytes: u8x16) -> u64
     ensures { result ≡ mask_l (map (λ c. not (is_raw c)) bytes) }
@@ -103,8 +101,8 @@ fn not_raw_bits(bytes: u8x16) -> u64
         | bytes.simd_eq(u8x16::splat(b'\\'))).to_bitmask()
 }
 
-/// Returns how many bytes at the start of a text are themselves in a string. It looks at the first 16 bytes, and returns 0 if there are
-/// fewer.
+/// Returns how many of the first 16 bytes of a text come before one that is not itself in a string,
+/// or 0 for a shorter text.
 #[inline(always)]
 fn raw_run(text: &[u8]) -> usize
     ensures short { result ≤ length text.now }
@@ -138,7 +136,7 @@ fn raw_length(text: &[u8]) -> usize
     text.len() - rest.len()
 }
 
-/// For each byte, its value as a hexadecimal digit, or 16 if it is none.
+/// For each byte, its value as a hexadecimal digit, or 16 if it is not one.
 static DIGITS: [u8; 256] = [
     16, 16, 16, 16, 16, 16, 16, 16, 16, 16, 16, 16, 16, 16, 16, 16, 16, 16, 16, 16, 16, 16, 16, 16,
     16, 16, 16, 16, 16, 16, 16, 16, 16, 16, 16, 16, 16, 16, 16, 16, 16, 16, 16, 16, 16, 16, 16, 16,
@@ -153,7 +151,7 @@ static DIGITS: [u8; 256] = [
     16, 16, 16, 16, 16, 16, 16, 16, 16, 16, 16, 16, 16, 16,
 ];
 
-/// The value of a hexadecimal digit.
+/// Returns the value of a hexadecimal digit, or `None` if the byte is not one.
 pub(crate) fn hex_digit(byte: u8) -> Option<u8>
     ensures value { result ≡ hexdigit byte }
     ensures below { IfSome result (λ d. d < 16) }
@@ -300,7 +298,8 @@ fn put_raw<'a>(out: &mut Vec<u8>, text: &'a [u8]) -> Result<&'a [u8], TextFault>
     }
 }
 
-/// Appends the bytes of elements that a text begins with, and returns the text after them: of all up to an escape, or of an escape.
+/// Appends the bytes of all elements up to an escape, or of an escape, and returns the text after
+/// them.
 #[tactic(auto, using(crate::proofs::Elements::takes_element))]
 fn some_elements<'a>(out: &mut Vec<u8>, text: &'a [u8]) -> Result<&'a [u8], TextFault>
     ensures { MatchResult result (λ rest. Takes text.now rest.now out.old.items out.new.items) (λ f. f ≢ fault.Memory → (f ≡ element_fault text.now) × (stringelem text.now ≡ None)) }
@@ -339,7 +338,7 @@ fn unescaped(alloc: Global, content: &[u8]) -> Result<Vec<u8>, StringError>
     Ok(out)
 }
 
-/// Appends a number, so many times.
+/// Appends a number `count` times.
 fn push_times(numbers: &mut Vec<usize>, number: usize, count: usize) -> Result<(), AllocError>
     ensures { IfOk result (λ u. numbers.new.items ≡ numbers.old.items ++ replicate count number) }
 {
@@ -351,8 +350,8 @@ fn push_times(numbers: &mut Vec<usize>, number: usize, count: usize) -> Result<(
     Ok(())
 }
 
-/// Appends the place of the element that a text begins with for each of its bytes, and returns the text after it. `out` is cleared,
-/// and takes the bytes.
+/// Appends the position of the element at the start of a text, once for each of its bytes, and
+/// returns the text after it. `out` is cleared, and takes the bytes.
 #[tactic(auto, using(crate::proofs::Elements::spells))]
 fn element_places<'a>(
     out: &mut Vec<u8>,
@@ -373,7 +372,7 @@ fn element_places<'a>(
     }
 }
 
-/// Returns the place of the text after an element, by the place of the text that the element begins.
+/// Returns the position of `rest`, which is a suffix of `text`, if `text` is at `at`.
 fn place_after(at: usize, text: &[u8], rest: &[u8]) -> usize
     requires shorter { length rest.now ≤ length text.now }
     requires fits { at + length text.now < 2 ^ 64 }
@@ -382,7 +381,7 @@ fn place_after(at: usize, text: &[u8], rest: &[u8]) -> usize
     at + (text.len() - rest.len())
 }
 
-/// Returns the place of each byte that the elements of a text stand for, of so many elements at most.
+/// Returns the position of each byte of the elements of a text, of `count` elements at most.
 fn spelled_places(
     alloc: Global,
     text: &[u8],
@@ -411,11 +410,11 @@ fn spelled_places(
     Ok(places)
 }
 
-/// Returns the place of each byte of a string of `count` bytes, by the text from its first quote on and the place of that quote. All
-/// bytes of an escape have the place of its backslash. It allocates memory for the places.
+/// Returns the position of each byte of a string of `count` bytes. `text` begins with its first
+/// quote, and `at` is the position of that. It allocates a list.
 ///
-/// # Errors
-/// [`TextFault::Memory`]: allocation failed.
+/// All bytes of an escape have the position of its backslash. For example, the positions for
+/// `"a\nb"` at 7 are 8, 9 and 11.
 pub fn string_places(
     alloc: Global,
     text: &[u8],

@@ -3,7 +3,7 @@
 use crate::words::Word;
 use wast_base::Span;
 
-/// The annotations that mean something to the reader of a module (text format, custom annotations).
+/// An annotation that has a meaning in a module (text format: custom annotations).
 ///
 /// For example, `(@name "f")` begins with [`Annotation::Name`], and `(@a ..)` is skipped.
 #[derive(Clone, Copy)]
@@ -20,7 +20,7 @@ pub enum Annotation {
     BranchHint,
 }
 
-/// A token (text format, tokens).
+/// A token (text format: tokens).
 ///
 /// For example, `(func $f)` has four: `(`, the word `func`, the id `f` and `)`.
 #[derive(Clone, Copy)]
@@ -29,25 +29,25 @@ pub enum Token<'a> {
     Open,
     /// `)`
     Close,
-    /// `(@` and the name of an annotation, in one.
+    /// `(@` with the id of an annotation.
     Annotation(Annotation),
-    /// A word that means something of its own.
+    /// A word with a meaning of its own, and its text.
     Word(Word, &'a str),
     /// The name of an id, without its `$`.
     Id(&'a str),
     /// The bytes of a string.
     String(&'a [u8]),
-    /// Another word: a number, `offset=4`, or what there is none of.
+    /// Another word: a number, `offset=4`, or an unknown word.
     Other(&'a str),
 }
 
-/// A token at its place: that of its first character, and of an annotation that of its `@`.
+/// A token with its position: that of its first character, or for an annotation that of its `@`.
 ///
 /// For example, in `(func $f)` the id is at offset 6.
 #[derive(Clone, Copy)]
 pub struct Placed<'a> {
     /// The token.
     pub token: Token<'a>,
-    /// The place.
+    /// The position.
     pub span: Span,
 }
