@@ -3,7 +3,7 @@ use Rattle.std.proofs.Common.{◌≡◌, ◌∙◌, ℕ, zero, suc, ◌+◌, ◌
 use Rattle.std.proofs.Common.{Option, None, Some, Result, Ok, Err, append_assoc, append-nil, replicate, refl, sym, ap, ap₂, subst, arith}
 use Rattle.std.proofs.Common.{eqb-true}
 use Rattle.std.proofs.lemmas.List.{drop-drop, length-drop}
-use Rattle.std.specs.Prelude.{if◌then◌else◌, codes, ◌&&◌, not, nat_le}
+use Rattle.std.specs.Prelude.{if◌then◌else◌, codes, ◌&&◌, ◌||◌, not, nat_le}
 use Rattle.std.specs.Char.{encode_utf8}
 use Rattle.wat_grammar.specs.Parts.{◌>>=◌, after, front}
 use Rattle.wat_grammar.specs.Characters.{hexdigit}
@@ -187,6 +187,41 @@ one_taken (suc m) c cs bytes rest old new enough short reads out =
     ap (joined old) (one_element m c cs bytes rest reads
     ∙ ap (joined bytes) (no_matter m (suc m) rest (omega (arith, short, enough)) (omega (arith, short, enough))))
     ∙ joined_twice old bytes (elements (suc m) rest) ∙ ap (λ x. joined x (elements (suc m) rest)) (sym out)
+
+-- A digit begins no other escape.
+not_a_digit : (c k n : ℕ) → hexdigit k ≡ None → hexdigit c ≡ Some n → (c == k) ≡ false
+not_a_digit c k n none some = go (c == k) refl
+  where
+    go : (b : Bool) → (c == k) ≡ b → (c == k) ≡ false
+    go true e = absurd (let same : hexdigit c ≡ hexdigit k = ap hexdigit (eqb-true c k e) in cc)
+    go false e = e
+
+unnamed : (c : ℕ) (a b d e f g : Bool) → a ≡ false → b ≡ false → d ≡ false → e ≡ false → f ≡ false → g ≡ false
+    → (if a then Some 0x09 else (if b then Some 0x0a else (if d then Some 0x0d else (if e || (f || g) then Some c else None)))) ≡ None
+unnamed c false false false false false false a b d e f g = refl
+unnamed c true _ _ _ _ _ a b d e f g = absurd cc
+unnamed c _ true _ _ _ _ a b d e f g = absurd cc
+unnamed c _ _ true _ _ _ a b d e f g = absurd cc
+unnamed c _ _ _ true _ _ a b d e f g = absurd cc
+unnamed c _ _ _ _ true _ a b d e f g = absurd cc
+unnamed c _ _ _ _ _ true a b d e f g = absurd cc
+
+-- an escape of two hexadecimal digits
+pub hex_element : (h l n m : ℕ) (rest : List ℕ) → hexdigit h ≡ Some n → hexdigit l ≡ Some m
+    → stringelem (0x5c ∷ h ∷ l ∷ rest) ≡ Some ((16 * n + m) ∷ [], rest)
+hex_element h l n m rest high low =
+    ap (λ o. elim o as (λ x. Option (List ℕ × List ℕ)) [
+      | Some b ↦ (let p : List ℕ × List ℕ = (b ∷ [], l ∷ rest) in Some p)
+      | None ↦ elim (after (codes "u{") (h ∷ l ∷ rest)) as (λ x. Option (List ℕ × List ℕ))
+          [ Some digits ↦ unicode digits | None ↦ byte (h ∷ l ∷ rest) ]
+    ]) (unnamed h (h == 0x74) (h == 0x6e) (h == 0x72) (h == 0x22) (h == 0x27) (h == 0x5c)
+    (not_a_digit h 0x74 n refl high) (not_a_digit h 0x6e n refl high) (not_a_digit h 0x72 n refl high)
+    (not_a_digit h 0x22 n refl high) (not_a_digit h 0x27 n refl high) (not_a_digit h 0x5c n refl high))
+    ∙ ap (λ b. elim (elim b as (λ x. Option (List ℕ)) [
+      | true ↦ elim (l == 0x7b) as (λ x. Option (List ℕ)) [ true ↦ Some rest | false ↦ None ]
+      | false ↦ None
+    ]) as (λ x. Option (List ℕ × List ℕ)) [ Some digits ↦ unicode digits | None ↦ byte (h ∷ l ∷ rest) ]) (not_a_digit h 0x75 n refl high)
+    ∙ ap₂ (λ o p. o >>= λ n. p >>= λ m. (let p : List ℕ × List ℕ = ((16 * n + m) ∷ [], rest) in Some p)) high low
 
 -- an element is read
 pub takes_element : (text rest old new : List ℕ) → added old (stringelem text) ≡ Some (new, rest) → Takes text rest old new

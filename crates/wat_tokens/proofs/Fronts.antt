@@ -1,6 +1,6 @@
 -- Closes the loops that count the characters at the start of a text which pass a test.
 use Rattle.std.proofs.Common.{◌≡◌, ◌∙◌, ℕ, zero, suc, ◌+◌, ◌-◌, ◌<◌, ◌≤◌, not, cond, Bool, true, false, List, [], ◌∷◌}
-use Rattle.std.proofs.Common.{length, drop, take, map, get_or, refl, sym, ap, subst, arith, add-one, drop-cons, take_all}
+use Rattle.std.proofs.Common.{length, drop, take, map, get_or, refl, sym, ap, arith, add-one, drop-cons, take_all}
 use Rattle.std.proofs.lemmas.List.{length-drop}
 use Rattle.std.proofs.lemmas.Simd.{length-chunk, leading_from_mask_l, trailing_mask_l}
 use Rattle.std.specs.List.{prefix_len}

@@ -298,12 +298,35 @@ fn put_raw<'a>(out: &mut Vec<u8>, text: &'a [u8]) -> Result<&'a [u8], TextFault>
     }
 }
 
+/// Returns the byte of an escape of two hexadecimal digits that a text begins with, and the text
+/// after it.
+#[inline(always)]
+#[tactic(auto, using(crate::proofs::Elements::hex_element))]
+fn hex_escape<'a>(text: &'a [u8]) -> Option<(u8, &'a [u8])>
+    ensures { IfSome result (λ r. stringelem text.now ≡ Some (r.0 ∷ [], r.1.now)) }
+{
+    let [b'\\', high, low, rest @ ..] = text else {
+        return None;
+    };
+    match (hex_digit(*high), hex_digit(*low)) {
+        (Some(high), Some(low)) => Some((high * 16 + low, rest)),
+        _ => None,
+    }
+}
+
 /// Appends the bytes of all elements up to an escape, or of an escape, and returns the text after
 /// them.
+///
+/// An escape of two hexadecimal digits is tried first, because the strings of data segments have
+/// few others.
+#[inline(always)]
 #[tactic(auto, using(crate::proofs::Elements::takes_element))]
 fn some_elements<'a>(out: &mut Vec<u8>, text: &'a [u8]) -> Result<&'a [u8], TextFault>
     ensures { MatchResult result (λ rest. Takes text.now rest.now out.old.items out.new.items) (λ f. f ≢ fault.Memory → (f ≡ element_fault text.now) × (stringelem text.now ≡ None)) }
 {
+    if let Some((byte, rest)) = hex_escape(text) {
+        return put(out, byte, rest);
+    }
     match begins_raw(text) {
         true => put_raw(out, text),
         false => element(out, text),
