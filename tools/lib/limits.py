@@ -58,8 +58,8 @@ UNSIGNED = [0, 127, 128, 16383, 16384, 4294967295]
 # The sizes of strings.
 SIZES = [0, 127, 128, 16383, 16384]
 
-# How many functions have names of which the first eight bytes are alike. Up to 16 names, and from 21, are looked up in ways of their own.
-COUNTS = [1, 16, 17, 20, 21, 400]
+# How many functions have names of which the first eight bytes are alike, beside two others. Up to 7 names, and from 21, are looked up in ways of their own.
+COUNTS = [1, 5, 6, 18, 19, 400]
 
 
 def leb(number):

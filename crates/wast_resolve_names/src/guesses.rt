@@ -15,7 +15,7 @@ use wast_base::{Id, Numbering};
 use wast_resolve_namespace::{Namespace, NamespaceBuilder, leading};
 
 /// Up to this number of ids there is no hash table.
-const FEW: usize = 16;
+const FEW: usize = 7;
 
 /// The number of slots that a name can use, starting with the slot of its hash.
 const TRIES: usize = 4;
@@ -106,7 +106,7 @@ impl<'a> Numbering<'a> for CachedNames<'a> {
 ///
 /// For example, it returns the position 2 for `$a`, `$b` and `$a`.
 ///
-/// Allocates only for more than 16 ids: for the hash table, and to sort more than 20.
+/// Allocates only for more than 7 ids: for the hash table, and to sort more than 20.
 pub fn filled<'a>(
     gathering: NamespaceBuilder<'a>,
     alloc: Global,
