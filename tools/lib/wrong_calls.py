@@ -43,6 +43,8 @@ NOTHING = [
     ("javascript --built /no/folder", 1, "/no/folder"),
     ("pages no_such", 2, "no_such"),
     ("pages --check no_such", 2, "no_such"),
+    ("tests/peers --wat /no/program", 1, "/no/program"),
+    ("tests/peers --rounds 0", 2, "rounds"),
     ("tests/refused-memory /no/program", 1, "/no/program"),
     ("show", 2, "definitions"),
     ("show no_such", 2, "no_such"),
