@@ -20,6 +20,7 @@
 #![tactic(auto)]
 
 mod early;
+mod examples;
 pub mod laws;
 mod passes;
 mod resolution;
