@@ -76,6 +76,8 @@ mod calls {
         let (mut diagnosis, mut room) = (Diagnosis::none(), Room::none());
         let _ = rigyomad_c_encode(rt.alloc(), b"", &mut [], &mut size);
         let _ = rigyomad_c_fault(rt.alloc(), b"", &mut [], &mut diagnosis);
+        let _ = rigyomad_c_note(rt.alloc(), b"", 0, &mut [], &mut diagnosis);
+        let _ = rigyomad_c_width(0);
         let _ = rigyomad_c_resolve(rt.alloc(), b"", 0, b"", &mut number);
         let _ = rigyomad_c_names(rt.alloc(), b"", &mut [], &mut [], &mut room);
         let _ = rigyomad_c_script(rt.alloc(), b"", &mut [], &mut size, &mut [], &mut diagnosis);

@@ -3,6 +3,7 @@
 ghost use Rattle.std.specs.Prelude.{◌≡◌};
 ghost use Rattle.std.specs.Option.{unwrap_or};
 ghost use Rattle.rigyomad_c.specs.Answers.{IsPlaced, IsRanged, nothing_wrong};
+ghost use Rattle.rigyomad_c.specs.Notes.{IsNote};
 ghost use Rattle.wat_messages.specs.Ranges.{Marks};
 ghost use Rattle.wat_bytes.specs.Texts.{number_of, place_of};
 
@@ -12,7 +13,7 @@ use std::str::Utf8Error;
 use wast_script_records::diagnostic_of;
 use wast_tree::{Span, line_and_column};
 use wat_bytes::Refused;
-use wat_messages::Range;
+use wat_messages::{Note, Range, range_in};
 
 /// The error of a text and its position.
 ///
@@ -94,6 +95,30 @@ impl Diagnosis {
         let number = refused.number().unwrap_or(0);
         let range = diagnostic.range();
         Diagnosis::new(number, text, refused.span(), range, message.size())
+    }
+
+    /// Returns a note of an error of a text with its range, and writes its message to a slice.
+    pub(crate) fn of_note(number: u32, text: &str, note: &Note<'_>, out: &mut [u8]) -> Diagnosis
+        ensures numbered { result.number ≡ number }
+        ensures noted { IsNote text.now result }
+    {
+        let mut message = Message::new(out);
+        let _written = write!(message, "{note}");
+        let Range { start, end } = note.range();
+        // the contract says the same of any range
+        let range = range_in(text, start, end.saturating_sub(start));
+        let place = Span {
+            offset: range.start,
+        };
+        let (line, column) = line_and_column(text, place);
+        Diagnosis {
+            number,
+            offset: range.start,
+            line,
+            column,
+            size: message.size(),
+            end_offset: range.end,
+        }
     }
 
     /// Returns the error of bytes that are not UTF-8, and writes its message to a slice. The

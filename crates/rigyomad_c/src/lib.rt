@@ -17,14 +17,17 @@
 //!
 //! - `encodes` writes the bytes of a text, or its error. `diagnosis` is the error with its
 //!   position, and `messages` cuts its message to the size of a slice.
+//! - `notes` writes the notes of an error, and `widths` has the columns of a character.
 //! - `looks_up` finds the index of one name, and `lists` writes all names.
 //! - `script` writes the records of a script of tests, whose layout `wast_script_records` has.
 //! - `statuses` has the results of calls.
 #![tactic(auto)]
 
+ghost use Rattle.std.specs.Char.{InScalarRange, OutOfScalarRange};
 ghost use Rattle.std.specs.Prelude.{◌≡◌};
 ghost use Rattle.rigyomad_c.specs.Answers.{Returns, EncodeReturns, Diagnoses, ResolveReturns};
 ghost use Rattle.rigyomad_c.specs.Lists.{Lists};
+ghost use Rattle.rigyomad_c.specs.Notes.{NoteReturns, width_of};
 ghost use Rattle.rigyomad_c.specs.Scripts.{ScriptReturns};
 
 mod diagnosis;
@@ -32,15 +35,19 @@ mod encodes;
 mod lists;
 mod looks_up;
 mod messages;
+mod notes;
 mod script;
 mod statuses;
+mod widths;
 
 use diagnosis::Diagnosis;
 use encodes::{diagnose, encode_into};
 use lists::{Name, Room, list_names};
 use looks_up::look_up;
+use notes::note_into;
 use script::script_into;
 use std::alloc::Global;
+use widths::width;
 
 /// The version of these declarations. It changes if the parameters or results of a call change.
 const VERSION: u32 = 2;
@@ -99,6 +106,43 @@ pub extern "C" fn rigyomad_c_fault(
     ensures { Returns (Diagnoses text.now diagnosis.new) result }
 {
     diagnose(alloc, text, message, diagnosis).code()
+}
+
+/// Writes a note of the error of a text to `diagnosis`, with its position, and as much of its message
+/// as fits to `message`. A note is a second place that the error is about, or a suggestion.
+///
+/// Notes have the numbers from 0 on. If the error has no note with this number, or the text has no
+/// error, the status is 5 and all numbers are 0. Otherwise the status is 0, 3 or 4, and the number in
+/// `diagnosis` is that of the error.
+///
+/// # Example
+///
+/// For `(module (func $f) (func $f))` the note 0 is `first defined here`, at the offsets 14 to 16.
+/// There is no note 1.
+#[unsafe(no_mangle)]
+pub extern "C" fn rigyomad_c_note(
+    alloc: Global,
+    text: &[u8],
+    number: u32,
+    message: &mut [u8],
+    diagnosis: &mut Diagnosis,
+) -> u32
+    ensures { Returns (NoteReturns text.now diagnosis.new) result }
+{
+    note_into(alloc, text, number, message, diagnosis).code()
+}
+
+/// Returns how many columns a terminal shows of a character, by its code.
+///
+/// # Example
+///
+/// It is 2 for U+4E2D, and 0 for U+0301, an accent above the character before it.
+#[unsafe(no_mangle)]
+pub extern "C" fn rigyomad_c_width(character: u32) -> u32
+    ensures character { InScalarRange character → result ≡ width_of character }
+    ensures other { OutOfScalarRange character → result ≡ 1 }
+{
+    width(character)
 }
 
 /// Writes the index of a name in an index space of the module of a text to `number`.
