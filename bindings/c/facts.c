@@ -108,6 +108,37 @@ static void faults(void) {
     expect(at.line == 0 && at.size == 0 && at.end_offset == 0, "it has no place and no message");
 }
 
+/* An error has notes, which are found by their numbers. */
+static void notes(void) {
+    struct rigyomad_diagnosis at;
+    char message[64], cut[8] = ".......";
+    memset(message, '.', sizeof message);
+    uint32_t status = rigyomad_note(TEXT("(module\n (func $f) (func $f))"), 0, message, 64, &at);
+    expect(status == RIGYOMAD_DONE && at.number == RIGYOMAD_E2_DUPLICATE, "a note has a number");
+    expect(at.offset == 15 && at.end_offset == 17, "it is at the first id");
+    expect(at.line == 2 && at.column == 8, "it is in the second line");
+    expect(at.size == 18 && !memcmp(message, "first defined here.", 19), "its message is whole");
+    status = rigyomad_note(TEXT("(module (fun))"), 0, cut, 7, &at);
+    expect(status == RIGYOMAD_DONE && at.number == 0 && at.offset == 9, "a suggestion is a note");
+    expect(at.size == 20 && !strcmp(cut, "did you"), "its message is cut");
+    status = rigyomad_note(FAULTY, 0, NULL, 0, &at);
+    expect(status == RIGYOMAD_UNKNOWN && at.number == 0, "an error may have no note");
+    status = rigyomad_note(TEXT("(module (fun))"), 1, NULL, 0, &at);
+    expect(status == RIGYOMAD_UNKNOWN && at.line == 0, "there is one note");
+    status = rigyomad_note(TEXT("(module)"), 0, NULL, 0, &at);
+    expect(status == RIGYOMAD_UNKNOWN, "a module has no error");
+    status = rigyomad_note(TEXT("(module)\xff"), 0, NULL, 0, &at);
+    expect(status == RIGYOMAD_UTF8 && at.offset == 0, "a note is of a text");
+}
+
+/* A terminal shows more columns of some characters than of others. */
+static void widths(void) {
+    expect(rigyomad_width('a') == 1 && rigyomad_width('\t') == 1, "ASCII has one column");
+    expect(rigyomad_width(0x4e2d) == 2 && rigyomad_width(0x1f389) == 2, "others have two");
+    expect(rigyomad_width(0x301) == 0, "an accent has none");
+    expect(rigyomad_width(0xd800) == 1 && rigyomad_width(UINT32_MAX) == 1, "no character has one");
+}
+
 /* A name is looked up in its index space. */
 static void indices(void) {
     uint32_t number, status;
@@ -274,6 +305,8 @@ static void script_rooms(void) {
 int main(void) {
     bytes();
     faults();
+    notes();
+    widths();
     indices();
     lists();
     generated();

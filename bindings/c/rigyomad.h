@@ -168,6 +168,9 @@ uint32_t rigyomad_c_encode(const uint8_t *text, size_t text_size, uint8_t *out, 
                            size_t *size);
 uint32_t rigyomad_c_fault(const uint8_t *text, size_t text_size, uint8_t *message,
                           size_t message_size, struct rigyomad_diagnosis *diagnosis);
+uint32_t rigyomad_c_note(const uint8_t *text, size_t text_size, uint32_t number, uint8_t *message,
+                         size_t message_size, struct rigyomad_diagnosis *diagnosis);
+uint32_t rigyomad_c_width(uint32_t character);
 uint32_t rigyomad_c_resolve(const uint8_t *text, size_t text_size, uint32_t space,
                             const uint8_t *name, size_t name_size, uint32_t *number);
 uint32_t rigyomad_c_names(const uint8_t *text, size_t text_size, struct rigyomad_name *names,
@@ -231,6 +234,31 @@ static inline uint32_t rigyomad_fault(const char *text, size_t text_size, char *
     }
     return rigyomad_c_fault(lent, text_size, room, message_size, diagnosis);
 }
+
+/* Writes a note of the error that rigyomad_fault describes: a second place of the text, or a
+ * suggestion. Notes have the numbers from 0 on. Writes to *diagnosis and message as rigyomad_fault
+ * does, with the range and the message of the note, and returns RIGYOMAD_DONE.
+ *
+ * Of (module (func $f) (func $f)) the note 0 is "first defined here", from offset 14 to 16.
+ *
+ * If the error has no note with this number, or the text has no error, all of *diagnosis is 0, and
+ * RIGYOMAD_UNKNOWN is returned; otherwise it is RIGYOMAD_UTF8 or RIGYOMAD_MEMORY. */
+static inline uint32_t rigyomad_note(const char *text, size_t text_size, uint32_t number,
+                                     char *message, size_t message_size,
+                                     struct rigyomad_diagnosis *diagnosis) {
+    uint8_t none = 0;
+    const uint8_t *lent = rigyomad_lent(text, text_size);
+    uint8_t *room = rigyomad_room(message, message_size, &none);
+    if (!rigyomad_is_slice(lent, text_size) || !rigyomad_is_slice(room, message_size) ||
+        !diagnosis) {
+        return RIGYOMAD_SLICE;
+    }
+    return rigyomad_c_note(lent, text_size, number, room, message_size, diagnosis);
+}
+
+/* Returns how many columns a terminal shows of a character of Unicode, such as 2 of U+4E2D, and 0
+ * of an accent such as U+0301. It is 1 of a control character. */
+static inline uint32_t rigyomad_width(uint32_t character) { return rigyomad_c_width(character); }
 
 /* Writes the index of what a name, without its `$`, denotes in an index space of the module of a
  * text to *number: RIGYOMAD_DONE. It reads the whole text; for several names of one text,

@@ -252,6 +252,59 @@ uint32_t rigyomad_c_names(const uint8_t *text, size_t text_size, struct rigyomad
 }
 
 #if HAS_SCRIPT
+struct note_words {
+    struct fault_words fault;
+    u32 number;
+};
+
+static u32 noted(W *it, const void *given) {
+    const struct note_words *note = (const struct note_words *)given;
+    const struct fault_words *words = &note->fault;
+    size_t room = least(words->message_size, words->text_size + MORE_ROOM);
+    place text = lent(it, words->text, words->text_size), message = room_of(it, room), diagnosis = room_of(it, 48);
+    u32 status;
+    if (!text || !message || !diagnosis) {
+        return RIGYOMAD_MEMORY;
+    }
+    status = module_note(it, text, words->text_size, note->number, message, room, diagnosis);
+    diagnosed(it, words, diagnosis, message, room);
+    return status;
+}
+
+uint32_t rigyomad_c_note(const uint8_t *text, size_t text_size, uint32_t number, uint8_t *message, size_t message_size,
+                         struct rigyomad_diagnosis *diagnosis) {
+    struct note_words words;
+    memset(&words, 0, sizeof words);
+    words.fault.text = text;
+    words.fault.text_size = text_size;
+    words.fault.message = message;
+    words.fault.message_size = message_size;
+    words.fault.diagnosis = diagnosis;
+    words.number = number;
+    memset(diagnosis, 0, sizeof *diagnosis);
+    return called(noted, &words);
+}
+
+struct width_words {
+    u32 character;
+    u32 *width;
+};
+
+static u32 measured(W *it, const void *given) {
+    const struct width_words *words = (const struct width_words *)given;
+    *words->width = module_width(it, words->character);
+    return RIGYOMAD_DONE;
+}
+
+uint32_t rigyomad_c_width(uint32_t character) {
+    u32 width = 1;
+    struct width_words words;
+    words.character = character;
+    words.width = &width;
+    called(measured, &words);
+    return width;
+}
+
 static u32 scripted(W *it, const void *given) {
     const struct fault_words *words = (const struct fault_words *)given;
     size_t room = least(words->message_size, words->text_size + MORE_ROOM);
