@@ -67,6 +67,85 @@ export interface Section {
 /** Returns the sections of a binary module, up to the first bytes that are none. */
 export function sections(bytes: Uint8Array): Section[];
 
+/** A second place that an error is about, or a suggestion. */
+export interface Note {
+  message: string;
+  /** Where it is in the text. */
+  start: number;
+  end: number;
+  /** From 1. */
+  line: number;
+  /** From 1. */
+  column: number;
+}
+
+/** Returns the notes of the error of a text, as `first defined here` and `did you mean `$f`?`: at most
+ * two, and none if the text has no error. It reads the text again for each. */
+export function notes(text: Text): Note[];
+
+/** Returns how many columns a terminal shows of a text in one line, such as 4 of `日本`. */
+export function columns(text: string): number;
+
+/** A value, as `wast2json` writes it: the bits of a number as a decimal number without a sign, or `nan:canonical` or
+ * `nan:arithmetic`. A reference to a function by its index or its id has that. An `either` has its alternatives. */
+export interface Value {
+  type: string;
+  value?: string | string[] | { index: number } | { id: string };
+  lane_type?: string;
+  values?: Value[];
+}
+
+export interface Action {
+  type: "invoke" | "get";
+  line: number;
+  column: number;
+  /** The id of the instance, with its `$`. */
+  module?: string;
+  field: string;
+  /** Those of a call. */
+  args?: Value[];
+}
+
+export type CommandType =
+  | "module" | "instance" | "register" | "action" | "assert_return" | "assert_trap" | "assert_exhaustion" | "assert_exception"
+  | "assert_suspension" | "assert_malformed" | "assert_malformed_custom" | "assert_invalid" | "assert_invalid_custom" | "assert_unlinkable"
+  | "assert_uninstantiable" | "thread" | "wait";
+
+/** A command of a script, as `wast2json` writes it, with the bytes of a module in place of `filename`. */
+export interface Command {
+  type: CommandType;
+  line: number;
+  column: number;
+  /** An id, with its `$`. */
+  name?: string;
+  /** The text of a module in the script. */
+  source?: string;
+  /** The text of a quoted module. */
+  quoted?: Bytes;
+  /** The bytes of a module; null if it has none. */
+  module?: Bytes | null;
+  /** Why a module has no bytes, with its position in the script. */
+  error?: WatError;
+  module_type?: "text" | "binary";
+  definition?: string;
+  instance?: string;
+  action?: Action;
+  /** The results of `assert_return`. */
+  expected?: Value[];
+  /** What an assertion is told to fail with. */
+  text?: string;
+  /** The name that an instance is registered with. */
+  as?: string;
+  thread?: string;
+  shared_module?: string;
+  /** Those of a thread. */
+  commands?: Command[];
+}
+
+/** Returns the commands of a script of tests (`.wast`), with the bytes of their modules. Throws a `WatError` if the text is none; a
+ * module that has an error is no error of the script. */
+export function commands(text: Text): Command[];
+
 /** Returns the version of the module: `0.1.0`, or `0.1.0 (UNPROVED)` if it was built without proofs. */
 export function version(): string;
 

@@ -1,5 +1,6 @@
 // Calls of the archive in WebAssembly. docs/LIBRARIES.md has what they return.
 import { namesWithinOf, withoutNames } from "./binary.js";
+import { commandsOf } from "./scripts.js";
 
 export { sections } from "./binary.js";
 
@@ -25,6 +26,9 @@ const MOST_KEPT = 64 << 20;
 
 /** At most so many characters of a line are shown on each side of an error. */
 const HALF_LINE = 60;
+
+/** One character more has at most so many bytes. */
+const MOST_SHOWN = 4 * (HALF_LINE + 1);
 
 /** What could send a command to a terminal, begin a line of a log, or change the order of a line. */
 const CONTROLS = /[\0-\x1f\x7f-\x9f\u061c\u200e\u200f\u2028-\u202e\u2066-\u2069]/g;
@@ -153,6 +157,13 @@ function unitsBefore(bytes, offsets) {
   });
 }
 
+/** The UTF-16 units before each offset of bytes. */
+function unitsOfAll(bytes) {
+  const units = new Uint32Array(bytes.length + 1);
+  for (let at = 0; at < bytes.length; at += 1) units[at + 1] = units[at] + ((bytes[at] & 0xc0) !== 0x80) + (bytes[at] >= 0xf0);
+  return units;
+}
+
 /** The line of an error and a caret below it, as the command `wat` prints them. */
 function snippetOf(before, after, line, column) {
   const shown = (part) => part.split("\t").map(escaped).join("\t");
@@ -164,14 +175,16 @@ function snippetOf(before, after, line, column) {
 }
 
 /** An error at a range of the bytes of a text. Lines end at a line feed. */
-function errorAt(text, bytes, offset, stop, line, fields, message) {
+function errorAt(text, bytes, offset, stop, line, fields, message, unitsAt = (offsets) => unitsBefore(bytes, offsets)) {
   const first = offset === 0 ? 0 : bytes.lastIndexOf(10, offset - 1) + 1;
   const feed = bytes.indexOf(10, offset), last = feed < 0 ? bytes.length : feed;
-  const before = decoder.decode(bytes.subarray(first, offset));
-  const after = decoder.decode(bytes.subarray(offset, last)).replace(/\r$/, "");
-  const isString = typeof text === "string", range = [offset, Math.max(offset, stop)];
-  const [start, end] = isString ? unitsBefore(bytes, range) : range;
-  const column = (isString ? before.length : offset - first) + 1;
+  let from = Math.max(first, offset - MOST_SHOWN);
+  while (from < offset && (bytes[from] & 0xc0) === 0x80) from += 1;
+  const before = decoder.decode(bytes.subarray(from, offset));
+  const after = decoder.decode(bytes.subarray(offset, Math.min(last, offset + MOST_SHOWN))).replace(/\r$/, "");
+  const range = [first, offset, Math.max(offset, stop)];
+  const [begin, start, end] = typeof text === "string" && bytes.length !== text.length ? unitsAt(range) : range;
+  const column = start - begin + 1;
   return new WatError(message, { ...fields, line, column, start, end, snippet: snippetOf(before, after, line, column) });
 }
 
@@ -207,23 +220,31 @@ function bytesOf(text) {
   throw errorAt(text, bytes, offset, offset + 3, before.split("\n").length, {}, "lone surrogate in a string");
 }
 
+/** What a call writes to a diagnosis and a message: `call` is called with the message, its room and the diagnosis, again if the room is too small. */
+function diagnosed(calls, call) {
+  const diagnosis = calls.take(48);
+  let room = 256, message, status, needed;
+  do {
+    room = needed ?? room;
+    message = calls.take(room);
+    status = call(message, BigInt(room), diagnosis);
+    needed = calls.word(diagnosis, 32);
+  } while (status !== MEMORY && needed > room);
+  const [offset, line, column, end] = [8, 16, 24, 40].map((at) => calls.word(diagnosis, at));
+  return { status, number: calls.word(diagnosis, 0, 4), offset, line, column, end, message: status === MEMORY ? "" : decoder.decode(calls.bytes(message, needed)) };
+}
+
+/** The error that a diagnosis of a text has. Bytes that are not UTF-8 have an offset alone. */
+function errorIn(text, bytes, { status, number, offset, line, end, message }) {
+  if (status === MEMORY) return outOfMemory();
+  return line > 0 ? errorAt(text, bytes, offset, end, line, { number }, message) : new WatError(message, { number, start: offset, end: offset });
+}
+
 /** Why a call with this status has no result. `rigyomad_c_fault` reads the text again, so it is called only then. */
 function errorOf(calls, status, text, bytes, at) {
   if (status === MEMORY) return outOfMemory();
   if (status !== FAULT && status !== UTF8) return new Error(`status ${status}`);
-  const diagnosis = calls.take(48), size = BigInt(bytes.length);
-  let room = 256, message, needed;
-  do {
-    room = needed ?? room;
-    message = calls.take(room);
-    if (calls.exports.rigyomad_c_fault(at, size, message, BigInt(room), diagnosis) === MEMORY) return outOfMemory();
-    needed = calls.word(diagnosis, 32);
-  } while (needed > room);
-  const words = decoder.decode(calls.bytes(message, needed));
-  const number = calls.word(diagnosis, 0, 4), offset = calls.word(diagnosis, 8), line = calls.word(diagnosis, 16);
-  if (line > 0) return errorAt(text, bytes, offset, calls.word(diagnosis, 40), line, { number }, words);
-  // Bytes that are not UTF-8 have an offset alone.
-  return new WatError(words, { number, start: offset, end: offset });
+  return errorIn(text, bytes, diagnosed(calls, (...out) => calls.exports.rigyomad_c_fault(at, BigInt(bytes.length), ...out)));
 }
 
 /** The bytes of the module of a text. */
@@ -287,6 +308,64 @@ export function resolve(text, space, name) {
     if (status !== DONE) throw errorOf(calls, status, text, bytes, at);
     return calls.word(index, 0, 4);
   });
+}
+
+/** The notes of the error of a text: second places that it is about, and suggestions. */
+export function notes(text) {
+  const bytes = bytesOf(text), size = BigInt(bytes.length);
+  const found = called((calls) => {
+    const at = calls.lend(bytes), all = [];
+    while (calls.exports.rigyomad_c_note) {
+      const note = diagnosed(calls, (...out) => calls.exports.rigyomad_c_note(at, size, all.length, ...out));
+      if (note.status === MEMORY) throw outOfMemory();
+      if (note.status !== DONE) break;
+      all.push(note);
+    }
+    return all;
+  });
+  const isWide = typeof text === "string" && bytes.length !== text.length;
+  return found.map(({ message, offset, line, column, end }) => {
+    const [begin, start, stop] = isWide ? unitsBefore(bytes, [offset - column + 1, offset, end]) : [offset - column + 1, offset, end];
+    return { message, start, end: stop, line, column: start - begin + 1 };
+  });
+}
+
+/** The columns of a character, for a module that was built before it had the call. */
+function estimatedWidth(code) {
+  const character = String.fromCodePoint(code);
+  if (/[\p{Mn}\p{Me}\u200b-\u200d\u2060\ufeff]/u.test(character)) return 0;
+  return /[\u1100-\u115f\u2e80-\u303e\u3041-\ua4cf\ua960-\ua97c\uac00-\ud7a3\uf900-\ufaff\ufe30-\ufe6f\uff01-\uff60\uffe0-\uffe6\u{1f300}-\u{1f64f}\u{1f900}-\u{1f9ff}\u{20000}-\u{3fffd}]/u.test(character) ? 2 : 1;
+}
+
+/** How many columns a terminal shows of a text, of which it shows no controls. */
+export function columns(text) {
+  return called(({ exports: { rigyomad_c_width: width = estimatedWidth } }) => [...text].reduce((sum, it) => sum + width(it.codePointAt(0)), 0));
+}
+
+/** The commands of a script of tests. */
+export function commands(text) {
+  const bytes = bytesOf(text);
+  const records = called((calls) => {
+    const at = calls.lend(bytes), size = calls.take(8);
+    // Most scripts need less.
+    let room = 8 * bytes.length + 4096, out, told;
+    do {
+      if (told) room = calls.word(size, 0);
+      out = calls.take(room);
+      told = diagnosed(calls, (...message) => calls.exports.rigyomad_c_script(at, BigInt(bytes.length), out, BigInt(room), size, ...message));
+    } while (told.status === SHORT);
+    if (told.status !== DONE) throw errorIn(text, bytes, told);
+    return calls.bytes(out, calls.word(size, 0)).slice();
+  });
+  const isString = typeof text === "string", units = isString && bytes.length !== text.length ? unitsOfAll(bytes) : undefined;
+  const unit = (offset) => (units ? units[offset] : offset);
+  const source = {
+    column: (offset, column) => unit(offset) - unit(offset - column + 1) + 1,
+    text: (start, end) => (isString ? text.slice(unit(start), unit(end)) : decoder.decode(bytes.subarray(start, end))),
+  };
+  const errorOf = ({ number, offset, line, end, message }) => (
+    line ? errorAt(text, bytes, offset, end, line, { number }, message, (offsets) => offsets.map(unit)) : new WatError(message, { number }));
+  return commandsOf(records, source, errorOf);
 }
 
 /** The version of the module: `0.1.0`, or `0.1.0 (UNPROVED)` if it was built without proofs. */

@@ -1,11 +1,13 @@
-"""Reads the errors that `wat --explain` knows, and writes docs/ERRORS.md from them, for `tools/pages`.
+"""Reads the errors that `wat --explain` knows, and writes docs/ERRORS.md and bindings/js/explanations.js from them, for `tools/pages`.
 
 The command `wat`, as `rt ci` builds it, runs the example of each entry: its message has to begin with the words of the entry, and `--explain` has
 to find each entry by its number and by its words. So it is with the texts whose error has another position in the Rust crate (`tools/lib/places.py`).
 """
 
+import json
 import re
 import subprocess
+import types
 import typing
 
 import places
@@ -14,6 +16,13 @@ from entry import ROOT, Failed
 SOURCE = ROOT / "crates/wat/src/explanations.rt"
 PROGRAM = ROOT / "crates/wat/out/wat"
 PAGE = ROOT / "docs/ERRORS.md"
+SCRIPT = ROOT / "bindings/js/explanations.js"
+
+HEAD_OF_SCRIPT = """// What errors mean, for `wat.js --explain`. `tools/pages explanations` writes this file from crates/wat/src/explanations.rt.
+
+/** Each error: its number, the words that its messages begin with, what is wrong, a text that has it, and what to do. */
+export const ENTRIES = [
+"""
 
 HEAD = """# Errors
 
@@ -148,6 +157,16 @@ def written():
     numbered = "".join(section(entry) for entry in found if entry.number)
     others = "".join(row(entry) for entry in found if not entry.number)
     return {PAGE: HEAD + numbered + OTHERS + others}
+
+
+def script():
+    """The script with the entries, and its text."""
+    rows = (f"  {json.dumps(entry, ensure_ascii=False)},\n" for entry in entries())
+    return {SCRIPT: f"{HEAD_OF_SCRIPT}{''.join(rows)}];\n"}
+
+
+# What writes the script, for `tools/pages`: it needs no program.
+EXPLANATIONS = types.SimpleNamespace(written=script)
 
 
 def problems():

@@ -39,7 +39,7 @@ COMPILED = "--target=wasm64-unknown-unknown -O2 -ffunction-sections -fdata-secti
 
 # Without `--stack-first` a stack that is too small overwrites data, and calls return status 0 with wrong bytes; with it they trap.
 LINKED = "-mwasm64 --no-entry --gc-sections --stack-first --strip-all -z stack-size=65536".split()
-EXPORTED = [f"rigyomad_c_{call}" for call in ("version", "encode", "fault", "resolve", "names")]
+EXPORTED = [f"rigyomad_c_{call}" for call in ("version", "encode", "fault", "note", "width", "resolve", "names", "script")]
 EXPORTED += ["rigyomad_take", "rigyomad_give", "rigyomad_version_text", "rigyomad_is_proved"]
 
 LOWERED = """-O2 --memory64-lowering --enable-memory64 --enable-bulk-memory --enable-sign-ext --enable-mutable-globals --enable-nontrapping-float-to-int

@@ -16,7 +16,7 @@ JS = ROOT / "bindings/js"
 
 # The command over node, in a folder of its own, and the program that calls it.
 LIBRARY = "lib/rigyomad"
-PARTS = ["wat.js", "index.js", wasm.NARROW, wasm.RECORD, "package.json"]
+PARTS = ["wat.js", "index.js", "binary.js", "scripts.js", "explanations.js", wasm.NARROW, wasm.RECORD, "package.json"]
 WAT = f"""#!/bin/sh
 # The command `wat` over node, which `tools/install` of Rigyomad puts here on a machine without the Rattle kit.
 exec node "$(dirname "$(readlink -f "$0")")/../{LIBRARY}/wat.js" "$@"
@@ -28,7 +28,7 @@ TESTS = [
     (["tools/command", "bindings/js/wat.js"], ["node"]),
     (["tools/javascript", "--built", "bindings/js"], ["node"]),
     (["tools/bindings", "--archive", "{}"], ["cc", "c++", "node"]),
-    (["tools/pages", "--check", "manual", "tree-names"], []),
+    (["tools/pages", "--check", "explanations", "manual", "tree-names"], []),
     (["tools/lint"], []),
 ]
 

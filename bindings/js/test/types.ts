@@ -1,6 +1,6 @@
 // What `tsc` has to take, and what it has to refuse, of the types of the package. Nothing of it runs.
-import { escaped, init, isProved, memorySize, names, namesWithin, parse, resolve, sections, version, WatError } from "../index.js";
-import type { Kind, Name, NameWithin, Section, Space } from "../index.js";
+import { columns, commands, escaped, init, isProved, memorySize, names, namesWithin, notes, parse, resolve, sections, version, WatError } from "../index.js";
+import type { Action, Command, CommandType, Kind, Name, NameWithin, Note, Section, Space, Value } from "../index.js";
 
 await init();
 await init(new URL("https://example.org/rigyomad.wasm"));
@@ -16,6 +16,10 @@ const within: NameWithin | undefined = namesWithin("(module)")[0];
 const space: Space = first?.space ?? "func";
 const index: number | undefined = resolve("(module)", space, "f");
 const found: Section[] = sections(bytes);
+const note: Note | undefined = notes("(module")[0];
+const [command]: Command[] = commands(new Uint8Array(8)), type: CommandType = command.type, action: Action | undefined = command.action;
+const values: Value[] = command.expected ?? action?.args ?? [], module: Uint8Array | null | undefined = command.module;
+console.log(type, values[0].value, module?.length, note?.column, columns("a"), command.error?.kind, command.commands?.length);
 const told: [string, boolean, number] = [escaped(version()), isProved(), memorySize()];
 
 try {
