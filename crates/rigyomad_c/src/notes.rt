@@ -36,7 +36,7 @@ fn write_note<'a>(
     requires { diagnosis.old ≡ nothing_wrong }
     ensures { TellsNote text.now refused.now diagnosis.new result }
 {
-    if Status::of(refused) == Status::Memory {
+    if let Status::Memory = Status::of(refused) {
         return Status::Memory;
     }
     let diagnostic = diagnostic_of(text, refused);
