@@ -1,9 +1,9 @@
 //! Callers of calls that require something, which see to it before.
 
 use std::alloc::Global;
-use wasm_ops::{HeapType, InstructionSink};
-use wasm_out::{BranchHint, BranchHints};
-use wast_base::Error;
+use wasm_ops::{BlockOp, BlockType, HeapType, InstructionSink, MemArg, SubType};
+use wasm_out::{BranchHint, BranchHints, TypeSection};
+use wast_base::{Error, MemOp};
 
 /// Returns a section with one hint: that the branch at this offset of a function is likely taken.
 pub fn one_hint<'e>(alloc: Global, function: u32, offset: u32) -> Result<BranchHints, Error<'e>> {
@@ -22,5 +22,32 @@ pub fn put_null<'e>(out: &mut Vec<u8>, heap_type: HeapType) -> Result<bool, Erro
         return Ok(false);
     }
     InstructionSink::new(out).ref_null(heap_type)?;
+    Ok(true)
+}
+
+/// Appends `i32.load`, and returns whether the encoder supports its memory argument.
+pub fn put_load<'e>(out: &mut Vec<u8>, memarg: MemArg) -> Result<bool, Error<'e>> {
+    if !memarg.is_aligned() || !memarg.is_covered() {
+        return Ok(false);
+    }
+    InstructionSink::new(out).mem(MemOp::i32_load, memarg)?;
+    Ok(true)
+}
+
+/// Appends the start of a block, and returns whether the encoder supports its type.
+pub fn put_block<'e>(out: &mut Vec<u8>, ty: BlockType) -> Result<bool, Error<'e>> {
+    if !ty.is_covered() {
+        return Ok(false);
+    }
+    InstructionSink::new(out).block(BlockOp::Block, ty)?;
+    Ok(true)
+}
+
+/// Adds a type to a type section, and returns whether the encoder supports it.
+pub fn put_type<'e>(section: &mut TypeSection, ty: &SubType) -> Result<bool, Error<'e>> {
+    if !ty.is_covered() {
+        return Ok(false);
+    }
+    section.subtype(ty)?;
     Ok(true)
 }
