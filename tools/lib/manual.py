@@ -72,7 +72,7 @@ WAT2JSON = Command(
     "COMMANDS.md",
     """
 The files are those of `wast2json` of wabt, so runners of tests such as `spectest-interp` read them. The modules are written first, and the
-JSON gets its name when it is complete, so each file that it names is there and whole. Nothing is written of a script with an error, or if
+JSON is renamed last, so each file that it names is there and whole. Nothing is written of a script with an error, or if
 an output is the script itself.
 
 A module with an unsupported construct is an error. With `--skip` its command, and each command that refers to it, is written with the type

@@ -237,7 +237,8 @@ pub fn report_id_in<'a>(
     )
 }
 
-/// Reports bytes that are not UTF-8 in a style. The text is the bytes before the first wrong one.
+/// Reports that a file is not UTF-8. `text` is the part before the first malformed byte, and `style`
+/// that of the diagnostic.
 pub fn report_malformed_in(
     rt: &HostRuntime,
     style: Style,

@@ -20,7 +20,7 @@ const MOST: u32 = 1_000_000;
 /// At most this many links are followed, as by the system.
 const LINKS: u32 = 40;
 
-/// A file that is written piece by piece, and gets its name when it is complete.
+/// A temporary file that is written piece by piece, and renamed when it is complete.
 #[derive(Drop)]
 pub struct NewFile {
     /// The open file.
