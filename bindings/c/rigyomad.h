@@ -195,7 +195,7 @@ static inline int rigyomad_is_slice(const void *bytes, size_t size) {
 static inline uint32_t rigyomad_version(void) { return rigyomad_c_version(); }
 
 /* Returns the version of the archive, as 0.1.0, and whether it was built without proofs: 0.1.0
- * (UNPROVED). */
+ * (UNPROVED), or 0.1.0 (proved by CI, not on this machine). */
 static inline const char *rigyomad_version_text(void) { return rigyomad_c_version_text; }
 
 /* Writes the bytes of the module of a text to out, and how many they are to *size: RIGYOMAD_DONE.

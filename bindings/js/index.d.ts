@@ -146,7 +146,7 @@ export interface Command {
  * module that has an error is no error of the script. */
 export function commands(text: Text): Command[];
 
-/** Returns the version of the module: `0.1.0`, or `0.1.0 (UNPROVED)` if it was built without proofs. */
+/** Returns the version of the module: `0.1.0`, or for example `0.1.0 (UNPROVED)` if it was built without proofs. */
 export function version(): string;
 
 /** Returns whether the module was built with proofs. */

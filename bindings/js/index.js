@@ -368,7 +368,7 @@ export function commands(text) {
   return commandsOf(records, source, errorOf);
 }
 
-/** The version of the module: `0.1.0`, or `0.1.0 (UNPROVED)` if it was built without proofs. */
+/** The version of the module: `0.1.0`, or for example `0.1.0 (UNPROVED)` if it was built without proofs. */
 export function version() {
   return called((calls) => {
     const at = Number(calls.exports.rigyomad_version_text()), bytes = new Uint8Array(calls.exports.memory.buffer);

@@ -256,14 +256,18 @@ def compiled(path, level, target=HOST):
     return out
 
 
-def program(crate, out, room, is_test=False, level=2, target=HOST):
-    """Builds a program, or the tests of a crate, as the file `out`."""
+def linked(path, out, level, target=HOST):
+    """Builds the program of a module as the file `out`."""
     if target == ARM:
-        run([CROSS, "-O2", "-Wall", "-Werror", "-o", out, compiled(module(crate, room, is_test), level, ARM), SYSTEM, HEAP])
+        run([CROSS, "-O2", "-Wall", "-Werror", "-o", out, compiled(path, level, ARM), SYSTEM, HEAP])
         return
     words = ["--target", "x86_64-unknown-linux-gnu", "--toolchain", kit() / "toolchain", "-o", out]
-    words += [compiled(module(crate, room, is_test), level), kit() / "c/libos_c.a", kit() / "c/liblibc_c.a"]
-    called("bin/rattle-link", words)
+    called("bin/rattle-link", [*words, compiled(path, level), kit() / "c/libos_c.a", kit() / "c/liblibc_c.a"])
+
+
+def program(crate, out, room, is_test=False, level=2):
+    """Builds a program, or the tests of a crate, as the file `out`."""
+    linked(module(crate, room, is_test), out, level)
 
 
 def program_of_tests(crate, out, room):
@@ -317,11 +321,6 @@ def archive_module(crate, room, is_anew=False):
     source = crate / "src/lib.rt"
     source.write_text(source.read_text(encoding="utf-8") + CALLS, encoding="utf-8")
     return exported(module(crate, room, True, is_anew), crate)
-
-
-def archive(crate, out, room, version, level=2, target=HOST):
-    """Builds the archive of a crate of functions for C."""
-    together([compiled(archive_module(crate, room), level, target)], out, version, target)
 
 
 def together(objects, out, version, target=HOST):

@@ -13,13 +13,14 @@ import shutil
 import subprocess
 
 import entry
+import receipts
 import unproved
 
 ROOT = entry.ROOT
 RUNTIME = ROOT / "bindings/js/runtime.c"
 
 # What a module is built of.
-SOURCES = ["crates", "crates.txt", "bindings/js/runtime.c", "tools/build", "tools/lib/unproved.py", "tools/lib/wasm.py"]
+SOURCES = ["crates", "crates.txt", "bindings/js/runtime.c", "tools/build", "tools/lib/unchecked.py", "tools/lib/unproved.py", "tools/lib/wasm.py"]
 
 # The modules, by the width of their memory, and the file that tells how they were built.
 NARROW, WIDE, RECORD = "rigyomad.wasm", "rigyomad64.wasm", "rigyomad.json"
@@ -124,6 +125,11 @@ def build(text, folder, version, is_proved, room):
 def recorded(folder):
     """What `rigyomad.json` of a folder has."""
     return json.loads((folder / RECORD).read_text(encoding="utf-8"))
+
+
+def kind_of(record):
+    """Where the code of a module was proved, by what `rigyomad.json` has."""
+    return receipts.HERE if record["proved"] else receipts.BY_CI if receipts.BY_CI in record["version"] else receipts.NOWHERE
 
 
 def differences(kept, built):

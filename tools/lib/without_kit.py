@@ -9,6 +9,7 @@ import subprocess
 import tempfile
 
 import entry
+import receipts
 import wasm
 
 ROOT = entry.ROOT
@@ -49,11 +50,11 @@ def install(tool, prefix):
     if shutil.which("cc") is None:
         raise entry.Failed("cc is not found: a C compiler is needed")
     prefix.mkdir(parents=True, exist_ok=True)
-    has_node, is_proved = shutil.which("node") is not None, wasm.recorded(JS)["proved"]
+    has_node, kind = shutil.which("node") is not None, wasm.kind_of(wasm.recorded(JS))
     with tempfile.TemporaryDirectory(prefix="install-") as room:
         room = pathlib.Path(room)
         has_script = entry.tool("c").archive(room)
-        tool.build.describe(room, is_proved, is_installed=True)
+        tool.build.describe(room, kind, is_installed=True)
         if has_node:
             (room / "wat").write_text(WAT, encoding="utf-8")
         left_out = ["wat2json"] + ["/wat"] * (not has_node)
@@ -62,7 +63,7 @@ def install(tool, prefix):
                 tool.put(tool.source_of(name, room), prefix / place, is_program)
         for name in PARTS if has_node else []:
             tool.put(JS / name, prefix / LIBRARY / name, name == "wat.js")
-    if is_proved:
+    if kind != receipts.NOWHERE:
         (prefix / tool.UNPROVED).unlink(missing_ok=True)
     missing = ["wat2json"] + ["wat, because node is not found"] * (not has_node) + ["the calls of scripts"] * (not has_script)
     print(f"not installed without the kit: {', '.join(missing)}")

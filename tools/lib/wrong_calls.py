@@ -45,6 +45,8 @@ NOTHING = [
     ("pages --check no_such", 2, "no_such"),
     ("tests/peers --wat /no/program", 1, "/no/program"),
     ("tests/peers --rounds 0", 2, "rounds"),
+    ("receipts", 2, "--check"),
+    ("receipts --check --write", 2, "--check"),
     ("tests/refused-memory /no/program", 1, "/no/program"),
     ("show", 2, "definitions"),
     ("show no_such", 2, "no_such"),
@@ -73,7 +75,8 @@ WRITING = ["pages manual", "ops"]
 # Calls that need git, the kit, or both.
 OF_GIT = ["build wat {room}", "install {room}", "lint", "test wat_golden", "tests/first-steps --only hex", "tests/wrong-texts"]
 OF_KIT = [
-    "bindings", "build wat {room}", "first-proof", "install {room}", "test wat_golden", "tests/refused-memory", "tests/wrong-texts", "wrong-bodies wast_base",
+    "bindings", "build wat {room}", "first-proof", "install {room}", "test wat_golden", "receipts --check", "receipts --write", "tests/refused-memory",
+    "tests/wrong-texts", "wrong-bodies wast_base",
 ]
 
 # A script, and a program in place of `wat2json`, which plants a fault in what `wast2json` writes: what both tools that compare them have to say of it.

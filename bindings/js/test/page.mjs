@@ -86,7 +86,7 @@ try {
   test("the first text is shown by section", ["header 8 bytes", "00 61 73 6d 01 00 00 00", "code ", "$fac", 'custom "name"'].every((it) => seen.result.includes(it)), seen);
   test("its bytes are counted", /^\d+ bytes in /.test(seen.state), seen);
   seen = await page.run(() => document.getElementById("version").textContent);
-  test("the page tells of proofs", /^Rigyomad \d+\.\d+\.\d+( \(UNPROVED\)|, built with proofs)$/.test(seen), seen);
+  test("the page tells of proofs", /^Rigyomad \d+\.\d+\.\d+( \((UNPROVED|proved by CI, not on this machine)\)|, built with proofs)$/.test(seen), seen);
 
   await until(() => document.querySelectorAll("#result table button").length === 2);
   await page.run(() => { document.querySelector("#result table input").value = "20"; });

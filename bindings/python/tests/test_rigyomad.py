@@ -169,7 +169,7 @@ class Tests(unittest.TestCase):
     def test_version_is_that_of_the_package(self):
         number, _, word = rigyomad.version().partition(" ")
         self.assertEqual(number, importlib.metadata.version("rigyomad"))
-        self.assertIn(word, ("", "(UNPROVED)", "(C, from the proved module)"))
+        self.assertIn(word, ("", "(UNPROVED)", "(proved by CI, not on this machine)", "(C, from the proved module)"))
 
     def test_error_can_be_pickled(self):
         error = rigyomad.WatError(4, "unknown", 1, 2, 3, 4, " --> 1:2")

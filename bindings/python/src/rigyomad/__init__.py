@@ -204,5 +204,5 @@ def names_within(text: Text) -> List[NameWithin]:
 
 
 def version() -> str:
-    """Returns the version of the archive: `0.1.0`, or `0.1.0 (UNPROVED)` if it was built without proofs."""
+    """Returns the version of the archive: `0.1.0`, or for example `0.1.0 (UNPROVED)` if it was built without proofs."""
     return _archive.version()
