@@ -54,6 +54,9 @@ that fails is reported, the others are converted all the same, and the exit stat
 
 Bytes are not written to a terminal without `-o -`.
 
+With `--check` each file is read and resolved, and the types in its function bodies are checked. The first body that is not valid is
+reported at its function, with the number of the instruction. An instruction that is not covered is reported as not checked, with status 1.
+
 Diagnostics have colours if standard error is a terminal and the environment variable `NO_COLOR` is empty or unset, or as `--color` says.
 With `--json` each is a line with one object: severity, message, file, number, start, end, line, column and notes.
 """,
@@ -62,6 +65,7 @@ With `--json` each is a line with one object: severity, message, file, number, s
         ("Convert all modules of a folder into another:", "wat --out-dir build src/*.wat"),
         ("Show the bytes of a module:", "echo '(module (func))' | wat --hex"),
         ("Show which index each id has:", "wat --names a.wat"),
+        ("Check the function bodies of all modules of a folder:", "wat --check src/*.wat"),
     ],
     ["wat", "wast"],
     "wat2wasm",

@@ -59,12 +59,14 @@ EXCEPTIONS = {
     "twin_fields": "twin, which tests name, hands on what it gives",
     "records_of": "rigyomad_c_script, which tools/bindings calls, writes records by it",
     "form_fields": "form_sample, which tests name, hands on what it gives",
+    "first_violation": "`first_violation_of`, which `wat --check` calls, goes through a body by the same calls",
     "read_module_tokens": "Script::read, which tests name, reads each module by it",
 }
 
 # Crates whose calls the stored answers of programs show: the reader of texts, by `wat_golden`, the fields of rows, by `wastrow`, and
-# scripts as JSON, by `tools/converter`, and as records, by `tools/bindings`.
-READ = ["wat_text", "wast_rows_samples", "wast_script_json", "wast_script_records"]
+# scripts as JSON, by `tools/converter`, and as records, by `tools/bindings`;
+# and the validator, by the checks of `tools/command`.
+READ = ["wat_text", "wast_rows_samples", "wast_script_json", "wast_script_records", "wast_valid_machine", "wast_valid", "wast_valid_tree"]
 
 # What a call that may take memory answers.
 GROWS = re.compile(r"\b(Result|Vec|Seq|String)<|\bString\b")

@@ -28,6 +28,7 @@ ROOT = sources.ROOT
 STAGES = {
     "From a text to its module": ["wat_bytes", "wat_text", "wat_syntax", "wat_grammar", "wat_tokens"],
     "Encoding": ["wast_core", "wast_core_sections", "wast_core_conv", "wast_core_name_section", "wast_core_ranges"],
+    "Validation": ["wast_valid_machine", "wast_valid", "wast_valid_tree"],
     "The binary format": ["wasm_out", "wasm_ops"],
     "Checks, and the resolved module": [
         "wast_resolve", "wast_resolve_rules", "wast_resolve_names", "wast_resolve_spaces", "wast_resolve_passes", "wast_resolve_laws", "wast_resolve_core_types",

@@ -52,6 +52,7 @@ HEADS = {
     "wast_tree": "-- Short names of the AST types, as in wast_tree_nodes, so that definitions can match on them.",
     "wast_core_name_section": "-- The types of the tree under one roof, as in wast_tree_nodes, with what names are read of: each type by its name, the variants"
     " of an enum behind a word.",
+    "wast_valid_tree": "-- Short names of the types of the AST, so that definitions can match on them: `index.Num` is the variant `Num` of `Index`.",
     "": "-- The types of the tree under one roof, as in wast_tree_nodes: each type by its name, the variants of an enum behind a word.",
 }
 
@@ -95,6 +96,10 @@ wast_core:
     Expression TableType GlobalType TagType tag ImportItems import_items ItemSig ItemKind kind ElemKind elem ElemPayload
     payload DataKind data_kind bytes Local FuncKind func Func TableKind table Memory MemoryKind memory GlobalKind global
     export Custom custom CustomPlace custom_place CustomPlaceAnchor anchor dylink ModuleField field
+
+wast_valid_tree:
+    Index index ValType value RefType HeapType heap AbstractHeapType abstract FunctionType MemArg MemArgTarget target
+    MemArgOrdering Instruction instr
 
 wast_core_sections:
     Id Index space form FunctionType TypeUse ty Rec Instruction instr BranchHint Expression GlobalType Imports ImportItems

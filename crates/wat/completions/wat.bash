@@ -33,7 +33,7 @@ _wat() {
                 ;;
         esac
         if [[ $word == -* ]]; then
-            mapfile -t COMPREPLY < <(compgen -W '-o --output --out-dir --hex --names --no-names --json --color --explain -h --help -V --version' -- "$word")
+            mapfile -t COMPREPLY < <(compgen -W '-o --output --out-dir --hex --names --no-names --check --json --color --explain -h --help -V --version' -- "$word")
             return
         fi
     fi

@@ -14,12 +14,18 @@ const USAGE: &str = "wat [OPTION]... [FILE]...";
 const DESCRIPTION: &str =
     "Reads FILE, or standard input if there is none or it is `-`, and writes the bytes to
 standard output. Of several files each is written beside its source: `a.wasm` for `a.wat`.
-After `--` each word is a file.";
+After `--` each word is a file. With `--check` it writes nothing.";
 
 /// The exit statuses, and what they mean.
 const STATUSES: [(u8, &str); 4] = [
-    (0, "the output was written"),
-    (1, "a text is not a module that can be encoded"),
+    (
+        0,
+        "the output was written, or the function bodies are valid",
+    ),
+    (
+        1,
+        "a text is not a module that can be encoded, or a body is not valid or not checked",
+    ),
     (
         2,
         "wrong arguments, or a file cannot be read or an output not written",

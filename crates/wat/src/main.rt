@@ -2,7 +2,7 @@
 //!
 //! It reads the files in its arguments, or standard input, and writes the bytes to standard output
 //! or to files. With `--hex` it writes one line of hexadecimal digits, and with `--names` the index
-//! of each id. Errors are printed on standard error, and the exit status is that of the error: the
+//! of each id. With `--check` it checks function bodies, and writes nothing. Errors are printed on standard error, and the exit status is that of the error: the
 //! help lists them.
 //!
 //! # Modules
@@ -10,12 +10,15 @@
 //! - `options` reads the arguments, `help` prints the help, and `explanations` what errors mean.
 //! - `several` reports the errors after the first one, for which `ids` finds the wrong ids of a module.
 //! - `colors` decides how diagnostics are printed.
+//! - `checks` checks the function bodies of one file, for `--check`. `causes` and `words` have its words, and `reports` prints them.
 //! - `conversions` converts one file, `outputs` names its output, and `names` and `sections` make
 //!   what `--names` and `--no-names` print. `examples` has results that the prover computes.
 //! - `wat_command`, which `wat2json` uses too, has what reads and writes files, the diagnostics and
 //!   the exit statuses.
 #![tactic(auto)]
 
+mod causes;
+mod checks;
 mod colors;
 mod conversions;
 mod examples;
@@ -25,9 +28,12 @@ mod ids;
 mod names;
 mod options;
 mod outputs;
+mod reports;
 mod sections;
 mod several;
+mod words;
 
+use checks::check_file;
 use conversions::convert_file;
 use explanations::print_entry;
 use help::print_help;
@@ -57,6 +63,24 @@ fn convert_files(rt: &HostRuntime, options: &Options) -> Result<(), Failure> {
     }
 }
 
+/// Checks the function bodies of each file. Reports each one that fails, and returns the failure with
+/// the largest exit status.
+fn check_files(rt: &HostRuntime, options: &Options) -> Result<(), Failure> {
+    if options.files.is_empty() {
+        return check_file(rt, options, STANDARD);
+    }
+    let mut worst = None;
+    for file in options.files.iter() {
+        if let Err(failure) = check_file(rt, options, file.as_str()) {
+            worst = Some(failure.worse(worst));
+        }
+    }
+    match worst {
+        Some(failure) => Err(failure),
+        None => Ok(()),
+    }
+}
+
 /// Reports that the bytes of a module would go to a terminal.
 fn terminal_output(rt: &HostRuntime) -> Failure {
     let _ = eprintln!(rt;
@@ -74,8 +98,11 @@ fn misused(rt: &HostRuntime, misuse: Misuse) -> Failure {
     Failure::System
 }
 
-/// Converts the files of the options.
+/// Converts the files of the options, or checks them.
 fn convert(rt: &HostRuntime, options: &Options) -> Result<(), Failure> {
+    if options.checks {
+        return check_files(rt, options);
+    }
     if options.prints_bytes() && rt.stdout().is_terminal() {
         return Err(terminal_output(rt));
     }

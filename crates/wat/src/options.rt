@@ -20,6 +20,8 @@ pub(crate) enum Action {
     Names,
     /// The name section is left out.
     NoNames,
+    /// Function bodies are checked, and nothing is written.
+    Check,
     /// Diagnostics are JSON.
     Json,
     /// Diagnostics have colours, or not.
@@ -34,7 +36,7 @@ pub(crate) enum Action {
 
 /// The options, in the order of the help. `tools/pages` reads this table, and writes the man page
 /// and the completions of shells from it.
-pub(crate) const OPTIONS: [Choice<Action>; 10] = [
+pub(crate) const OPTIONS: [Choice<Action>; 11] = [
     Choice {
         short: "-o",
         long: "--output",
@@ -69,6 +71,13 @@ pub(crate) const OPTIONS: [Choice<Action>; 10] = [
         value: "",
         help: "leave the name section out",
         action: Action::NoNames,
+    },
+    Choice {
+        short: "",
+        long: "--check",
+        value: "",
+        help: "check the function bodies, and write nothing",
+        action: Action::Check,
     },
     Choice {
         short: "",
@@ -131,6 +140,8 @@ pub(crate) struct Options {
     pub output: Output,
     /// Whether the name section is left out.
     pub omits_names: bool,
+    /// Whether function bodies are checked, and nothing is written.
+    pub checks: bool,
     /// Whether diagnostics are JSON.
     pub is_json: bool,
     /// When diagnostics have colours.
@@ -281,6 +292,7 @@ impl Reading {
             folder: None,
             output: Output::Bytes,
             omits_names: false,
+            checks: false,
             is_json: false,
             color: Color::Auto,
             explained: None,
@@ -384,6 +396,10 @@ impl Options {
                 self.is_json = true;
                 Ok(())
             }
+            Action::Check => {
+                self.checks = true;
+                Ok(())
+            }
             _ => {
                 self.omits_names = true;
                 Ok(())
@@ -460,8 +476,38 @@ impl Options {
         self.files.is_empty() || self.files.iter().any(|file| file.as_str() == STANDARD)
     }
 
+    /// Returns an option about the output, if there is one.
+    fn output_option(&self) -> Option<&'static str> {
+        match self.output {
+            Output::Hex => return Some("--hex"),
+            Output::Names => return Some("--names"),
+            Output::Bytes => {}
+        }
+        if self.omits_names {
+            return Some("--no-names");
+        }
+        if self.target.is_some() {
+            return Some("--output");
+        }
+        if self.folder.is_some() {
+            return Some("--out-dir");
+        }
+        None
+    }
+
+    /// Returns options that exclude each other, if nothing is written.
+    fn check_conflict(&self) -> Option<Misuse> {
+        match self.output_option() {
+            Some(option) => Some(Misuse::Conflict("--check", option)),
+            None => None,
+        }
+    }
+
     /// Returns options that exclude each other.
     fn conflict(&self) -> Option<Misuse> {
+        if self.checks {
+            return self.check_conflict();
+        }
         if self.omits_names && matches!(self.output, Output::Names) {
             return Some(Misuse::Conflict("--names", "--no-names"));
         }
