@@ -1,8 +1,8 @@
 //! Writes the records of a script of tests, or its error.
 
-ghost use Rattle.std.specs.Prelude.{◌≡◌, IfErr};
+ghost use Rattle.std.specs.Prelude.{◌≡◌, IfErr, IfOk};
 ghost use Rattle.rigyomad_c.specs.Answers.{nothing_wrong};
-ghost use Rattle.rigyomad_c.specs.Scripts.{IsOfScript, ScriptRead, ScriptReturns};
+ghost use Rattle.rigyomad_c.specs.Scripts.{HasRecords, IsOfScript, ScriptRead, ScriptReturns};
 
 use crate::diagnosis::Diagnosis;
 use crate::encodes::put;
@@ -17,7 +17,8 @@ use wat_text::{Strings, TextError, TextFault};
 
 /// Returns the records of the script of a text.
 fn records_of_text<'a>(alloc: Global, text: &str) -> Result<Vec<u8>, Refused<'a>>
-    ensures { IfErr result (IsOfScript text.now) }
+    ensures records { IfOk result (λ records. HasRecords text.now records.items) }
+    ensures refuses { IfErr result (IsOfScript text.now) }
 {
     let strings = Strings::new(alloc);
     match read_script(alloc, text, &strings) {

@@ -1,3 +1,4 @@
 pub mod Encoded
 pub mod Numbers
+pub mod Records
 pub mod Worked

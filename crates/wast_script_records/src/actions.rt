@@ -1,7 +1,8 @@
 //! Writes the records of actions.
 
-ghost use Rattle.std.specs.Prelude.{◌≡◌};
+ghost use Rattle.std.specs.Prelude.{◌≡◌, IfOk};
 ghost use Rattle.wast_script_records.specs.Numbers.{action_number};
+ghost use Rattle.wast_script_records.specs.Records.{Keeps};
 
 use crate::commands::count_of;
 use crate::records::Records;
@@ -21,21 +22,19 @@ fn kind_of(kind: ActionKind) -> u64
 
 impl Records {
     /// Adds the record of an action, and returns its number.
-    pub(crate) fn put_action(
-        &mut self,
-        text: &str,
-        action: &Action<'_>,
-    ) -> Result<u64, AllocError> {
+    pub(crate) fn put_action(&mut self, text: &str, action: &Action<'_>) -> Result<u64, AllocError>
+        ensures { IfOk result (λ n. Keeps self.old self.new) }
+    {
         let place = self.lines.place_at(text, action.span);
-        let module = self.id(action.module)?;
+        let id = self.id(action.module)?;
         let name = self.text(Some(action.name))?;
         let words: [u64; 10] = [
             kind_of(action.kind),
             place.offset,
             place.line,
             place.column,
-            module.start,
-            module.size,
+            id.start,
+            id.size,
             name.start,
             name.size,
             action.arguments.start as u64,

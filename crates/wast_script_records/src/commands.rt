@@ -1,7 +1,8 @@
 //! Writes the records of commands.
 
-ghost use Rattle.std.specs.Prelude.{◌≡◌};
+ghost use Rattle.std.specs.Prelude.{◌≡◌, ◌-◌, IfOk, None, OnOk, Some};
 ghost use Rattle.wast_script_records.specs.Numbers.{command_number};
+ghost use Rattle.wast_script_records.specs.Records.{AddsCommand, Keeps, held_by, held_in, holding, nothing_held, perhaps_named, told, with_results};
 
 use crate::records::Records;
 use crate::words::{NONE, put_words};
@@ -52,7 +53,9 @@ struct Parts<'a> {
 
 impl<'a> Parts<'a> {
     /// Returns no parts.
-    fn none() -> Parts<'a> {
+    fn none() -> Parts<'a>
+        ensures { held_in result ≡ nothing_held }
+    {
         Parts {
             id: None,
             of: None,
@@ -64,7 +67,9 @@ impl<'a> Parts<'a> {
     }
 
     /// Returns a module, with a message if there is one.
-    fn of_module(module: ScriptModule<'a>, text: Option<&'a str>) -> Parts<'a> {
+    fn of_module(module: ScriptModule<'a>, text: Option<&'a str>) -> Parts<'a>
+        ensures { held_in result ≡ holding None None (told text.entry) }
+    {
         let mut parts = Parts::none();
         parts.module = Some(module);
         parts.text = text;
@@ -72,7 +77,9 @@ impl<'a> Parts<'a> {
     }
 
     /// Returns an action, with a message if there is one.
-    fn of_action(action: Action<'a>, text: Option<&'a str>) -> Parts<'a> {
+    fn of_action(action: Action<'a>, text: Option<&'a str>) -> Parts<'a>
+        ensures { held_in result ≡ holding None None (told text.entry) }
+    {
         let mut parts = Parts::none();
         parts.action = Some(action);
         parts.text = text;
@@ -80,7 +87,9 @@ impl<'a> Parts<'a> {
     }
 
     /// Returns what an assertion runs, with a message if there is one.
-    fn of_execution(execution: &Execution<'a>, text: Option<&'a str>) -> Parts<'a> {
+    fn of_execution(execution: &Execution<'a>, text: Option<&'a str>) -> Parts<'a>
+        ensures { held_in result ≡ holding None None (told text.entry) }
+    {
         match execution {
             Execution::Action(action) => Parts::of_action(*action, text),
             Execution::Module(module) => Parts::of_module(*module, text),
@@ -88,7 +97,9 @@ impl<'a> Parts<'a> {
     }
 
     /// Returns ids: the command's own, and that of a module.
-    fn of_ids(id: Option<Id<'a>>, of: Option<Id<'a>>) -> Parts<'a> {
+    fn of_ids(id: Option<Id<'a>>, of: Option<Id<'a>>) -> Parts<'a>
+        ensures { held_in result ≡ holding (perhaps_named id.entry) (perhaps_named of.entry) None }
+    {
         let mut parts = Parts::none();
         parts.id = id;
         parts.of = of;
@@ -96,21 +107,27 @@ impl<'a> Parts<'a> {
     }
 
     /// Returns what `register` has.
-    fn of_register(name: &'a str, of: Option<Id<'a>>) -> Parts<'a> {
+    fn of_register(name: &'a str, of: Option<Id<'a>>) -> Parts<'a>
+        ensures { held_in result ≡ holding None (perhaps_named of.entry) (Some name.now) }
+    {
         let mut parts = Parts::of_ids(None, of);
         parts.text = Some(name);
         parts
     }
 
     /// Returns what `assert_return` has.
-    fn of_return(execution: &Execution<'a>, results: Part) -> Parts<'a> {
+    fn of_return(execution: &Execution<'a>, results: Part) -> Parts<'a>
+        ensures { held_in result ≡ with_results results }
+    {
         let mut parts = Parts::of_execution(execution, None);
         parts.results = results;
         parts
     }
 
     /// Returns the parts of a command.
-    fn of_command(kind: &CommandKind<'a>) -> Parts<'a> {
+    fn of_command(kind: &CommandKind<'a>) -> Parts<'a>
+        ensures { held_in result ≡ held_by kind.now }
+    {
         match kind {
             CommandKind::Module(module) | CommandKind::Definition(module) => {
                 Parts::of_module(*module, None)
@@ -138,18 +155,23 @@ impl<'a> Parts<'a> {
 }
 
 /// Returns how many elements a part has.
-pub(crate) fn count_of(part: Part) -> u64 {
+pub(crate) fn count_of(part: Part) -> u64
+    ensures { result ≡ part.end - part.start }
+{
     part.end.saturating_sub(part.start) as u64
 }
 
 impl Records {
     /// Adds the record of a module, if there is one, and returns its number.
+    #[tactic(auto, using(crate::proofs::Recording::keeps_same, crate::proofs::Recording::keeps_then, crate::proofs::Recording::keeps_text))]
     fn module_number<'a>(
         &mut self,
         script: &Script<'a>,
         strings: &'a Strings,
         module: Option<ScriptModule<'a>>,
-    ) -> Result<u64, AllocError> {
+    ) -> Result<u64, AllocError>
+        ensures { IfOk result (λ n. Keeps self.old self.new) }
+    {
         match module {
             Some(module) => self.put_module(script, strings, &module),
             None => Ok(NONE),
@@ -157,7 +179,10 @@ impl Records {
     }
 
     /// Adds the record of an action, if there is one, and returns its number.
-    fn action_number(&mut self, text: &str, action: Option<Action<'_>>) -> Result<u64, AllocError> {
+    #[tactic(auto, using(crate::proofs::Recording::keeps_same, crate::proofs::Recording::keeps_then, crate::proofs::Recording::keeps_text))]
+    fn action_number(&mut self, text: &str, action: Option<Action<'_>>) -> Result<u64, AllocError>
+        ensures { IfOk result (λ n. Keeps self.old self.new) }
+    {
         match action {
             Some(action) => self.put_action(text, &action),
             None => Ok(NONE),
@@ -170,14 +195,16 @@ impl Records {
         script: &Script<'a>,
         strings: &'a Strings,
         command: &Command<'a>,
-    ) -> Result<(), AllocError> {
+    ) -> Result<(), AllocError>
+        ensures { OnOk result (AddsCommand command.now self.old self.new) }
+    {
         let place = self.lines.place_at(script.text, command.span);
         let parts = Parts::of_command(&command.kind);
         let id = self.id(parts.id)?;
-        let of = self.id(parts.of)?;
+        let other = self.id(parts.of)?;
         let text = self.text(parts.text)?;
-        let module = self.module_number(script, strings, parts.module)?;
-        let action = self.action_number(script.text, parts.action)?;
+        let of_module = self.module_number(script, strings, parts.module)?;
+        let of_action = self.action_number(script.text, parts.action)?;
         let words: [u64; 14] = [
             type_of(&command.kind),
             place.offset,
@@ -185,15 +212,16 @@ impl Records {
             place.column,
             id.start,
             id.size,
-            of.start,
-            of.size,
+            other.start,
+            other.size,
             text.start,
             text.size,
-            module,
-            action,
+            of_module,
+            of_action,
             parts.results.start as u64,
             count_of(parts.results),
         ];
-        put_words(&mut self.commands, &words)
+        put_words(&mut self.commands, &words)?;
+        Ok(())
     }
 }

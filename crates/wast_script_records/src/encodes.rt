@@ -1,10 +1,10 @@
 //! Encodes the modules of a script. The error of one is that of its own text.
 
-ghost use Rattle.std.specs.Prelude.{◌≡◌, IfOk};
+ghost use Rattle.std.specs.Prelude.{◌≡◌, ◌⊎◌, IfOk, IfErr, IsTrue, Some};
 ghost use Rattle.wast_script.specs.Scripts.{module_in, script_tokens};
-ghost use Rattle.wast_script_records.specs.Encoded.{HasBytes};
-ghost use Rattle.wast_base.specs.Faults.{is_placed};
-ghost use Rattle.wat_bytes.specs.Texts.{place_of};
+ghost use Rattle.wast_script_records.specs.Encoded.{HasBytes, HasNoBytes, IsRefusedAs};
+ghost use Rattle.wast_base.specs.Faults.{is_placed, fault_of};
+ghost use Rattle.wat_bytes.specs.Texts.{number_of, place_of};
 ghost use Rattle.wat_messages.specs.Ranges.{Marks, range_of};
 
 use std::alloc::Global;
@@ -54,7 +54,9 @@ fn is_placed(fault: Fault<'_>) -> bool
 }
 
 /// Returns an error of a text that begins at a position of another one, with its position in that one.
-fn error_after<'a>(start: Span, error: Error<'a>) -> Error<'a> {
+fn error_after<'a>(start: Span, error: Error<'a>) -> Error<'a>
+    ensures { fault_of result ≡ fault_of error.entry }
+{
     let Some(span) = error.span() else {
         return error;
     };
@@ -67,7 +69,9 @@ fn error_after<'a>(start: Span, error: Error<'a>) -> Error<'a> {
 
 impl<'a> ModuleError<'a> {
     /// Returns that allocation failed.
-    fn memory() -> ModuleError<'a> {
+    fn memory() -> ModuleError<'a>
+        ensures { number_of result.refused ≡ Some 12 }
+    {
         let start = Span { offset: 0 };
         ModuleError {
             text: "",
@@ -77,12 +81,16 @@ impl<'a> ModuleError<'a> {
     }
 
     /// Returns whether allocation failed.
-    pub(crate) fn is_memory(&self) -> bool {
+    pub(crate) fn is_memory(&self) -> bool
+        ensures { IsTrue result → number_of self.now.refused ≡ Some 12 }
+    {
         self.refused.number() == Some(MEMORY)
     }
 
     /// Returns the error with its position in the text of the script.
-    pub fn in_script(&self) -> Refused<'a> {
+    pub fn in_script(&self) -> Refused<'a>
+        ensures { number_of result ≡ number_of self.now.refused }
+    {
         let start = self.start;
         match self.refused {
             Refused::Text(error) => Refused::Text(TextError {
@@ -98,6 +106,14 @@ impl<'a> ModuleError<'a> {
     }
 }
 
+/// Returns whether a second error is one with the number of the first, or a failed allocation.
+fn stands_for(first: &Refused<'_>, second: &Refused<'_>) -> bool
+    ensures { IsTrue result → (number_of second.now ≡ number_of first.now) ⊎ (number_of second.now ≡ Some 12) }
+{
+    let number = second.number();
+    number == first.number() || number == Some(MEMORY)
+}
+
 /// Returns the error of a module's text. An error of the script's tokens of the module is one of its text, which is read again,
 /// because the position of an unsupported construct is that of its word.
 fn error_of<'a>(
@@ -106,7 +122,9 @@ fn error_of<'a>(
     strings: &'a Strings,
     module: &ScriptModule<'a>,
     refused: Refused<'a>,
-) -> ModuleError<'a> {
+) -> ModuleError<'a>
+    ensures { (number_of result.refused ≡ number_of refused.entry) ⊎ (number_of result.refused ≡ Some 12) }
+{
     let whole = ModuleError {
         text: script.text,
         start: Span { offset: 0 },
@@ -119,12 +137,29 @@ fn error_of<'a>(
         return ModuleError::memory();
     };
     match encode_text(alloc, text, strings) {
-        Err(refused) => ModuleError {
+        Err(again) if stands_for(&refused, &again) => ModuleError {
             text,
             start: script.start(module),
-            refused,
+            refused: again,
         },
-        Ok(_) => whole,
+        _ => whole,
+    }
+}
+
+/// Returns what encoding a module of a script gives, with the error of its tokens.
+#[tactic(auto, using(crate::proofs::Refusing::has_error))]
+fn answer_of<'a>(
+    alloc: Global,
+    script: &Script<'a>,
+    strings: &'a Strings,
+    module: &ScriptModule<'a>,
+) -> Result<Vec<u8>, Refused<'a>>
+    ensures bytes { IfOk result (HasBytes (module_in (script_tokens script.now) «module».now)) }
+    ensures refuses { IfErr result (λ r. HasNoBytes (module_in (script_tokens script.now) «module».now) r) }
+{
+    match script.read(alloc, module, strings) {
+        Ok(text) => encoded_text(alloc, text),
+        Err(error) => Err(Refused::Text(error)),
     }
 }
 
@@ -133,19 +168,17 @@ fn error_of<'a>(
 /// # Errors
 ///
 /// That of [`encode_text`] for the text of the module ([`Script::module_text`]), and allocation failed (E12).
+#[tactic(auto, using(crate::proofs::Refusing::refused_as))]
 pub fn encode_module<'a>(
     alloc: Global,
     script: &Script<'a>,
     strings: &'a Strings,
     module: &ScriptModule<'a>,
 ) -> Result<Vec<u8>, ModuleError<'a>>
-    ensures { IfOk result (HasBytes (module_in (script_tokens script.now) «module».now)) }
+    ensures bytes { IfOk result (HasBytes (module_in (script_tokens script.now) «module».now)) }
+    ensures refuses { IfErr result (λ e. IsRefusedAs (module_in (script_tokens script.now) «module».now) (number_of e.refused)) }
 {
-    let answer = match script.read(alloc, module, strings) {
-        Ok(text) => encoded_text(alloc, text),
-        Err(error) => Err(Refused::Text(error)),
-    };
-    match answer {
+    match answer_of(alloc, script, strings, module) {
         Ok(bytes) => Ok(bytes),
         Err(refused) => Err(error_of(alloc, script, strings, module, refused)),
     }

@@ -1,5 +1,7 @@
 //! Lines and columns of positions, one after another.
 
+ghost use Rattle.std.specs.Prelude.{◌≡◌};
+
 use wast_tree::Span;
 
 /// A position in a text, with the number of its line and the offset where that line begins.
@@ -67,7 +69,9 @@ impl Lines {
 
     /// Moves to a position, or to the end of the text if it is after that, and returns it with its line and column. It counts from
     /// the last position on. So the positions of all commands take one walk over the text, and each module's own at most two more.
-    pub fn place_at(&mut self, text: &str, span: Span) -> Place {
+    pub fn place_at(&mut self, text: &str, span: Span) -> Place
+        ensures { result.offset ≡ span.offset }
+    {
         let offset = span.offset.min(text.len());
         let text = text.as_bytes();
         if offset < self.offset {

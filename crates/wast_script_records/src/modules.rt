@@ -1,7 +1,8 @@
 //! Writes the records of modules.
 
-ghost use Rattle.std.specs.Prelude.{◌≡◌};
+ghost use Rattle.std.specs.Prelude.{◌≡◌, IfOk};
 ghost use Rattle.wast_script_records.specs.Numbers.{form_number};
+ghost use Rattle.wast_script_records.specs.Records.{Keeps};
 
 use crate::encodes::{ModuleError, diagnostic_of, encode_module};
 use crate::lines::Place;
@@ -47,7 +48,10 @@ fn end_of(start: Span, range: Option<Range>) -> u64 {
 
 impl Records {
     /// Returns the position of an error, if it has one.
-    fn place_of(&mut self, text: &str, span: Option<Span>) -> Place {
+    #[tactic(auto, using(crate::proofs::Recording::keeps_same, crate::proofs::Recording::keeps_then, crate::proofs::Recording::keeps_text))]
+    fn place_of(&mut self, text: &str, span: Option<Span>) -> Place
+        ensures { Keeps self.old self.new }
+    {
         match span {
             Some(span) => self.lines.place_at(text, span),
             None => Place::none(),
@@ -55,7 +59,9 @@ impl Records {
     }
 
     /// Adds the bytes of a module.
-    fn encoded(&mut self, bytes: &[u8]) -> Result<Outcome, AllocError> {
+    fn encoded(&mut self, bytes: &[u8]) -> Result<Outcome, AllocError>
+        ensures { IfOk result (λ o. Keeps self.old self.new) }
+    {
         Ok(Outcome {
             status: 0,
             bytes: self.string(bytes)?,
@@ -67,7 +73,9 @@ impl Records {
     }
 
     /// Adds the error of a module. If allocation failed, the records fail.
-    fn refused(&mut self, text: &str, error: &ModuleError<'_>) -> Result<Outcome, AllocError> {
+    fn refused(&mut self, text: &str, error: &ModuleError<'_>) -> Result<Outcome, AllocError>
+        ensures { IfOk result (λ o. Keeps self.old self.new) }
+    {
         if error.is_memory() {
             return Err(AllocError);
         }
@@ -86,11 +94,14 @@ impl Records {
     }
 
     /// Adds the text of a quoted module; another form has none.
+    #[tactic(auto, using(crate::proofs::Recording::keeps_same, crate::proofs::Recording::keeps_then, crate::proofs::Recording::keeps_text))]
     fn quoted<'a>(
         &mut self,
         script: &Script<'a>,
         module: &ScriptModule<'a>,
-    ) -> Result<Piece, AllocError> {
+    ) -> Result<Piece, AllocError>
+        ensures { IfOk result (λ p. Keeps self.old self.new) }
+    {
         match module.form {
             ModuleForm::Quote => {
                 let bytes = script.bytes(self.alloc, module)?;
@@ -101,12 +112,15 @@ impl Records {
     }
 
     /// Encodes a module, and adds its bytes or its error.
+    #[tactic(auto, using(crate::proofs::Recording::keeps_same, crate::proofs::Recording::keeps_then, crate::proofs::Recording::keeps_text))]
     fn encode_part<'a>(
         &mut self,
         script: &Script<'a>,
         strings: &'a Strings,
         module: &ScriptModule<'a>,
-    ) -> Result<Outcome, AllocError> {
+    ) -> Result<Outcome, AllocError>
+        ensures { IfOk result (λ o. Keeps self.old self.new) }
+    {
         match encode_module(self.alloc, script, strings, module) {
             Ok(bytes) => self.encoded(bytes.as_slice()),
             Err(error) => self.refused(script.text, &error),
@@ -119,7 +133,9 @@ impl Records {
         script: &Script<'a>,
         strings: &'a Strings,
         module: &ScriptModule<'a>,
-    ) -> Result<u64, AllocError> {
+    ) -> Result<u64, AllocError>
+        ensures { IfOk result (λ n. Keeps self.old self.new) }
+    {
         let place = self.lines.place_at(script.text, module.span);
         let id = self.id(module.id)?;
         let quoted = self.quoted(script, module)?;

@@ -1,9 +1,12 @@
 //! The tables of records, and the list of bytes that they make.
 
+ghost use Rattle.std.specs.Prelude.{◌≡◌, ◌+◌, [], Some, length, IfOk, OnOk};
+ghost use Rattle.wast_script_records.specs.Records.{AddsCommands, AddsText, AreRecords, Keeps, laid_out, perhaps_named, tables_in, told};
+
 use crate::lines::Lines;
 use crate::words::{NONE, put_words};
 use std::alloc::{AllocError, Global};
-use wast_script::Script;
+use wast_script::{Command, Number, Script, Value};
 use wast_tree::Id;
 use wat_text::Strings;
 
@@ -40,9 +43,21 @@ pub(crate) struct Records {
     strings: Vec<u8>,
 }
 
+/// Returns the offset of the end of a table that starts at an offset.
+fn end_of(start: u64, table: &[u8]) -> Result<u64, AllocError>
+    ensures { IfOk result (λ n. n ≡ start + length table.now) }
+{
+    match start.checked_add(table.len() as u64) {
+        Some(end) => Ok(end),
+        None => Err(AllocError),
+    }
+}
+
 impl Records {
     /// Returns no records.
-    fn new(alloc: Global) -> Records {
+    fn new(alloc: Global) -> Records
+        ensures { (result.commands.items ≡ []) × (result.strings.items ≡ []) }
+    {
         Records {
             alloc,
             commands: Vec::new(alloc),
@@ -58,7 +73,10 @@ impl Records {
     }
 
     /// Adds a string.
-    pub fn string(&mut self, bytes: &[u8]) -> Result<Piece, AllocError> {
+    #[tactic(auto, using(crate::proofs::Recording::string_added))]
+    pub fn string(&mut self, bytes: &[u8]) -> Result<Piece, AllocError>
+        ensures { IfOk result (AddsText (Some bytes.now) self.old self.new) }
+    {
         let start = self.strings.len() as u64;
         self.strings.extend_from_slice(bytes)?;
         Ok(Piece {
@@ -68,7 +86,10 @@ impl Records {
     }
 
     /// Adds a text, if there is one.
-    pub fn text(&mut self, text: Option<&str>) -> Result<Piece, AllocError> {
+    #[tactic(auto, using(crate::proofs::Recording::text_absent))]
+    pub fn text(&mut self, text: Option<&str>) -> Result<Piece, AllocError>
+        ensures { IfOk result (AddsText (told text.entry) self.old self.new) }
+    {
         match text {
             Some(text) => self.string(text.as_bytes()),
             None => Ok(Piece {
@@ -79,20 +100,60 @@ impl Records {
     }
 
     /// Adds the name of an id, if there is one.
-    pub fn id(&mut self, id: Option<Id<'_>>) -> Result<Piece, AllocError> {
+    #[tactic(auto, using(crate::proofs::Recording::text_same))]
+    pub fn id(&mut self, id: Option<Id<'_>>) -> Result<Piece, AllocError>
+        ensures { IfOk result (AddsText (perhaps_named id.entry) self.old self.new) }
+    {
         match id {
             Some(id) => self.string(id.name().as_bytes()),
             None => self.text(None),
         }
     }
 
+    /// Adds the records of commands, with those of their modules and actions.
+    fn put_commands<'a>(
+        &mut self,
+        script: &Script<'a>,
+        strings: &'a Strings,
+        commands: &[Command<'a>],
+    ) -> Result<(), AllocError>
+        ensures { OnOk result (AddsCommands commands.now self.old self.new) }
+    {
+        for command in commands {
+            self.put_command(script, strings, command)?;
+        }
+        Ok(())
+    }
+
+    /// Adds the records of values.
+    fn put_values(&mut self, values: &[Value<'_>]) -> Result<(), AllocError>
+        ensures { OnOk result (Keeps self.old self.new) }
+    {
+        for value in values {
+            self.put_value(value)?;
+        }
+        Ok(())
+    }
+
+    /// Adds the records of lanes.
+    fn put_lanes(&mut self, lanes: &[Number]) -> Result<(), AllocError>
+        ensures { OnOk result (Keeps self.old self.new) }
+    {
+        for lane in lanes {
+            self.put_lane(*lane)?;
+        }
+        Ok(())
+    }
+
     /// Returns the header and the tables in one list. The counts of commands, values and lanes are those of the script.
-    fn finish(self, script: &Script<'_>) -> Result<Vec<u8>, AllocError> {
-        let modules = HEADER.saturating_add(self.commands.len() as u64);
-        let actions = modules.saturating_add(self.modules.len() as u64);
-        let values = actions.saturating_add(self.actions.len() as u64);
-        let lanes = values.saturating_add(self.values.len() as u64);
-        let strings = lanes.saturating_add(self.lanes.len() as u64);
+    fn finish(self, script: &Script<'_>) -> Result<Vec<u8>, AllocError>
+        ensures { IfOk result (λ list. list.items ≡ laid_out script.now (tables_in self)) }
+    {
+        let modules = end_of(HEADER, self.commands.as_slice())?;
+        let actions = end_of(modules, self.modules.as_slice())?;
+        let values = end_of(actions, self.actions.as_slice())?;
+        let lanes = end_of(values, self.values.as_slice())?;
+        let strings = end_of(lanes, self.lanes.as_slice())?;
         let header: [u64; 13] = [
             LAYOUT,
             HEADER,
@@ -132,16 +193,13 @@ pub fn records_of<'a>(
     alloc: Global,
     script: &Script<'a>,
     strings: &'a Strings,
-) -> Result<Vec<u8>, AllocError> {
+) -> Result<Vec<u8>, AllocError>
+    ensures { IfOk result (λ list. AreRecords script.now list.items) }
+{
     let mut records = Records::new(alloc);
-    for command in script.commands.iter() {
-        records.put_command(script, strings, command)?;
-    }
-    for value in script.values.iter() {
-        records.put_value(value)?;
-    }
-    for lane in script.lanes.iter() {
-        records.put_lane(*lane)?;
-    }
-    records.finish(script)
+    records.put_commands(script, strings, script.commands.as_slice())?;
+    records.put_values(script.values.as_slice())?;
+    records.put_lanes(script.lanes.as_slice())?;
+    let list = records.finish(script)?;
+    Ok(list)
 }

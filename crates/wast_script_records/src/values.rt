@@ -14,8 +14,9 @@
 //!
 //! A lane is a form and bits, as a float has them. An id is the start of its name among the bytes of all strings, and its size.
 
-ghost use Rattle.std.specs.Prelude.{◌≡◌};
+ghost use Rattle.std.specs.Prelude.{◌≡◌, IfOk, OnOk};
 ghost use Rattle.wast_script_records.specs.Numbers.{heap_number, shape_number};
+ghost use Rattle.wast_script_records.specs.Records.{Keeps};
 
 use crate::commands::count_of;
 use crate::records::Records;
@@ -147,7 +148,10 @@ fn vector_words(shape: Shape, lanes: Part) -> [u64; 4] {
 
 impl Records {
     /// Returns an index, whose id is added.
-    fn index(&mut self, index: Index<'_>) -> Result<Reference, AllocError> {
+    #[tactic(auto, using(crate::proofs::Recording::keeps_same, crate::proofs::Recording::keeps_then, crate::proofs::Recording::keeps_text))]
+    fn index(&mut self, index: Index<'_>) -> Result<Reference, AllocError>
+        ensures { IfOk result (λ r. Keeps self.old self.new) }
+    {
         match index {
             Index::Num(number, _) => Ok(Reference::of_number(number)),
             Index::Id(id) => {
@@ -162,7 +166,10 @@ impl Records {
     }
 
     /// Returns an index, if there is one.
-    fn optional_index(&mut self, index: Option<Index<'_>>) -> Result<Reference, AllocError> {
+    #[tactic(auto, using(crate::proofs::Recording::keeps_same, crate::proofs::Recording::keeps_then, crate::proofs::Recording::keeps_text))]
+    fn optional_index(&mut self, index: Option<Index<'_>>) -> Result<Reference, AllocError>
+        ensures { IfOk result (λ r. Keeps self.old self.new) }
+    {
         match index {
             Some(index) => self.index(index),
             None => Ok(Reference::any()),
@@ -170,7 +177,10 @@ impl Records {
     }
 
     /// Returns a heap type.
-    fn heap_type(&mut self, heap: HeapType<'_>) -> Result<Reference, AllocError> {
+    #[tactic(auto, using(crate::proofs::Recording::keeps_same, crate::proofs::Recording::keeps_then, crate::proofs::Recording::keeps_text))]
+    fn heap_type(&mut self, heap: HeapType<'_>) -> Result<Reference, AllocError>
+        ensures { IfOk result (λ r. Keeps self.old self.new) }
+    {
         match heap {
             HeapType::Abstract { shared, ty } => Ok(Reference::of_abstract(shared, ty)),
             HeapType::Concrete(index) => self.index(index),
@@ -179,7 +189,10 @@ impl Records {
     }
 
     /// Returns a heap type, if there is one.
-    fn optional_type(&mut self, heap: Option<HeapType<'_>>) -> Result<Reference, AllocError> {
+    #[tactic(auto, using(crate::proofs::Recording::keeps_same, crate::proofs::Recording::keeps_then, crate::proofs::Recording::keeps_text))]
+    fn optional_type(&mut self, heap: Option<HeapType<'_>>) -> Result<Reference, AllocError>
+        ensures { IfOk result (λ r. Keeps self.old self.new) }
+    {
         match heap {
             Some(heap) => self.heap_type(heap),
             None => Ok(Reference::any()),
@@ -187,7 +200,10 @@ impl Records {
     }
 
     /// Returns the words of a value.
-    fn value_words(&mut self, value: &Value<'_>) -> Result<[u64; 4], AllocError> {
+    #[tactic(auto, using(crate::proofs::Recording::keeps_same, crate::proofs::Recording::keeps_then, crate::proofs::Recording::keeps_text))]
+    fn value_words(&mut self, value: &Value<'_>) -> Result<[u64; 4], AllocError>
+        ensures { IfOk result (λ ws. Keeps self.old self.new) }
+    {
         match value {
             Value::I32(number) => Ok([0, 0, number.cast_unsigned() as u64, 0]),
             Value::I64(number) => Ok([1, 0, number.cast_unsigned(), 0]),
@@ -204,15 +220,23 @@ impl Records {
     }
 
     /// Adds the record of a value.
-    pub(crate) fn put_value(&mut self, value: &Value<'_>) -> Result<(), AllocError> {
+    #[tactic(auto, using(crate::proofs::Recording::keeps_same, crate::proofs::Recording::keeps_then, crate::proofs::Recording::keeps_text))]
+    pub(crate) fn put_value(&mut self, value: &Value<'_>) -> Result<(), AllocError>
+        ensures { OnOk result (Keeps self.old self.new) }
+    {
         let words = self.value_words(value)?;
-        put_words(&mut self.values, &words)
+        put_words(&mut self.values, &words)?;
+        Ok(())
     }
 
     /// Adds the record of a lane.
-    pub(crate) fn put_lane(&mut self, lane: Number) -> Result<(), AllocError> {
+    #[tactic(auto, using(crate::proofs::Recording::keeps_same, crate::proofs::Recording::keeps_then, crate::proofs::Recording::keeps_text))]
+    pub(crate) fn put_lane(&mut self, lane: Number) -> Result<(), AllocError>
+        ensures { OnOk result (Keeps self.old self.new) }
+    {
         let (form, bits) = number_words(lane);
         let words: [u64; 2] = [form, bits];
-        put_words(&mut self.lanes, &words)
+        put_words(&mut self.lanes, &words)?;
+        Ok(())
     }
 }

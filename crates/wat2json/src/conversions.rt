@@ -1,11 +1,14 @@
 //! Converts the modules of a script to files.
 
-ghost use Rattle.std.specs.Prelude.{◌≡◌, true, IfOk, string_bytes};
-ghost use Rattle.wat2json.specs.Files.{IsContents, IsEncoded, file_name};
+ghost use Rattle.std.specs.Prelude.{◌≡◌, ◌-◌, ◌++◌, ◌∷◌, [], true, length, IfOk, IfErr, OnOk, string_bytes};
+ghost use Rattle.wast_script.specs.Scripts.{module_in, script_tokens};
+ghost use Rattle.wast_script_records.specs.Encoded.{IsRefusedAs};
+ghost use Rattle.wat_bytes.specs.Texts.{number_of};
+ghost use Rattle.wat2json.specs.Files.{IsContents, IsEncoded, AddsFile, Skips, Adds, Converts, AreModules, file_name, is_skipped, module_for};
 
 use crate::refusals::{Refusal, is_of_names, is_uncovered};
 use std::alloc::{AllocError, Global};
-use wast_script::{ModuleForm, Script, ScriptModule};
+use wast_script::{Command, ModuleForm, Script, ScriptModule};
 use wast_script_json::{ConvertedModule, ModuleFile, Role, commands_of, module_of};
 use wast_script_records::encode_module;
 use wast_tree::Span;
@@ -37,7 +40,8 @@ fn encoded_contents<'a>(
     module: &ScriptModule<'a>,
     role: Role,
 ) -> Result<Contents, Refusal<'a>>
-    ensures { IfOk result (IsEncoded script.now «module».now role) }
+    ensures contents { IfOk result (IsEncoded script.now «module».now role) }
+    ensures refuses { IfErr result (λ e. IsRefusedAs (module_in (script_tokens script.now) «module».now) (number_of e.0)) }
 {
     match encode_module(alloc, script, strings, module) {
         Ok(bytes) => Ok(Contents {
@@ -45,8 +49,10 @@ fn encoded_contents<'a>(
             is_text: false,
         }),
         Err(error) if matches!(role, Role::Wrong) && is_of_names(&error.refused) => {
-            let contents = text_contents(alloc, script.source(module))?;
-            Ok(contents)
+            match text_contents(alloc, script.source(module)) {
+                Ok(contents) => Ok(contents),
+                Err(_) => Err(Refusal::memory()),
+            }
         }
         Err(error) => Err(Refusal(error.in_script())),
     }
@@ -60,16 +66,20 @@ fn contents_of<'a>(
     module: &ScriptModule<'a>,
     role: Role,
 ) -> Result<Contents, Refusal<'a>>
-    ensures { IfOk result (IsContents script.now «module».now role) }
+    ensures contents { IfOk result (IsContents script.now «module».now role) }
+    ensures refuses { IfErr result (λ e. IsRefusedAs (module_in (script_tokens script.now) «module».now) (number_of e.0)) }
 {
     let is_quoted = matches!(module.form, ModuleForm::Quote);
     if matches!(role, Role::Run) || matches!(module.form, ModuleForm::Fields) {
         return encoded_contents(alloc, script, strings, module, role);
     }
-    Ok(Contents {
-        bytes: script.bytes(alloc, module)?,
-        is_text: is_quoted,
-    })
+    match script.bytes(alloc, module) {
+        Ok(bytes) => Ok(Contents {
+            bytes,
+            is_text: is_quoted,
+        }),
+        Err(_) => Err(Refusal::memory()),
+    }
 }
 
 /// Returns the file of a module, which is the one of this number among those whose names begin with a stem: `a.0.wasm` is the first
@@ -94,7 +104,9 @@ fn file_of(
 }
 
 /// Returns that a module is skipped for this error.
-fn skipped<'a>(alloc: Global, refused: &Refused<'a>) -> Result<ConvertedModule, AllocError> {
+fn skipped<'a>(alloc: Global, refused: &Refused<'a>) -> Result<ConvertedModule, AllocError>
+    ensures { IfOk result (λ m. is_skipped m ≡ true) }
+{
     let reason = format!(in alloc; "{refused}")?;
     let place = refused.span().unwrap_or(Span::default());
     Ok(ConvertedModule::Skipped(reason, place))
@@ -110,9 +122,40 @@ pub(crate) struct Modules {
 }
 
 impl Modules {
+    /// Returns how many of them are files.
+    fn files(&self) -> usize
+        ensures { result ≡ length self.now.converted.items - self.now.skipped }
+    {
+        self.converted.len().saturating_sub(self.skipped)
+    }
+
     /// Appends what one more module is converted to.
-    fn push(&mut self, module: ConvertedModule) -> Result<(), AllocError> {
+    fn push(&mut self, module: ConvertedModule) -> Result<(), AllocError>
+        ensures { OnOk result ((self.new.converted.items ≡ self.old.converted.items ++ («module» ∷ [])) × (self.new.skipped ≡ self.old.skipped)) }
+    {
         self.converted.push(module)?;
+        Ok(())
+    }
+
+    /// Adds the next file, with these contents.
+    fn add_file(&mut self, alloc: Global, contents: Contents, stem: &str) -> Result<(), AllocError>
+        ensures { OnOk result (AddsFile stem.now contents self.old self.new) }
+    {
+        let number = self.files();
+        let file = file_of(alloc, stem, number, contents)?;
+        self.push(ConvertedModule::File(file))?;
+        Ok(())
+    }
+
+    /// Adds that a module is skipped for this error.
+    fn skip<'a>(&mut self, alloc: Global, refused: &Refused<'a>) -> Result<(), AllocError>
+        ensures { OnOk result (Skips self.old self.new) }
+    {
+        let files = self.files();
+        let made = skipped(alloc, refused)?;
+        self.push(made)?;
+        let count = self.converted.len().saturating_sub(files);
+        self.skipped = count;
         Ok(())
     }
 
@@ -123,21 +166,44 @@ impl Modules {
         contents: Result<Contents, Refusal<'a>>,
         stem: &str,
         may_skip: bool,
-    ) -> Result<(), Refusal<'a>> {
+    ) -> Result<(), Refusal<'a>>
+        ensures { OnOk result (Adds stem.now may_skip contents.entry self.old self.new) }
+    {
         match contents {
-            Ok(contents) => {
-                let number = self.converted.len().saturating_sub(self.skipped);
-                let file = file_of(alloc, stem, number, contents)?;
-                self.push(ConvertedModule::File(file))?;
-            }
+            Ok(contents) => match self.add_file(alloc, contents, stem) {
+                Ok(()) => Ok(()),
+                Err(_) => Err(Refusal::memory()),
+            },
             Err(Refusal(refused)) if may_skip && is_uncovered(&refused) => {
-                self.skipped = self.skipped.saturating_add(1);
-                let module = skipped(alloc, &refused)?;
-                self.push(module)?;
+                match self.skip(alloc, &refused) {
+                    Ok(()) => Ok(()),
+                    Err(_) => Err(Refusal::memory()),
+                }
             }
-            Err(refusal) => return Err(refusal),
+            Err(refusal) => Err(refusal),
         }
-        Ok(())
+    }
+
+    /// Converts the module of a command, if it has one.
+    #[tactic(auto, using(crate::proofs::Converting::converts_some, crate::proofs::Converting::converts_none))]
+    fn add_command<'a>(
+        &mut self,
+        alloc: Global,
+        script: &Script<'a>,
+        strings: &'a Strings,
+        command: &Command<'a>,
+        stem: &str,
+        may_skip: bool,
+    ) -> Result<(), Refusal<'a>>
+        ensures { OnOk result (Converts script.now stem.now may_skip (module_for command.now) self.old self.new) }
+    {
+        match module_of(command) {
+            Some((module, role)) => {
+                let contents = contents_of(alloc, script, strings, &module, role);
+                self.add(alloc, contents, stem, may_skip)
+            }
+            None => Ok(()),
+        }
     }
 }
 
@@ -149,16 +215,16 @@ pub(crate) fn modules_of<'a>(
     strings: &'a Strings,
     stem: &str,
     may_skip: bool,
-) -> Result<Modules, Refusal<'a>> {
+) -> Result<Modules, Refusal<'a>>
+    ensures { IfOk result (AreModules script.now stem.now may_skip) }
+{
     let mut modules = Modules {
         converted: Vec::new(alloc),
         skipped: 0,
     };
-    for command in commands_of(script) {
-        if let Some((module, role)) = module_of(command) {
-            let contents = contents_of(alloc, script, strings, &module, role);
-            modules.add(alloc, contents, stem, may_skip)?;
-        }
+    let commands = commands_of(script);
+    for command in commands {
+        modules.add_command(alloc, script, strings, command, stem, may_skip)?;
     }
     Ok(modules)
 }

@@ -8,10 +8,11 @@
 //!
 //! - `options` reads the arguments, and `help` prints the help.
 //! - `conversions` encodes the modules. `outputs` names and writes the files, and `wast_script_json` writes each command.
-//! - `refusals` has the errors of a script that is not converted.
+//! - `refusals` has the errors of a script that is not converted. `examples` has examples that the definitions compute.
 #![tactic(auto)]
 
 mod conversions;
+mod examples;
 mod help;
 mod options;
 mod outputs;

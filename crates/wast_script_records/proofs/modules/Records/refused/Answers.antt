@@ -1,0 +1,13 @@
+use Rattle.std.proofs.Common.{◌∙◌}
+use Rattle.wast_script_records.proofs.Recording.{extends_both}
+use Rattle.wast_script_records.proofs.modules.Records.refused.Goals as goal
+
+pub returns : goal.returns
+returns c =
+    let a = c.in_ok-text.ensures.keeps in
+    let p = c.place_of.ensures in
+    let b = c.in_ok-string.ensures.keeps in
+    record {
+      commands = b.commands ∙ p.commands ∙ a.commands;
+      strings = extends_both _ _ _ a.strings (extends_both _ _ _ p.strings b.strings);
+    }
