@@ -315,13 +315,12 @@ export function notes(text) {
   const bytes = bytesOf(text), size = BigInt(bytes.length);
   const found = called((calls) => {
     const at = calls.lend(bytes), all = [];
-    while (calls.exports.rigyomad_c_note) {
+    for (;;) {
       const note = diagnosed(calls, (...out) => calls.exports.rigyomad_c_note(at, size, all.length, ...out));
       if (note.status === MEMORY) throw outOfMemory();
-      if (note.status !== DONE) break;
+      if (note.status !== DONE) return all;
       all.push(note);
     }
-    return all;
   });
   const isWide = typeof text === "string" && bytes.length !== text.length;
   return found.map(({ message, offset, line, column, end }) => {
@@ -330,16 +329,9 @@ export function notes(text) {
   });
 }
 
-/** The columns of a character, for a module that was built before it had the call. */
-function estimatedWidth(code) {
-  const character = String.fromCodePoint(code);
-  if (/[\p{Mn}\p{Me}\u200b-\u200d\u2060\ufeff]/u.test(character)) return 0;
-  return /[\u1100-\u115f\u2e80-\u303e\u3041-\ua4cf\ua960-\ua97c\uac00-\ud7a3\uf900-\ufaff\ufe30-\ufe6f\uff01-\uff60\uffe0-\uffe6\u{1f300}-\u{1f64f}\u{1f900}-\u{1f9ff}\u{20000}-\u{3fffd}]/u.test(character) ? 2 : 1;
-}
-
 /** How many columns a terminal shows of a text, of which it shows no controls. */
 export function columns(text) {
-  return called(({ exports: { rigyomad_c_width: width = estimatedWidth } }) => [...text].reduce((sum, it) => sum + width(it.codePointAt(0)), 0));
+  return called((calls) => [...text].reduce((sum, it) => sum + calls.exports.rigyomad_c_width(it.codePointAt(0)), 0));
 }
 
 /** The commands of a script of tests. */

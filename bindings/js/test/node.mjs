@@ -419,168 +419,161 @@ await test("each control character is printed as an escape, and no other", () =>
   assert.equal(escaped(plain), plain);
 });
 
-/** Tests of scripts, notes and columns. */
-async function testScripts() {
-  const without = (found) => JSON.parse(JSON.stringify(found, (key, value) => (key === "line" || key === "column" ? undefined : value)));
-  const one = (text) => {
-    const [command, ...rest] = commands(text);
-    assert.deepEqual(rest, []);
-    return without(command);
+const without = (found) => JSON.parse(JSON.stringify(found, (key, value) => (key === "line" || key === "column" ? undefined : value)));
+const one = (text) => {
+  const [command, ...rest] = commands(text);
+  assert.deepEqual(rest, []);
+  return without(command);
+};
+const expected = (results) => one(`(assert_return (invoke "f") ${results})`).expected;
+const invoke = (args = [], others = {}) => ({ type: "invoke", ...others, field: "f", args });
+const I32_7 = { type: "i32", value: "7" };
+
+await test("an error has notes", () => {
+  assert.deepEqual(notes("(module\n (func $f)\n (func $f))"), [{ message: "first defined here", start: 15, end: 17, line: 2, column: 8 }]);
+  assert.deepEqual(notes("(module (func $first) (start $fist))"), [{ message: "did you mean `$first`?", start: 29, end: 34, line: 1, column: 30 }]);
+  for (const text of ["(module)", "(module (start $f))", Uint8Array.of(255)]) assert.deepEqual(notes(text), []);
+  const text = '(module (;🎉;) (func $"€") (func $"€"))', [ofString] = notes(text), [ofBytes] = notes(encoder.encode(text));
+  assert.deepEqual([text.slice(ofString.start, ofString.end), ofString.column], ['$"€"', text.indexOf("$") + 1]);
+  assert.deepEqual([ofBytes.end - ofBytes.start, ofBytes.column], [6, ofBytes.start + 1]);
+  const long = "n".repeat(300);
+  assert.ok(notes(`(module (func $${long}) (start $${long}x))`)[0].message.length > 300);
+});
+
+await test("an error may have two notes", () => {
+  const found = notes("(module (global $fist i32 (i32.const 0)) (func $first) (start $fist))");
+  assert.deepEqual(found.map(({ message }) => message), ["defined here", "did you mean `$first`?"]);
+});
+
+await test("columns are those of a terminal", () => {
+  for (const [text, wanted] of [["", 0], ["abc", 3], ["日本", 4], ["e\u0301", 1], ["🎉", 2], ["\ud800", 1], ["\t", 1]]) assert.equal(columns(text), wanted, text);
+});
+
+await test("commands have lines and columns", () => {
+  const text = '(module)\n(register "m" $M)\n  (assert_return\n (invoke "f"))', found = commands(text);
+  assert.deepEqual(found.map(({ type, line, column }) => [type, line, column]), [["module", 1, 2], ["register", 2, 2], ["assert_return", 3, 4]]);
+  assert.deepEqual([found[2].action.line, found[2].action.column], [4, 3]);
+  const wide = "(module) (;🎉€;) (wait $t)";
+  assert.deepEqual([wide, encoder.encode(wide)].map((it) => commands(it)[1].column), [wide.indexOf("wait") + 1, Buffer.from(wide).indexOf("wait") + 1]);
+});
+
+await test("modules have their bytes and their text", () => {
+  const texts = ["(module $m (func $f))", "(module (;€;) (memory 1))"];
+  for (const given of [texts.join(" "), encoder.encode(texts.join(" "))]) {
+    commands(given).forEach(({ module, source }, at) => assert.deepEqual([module, source], [parse(texts[at]), texts[at]]));
+  }
+  assert.equal(one("(module definition $d)").definition, "true");
+  assert.equal(commands("(module $m)")[0].name, "$m");
+  assert.equal(hex(commands('(module binary "\\00asm")')[0].module), "0061736d");
+  assert.deepEqual(Object.keys(commands('(module quote "")')[0]), ["type", "line", "column", "source", "quoted", "module"]);
+});
+
+await test("a module without bytes has an error", () => {
+  const text = '(assert_malformed (module quote "(func") "a")\n(assert_invalid\n (module (start $f)) "b")', [first, second] = commands(text);
+  assert.deepEqual([first.module, first.text, first.module_type, Buffer.from(first.quoted).toString()], [null, "a", "text", "(func"]);
+  assert.deepEqual([second.module, second.text, second.module_type, second.quoted], [null, "b", "binary", undefined]);
+  assert.ok(second.error instanceof WatError);
+  assert.equal(String(second.error), "3:17: unknown func: failed to find name `$f`");
+  assert.equal(second.error.number, 4);
+});
+
+await test("the error of a module is that of its text", () => {
+  for (const wrong of [
+    "(module (start $f))", "(module (func $f)\n (func $f))", "(module (func $first) (start $fist))", "(module (func i32.ad))",
+    "(module (; é ;) (func i64.add128))", '(module quote "(fnu" "c)")', "(module\t(type $t (struct)) (func (type $t) (param i32)))",
+  ]) {
+    const all = (error) => ({ ...fieldsOf(error), snippet: error.snippet });
+    const text = `  (module) ;; é\n\t${wrong}`, alone = text.replace("(module) ;; é", " ".repeat(13));
+    assert.deepEqual(all(commands(text)[1].error), all(errorOf(() => parse(alone))), wrong);
+    const wide = encoder.encode(alone.replace(" ".repeat(13), " ".repeat(14)));
+    assert.deepEqual(all(commands(encoder.encode(text))[1].error), all(errorOf(() => parse(wide))), wrong);
+  }
+});
+
+await test("a text that is no script has an error", () => {
+  assert.equal(String(errorOf(() => commands("(module)\n (assert_foo)"))), "2:3: expected a command, found `assert_foo`");
+  const error = errorOf(() => commands(Uint8Array.of(40, 255)));
+  assert.deepEqual([error.message, error.line, error.start], ["malformed UTF-8 encoding", 0, 1]);
+  assert.ok(errorOf(() => commands(`(module) (invoke "f" (i32.const ${"1".repeat(1000)}x))`)).message.length > 500);
+  errorOf(() => commands("\ud800"));
+  assert.throws(() => commands(null), TypeError);
+  assert.deepEqual(commands(""), []);
+});
+
+await test("commands are objects", () => {
+  for (const [text, wanted] of [
+    ['(register "a b" $m)', { type: "register", as: "a b", name: "$m" }],
+    ["(module instance $i $m)", { type: "instance", instance: "$i", definition: "$m" }],
+    ["(wait $t)", { type: "wait", thread: "$t" }],
+    ['(invoke $m "f" (i32.const 7))', { type: "action", action: invoke([I32_7], { module: "$m" }) }],
+    ['(get "g")', { type: "action", action: { type: "get", field: "g" } }],
+    ['(assert_return (invoke "f") (i32.const 7))', { type: "assert_return", action: invoke(), expected: [I32_7] }],
+    ['(assert_trap (invoke "f") "a")', { type: "assert_trap", action: invoke(), text: "a" }],
+    ['(assert_exhaustion (invoke "f") "a")', { type: "assert_exhaustion", action: invoke(), text: "a" }],
+    ['(assert_exception (invoke "f"))', { type: "assert_exception", action: invoke() }],
+    ['(assert_suspension (invoke "f") "a")', { type: "assert_suspension", action: invoke(), text: "a" }],
+  ]) assert.deepEqual(one(text), wanted, text);
+  for (const word of ["malformed", "malformed_custom", "invalid", "invalid_custom", "unlinkable"]) {
+    const { type, text } = one(`(assert_${word} (module) "a")`);
+    assert.deepEqual([type, text], [`assert_${word}`, "a"]);
+  }
+  assert.equal(one('(assert_trap (module) "a")').type, "assert_uninstantiable");
+});
+
+await test("values are those of wast2json", () => {
+  const all = (type, ...values) => values.map((value) => ({ type, value }));
+  assert.deepEqual(expected("(i32.const -1)"), all("i32", "4294967295"));
+  assert.deepEqual(expected("(i64.const -1) (i64.const 9007199254740993)"), all("i64", "18446744073709551615", "9007199254740993"));
+  assert.deepEqual(expected("(f32.const -0) (f32.const nan:arithmetic)"), all("f32", "2147483648", "nan:arithmetic"));
+  assert.deepEqual(expected("(f64.const nan:canonical) (f64.const -1)"), all("f64", "nan:canonical", "13830554455654793216"));
+  for (const [shape, lane_type, last] of [["i8x16", "i8", 255], ["i16x8", "i16", 65535], ["i32x4", "i32", 4294967295], ["i64x2", "i64", "18446744073709551615"]]) {
+    const value = Array.from({ length: Number(shape.split("x")[1]) }, (_, at) => String(at));
+    value[value.length - 1] = String(last);
+    assert.deepEqual(expected(`(v128.const ${shape} ${value.join(" ")})`), [{ type: "v128", lane_type, value }]);
+  }
+  const lanes = ["0", "nan:canonical", "nan:arithmetic", "1065353216"];
+  assert.deepEqual(expected("(v128.const f32x4 0 nan:canonical nan:arithmetic 1)"), [{ type: "v128", lane_type: "f32", value: lanes }]);
+  assert.deepEqual(expected("(ref.null) (ref.null any) (ref.null $t) (ref.extern) (ref.extern 3) (ref.host 4) (ref.func) (ref.func 5) (ref.func $f) (ref.i31)"), [
+    { type: "refnull" }, { type: "anyref", value: "null" }, { type: "ref", value: "null" }, { type: "externref" }, { type: "externref", value: "3" },
+    { type: "anyref", value: "4" }, { type: "funcref", value: "0" }, { type: "funcref", value: { index: 5 } }, { type: "funcref", value: { id: "$f" } },
+    { type: "i31ref" },
+  ]);
+});
+
+await test("each heap type has its reference", () => {
+  const references = {
+    func: "funcref", extern: "externref", exn: "exnref", noexn: "nullexnref", any: "anyref", eq: "eqref", struct: "structref", array: "arrayref",
+    nofunc: "nullfuncref", noextern: "nullexternref", none: "nullref", i31: "i31ref", cont: "contref", nocont: "nullcontref",
   };
-  const expected = (results) => one(`(assert_return (invoke "f") ${results})`).expected;
-  const invoke = (args = [], others = {}) => ({ type: "invoke", ...others, field: "f", args });
-  const I32_7 = { type: "i32", value: "7" };
+  for (const [heap, type] of Object.entries(references)) {
+    assert.deepEqual(expected(`(ref.null ${heap}) (ref.null (shared ${heap}))`), [{ type, value: "null" }, { type, value: "null" }]);
+  }
+});
 
-  await test("an error has notes", () => {
-    assert.deepEqual(notes("(module\n (func $f)\n (func $f))"), [{ message: "first defined here", start: 15, end: 17, line: 2, column: 8 }]);
-    assert.deepEqual(notes("(module (func $first) (start $fist))"), [{ message: "did you mean `$first`?", start: 29, end: 34, line: 1, column: 30 }]);
-    for (const text of ["(module)", "(module (start $f))", Uint8Array.of(255)]) assert.deepEqual(notes(text), []);
-    const text = '(module (;🎉;) (func $"€") (func $"€"))', [ofString] = notes(text), [ofBytes] = notes(encoder.encode(text));
-    assert.deepEqual([text.slice(ofString.start, ofString.end), ofString.column], ['$"€"', text.indexOf("$") + 1]);
-    assert.deepEqual([ofBytes.end - ofBytes.start, ofBytes.column], [6, ofBytes.start + 1]);
-    const long = "n".repeat(300);
-    assert.ok(notes(`(module (func $${long}) (start $${long}x))`)[0].message.length > 300);
-  });
+await test("alternatives are one value", () => {
+  for (const count of [1, 2, 3]) {
+    const wanted = [{ type: "either", values: Array(count).fill(I32_7) }, I32_7, { type: "either", values: [I32_7] }];
+    assert.deepEqual(expected(`(either ${"(i32.const 7)".repeat(count)}) (i32.const 7) (either (i32.const 7))`), wanted);
+  }
+});
 
-  await test("an error may have two notes", () => {
-    const found = notes("(module (global $fist i32 (i32.const 0)) (func $first) (start $fist))");
-    assert.deepEqual(found.map(({ message }) => message), ["defined here", "did you mean `$first`?"]);
-  });
+await test("threads have their commands", () => {
+  const [first, second] = commands('(thread $T (shared (module $M)) (register "m" $M) (thread $U (invoke "f"))) (wait $T)');
+  assert.deepEqual([first.name, first.shared_module, second.thread], ["$T", "$M", "$T"]);
+  assert.deepEqual(first.commands.map(({ type }) => type), ["register", "thread"]);
+  assert.deepEqual(first.commands[1].commands.map(({ type }) => type), ["action"]);
+});
 
-  await test("columns are those of a terminal", () => {
-    for (const [text, wanted] of [["", 0], ["abc", 3], ["日本", 4], ["e\u0301", 1], ["🎉", 2], ["\ud800", 1], ["\t", 1]]) assert.equal(columns(text), wanted, text);
-  });
+await test("a script may have many commands and errors", () => {
+  assert.equal(commands("(wait $t)".repeat(1000)).length, 1000);
+  const found = commands("(module (;é;) (func i64.add128)) ".repeat(2000));
+  assert.deepEqual([found.length, found[1999].error.number, found[1999].error.column], [2000, 11, 1999 * 33 + 22]);
+});
 
-  await test("commands have lines and columns", () => {
-    const text = '(module)\n(register "m" $M)\n  (assert_return\n (invoke "f"))', found = commands(text);
-    assert.deepEqual(found.map(({ type, line, column }) => [type, line, column]), [["module", 1, 2], ["register", 2, 2], ["assert_return", 3, 4]]);
-    assert.deepEqual([found[2].action.line, found[2].action.column], [4, 3]);
-    const wide = "(module) (;🎉€;) (wait $t)";
-    assert.deepEqual([wide, encoder.encode(wide)].map((it) => commands(it)[1].column), [wide.indexOf("wait") + 1, Buffer.from(wide).indexOf("wait") + 1]);
-  });
-
-  await test("modules have their bytes and their text", () => {
-    const texts = ["(module $m (func $f))", "(module (;€;) (memory 1))"];
-    for (const given of [texts.join(" "), encoder.encode(texts.join(" "))]) {
-      commands(given).forEach(({ module, source }, at) => assert.deepEqual([module, source], [parse(texts[at]), texts[at]]));
-    }
-    assert.equal(one("(module definition $d)").definition, "true");
-    assert.equal(commands("(module $m)")[0].name, "$m");
-    assert.equal(hex(commands('(module binary "\\00asm")')[0].module), "0061736d");
-    assert.deepEqual(Object.keys(commands('(module quote "")')[0]), ["type", "line", "column", "source", "quoted", "module"]);
-  });
-
-  await test("a module without bytes has an error", () => {
-    const text = '(assert_malformed (module quote "(func") "a")\n(assert_invalid\n (module (start $f)) "b")', [first, second] = commands(text);
-    assert.deepEqual([first.module, first.text, first.module_type, Buffer.from(first.quoted).toString()], [null, "a", "text", "(func"]);
-    assert.deepEqual([second.module, second.text, second.module_type, second.quoted], [null, "b", "binary", undefined]);
-    assert.ok(second.error instanceof WatError);
-    assert.equal(String(second.error), "3:17: unknown func: failed to find name `$f`");
-    assert.equal(second.error.number, 4);
-  });
-
-  await test("the error of a module is that of its text", () => {
-    for (const wrong of [
-      "(module (start $f))", "(module (func $f)\n (func $f))", "(module (func $first) (start $fist))", "(module (func i32.ad))",
-      "(module (; é ;) (func i64.add128))", '(module quote "(fnu" "c)")', "(module\t(type $t (struct)) (func (type $t) (param i32)))",
-    ]) {
-      const all = (error) => ({ ...fieldsOf(error), snippet: error.snippet });
-      const text = `  (module) ;; é\n\t${wrong}`, alone = text.replace("(module) ;; é", " ".repeat(13));
-      assert.deepEqual(all(commands(text)[1].error), all(errorOf(() => parse(alone))), wrong);
-      const wide = encoder.encode(alone.replace(" ".repeat(13), " ".repeat(14)));
-      assert.deepEqual(all(commands(encoder.encode(text))[1].error), all(errorOf(() => parse(wide))), wrong);
-    }
-  });
-
-  await test("a text that is no script has an error", () => {
-    assert.equal(String(errorOf(() => commands("(module)\n (assert_foo)"))), "2:3: expected a command, found `assert_foo`");
-    const error = errorOf(() => commands(Uint8Array.of(40, 255)));
-    assert.deepEqual([error.message, error.line, error.start], ["malformed UTF-8 encoding", 0, 1]);
-    assert.ok(errorOf(() => commands(`(module) (invoke "f" (i32.const ${"1".repeat(1000)}x))`)).message.length > 500);
-    errorOf(() => commands("\ud800"));
-    assert.throws(() => commands(null), TypeError);
-    assert.deepEqual(commands(""), []);
-  });
-
-  await test("commands are objects", () => {
-    for (const [text, wanted] of [
-      ['(register "a b" $m)', { type: "register", as: "a b", name: "$m" }],
-      ["(module instance $i $m)", { type: "instance", instance: "$i", definition: "$m" }],
-      ["(wait $t)", { type: "wait", thread: "$t" }],
-      ['(invoke $m "f" (i32.const 7))', { type: "action", action: invoke([I32_7], { module: "$m" }) }],
-      ['(get "g")', { type: "action", action: { type: "get", field: "g" } }],
-      ['(assert_return (invoke "f") (i32.const 7))', { type: "assert_return", action: invoke(), expected: [I32_7] }],
-      ['(assert_trap (invoke "f") "a")', { type: "assert_trap", action: invoke(), text: "a" }],
-      ['(assert_exhaustion (invoke "f") "a")', { type: "assert_exhaustion", action: invoke(), text: "a" }],
-      ['(assert_exception (invoke "f"))', { type: "assert_exception", action: invoke() }],
-      ['(assert_suspension (invoke "f") "a")', { type: "assert_suspension", action: invoke(), text: "a" }],
-    ]) assert.deepEqual(one(text), wanted, text);
-    for (const word of ["malformed", "malformed_custom", "invalid", "invalid_custom", "unlinkable"]) {
-      const { type, text } = one(`(assert_${word} (module) "a")`);
-      assert.deepEqual([type, text], [`assert_${word}`, "a"]);
-    }
-    assert.equal(one('(assert_trap (module) "a")').type, "assert_uninstantiable");
-  });
-
-  await test("values are those of wast2json", () => {
-    const all = (type, ...values) => values.map((value) => ({ type, value }));
-    assert.deepEqual(expected("(i32.const -1)"), all("i32", "4294967295"));
-    assert.deepEqual(expected("(i64.const -1) (i64.const 9007199254740993)"), all("i64", "18446744073709551615", "9007199254740993"));
-    assert.deepEqual(expected("(f32.const -0) (f32.const nan:arithmetic)"), all("f32", "2147483648", "nan:arithmetic"));
-    assert.deepEqual(expected("(f64.const nan:canonical) (f64.const -1)"), all("f64", "nan:canonical", "13830554455654793216"));
-    for (const [shape, lane_type, last] of [["i8x16", "i8", 255], ["i16x8", "i16", 65535], ["i32x4", "i32", 4294967295], ["i64x2", "i64", "18446744073709551615"]]) {
-      const value = Array.from({ length: Number(shape.split("x")[1]) }, (_, at) => String(at));
-      value[value.length - 1] = String(last);
-      assert.deepEqual(expected(`(v128.const ${shape} ${value.join(" ")})`), [{ type: "v128", lane_type, value }]);
-    }
-    const lanes = ["0", "nan:canonical", "nan:arithmetic", "1065353216"];
-    assert.deepEqual(expected("(v128.const f32x4 0 nan:canonical nan:arithmetic 1)"), [{ type: "v128", lane_type: "f32", value: lanes }]);
-    assert.deepEqual(expected("(ref.null) (ref.null any) (ref.null $t) (ref.extern) (ref.extern 3) (ref.host 4) (ref.func) (ref.func 5) (ref.func $f) (ref.i31)"), [
-      { type: "refnull" }, { type: "anyref", value: "null" }, { type: "ref", value: "null" }, { type: "externref" }, { type: "externref", value: "3" },
-      { type: "anyref", value: "4" }, { type: "funcref", value: "0" }, { type: "funcref", value: { index: 5 } }, { type: "funcref", value: { id: "$f" } },
-      { type: "i31ref" },
-    ]);
-  });
-
-  await test("each heap type has its reference", () => {
-    const references = {
-      func: "funcref", extern: "externref", exn: "exnref", noexn: "nullexnref", any: "anyref", eq: "eqref", struct: "structref", array: "arrayref",
-      nofunc: "nullfuncref", noextern: "nullexternref", none: "nullref", i31: "i31ref", cont: "contref", nocont: "nullcontref",
-    };
-    for (const [heap, type] of Object.entries(references)) {
-      assert.deepEqual(expected(`(ref.null ${heap}) (ref.null (shared ${heap}))`), [{ type, value: "null" }, { type, value: "null" }]);
-    }
-  });
-
-  await test("alternatives are one value", () => {
-    for (const count of [1, 2, 3]) {
-      const wanted = [{ type: "either", values: Array(count).fill(I32_7) }, I32_7, { type: "either", values: [I32_7] }];
-      assert.deepEqual(expected(`(either ${"(i32.const 7)".repeat(count)}) (i32.const 7) (either (i32.const 7))`), wanted);
-    }
-  });
-
-  await test("threads have their commands", () => {
-    const [first, second] = commands('(thread $T (shared (module $M)) (register "m" $M) (thread $U (invoke "f"))) (wait $T)');
-    assert.deepEqual([first.name, first.shared_module, second.thread], ["$T", "$M", "$T"]);
-    assert.deepEqual(first.commands.map(({ type }) => type), ["register", "thread"]);
-    assert.deepEqual(first.commands[1].commands.map(({ type }) => type), ["action"]);
-  });
-
-  await test("a script may have many commands and errors", () => {
-    assert.equal(commands("(wait $t)".repeat(1000)).length, 1000);
-    const found = commands("(module (;é;) (func i64.add128)) ".repeat(2000));
-    assert.deepEqual([found.length, found[1999].error.number, found[1999].error.column], [2000, 11, 1999 * 33 + 22]);
-  });
-
-  await test("ids and names may have any character", () => {
-    const [module, register, action] = commands('(module $"日") (register "é" $"日") (invoke $"日" "é")');
-    assert.deepEqual([module.name, module.source, register.as, register.name, action.action.module, action.action.field], ["$日", '(module $"日")', "é", "$日", "$日", "é"]);
-  });
-}
-
-// A module that was built before these calls does not have them.
-if (WebAssembly.Module.exports(new WebAssembly.Module(module)).some(({ name }) => name === "rigyomad_c_script")) await testScripts();
-else console.log("skipped: the module has no calls of scripts, notes and columns");
+await test("ids and names may have any character", () => {
+  const [module, register, action] = commands('(module $"日") (register "é" $"日") (invoke $"日" "é")');
+  assert.deepEqual([module.name, module.source, register.as, register.name, action.action.module, action.action.field], ["$日", '(module $"日")', "é", "$日", "$日", "é"]);
+});
 
 console.log(`${passed} passed, ${failed} failed`);
 process.exit(failed ? 1 : 0);
